@@ -1,0 +1,11 @@
+use Rattle.std.proofs.Common.{refl, ◌∙◌}
+use Rattle.roff_lines.proofs.StandsLines.{stands_break, finished_break}
+use Rattle.roff_lines.proofs.env.Env.brk.Goals as goal
+
+pub returns : goal.returns
+returns c =
+    let k = c.args.self.now in
+    let told = c.finish_pending-shape.ensures in (
+      (refl, λ _. tt, λ line_cap h s. rw told.kept (stands_break line_cap h k s)),
+      record { stands = tt; line = λ line_cap h s. c.lent.ensures ∙ (told.line ∙ finished_break line_cap h k s) },
+    )

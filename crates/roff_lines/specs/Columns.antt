@@ -1,0 +1,55 @@
+-- Where a finished line's text stands, and what it writes (manual, section 4.1).
+use Rattle.std.specs.Prelude.{ℕ, ◌+◌, ◌-◌, ◌*◌, ◌/◌, Bool, ◌&&◌, ◌||◌, List, [], ◌∷◌, ◌++◌, take, replicate, if◌then◌else◌, ◌==◌}
+use Rattle.roff_lines.specs.declared.line.Line.{Line}
+use Rattle.roff_lines.specs.declared.line.TheConstants.{GAP, FURTHER_BLANK, UNPADDABLE}
+use Rattle.roff_lines.specs.Glyphs.{text_width, gaps_in}
+use Rattle.roff_lines.specs.Words.{is_empty}
+use Rattle.roff_lines.specs.Lines.{Finished}
+
+-- the line that was handed out
+abbrev pub finished_of : Line → Finished
+finished_of l = record { text = l.text.now; lead = l.lead; spare = l.spare; gaps = l.gaps; after = l.after }
+
+-- the columns that adjusting adds before the word behind the i-th gap, in all: the spare ones, by
+-- equal parts, rounded down
+abbrev pub added_columns : ℕ → ℕ → ℕ → ℕ
+added_columns spare gaps i = if gaps == 0 then 0 else i * spare / gaps
+
+-- the column at which the k-th byte of a line's text stands: the lead, the widths and gaps before it,
+-- and what adjusting adds to these gaps
+abbrev pub column_of : Finished → ℕ → ℕ
+column_of l k =
+    l.lead + text_width (take k l.text) + added_columns l.spare l.gaps (gaps_in (take k l.text))
+
+-- so many blanks, as they are written
+abbrev pub spaces : ℕ → List ℕ
+spaces n = replicate n 32
+
+-- a text with its blanks written, behind i gaps: the first blank of the next gap brings along what
+-- adjusting adds there
+abbrev pub spread : ℕ → ℕ → ℕ → List ℕ → List ℕ
+spread spare gaps i [] = []
+spread spare gaps i (b ∷ text) =
+    if b == GAP
+    then 32 ∷ (spaces (added_columns spare gaps (i + 1) - added_columns spare gaps i) ++ spread spare gaps (i + 1) text)
+    else if b == FURTHER_BLANK || b == UNPADDABLE then 32 ∷ spread spare gaps i text
+    else b ∷ spread spare gaps i text
+
+-- a text without its trailing blanks
+abbrev pub trimmed : List ℕ → List ℕ
+trimmed [] = []
+trimmed (b ∷ text) = let rest = trimmed text in if b == 32 && is_empty rest then [] else b ∷ rest
+
+-- what a line writes: the lead, its text, and a newline, without trailing blanks; then its blank lines
+abbrev pub line_bytes : Finished → List ℕ
+line_bytes l = trimmed (spaces l.lead ++ spread l.spare l.gaps 0 l.text) ++ 10 ∷ replicate l.after 10
+
+-- whether a byte of a text stands for a blank
+abbrev pub is_blank_mark : ℕ → Bool
+is_blank_mark b = b == GAP || (b == FURTHER_BLANK || b == UNPADDABLE)
+
+-- a line's text without its trailing blanks
+abbrev pub without_blanks : List ℕ → List ℕ
+without_blanks [] = []
+without_blanks (b ∷ text) =
+    let rest = without_blanks text in if is_blank_mark b && is_empty rest then [] else b ∷ rest

@@ -1,0 +1,29 @@
+-- Glyphs and the text that they leave in a line (manual, sections 2.1 and 11.2).
+--
+-- A line's text is a list of bytes. Three of them stand for blanks, so that a gap, which adjusting
+-- may widen, is told from the blanks of a glyph, which it may not.
+use Rattle.std.specs.Prelude.{ℕ, ◌&&◌, List, [], ◌∷◌, nat_le, nat_lt, replicate, sum_by, count_by, if◌then◌else◌, ◌==◌}
+use Rattle.roff_lines.specs.declared.glyph.Glyph.{Glyph}
+use Rattle.roff_lines.specs.declared.glyph.Glyph.TheVariants.{Printed, Blanks}
+use Rattle.roff_lines.specs.declared.line.TheConstants.{GAP, UNPADDABLE}
+
+-- what stands for a printed byte: itself, or the blank of a glyph if it isn't above the blank
+abbrev pub text_byte : ℕ → ℕ
+text_byte b = if nat_le b GAP then UNPADDABLE else b
+
+-- a glyph's text
+abbrev pub glyph_text : Glyph → List ℕ
+glyph_text (Printed b) = text_byte b ∷ []
+glyph_text (Blanks n) = replicate n UNPADDABLE
+
+-- the columns of one byte of a text: none where it goes on with a character of several bytes
+abbrev pub byte_width : ℕ → ℕ
+byte_width b = if nat_le 128 b && nat_lt b 192 then 0 else 1
+
+-- the columns of a text
+abbrev pub text_width : List ℕ → ℕ
+text_width text = sum_by byte_width text
+
+-- the gaps of a text, each counted by its first blank
+abbrev pub gaps_in : List ℕ → ℕ
+gaps_in text = count_by (λ b. b == GAP) text

@@ -1,0 +1,105 @@
+-- What an environment keeps of its history.
+use Rattle.std.specs.Prelude.{◌≡◌, ℕ, ◌+◌, ◌<◌, ◌≤◌, ◌^◌, Bool, true, false, ◌&&◌, not, List, [], ◌++◌, length, Option, Some, None, if◌then◌else◌}
+use Rattle.roff_lines.specs.declared.env.Env.TheInside.{Inside}
+use Rattle.roff_lines.specs.declared.settings.Settings.{Settings}
+use Rattle.roff_lines.specs.Glyphs.{text_width}
+use Rattle.roff_lines.specs.Lines.{Finished, gap_text, may_be_wide, laid_out, empty_line}
+
+-- the pending line's text and its indent, and whether a word stands in it; the open word's text, and
+-- whether there is one; the blanks before it; what the line of the input has so far
+pub record Kept : Type 0 where
+  pub cap : ℕ
+  pub settings : Settings
+  pub line : List ℕ
+  pub indent : ℕ
+  pub has_line : Bool
+  pub word : List ℕ
+  pub is_open : Bool
+  pub blanks : ℕ
+  pub has_glyph : Bool
+  pub ends_sentence : Bool
+  pub finished : List ℕ
+
+-- the pending line's length in bytes, the open word included
+abbrev pub kept_length : Kept → ℕ
+kept_length k = length k.line + (if k.is_open && k.has_line then k.blanks else 0) + length k.word
+
+-- what the fields keep
+abbrev pub kept_by : Inside → Kept
+kept_by a = record {
+  cap = a.cap;
+  settings = a.settings;
+  line = a.line.text;
+  indent = a.indent;
+  has_line = a.has_line;
+  word = a.word.text;
+  is_open = a.is_open;
+  blanks = a.blanks;
+  has_glyph = a.has_glyph;
+  ends_sentence = a.ends_sentence;
+  finished = a.finished.text;
+}
+
+-- each buffer has the limit's room, and the pending line is within the limit
+pub record IsSound (a : Inside) : Type 0 where
+  pub cap : a.cap < 2 ^ 32
+  pub line_room : a.line.room ≡ a.cap
+  pub word_room : a.word.room ≡ a.cap
+  pub finished_room : a.finished.room ≡ a.cap
+  pub blanks : a.blanks ≤ 2 ^ 33
+  pub no_line : a.has_line ≡ false → a.line.text ≡ []
+  pub no_word : a.is_open ≡ false → a.word.text ≡ []
+  pub within : kept_length (kept_by a) ≤ a.cap
+
+-- what is in force and what stands before the next glyph has gone into a line
+abbrev pub without_word : Kept → Kept
+without_word k = record k { word = []; is_open = false; blanks = 0 }
+
+-- a line of the open word alone
+abbrev pub word_as_line : Kept → Kept
+word_as_line k = record k { line = k.word; indent = k.settings.indent; has_line = true }
+
+-- whether the open word fits behind the pending line
+abbrev pub word_fits : Kept → Bool
+word_fits k = may_be_wide k.settings k.indent (text_width k.line + k.blanks + text_width k.word)
+
+-- behind a word end
+abbrev pub with_word_ended : Kept → Kept
+with_word_ended k =
+    if not k.is_open then k
+    else if not k.has_line then without_word (word_as_line k)
+    else if word_fits k then without_word (record k { line = k.line ++ (gap_text k.blanks ++ k.word) })
+    else without_word (word_as_line (record k { finished = k.line }))
+
+-- the line that a word end finishes
+abbrev pub finished_by_word : Kept → Option Finished
+finished_by_word k =
+    if k.is_open && k.has_line && not (word_fits k) then Some (laid_out k.settings true k.indent k.line) else None
+
+-- behind a break
+abbrev pub with_line_finished : Kept → Kept
+with_line_finished k = record k {
+  line = [];
+  has_line = false;
+  blanks = if k.is_open then k.blanks else 0;
+  finished = if k.has_line then k.line else k.finished;
+}
+
+-- the line that a break finishes
+abbrev pub finished_by_break : Kept → Option Finished
+finished_by_break k = if k.has_line then Some (laid_out k.settings false k.indent k.line) else None
+
+-- behind the end of a line of the input
+abbrev pub with_input_line_ended : Kept → Kept
+with_input_line_ended k =
+    let n : Kept = record k { has_glyph = false; ends_sentence = false } in
+    if k.settings.filling
+    then record n { blanks = if not k.is_open && k.has_glyph then (if k.ends_sentence then 2 else 1) else k.blanks }
+    else record (with_line_finished n) { finished = k.line }
+
+-- the line that the end of a line of the input finishes
+abbrev pub finished_by_line_end : Kept → Option Finished
+finished_by_line_end k =
+    if k.settings.filling then None
+    else if k.has_line then Some (laid_out k.settings false k.indent k.line)
+    else Some empty_line

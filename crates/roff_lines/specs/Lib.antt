@@ -1,0 +1,13 @@
+pub mod Limits
+pub mod Glyphs
+pub mod Settings
+pub mod Events
+pub mod Words
+pub mod Lines
+pub mod Columns
+pub mod Stretch
+pub mod Kept
+pub mod Shape
+pub mod LineBytes
+pub mod Stands
+pub mod Rests

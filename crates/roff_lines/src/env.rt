@@ -1,0 +1,263 @@
+//! The environment: the pending line, the open word, and what is in force.
+
+ghost use Rattle.std.specs.Prelude.{◌≡◌, ℕ, ◌+◌, ◌<◌, ◌≤◌, ◌^◌, ◌↔◌, [], ◌∷◌, ◌++◌, length, IfOk, OnOk, OnErr, IsErr, IsOkUnless, option_map};
+ghost use Rattle.std.specs.Borrow.{sem};
+ghost use Rattle.roff_lines.specs.Columns.{finished_of};
+ghost use Rattle.roff_lines.specs.Events.{Print, WordEnd, Gap, LineEnd, Break, Set, History, settings_after};
+ghost use Rattle.roff_lines.specs.Glyphs.{text_width};
+ghost use Rattle.roff_lines.specs.Lines.{finished, gap_text, may_be_wide, pending_length};
+ghost use Rattle.roff_lines.specs.Shape.{shaped};
+
+use crate::glyph::{Glyph, kept_byte};
+use crate::limit::Limit;
+use crate::line::{FURTHER_BLANK, GAP, Line, UNPADDABLE};
+use crate::settings::{Param, Settings};
+use crate::shape::Shape;
+use crate::stretch::Stretch;
+use std::alloc::{AllocError, Global};
+use std::marker::Model;
+use std::mem;
+
+/// More blanks than any line has room for: no more of a gap are counted.
+const MOST_BLANKS: u64 = 1 << 33;
+
+/// An environment: what is in force, the pending line and the open word.
+///
+/// All its memory is reserved as it is made.
+#[derive(Drop)]
+pub struct Env {
+    cap: usize,
+    settings: Settings,
+    /// The pending line, without the open word.
+    line: Stretch,
+    indent: u32,
+    has_line: bool,
+    word: Stretch,
+    is_open: bool,
+    blanks: u64,
+    /// The line that was handed out last.
+    finished: Stretch,
+    has_glyph: bool,
+    ends_sentence: bool,
+}
+
+impl Model for Env {
+    ghost use Rattle.roff_lines.specs.Kept.{Kept, kept_by, IsSound};
+
+    ghost Value = { Kept };
+
+    ghost view = { kept_by };
+
+    ghost invariant = { IsSound };
+}
+
+impl Env {
+    ghost use Rattle.roff_lines.specs.Kept.{with_word_ended, finished_by_word, with_line_finished, finished_by_break, with_input_line_ended, finished_by_line_end};
+    ghost use Rattle.roff_lines.specs.Stands.{Stands};
+    ghost use Rattle.roff_lines.specs.Rests.{RestsBehind};
+
+    /// An environment in which nothing has happened, whose pending line may have `line_cap` bytes.
+    pub fn new(alloc: Global, line_cap: u32) -> Result<Self, AllocError>
+        ensures { IfOk result (λ e. Stands line_cap [] e) }
+    {
+        let cap = line_cap as usize;
+        Ok(Env {
+            cap,
+            settings: Settings::initial(),
+            line: Stretch::new(alloc, cap)?,
+            indent: 0,
+            has_line: false,
+            word: Stretch::new(alloc, cap)?,
+            is_open: false,
+            blanks: 0,
+            finished: Stretch::new(alloc, cap)?,
+            has_glyph: false,
+            ends_sentence: false,
+        })
+    }
+
+    /// What is in force.
+    pub fn settings(&self) -> Settings
+        ensures kept { result ≡ self.now.settings }
+        ensures in_force { (line_cap : ℕ) (h : History) → Stands line_cap h self.now → result ≡ settings_after h }
+    {
+        self.settings
+    }
+
+    /// Adds a glyph to the open word, or opens one with it.
+    ///
+    /// # Errors
+    ///
+    /// [`Limit::Line`] if the pending line would pass its limit; the environment is then as it was.
+    pub fn glyph(&mut self, glyph: Glyph) -> Result<(), Limit>
+        ensures stands { OnOk result ((line_cap : ℕ) (h : History) → Stands line_cap h self.old → Stands line_cap (Print glyph ∷ h) self.new) }
+        ensures limit { (line_cap : ℕ) (h : History) → Stands line_cap h self.old → (IsErr result ↔ (line_cap < pending_length (Print glyph ∷ h))) }
+        ensures error { IsOkUnless result Limit.Line }
+        ensures unchanged { OnErr result (self.new ≡ self.old) }
+    {
+        let gap = if self.has_line { self.blanks } else { 0 };
+        let bytes = self.line.len() + self.word.len() + glyph.length();
+        if bytes as u64 + gap > self.cap as u64 {
+            return Err(Limit::Line);
+        }
+        match glyph {
+            Glyph::Printed(byte) => self.word.push(kept_byte(byte)),
+            Glyph::Blanks(columns) => self.word.push_times(UNPADDABLE, columns as usize),
+        }
+        self.is_open = true;
+        self.has_glyph = true;
+        self.ends_sentence = glyph.ends_sentence_behind(self.ends_sentence);
+        Ok(())
+    }
+
+    /// Adds so many blanks to the gap between words.
+    pub fn gap(&mut self, blanks: u32)
+        ensures { (line_cap : ℕ) (h : History) → Stands line_cap h self.old → Stands line_cap (Gap blanks ∷ h) self.new }
+    {
+        if !self.is_open {
+            self.blanks = (self.blanks + u64::from(blanks)).min(MOST_BLANKS);
+        }
+    }
+
+    /// Ends the open word, which finishes the pending line if the word doesn't fit there.
+    pub fn end_word(&mut self) -> Option<Line<'_>>
+        ensures* stands { sem 𝓛 (RestsBehind self.entry WordEnd) }
+        ensures line { (line_cap : ℕ) (h : History) → Stands line_cap h self.old → option_map finished_of result ≡ finished h WordEnd }
+    {
+        let shape = self.place_word();
+        self.lent(shape)
+    }
+
+    /// Ends a line of the input, which finishes the pending line where nothing is filled.
+    pub fn end_line(&mut self) -> Option<Line<'_>>
+        ensures* stands { sem 𝓛 (RestsBehind self.entry LineEnd) }
+        ensures line { (line_cap : ℕ) (h : History) → Stands line_cap h self.old → option_map finished_of result ≡ finished h LineEnd }
+    {
+        let shape = self.finish_input_line();
+        self.lent(shape)
+    }
+
+    /// Finishes the pending line.
+    pub fn brk(&mut self) -> Option<Line<'_>>
+        ensures* stands { sem 𝓛 (RestsBehind self.entry Break) }
+        ensures line { (line_cap : ℕ) (h : History) → Stands line_cap h self.old → option_map finished_of result ≡ finished h Break }
+    {
+        let shape = self.finish_pending();
+        self.lent(shape)
+    }
+
+    /// Changes a parameter.
+    pub fn set(&mut self, param: Param)
+        ensures { (line_cap : ℕ) (h : History) → Stands line_cap h self.old → Stands line_cap (Set param ∷ h) self.new }
+    {
+        self.settings = self.settings.with(param);
+    }
+
+    /// The finished line, in this shape.
+    fn lent(&self, shape: Option<Shape>) -> Option<Line<'_>>
+        ensures { option_map finished_of result ≡ option_map (λ s. shaped s self.now.finished) shape }
+    {
+        match shape {
+            Some(shape) => Some(shape.over(self.finished.as_slice())),
+            None => None,
+        }
+    }
+
+    /// Puts the open word into the pending line, or into a line of its own behind it.
+    fn place_word(&mut self) -> Option<Shape>
+        ensures kept { self.new ≡ with_word_ended self.old }
+        ensures line { option_map (λ s. shaped s self.new.finished) result ≡ finished_by_word self.old }
+    {
+        if !self.is_open {
+            return None;
+        }
+        let mut shape = None;
+        if !self.has_line {
+            mem::swap(&mut self.line, &mut self.word);
+            self.indent = self.settings.indent;
+            self.has_line = true;
+        } else if fits(
+            self.settings,
+            self.indent,
+            &self.line,
+            self.blanks,
+            &self.word,
+        ) {
+            push_gap(&mut self.line, self.blanks as usize);
+            self.line.append(&self.word);
+            self.word.clear();
+        } else {
+            shape = Some(Shape::of(self.settings, true, self.indent, &self.line));
+            self.finished.clear();
+            mem::swap(&mut self.finished, &mut self.line);
+            mem::swap(&mut self.line, &mut self.word);
+            self.indent = self.settings.indent;
+        }
+        self.is_open = false;
+        self.blanks = 0;
+        shape
+    }
+
+    /// Finishes the pending line where nothing is filled, and else sets the gap of a line's end.
+    fn finish_input_line(&mut self) -> Option<Shape>
+        ensures kept { self.new ≡ with_input_line_ended self.old }
+        ensures line { option_map (λ s. shaped s self.new.finished) result ≡ finished_by_line_end self.old }
+    {
+        let ends_gap = !self.is_open && self.has_glyph;
+        let gap = if self.ends_sentence { 2 } else { 1 };
+        self.has_glyph = false;
+        self.ends_sentence = false;
+        if self.settings.filling {
+            if ends_gap {
+                self.blanks = gap;
+            }
+            return None;
+        }
+        match self.finish_pending() {
+            Some(shape) => Some(shape),
+            None => {
+                self.finished.clear();
+                Some(Shape::empty())
+            }
+        }
+    }
+
+    /// Finishes the pending line, if there is one.
+    fn finish_pending(&mut self) -> Option<Shape>
+        ensures kept { self.new ≡ with_line_finished self.old }
+        ensures line { option_map (λ s. shaped s self.new.finished) result ≡ finished_by_break self.old }
+    {
+        if !self.is_open {
+            self.blanks = 0;
+        }
+        if !self.has_line {
+            return None;
+        }
+        let shape = Shape::of(self.settings, false, self.indent, &self.line);
+        self.finished.clear();
+        mem::swap(&mut self.finished, &mut self.line);
+        self.has_line = false;
+        Some(shape)
+    }
+}
+
+/// Whether a word fits behind a line: within the measure, and always where nothing is filled.
+fn fits(settings: Settings, indent: u32, line: &Stretch, blanks: u64, word: &Stretch) -> bool
+    requires blanks { blanks ≤ 2 ^ 33 }
+    requires line { line.now.room < 2 ^ 32 }
+    requires word { word.now.room < 2 ^ 32 }
+    ensures { result ≡ may_be_wide settings indent (text_width line.now.text + blanks + text_width word.now.text) }
+{
+    !settings.filling || line.width() + blanks + word.width() <= settings.measure(indent)
+}
+
+/// Adds a gap of so many blanks.
+fn push_gap(line: &mut Stretch, blanks: usize)
+    requires { length line.old.text + blanks ≤ line.old.room }
+    ensures { line.new ≡ record line.old { text = line.old.text ++ gap_text blanks } }
+{
+    if blanks > 0 {
+        line.push(GAP);
+        line.push_times(FURTHER_BLANK, blanks - 1);
+    }
+}

@@ -1,0 +1,54 @@
+//! Glyphs: what a line prints in one piece.
+
+ghost use Rattle.std.specs.Prelude.{◌≡◌, length, if◌then◌else◌};
+ghost use Rattle.roff_lines.specs.Glyphs.{byte_width, glyph_text, text_byte};
+ghost use Rattle.roff_lines.specs.Words.{is_closer, is_sentence_mark};
+
+use crate::line::{GAP, UNPADDABLE};
+
+/// A printed text with a width in columns.
+#[derive(Clone, Copy, Debug, PartialEq, Eq)]
+pub enum Glyph {
+    /// A byte of the input. The bytes 0x80 to 0xBF go on with a character of several bytes and have
+    /// no width of their own; a byte that isn't above the blank prints as a blank.
+    Printed(u8),
+    /// So many blanks, which no adjusting widens and at which no line ends.
+    Blanks(u32),
+}
+
+impl Glyph {
+    /// The length of the glyph's text, in bytes.
+    pub fn length(self) -> usize
+        ensures { result ≡ length (glyph_text self) }
+    {
+        match self {
+            Glyph::Printed(_) => 1,
+            Glyph::Blanks(columns) => columns as usize,
+        }
+    }
+
+    /// Whether a sentence ends behind the glyph: a closer leaves that as it was before it.
+    pub(crate) fn ends_sentence_behind(self, before: bool) -> bool
+        ensures { result ≡ (if is_closer self then before else is_sentence_mark self) }
+    {
+        match self {
+            Glyph::Printed(b'"' | b'\'' | b')' | b']' | b'*') => before,
+            Glyph::Printed(b'.' | b'?' | b'!') => true,
+            Glyph::Printed(_) | Glyph::Blanks(_) => false,
+        }
+    }
+}
+
+/// The width of one byte of a line's text, in columns.
+pub(crate) fn width_of_byte(byte: u8) -> u64
+    ensures { result ≡ byte_width byte }
+{
+    if byte & 0xC0 == 0x80 { 0 } else { 1 }
+}
+
+/// What stands for a printed byte in a line's text.
+pub(crate) fn kept_byte(byte: u8) -> u8
+    ensures { result ≡ text_byte byte }
+{
+    if byte <= GAP { UNPADDABLE } else { byte }
+}

@@ -1,0 +1,21 @@
+//! Lines: what one environment keeps of a text, and the lines that it finishes.
+//!
+//! An environment is told glyphs, gaps, word ends, line ends, breaks and changes of its parameters.
+//! It fills and adjusts lines as the manual's section 4 says, and hands out each line once it is finished.
+#![tactic(auto)]
+
+mod env;
+mod glyph;
+mod limit;
+mod line;
+mod line_bytes;
+mod settings;
+mod shape;
+mod stretch;
+
+pub use env::Env;
+pub use glyph::Glyph;
+pub use limit::Limit;
+pub use line::{FURTHER_BLANK, GAP, Line, UNPADDABLE};
+pub use line_bytes::LineBytes;
+pub use settings::{AdjustMode, Param, Settings};

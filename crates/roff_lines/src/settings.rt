@@ -1,0 +1,98 @@
+//! The parameters of an environment (manual, sections 4 and 6).
+
+ghost use Rattle.std.specs.Prelude.{◌≡◌, ◌<◌, ◌^◌};
+ghost use Rattle.roff_lines.specs.Lines.{measure};
+ghost use Rattle.roff_lines.specs.Settings.{initial_settings, settings_with};
+
+/// How lines are adjusted (manual, section 4.1, the request `ad`).
+#[derive(Clone, Copy, Debug, PartialEq, Eq)]
+pub enum AdjustMode {
+    /// The left edge is even: nothing is moved.
+    Left,
+    /// The right edge is even: a line starts later.
+    Right,
+    /// A line is centred between the edges.
+    Centre,
+    /// Both edges are even: gaps are widened.
+    Both,
+}
+
+/// A change of one of an environment's parameters. Lengths are in columns.
+#[derive(Clone, Copy, Debug, PartialEq, Eq)]
+pub enum Param {
+    /// Filling goes on (`fi`) or off (`nf`).
+    Filling(bool),
+    /// Adjusting goes on (`ad`) or off (`na`).
+    Adjusting(bool),
+    /// The way in which lines are adjusted.
+    Mode(AdjustMode),
+    /// The length of a line with its indent.
+    LineLength(u32),
+    /// The indent of the lines that begin from now on.
+    Indent(u32),
+}
+
+/// What is in force in an environment. Lengths are in columns.
+#[derive(Clone, Copy, Debug, PartialEq, Eq)]
+pub struct Settings {
+    /// Whether words are filled into lines.
+    pub filling: bool,
+    /// Whether filled lines are adjusted.
+    pub adjusting: bool,
+    /// How they are adjusted.
+    pub mode: AdjustMode,
+    /// The length of a line with its indent.
+    pub line_length: u32,
+    /// The line length before the last one that was set.
+    pub previous_line_length: u32,
+    /// The indent.
+    pub indent: u32,
+    /// The indent before the last one that was set.
+    pub previous_indent: u32,
+}
+
+impl Settings {
+    /// What is in force at first: filling, both edges even, a line of 65 columns (6.5 inches), no indent.
+    pub fn initial() -> Settings
+        ensures { result ≡ initial_settings }
+    {
+        Settings {
+            filling: true,
+            adjusting: true,
+            mode: AdjustMode::Both,
+            line_length: 65,
+            previous_line_length: 65,
+            indent: 0,
+            previous_indent: 0,
+        }
+    }
+
+    /// The columns that a line of this indent may fill.
+    pub(crate) fn measure(self, indent: u32) -> u64
+        ensures value { result ≡ measure self indent }
+        ensures within { result < 2 ^ 32 }
+    {
+        u64::from(self.line_length.saturating_sub(indent))
+    }
+
+    /// What is in force after a change.
+    pub fn with(self, param: Param) -> Settings
+        ensures { result ≡ settings_with param self }
+    {
+        let mut changed = self;
+        match param {
+            Param::Filling(on) => changed.filling = on,
+            Param::Adjusting(on) => changed.adjusting = on,
+            Param::Mode(mode) => changed.mode = mode,
+            Param::LineLength(columns) => {
+                changed.previous_line_length = self.line_length;
+                changed.line_length = columns;
+            }
+            Param::Indent(columns) => {
+                changed.previous_indent = self.indent;
+                changed.indent = columns;
+            }
+        }
+        changed
+    }
+}

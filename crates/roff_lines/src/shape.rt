@@ -1,0 +1,73 @@
+//! How a line is laid out as it is finished.
+
+ghost use Rattle.std.specs.Prelude.{◌≡◌, []};
+ghost use Rattle.roff_lines.specs.Columns.{finished_of};
+ghost use Rattle.roff_lines.specs.Lines.{empty_line, laid_out};
+ghost use Rattle.roff_lines.specs.Shape.{shaped};
+
+use crate::line::Line;
+use crate::settings::{AdjustMode, Settings};
+use crate::stretch::Stretch;
+
+/// A finished line without its text.
+#[derive(Clone, Copy)]
+pub(crate) struct Shape {
+    lead: u64,
+    spare: u64,
+    gaps: u64,
+}
+
+impl Shape {
+    /// An empty line's.
+    pub(crate) fn empty() -> Shape
+        ensures { shaped result [] ≡ empty_line }
+    {
+        Shape {
+            lead: 0,
+            spare: 0,
+            gaps: 0,
+        }
+    }
+
+    /// That of a line as it is finished, by a word that doesn't fit or by a break.
+    pub(crate) fn of(settings: Settings, by_word: bool, indent: u32, line: &Stretch) -> Shape
+        ensures { shaped result line.now.text ≡ laid_out settings by_word indent line.now.text }
+    {
+        let free = settings.measure(indent).saturating_sub(line.width());
+        let adjusts = settings.filling && settings.adjusting;
+        let gaps = line.gaps();
+        let mut start = 0;
+        let mut spare = 0;
+        if adjusts {
+            match settings.mode {
+                AdjustMode::Left => {}
+                AdjustMode::Right => start = free,
+                AdjustMode::Centre => start = free / 2,
+                AdjustMode::Both => {
+                    if by_word && gaps != 0 {
+                        spare = free;
+                    }
+                }
+            }
+        }
+        Shape {
+            lead: u64::from(indent) + start,
+            spare,
+            gaps,
+        }
+    }
+
+    /// The line of this shape and this text.
+    pub(crate) fn over<'a>(self, text: &'a [u8]) -> Line<'a>
+        ensures line { finished_of result ≡ shaped self text.now }
+        ensures text { result.text.now ≡ text.now }
+    {
+        Line {
+            text,
+            lead: self.lead,
+            spare: self.spare,
+            gaps: self.gaps,
+            after: 0,
+        }
+    }
+}

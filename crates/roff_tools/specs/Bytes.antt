@@ -1,0 +1,30 @@
+-- Kinds of input bytes (manual, sections 1.1 and 10.1).
+use Rattle.std.specs.Prelude.{ℕ, Bool, ◌&&◌, ◌||◌, not, [], ◌∷◌, nat_lt, ◌==◌}
+use Rattle.std.specs.List.{list_any}
+
+-- bytes with a meaning
+abbrev pub newline : ℕ
+newline = 10
+
+abbrev pub blank : ℕ
+blank = 32
+
+abbrev pub quote : ℕ
+quote = 34
+
+abbrev pub apostrophe : ℕ
+apostrophe = 39
+
+abbrev pub dot : ℕ
+dot = 46
+
+abbrev pub backslash : ℕ
+backslash = 92
+
+-- STX, ETX, ENQ, ACK and BEL: they stand in the input, and print nothing
+abbrev pub is_silent : ℕ → Bool
+is_silent b = list_any (λ c. b == c) (2 ∷ 3 ∷ 5 ∷ 6 ∷ 7 ∷ [])
+
+-- all other control bytes but the newline are dropped as they are taken
+abbrev pub is_dropped : ℕ → Bool
+is_dropped b = (nat_lt b 32 || b == 127) && not (b == newline || is_silent b)

@@ -1,0 +1,14 @@
+pub mod Limits
+pub mod Tape
+pub mod Sinks
+pub mod Memory
+pub mod Reach
+pub mod Bytes
+pub mod Messages
+pub mod Numbers
+pub mod Arguments
+pub mod Requests
+pub mod Reading
+pub mod Output
+pub mod Run
+pub mod Rows

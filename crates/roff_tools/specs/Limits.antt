@@ -1,0 +1,10 @@
+-- The values of the limits.
+use Rattle.std.specs.Prelude.{ℕ}
+use Rattle.roff_lines.specs.declared.limit.Limit.{Limit}
+use Rattle.roff_lines.specs.declared.limit.Limit.TheVariants.{Bytes, Line}
+use Rattle.roff_tools.specs.declared.limits.Limits.{Limits}
+
+-- the value of a limit
+abbrev pub value_of : Limits → Limit → ℕ
+value_of l Bytes = l.bytes
+value_of l Line = l.line

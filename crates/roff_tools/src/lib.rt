@@ -1,0 +1,26 @@
+//! The formatter: `run`, what it reads from and writes to, and the devices in memory.
+#![tactic(auto)]
+
+mod arguments;
+mod block;
+mod engine;
+mod formatter;
+mod job;
+pub mod laws;
+mod limits;
+mod memory;
+mod message;
+mod meter;
+mod number;
+mod reading;
+mod request;
+mod sink;
+mod source;
+
+pub use engine::{Engine, Start, Status};
+pub use job::{Job, run};
+pub use limits::Limits;
+pub use memory::{MemSink, MemSource};
+pub use roff_lines::Limit;
+pub use sink::{ByteSink, SinkFault, WriteSink};
+pub use source::{ByteSource, Note, ReadSource, Taken};

@@ -1,0 +1,110 @@
+//! Devices in memory, that fail where they are told to.
+
+ghost use Rattle.std.specs.Prelude.{◌≡◌, Some, ◌≤◌, length, vec_len, vec_capacity};
+ghost use Rattle.roff_tools.specs.Memory.{tape_of, memory_ending};
+
+use crate::sink::{ByteSink, SinkFault};
+use crate::source::{ByteSource, Taken};
+use std::alloc::{AllocError, Global};
+
+/// A source of the bytes of a slice, which may fail behind some of them.
+#[derive(Drop)]
+pub struct MemSource<'a> {
+    rest: &'a [u8],
+    fails: bool,
+    failures: u64,
+}
+
+impl<'a> MemSource<'a> {
+    /// A source of these bytes. It fails after `fail_at` of them, if there are so many.
+    pub fn new(bytes: &'a [u8], fail_at: Option<usize>) -> Self {
+        match fail_at {
+            Some(count) if count <= bytes.len() => MemSource {
+                rest: &bytes[..count],
+                fails: true,
+                failures: 0,
+            },
+            _ => MemSource {
+                rest: bytes,
+                fails: false,
+                failures: 0,
+            },
+        }
+    }
+
+    /// The bytes that weren't taken yet.
+    pub fn rest(&self) -> &'a [u8] {
+        self.rest
+    }
+}
+
+impl ByteSource for MemSource<'_> {
+    ghost tape = { λ s. Some (tape_of s) };
+
+    ghost ended = { memory_ending };
+
+    ghost notes = { λ _. 0 };
+
+    ghost failures = { λ s. s.failures };
+
+    fn next_byte(&mut self) -> Taken {
+        match self.rest.split_first() {
+            Some((byte, rest)) => {
+                self.rest = rest;
+                Taken::Byte(*byte)
+            }
+            None if self.fails => {
+                self.failures = self.failures.saturating_add(1);
+                Taken::Fault
+            }
+            None => Taken::End,
+        }
+    }
+}
+
+/// A sink that keeps the first bytes, up to its capacity, and then fails.
+#[derive(Drop)]
+pub struct MemSink {
+    kept: Vec<u8>,
+    cap: usize,
+    failures: u64,
+    ghost reserved: { cap ≤ vec_capacity kept },
+    ghost within: { vec_len kept ≤ cap },
+}
+
+impl MemSink {
+    /// A sink with room for so many bytes, reserved here.
+    ///
+    /// # Errors
+    ///
+    /// [`AllocError`] if the room can't be had.
+    pub fn new(alloc: Global, cap: usize) -> Result<Self, AllocError> {
+        Ok(MemSink {
+            kept: Vec::with_capacity(alloc, cap)?,
+            cap,
+            failures: 0,
+        })
+    }
+
+    /// The bytes that were written.
+    pub fn kept(&self) -> &[u8] {
+        self.kept.as_slice()
+    }
+}
+
+impl ByteSink for MemSink {
+    ghost contents = { λ s. Some s.kept.items };
+
+    ghost failures = { λ s. s.failures };
+
+    fn put(&mut self, piece: &[u8]) -> Result<(), SinkFault> {
+        let room = self.cap - self.kept.len();
+        if piece.len() <= room {
+            self.kept.extend_from_slice(piece).unwrap();
+            return Ok(());
+        }
+        self.kept.extend_from_slice(piece.split_at(room).0).unwrap();
+        self.failures = self.failures.saturating_add(1);
+        Err(SinkFault)
+    }
+}
