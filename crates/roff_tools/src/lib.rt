@@ -16,6 +16,8 @@ mod reading;
 mod request;
 mod sink;
 mod source;
+#[cfg(test)]
+mod tests;
 
 pub use engine::{Engine, Start, Status};
 pub use job::{Job, run};

@@ -50,6 +50,17 @@ impl<W: Write + Drop> WriteSink<W> {
         }
     }
 
+    /// The writer.
+    pub fn into_inner(self) -> W
+        ensures { result ≡ self.writer }
+    {
+        let WriteSink {
+            writer,
+            failures: _,
+        } = self;
+        writer
+    }
+
     /// Writes out what the writer holds back.
     ///
     /// # Errors
