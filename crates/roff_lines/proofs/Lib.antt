@@ -1,6 +1,6 @@
 pub mod Blanks
 pub mod Widths
-pub mod Histories
-pub mod StandsLemmas
-pub mod StandsWords
-pub mod StandsLines
+pub mod PendingLine
+pub mod Stands
+pub mod WordEnd
+pub mod LineEnd

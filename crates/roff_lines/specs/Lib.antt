@@ -11,3 +11,4 @@ pub mod Shape
 pub mod LineBytes
 pub mod Stands
 pub mod Rests
+pub mod Lists

@@ -25,13 +25,10 @@ line_indent [] = 0
 line_indent (w ∷ []) = w.under.indent
 line_indent (w ∷ v ∷ ws) = line_indent (v ∷ ws)
 
--- the columns that a line of this indent may fill
-abbrev pub measure : Settings → ℕ → ℕ
-measure s indent = s.line_length - indent
-
--- whether a line of this indent may be so wide: within the measure, and always without filling
+-- whether a line of this indent may have text of this width: with its indent within the line length,
+-- and always without filling
 abbrev pub may_be_wide : Settings → ℕ → ℕ → Bool
-may_be_wide s indent width = not s.filling || nat_le width (measure s indent)
+may_be_wide s indent width = not s.filling || nat_le (indent + width) s.line_length
 
 -- whether a word fits behind a line, by what was in force as the word ended
 abbrev pub fits : List Word → Word → Bool
@@ -71,7 +68,7 @@ pub record Finished : Type 0 where
 
 -- the columns that a line of this indent and text leaves free
 abbrev pub free_columns : Settings → ℕ → List ℕ → ℕ
-free_columns s indent text = measure s indent - text_width text
+free_columns s indent text = s.line_length - (indent + text_width text)
 
 -- how much later a line starts that is adjusted on the right, or centred
 abbrev pub late_start : Settings → ℕ → ℕ

@@ -241,14 +241,16 @@ impl Env {
     }
 }
 
-/// Whether a word fits behind a line: within the measure, and always where nothing is filled.
+/// Whether a word fits behind a line: with the indent within the line length, and always where nothing
+/// is filled.
 fn fits(settings: Settings, indent: u32, line: &Stretch, blanks: u64, word: &Stretch) -> bool
     requires blanks { blanks ≤ 2 ^ 33 }
     requires line { line.now.room < 2 ^ 32 }
     requires word { word.now.room < 2 ^ 32 }
     ensures { result ≡ may_be_wide settings indent (text_width line.now.text + blanks + text_width word.now.text) }
 {
-    !settings.filling || line.width() + blanks + word.width() <= settings.measure(indent)
+    let width = line.width() + blanks + word.width();
+    !settings.filling || u64::from(indent) + width <= u64::from(settings.line_length)
 }
 
 /// Adds a gap of so many blanks.

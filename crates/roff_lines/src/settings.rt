@@ -1,7 +1,6 @@
 //! The parameters of an environment (manual, sections 4 and 6).
 
-ghost use Rattle.std.specs.Prelude.{◌≡◌, ◌<◌, ◌^◌};
-ghost use Rattle.roff_lines.specs.Lines.{measure};
+ghost use Rattle.std.specs.Prelude.{◌≡◌};
 ghost use Rattle.roff_lines.specs.Settings.{initial_settings, settings_with};
 
 /// How lines are adjusted (manual, section 4.1, the request `ad`).
@@ -65,14 +64,6 @@ impl Settings {
             indent: 0,
             previous_indent: 0,
         }
-    }
-
-    /// The columns that a line of this indent may fill.
-    pub(crate) fn measure(self, indent: u32) -> u64
-        ensures value { result ≡ measure self indent }
-        ensures within { result < 2 ^ 32 }
-    {
-        u64::from(self.line_length.saturating_sub(indent))
     }
 
     /// What is in force after a change.

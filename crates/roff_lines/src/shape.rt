@@ -1,6 +1,6 @@
 //! How a line is laid out as it is finished.
 
-ghost use Rattle.std.specs.Prelude.{◌≡◌, []};
+ghost use Rattle.std.specs.Prelude.{◌≡◌, ◌<◌, ◌^◌, []};
 ghost use Rattle.roff_lines.specs.Columns.{finished_of};
 ghost use Rattle.roff_lines.specs.Lines.{empty_line, laid_out};
 ghost use Rattle.roff_lines.specs.Shape.{shaped};
@@ -31,9 +31,11 @@ impl Shape {
 
     /// That of a line as it is finished, by a word that doesn't fit or by a break.
     pub(crate) fn of(settings: Settings, by_word: bool, indent: u32, line: &Stretch) -> Shape
+        requires { line.now.room < 2 ^ 32 }
         ensures { shaped result line.now.text ≡ laid_out settings by_word indent line.now.text }
     {
-        let free = settings.measure(indent).saturating_sub(line.width());
+        let wide = u64::from(indent) + line.width();
+        let free = u64::from(settings.line_length).saturating_sub(wide);
         let adjusts = settings.filling && settings.adjusting;
         let gaps = line.gaps();
         let mut start = 0;

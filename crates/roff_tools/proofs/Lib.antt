@@ -1,1 +1,9 @@
 pub mod Appending
+pub mod Performed
+pub mod Leads
+pub mod Digits
+pub mod Beginnings
+pub mod StepsAppend
+pub mod StepsOnlyCut
+pub mod RunsOnlyCut
+pub mod FirstArguments

@@ -3,6 +3,8 @@ use Rattle.std.specs.Prelude.{ℕ, ◌+◌, ◌-◌, Bool, true, false, ◌&&◌
 use Rattle.std.specs.Str.Parse.{digits_value}
 use Rattle.std.specs.Char.{is_ascii_digit}
 use Rattle.roff_tools.specs.declared.number.Number.{Number}
+use Rattle.roff_tools.specs.declared.number.Scale.{Scale}
+use Rattle.roff_tools.specs.declared.number.Scale.TheVariants.{Columns, Lines}
 use Rattle.roff_tools.specs.declared.number.Sign.{Sign}
 use Rattle.roff_tools.specs.declared.number.Sign.TheVariants.{Unsigned, Plus, Minus}
 
@@ -39,6 +41,11 @@ is_column_scale c = c == 109 || c == 110
 -- the scale of vertical numbers: `v`, a line
 abbrev pub is_line_scale : ℕ → Bool
 is_line_scale c = c == 118
+
+-- the letters of a scale
+abbrev pub scale_test : Scale → ℕ → Bool
+scale_test Columns = is_column_scale
+scale_test Lines = is_line_scale
 
 -- the greatest length: as many columns as a length of 2147483647 basic units has, at 24 a column
 abbrev pub most_columns : ℕ

@@ -44,18 +44,27 @@ text_line_end has_glyph has_silent = if has_glyph || has_silent then Text WordEn
 abbrev pub leading_glyph : ℕ → List PageEvent
 leading_glyph n = if n == 0 then [] else Text (Print (Blanks n)) ∷ []
 
+-- a blank behind so many others at a line's beginning: the first of them is a break
+abbrev pub leading_blank_events : ℕ → List PageEvent
+leading_blank_events before = if before == 0 then Text WordEnd ∷ Text Break ∷ [] else []
+
+-- a blank of a text line: before the first glyph a leading one, and else a gap
+abbrev pub blank_taking : Bool → Bool → ℕ → Taking
+blank_taking true has_silent leading = record {
+  reading = InText true has_silent leading;
+  effect = doing (Text WordEnd ∷ Text (Gap 1) ∷ []);
+}
+blank_taking false has_silent leading = record {
+  reading = InText false has_silent (leading + 1);
+  effect = doing (leading_blank_events leading);
+}
+
 -- a byte of a text line
 abbrev pub text_taking : Bool → Bool → ℕ → ℕ → Taking
 text_taking has_glyph has_silent leading b =
     if b == newline then record { reading = LineStart; effect = doing (text_line_end has_glyph has_silent) }
     else if is_silent b then going_on (InText has_glyph true leading)
-    else if b == blank
-    then (if has_glyph
-    then record { reading = InText has_glyph has_silent leading; effect = doing (Text WordEnd ∷ Text (Gap 1) ∷ []) }
-    else record {
-      reading = InText has_glyph has_silent (leading + 1);
-      effect = doing (if leading == 0 then Text WordEnd ∷ Text Break ∷ [] else []);
-    })
+    else if b == blank then blank_taking has_glyph has_silent leading
     else record {
       reading = InText true has_silent 0;
       effect = doing (leading_glyph leading ++ Text (Print (Printed b)) ∷ []);

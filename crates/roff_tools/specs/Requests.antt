@@ -1,5 +1,6 @@
 -- The requests: their names, and what each does (manual, sections 4 to 6).
 use Rattle.std.specs.Prelude.{ℕ, Bool, true, false, List, [], ◌∷◌, codes, Option, Some, None, if◌then◌else◌, ◌==◌}
+use Rattle.std.specs.Option.{option_to_list}
 use Rattle.roff_lines.specs.Events.{Event, WordEnd, Break, Set}
 use Rattle.roff_lines.specs.declared.settings.Settings.{Settings}
 use Rattle.roff_lines.specs.declared.settings.AdjustMode.{AdjustMode}
@@ -7,8 +8,12 @@ use Rattle.roff_lines.specs.declared.settings.AdjustMode.TheVariants.{Left, Righ
 use Rattle.roff_lines.specs.declared.settings.Param.TheVariants.{Filling, Adjusting, Mode, LineLength, Indent}
 use Rattle.roff_tools.specs.declared.request.Request.{Request}
 use Rattle.roff_tools.specs.declared.request.Request.TheVariants.{Adjust, Break as BreakLine, Fill, Indent as IndentBy, LineLength as LengthOfLine, NoAdjust, NoFill, Space as SpaceDown}
+use Rattle.roff_tools.specs.declared.request.Action.{Action}
+use Rattle.roff_tools.specs.declared.request.Action.TheVariants.{None as NoAction, Set as SetParam, Adjust as AdjustIn, Space as SpaceBy}
+use Rattle.roff_tools.specs.declared.request.Effect.{Effect as PlannedEffect}
 use Rattle.roff_tools.specs.declared.message.Message.{Message}
 use Rattle.roff_tools.specs.declared.message.Message.TheVariants.{BadNumber, BackwardMotion}
+use Rattle.roff_tools.specs.declared.number.Number.{Number}
 use Rattle.roff_tools.specs.Numbers.{number_of, is_column_scale, is_line_scale, length_set, is_below_zero}
 
 -- what happens to the page: something to the text, or so many blank lines
@@ -55,16 +60,18 @@ request_named name = named_in request_names name
 abbrev pub breaking : Bool → List PageEvent → List PageEvent
 breaking breaks events = if breaks then Text WordEnd ∷ Text Break ∷ events else events
 
--- `sp`: so many blank lines, one without an argument, none if the number is below 0
+-- the space of a number, none if it is below 0; what isn't a number is reported
+abbrev pub spaced : Bool → Option Number → Effect
+spaced breaks None = saying BadNumber
+spaced breaks (Some n) =
+    if is_below_zero n
+    then record { messages = BackwardMotion ∷ []; events = breaking breaks (Space 0 ∷ []) }
+    else doing (breaking breaks (Space n.size ∷ []))
+
+-- `sp`: so many blank lines, one without an argument
 abbrev pub space_down : Bool → List (List ℕ) → Effect
 space_down breaks [] = doing (breaking breaks (Space 1 ∷ []))
-space_down breaks (a ∷ as_given) = elim (number_of is_line_scale a) [
-  | None ↦ saying BadNumber
-  | Some n ↦
-      if is_below_zero n
-      then record { messages = BackwardMotion ∷ []; events = breaking breaks (Space 0 ∷ []) }
-      else doing (breaking breaks (Space n.size ∷ []))
-]
+space_down breaks (a ∷ as_given) = spaced breaks (number_of is_line_scale a)
 
 -- a length that a request sets: the previous one without an argument
 abbrev pub length_wanted : ℕ → ℕ → List (List ℕ) → Option ℕ
@@ -110,3 +117,18 @@ request_effect s breaks LengthOfLine as_given = elim (length_wanted s.line_lengt
 request_effect s breaks NoAdjust as_given = doing (Text (Set (Adjusting false)) ∷ [])
 request_effect s breaks NoFill as_given = doing (breaking breaks (Text (Set (Filling false)) ∷ []))
 request_effect s breaks SpaceDown as_given = space_down breaks as_given
+
+-- the events of an action
+abbrev pub action_events : Action → List PageEvent
+action_events NoAction = []
+action_events (SetParam p) = Text (Set p) ∷ []
+action_events (AdjustIn None) = Text (Set (Adjusting true)) ∷ []
+action_events (AdjustIn (Some mode)) = Text (Set (Mode mode)) ∷ Text (Set (Adjusting true)) ∷ []
+action_events (SpaceBy lines) = Space lines ∷ []
+
+-- an effect as it is planned, of a request called by a dot or not: the message, the break, the action
+abbrev pub effect_of : Bool → PlannedEffect → Effect
+effect_of breaks e = record {
+  messages = option_to_list e.message;
+  events = if e.breaks then breaking breaks (action_events e.action) else action_events e.action;
+}

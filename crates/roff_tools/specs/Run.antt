@@ -16,7 +16,7 @@ use Rattle.roff_tools.specs.Output.{PageHistory, text_of, written}
 use Rattle.roff_tools.specs.Reading.{Reading, LineStart, Taking, taking, end_effect}
 use Rattle.roff_lines.specs.Events.{WordEnd, Break}
 use Rattle.roff_tools.specs.Requests.{PageEvent, Text, Space, Effect}
-use Rattle.roff_tools.specs.Tape.{Tape, OneByte, OneNote, Ended, Failed, Stopped, Gives, Ends, front, behind_front}
+use Rattle.roff_tools.specs.Tape.{Tape, Answer, OneByte, OneNote, Ended, Failed, Stopped, Gives, Ends, front, behind_front}
 
 -- a state of the run
 pub record State : Type 0 where
@@ -76,6 +76,10 @@ meaning effect s = record s {
   to_do = effect.events ++ s.to_do;
 }
 
+-- the limit on bytes stops one more
+abbrev pub passes_bytes : Limits → ℕ → Bool
+passes_bytes l charge = nat_lt l.bytes (charge + 1)
+
 -- the limit on the pending line stops an event behind which the line would be longer
 abbrev pub passes_line : Limits → PageHistory → PageEvent → Bool
 passes_line l h (Text e) = nat_lt l.line (pending_length (e ∷ text_of h))
@@ -111,30 +115,22 @@ end_met s =
     let e : Effect = end_effect (settings_after (text_of s.history)) s.reading in
     meaning e (record s { reading = LineStart; is_closing = true; to_do = Text WordEnd ∷ Text Break ∷ [] })
 
--- the source is looked at, and its item taken. At the limit a byte is looked at and not taken.
-abbrev pub item_taken : Limits → State → State
-item_taken l s = elim (front s.tape) [
-  | Gives item ↦ elim item [
-    | OneByte b ↦ if nat_lt s.charge l.bytes then byte_taken b s else stopped_by l Bytes s
-    | OneNote message ↦ moved (record s { messages = s.messages ++ message })
-  ]
-  | Ends ending ↦ elim ending [
-    | Ended ↦ end_met s
-    | Failed ↦ ending_with Device ReadFailed s
-    | Stopped limit ↦ ending_as (Limited limit) s
-  ]
-]
+-- the source was looked at, and answered this. At the limit a byte is looked at and not taken.
+abbrev pub answered : Limits → Answer → State → State
+answered l (Gives (OneByte b)) s = if passes_bytes l s.charge then stopped_by l Bytes s else byte_taken b s
+answered l (Gives (OneNote message)) s = moved (record s { messages = s.messages ++ message })
+answered l (Ends Ended) s = end_met s
+answered l (Ends Failed) s = ending_with Device ReadFailed s
+answered l (Ends (Stopped limit)) s = ending_as (Limited limit) s
 
--- one step of a run that hasn't ended: an event, the end, or an item
-abbrev pub step_on : Limits → State → State
-step_on l s = elim s.to_do [
-  | e ∷ rest ↦ performing l e rest s
-  | [] ↦ if s.is_closing then ending_as Done s else item_taken l s
-]
+-- one step of a run that hasn't ended: the first of the events to do, the end, or an item
+abbrev pub step_with : Limits → List PageEvent → State → State
+step_with l (e ∷ rest) s = performing l e rest s
+step_with l [] s = if s.is_closing then ending_as Done s else answered l (front s.tape) s
 
 -- one step: a run that has ended stays as it is
 abbrev pub step : Limits → State → State
-step l s = elim s.ended [ None ↦ step_on l s | Some status ↦ s ]
+step l s = elim s.ended [ None ↦ step_with l s.to_do s | Some status ↦ s ]
 
 -- so many steps
 abbrev pub after : Limits → ℕ → State → State

@@ -8,3 +8,9 @@ pub record AppendsFront (old new : Option (List ℕ)) (piece : List ℕ) : Type 
   pub back : List ℕ
   pub split : piece ≡ front ++ back
   pub written : Appends old new front
+
+-- all of the piece was written but its end, which is held back
+pub record AppendsAllBut (old new : Option (List ℕ)) (piece held : List ℕ) : Type 0 where
+  pub front : List ℕ
+  pub split : piece ≡ front ++ held
+  pub written : Appends old new front

@@ -1,6 +1,8 @@
 //! The arguments of a control line, of which a request here uses the first.
 
-ghost use Rattle.std.specs.Prelude.{◌≤◌};
+ghost use Rattle.std.specs.Prelude.{◌≡◌, ◌≤◌, ◌++◌, ◌∷◌, [], take};
+ghost use Rattle.std.specs.Option.{option_copied};
+ghost use Rattle.roff_tools.specs.Arguments.{Arguments, arguments_read, first_kept, first_step, no_arguments, with_argument_byte, with_dropped_byte};
 
 /// How many bytes of an argument are kept. A number has at most eight: what has more is none.
 const KEPT: usize = 9;
@@ -29,9 +31,30 @@ pub(crate) struct FirstArgument {
     ghost within: { len ≤ 9 },
 }
 
+impl Place {
+    /// Where the reading stands behind one byte more, and whether the byte is one of the argument.
+    fn step(self, byte: u8) -> (Place, bool)
+        ensures { result ≡ first_step self byte }
+    {
+        match (self, byte) {
+            (Place::Before, b' ') => (Place::Before, false),
+            (Place::Before, b'"') => (Place::InQuotes, false),
+            (Place::InPlain, b' ') => (Place::Behind, false),
+            (Place::Before | Place::InPlain, _) => (Place::InPlain, true),
+            (Place::InQuotes, b'"') => (Place::BehindQuote, false),
+            (Place::BehindQuote, b'"') | (Place::InQuotes, _) => (Place::InQuotes, true),
+            (Place::BehindQuote | Place::Behind, _) => (Place::Behind, false),
+        }
+    }
+}
+
 impl FirstArgument {
+    ghost use Rattle.roff_tools.specs.FirstArgument.{KeepsFirst};
+
     /// Nothing of it is read yet.
-    pub(crate) fn new() -> Self {
+    pub(crate) fn new() -> Self
+        ensures { KeepsFirst no_arguments result }
+    {
         FirstArgument {
             bytes: [0; KEPT],
             len: 0,
@@ -40,7 +63,9 @@ impl FirstArgument {
     }
 
     /// The argument at the line's end, if there is one: its first nine bytes.
-    pub(crate) fn read(&self) -> Option<&[u8]> {
+    pub(crate) fn read(&self) -> Option<&[u8]>
+        ensures { (a : Arguments) → KeepsFirst a self.now → option_copied result ≡ first_kept (arguments_read a) }
+    {
         match self.place {
             Place::Before => None,
             _ => Some(&self.bytes[..self.len]),
@@ -48,34 +73,30 @@ impl FirstArgument {
     }
 
     /// One byte more of the line.
-    pub(crate) fn take(&mut self, byte: u8) {
-        match (self.place, byte) {
-            (Place::Before, b' ') | (Place::Behind, _) => {}
-            (Place::Before, b'"') => self.place = Place::InQuotes,
-            (Place::Before, _) => {
-                self.place = Place::InPlain;
-                self.keep(byte);
-            }
-            (Place::InPlain, b' ') => self.place = Place::Behind,
-            (Place::InQuotes, b'"') => self.place = Place::BehindQuote,
-            (Place::BehindQuote, b'"') => {
-                self.place = Place::InQuotes;
-                self.keep(byte);
-            }
-            (Place::BehindQuote, _) => self.place = Place::Behind,
-            (Place::InPlain | Place::InQuotes, _) => self.keep(byte),
+    pub(crate) fn take(&mut self, byte: u8)
+        ensures { (a : Arguments) → KeepsFirst a self.old → KeepsFirst (with_argument_byte a byte) self.new }
+    {
+        let (place, belongs) = self.place.step(byte);
+        if belongs {
+            self.keep(byte);
         }
+        self.place = place;
     }
 
     /// A byte of the line that is dropped: no quote follows the quote before it.
-    pub(crate) fn take_dropped(&mut self) {
+    pub(crate) fn take_dropped(&mut self)
+        ensures { (a : Arguments) → KeepsFirst a self.old → KeepsFirst (with_dropped_byte a) self.new }
+    {
         if self.place == Place::BehindQuote {
             self.place = Place::Behind;
         }
     }
 
     /// Keeps a byte of the argument.
-    fn keep(&mut self, byte: u8) {
+    fn keep(&mut self, byte: u8)
+        ensures place { self.new.place ≡ self.old.place }
+        ensures bytes { take self.new.len self.new.bytes ≡ take 9 (take self.old.len self.old.bytes ++ byte ∷ []) }
+    {
         if self.len < KEPT {
             self.bytes[self.len] = byte;
             self.len += 1;

@@ -1,6 +1,10 @@
 //! The block through which lines are written.
 
-ghost use Rattle.std.specs.Prelude.{◌≡◌, ◌≤◌, [], vec_capacity, OnOk};
+ghost use Rattle.std.specs.Prelude.{◌≡◌, ◌≤◌, [], ◌∷◌, ◌++◌, replicate, vec_capacity, OnOk, OnErr};
+ghost use Rattle.std.specs.Io.KnownBytes.{Appends};
+ghost use Rattle.roff_lines.specs.Columns.{finished_of, line_bytes};
+ghost use Rattle.roff_tools.specs.Sinks.{AppendsAllBut, AppendsFront};
+ghost use Rattle.roff_tools.specs.Tape.{Rises};
 
 use crate::sink::{ByteSink, SinkFault};
 use roff_lines::{Line, LineBytes};
@@ -9,11 +13,13 @@ use std::alloc::{AllocError, Global};
 /// How many bytes are put at once, at the most.
 const BLOCK: usize = 8_192;
 
-/// A block of bytes, reserved from the start. A line that it has room for is put in one piece.
+/// A block of bytes, reserved from the start, and empty between two lines. A line that it has room for
+/// is put in one piece.
 #[derive(Drop)]
 pub(crate) struct Block {
     bytes: Vec<u8>,
     ghost reserved: { 8192 ≤ vec_capacity bytes },
+    ghost empty: { bytes.items ≡ [] },
 }
 
 impl Block {
@@ -29,11 +35,17 @@ impl Block {
         &mut self,
         line: Line<'_>,
         out: &mut O,
-    ) -> Result<(), SinkFault> {
+    ) -> Result<(), SinkFault>
+        ensures ok { OnOk result (Appends (O.contents out.old) (O.contents out.new) (line_bytes (finished_of line.entry))) }
+        ensures err { OnErr result (AppendsFront (O.contents out.old) (O.contents out.new) (line_bytes (finished_of line.entry))) }
+        ensures failures { O.failures out.old ≤ O.failures out.new }
+        ensures fault { OnErr result (Rises (O.failures out.old) (O.failures out.new)) }
+    {
+        let bytes = &mut self.bytes;
         for byte in LineBytes::of(line) {
-            self.push(byte, out)?;
+            push(bytes, byte, out)?;
         }
-        self.put(out)
+        put(bytes, out)
     }
 
     /// Writes so many blank lines.
@@ -41,30 +53,50 @@ impl Block {
         &mut self,
         lines: u32,
         out: &mut O,
-    ) -> Result<(), SinkFault> {
-        for _ in 0..lines {
-            self.push(b'\n', out)?;
-        }
-        self.put(out)
-    }
-
-    /// Adds a byte; a full block is put first.
-    fn push<O: ByteSink>(&mut self, byte: u8, out: &mut O) -> Result<(), SinkFault> {
-        if self.bytes.len() >= BLOCK {
-            self.put(out)?;
-        }
-        self.bytes.push(byte).unwrap();
-        Ok(())
-    }
-
-    /// Puts what the block holds, which is then empty.
-    fn put<O: ByteSink>(&mut self, out: &mut O) -> Result<(), SinkFault>
-        ensures { OnOk result (self.new.bytes.items ≡ []) }
+    ) -> Result<(), SinkFault>
+        ensures ok { OnOk result (Appends (O.contents out.old) (O.contents out.new) (replicate lines 10)) }
+        ensures err { OnErr result (AppendsFront (O.contents out.old) (O.contents out.new) (replicate lines 10)) }
+        ensures failures { O.failures out.old ≤ O.failures out.new }
+        ensures fault { OnErr result (Rises (O.failures out.old) (O.failures out.new)) }
     {
-        if !self.bytes.is_empty() {
-            out.put(&self.bytes)?;
-            self.bytes.clear();
+        let bytes = &mut self.bytes;
+        for _ in 0..lines {
+            push(bytes, b'\n', out)?;
         }
-        Ok(())
+        put(bytes, out)
     }
+}
+
+/// Adds a byte to those of a block; where they fill it they are put first.
+fn push<O: ByteSink>(bytes: &mut Vec<u8>, byte: u8, out: &mut O) -> Result<(), SinkFault>
+    requires { 8192 ≤ vec_capacity bytes.old }
+    ensures capacity { vec_capacity bytes.old ≤ vec_capacity bytes.new }
+    ensures ok { OnOk result (AppendsAllBut (O.contents out.old) (O.contents out.new) (bytes.old.items ++ byte ∷ []) bytes.new.items) }
+    ensures err { OnErr result (AppendsFront (O.contents out.old) (O.contents out.new) bytes.old.items) }
+    ensures empty { OnErr result (bytes.new.items ≡ []) }
+    ensures failures { O.failures out.old ≤ O.failures out.new }
+    ensures fault { OnErr result (Rises (O.failures out.old) (O.failures out.new)) }
+{
+    if bytes.len() >= BLOCK {
+        put(bytes, out)?;
+    }
+    bytes.push(byte).unwrap();
+    Ok(())
+}
+
+/// Puts the bytes of a block, which is then empty.
+fn put<O: ByteSink>(bytes: &mut Vec<u8>, out: &mut O) -> Result<(), SinkFault>
+    ensures capacity { vec_capacity bytes.new ≡ vec_capacity bytes.old }
+    ensures empty { bytes.new.items ≡ [] }
+    ensures ok { OnOk result (Appends (O.contents out.old) (O.contents out.new) bytes.old.items) }
+    ensures err { OnErr result (AppendsFront (O.contents out.old) (O.contents out.new) bytes.old.items) }
+    ensures failures { O.failures out.old ≤ O.failures out.new }
+    ensures fault { OnErr result (Rises (O.failures out.old) (O.failures out.new)) }
+{
+    if bytes.is_empty() {
+        return Ok(());
+    }
+    let answer = out.put(bytes);
+    bytes.clear();
+    answer
 }

@@ -1,5 +1,8 @@
 //! The engine: a whole run, from a source to its sinks.
 
+ghost use Rattle.std.specs.Prelude.{◌≡◌};
+ghost use Rattle.roff_tools.specs.ReadsAs.{leading_behind};
+
 use crate::formatter::{Formatter, Halt};
 use crate::limits::Limits;
 use crate::message::{Message, report};
@@ -29,6 +32,7 @@ pub enum Status {
 pub struct Engine {
     limits: Limits,
     formatter: Formatter,
+    ghost fresh: { leading_behind formatter.reading ≡ 0 },
 }
 
 impl Engine {

@@ -1,12 +1,33 @@
 //! The formatter: what each byte of the input does.
 
+ghost use Rattle.std.specs.Prelude.{◌≡◌, ◌≢◌, ℕ, ◌+◌, ◌<◌, ◌≤◌, ◌^◌, [], ◌∷◌, List, Option, Err, IfOk, OnOk, OnErr, IsOkUnless, option_map};
+ghost use Rattle.std.specs.Io.KnownBytes.{Appends};
+ghost use Rattle.std.specs.Option.{option_to_list};
+ghost use Rattle.roff_lines.specs.Columns.{finished_of};
+ghost use Rattle.roff_lines.specs.Events.{Print, WordEnd, LineEnd, Break, settings_after};
+ghost use Rattle.roff_lines.specs.Stands.{Stands};
+ghost use Rattle.roff_lines.specs.declared.settings.Settings.{Settings};
+ghost use Rattle.roff_tools.specs.Arguments.{Arguments, arguments_read};
+ghost use Rattle.roff_tools.specs.FirstArgument.{KeepsFirst};
+ghost use Rattle.roff_tools.specs.Happening.{event_of, events_of};
+ghost use Rattle.roff_tools.specs.Messages.{message_lines};
+ghost use Rattle.roff_tools.specs.Output.{PageHistory, text_of, finished_bytes};
+ghost use Rattle.roff_tools.specs.Performing.{Does, Performs, closing_events, with_events};
+ghost use Rattle.roff_tools.specs.Reading.{Reading as Read, argument_taking, end_effect, kept_taking, taking};
+ghost use Rattle.roff_tools.specs.ReadsAs.{ReadsAs, leading_behind, leading_of, part_of};
+ghost use Rattle.roff_tools.specs.Requests.{Text, Space, request_effect};
+ghost use Rattle.roff_tools.specs.Sinks.{AppendsFront};
+ghost use Rattle.roff_tools.specs.Tape.{Rises};
+ghost use Rattle.roff_tools.specs.declared.limits.Limits.{Limits};
+
 use crate::arguments::FirstArgument;
 use crate::block::Block;
+use crate::event::PageEvent;
 use crate::message::{Message, report};
-use crate::reading::{Reading, TextLine, ends_name, is_dropped, is_silent};
-use crate::request::{Action, Request};
+use crate::reading::{LinePart, Reading, is_dropped};
+use crate::request::Request;
 use crate::sink::ByteSink;
-use roff_lines::{Env, Glyph, Limit, Param};
+use roff_lines::{Env, Glyph, Limit, Line};
 use std::alloc::{AllocError, Global};
 
 /// What ends a run early.
@@ -31,9 +52,12 @@ pub(crate) struct Formatter {
 
 impl Formatter {
     /// A formatter before the first line, whose pending line may have `line_cap` bytes.
-    pub(crate) fn new(alloc: Global, line_cap: u32) -> Result<Self, AllocError> {
+    pub(crate) fn new(alloc: Global, line_cap: u32) -> Result<Self, AllocError>
+        ensures stands { IfOk result (λ f. Stands line_cap [] f.env) }
+        ensures reading { IfOk result (λ f. f.reading ≡ Reading.Line LinePart.Start) }
+    {
         Ok(Formatter {
-            reading: Reading::LineStart,
+            reading: Reading::Line(LinePart::Start),
             argument: FirstArgument::new(),
             env: Env::new(alloc, line_cap)?,
             block: Block::new(alloc)?,
@@ -47,33 +71,26 @@ impl Formatter {
         line: u32,
         out: &mut O,
         err: &mut E,
-    ) -> Result<(), Halt> {
+    ) -> Result<(), Halt>
+        requires { leading_behind self.old.reading + 1 < 2 ^ 32 }
+        ensures does { (l : Limits) (h : PageHistory) (r : Read) → Stands l.line (text_of h) self.old.env → ReadsAs r self.old.reading self.old.argument →
+            Does l h line (taking (settings_after (text_of h)) r byte).effect result self.new.env
+            (O.contents out.old) (O.contents out.new) (E.contents err.old) (E.contents err.new) }
+        ensures reads { (s : Settings) (r : Read) → ReadsAs r self.old.reading self.old.argument →
+            OnOk result (ReadsAs (taking s r byte).reading self.new.reading self.new.argument) }
+        ensures leading { leading_behind self.new.reading ≤ leading_behind self.old.reading + 1 }
+        ensures failures { (O.failures out.old ≤ O.failures out.new) × (E.failures err.old ≤ E.failures err.new) }
+        ensures output_fault { result ≡ Err Halt.Output → Rises (O.failures out.old) (O.failures out.new) }
+        ensures message_fault { result ≡ Err Halt.Messages → Rises (E.failures err.old) (E.failures err.new) }
+    {
         if is_dropped(byte) {
             self.argument.take_dropped();
             return Ok(());
         }
         match self.reading {
-            Reading::LineStart => self.begin_line(byte, out),
-            Reading::Text(text) => self.take_text(text, byte, out),
-            Reading::Control { breaks } => {
-                self.begin_name(breaks, byte);
-                Ok(())
-            }
-            Reading::Name { breaks, first } => {
-                self.end_name(breaks, first, byte);
-                Ok(())
-            }
-            Reading::Arguments { breaks, request } if byte == b'\n' => {
-                self.reading = Reading::LineStart;
-                self.perform(breaks, request, line, out, err)
-            }
-            Reading::Arguments { .. } => {
-                self.argument.take(byte);
-                Ok(())
-            }
-            Reading::Dropped => {
-                self.drop_byte(byte);
-                Ok(())
+            Reading::Line(part) => self.take_part(part, byte, out),
+            Reading::Arguments { breaks, request } => {
+                self.take_argument(breaks, request, byte, line, out, err)
             }
         }
     }
@@ -84,150 +101,168 @@ impl Formatter {
         line: u32,
         out: &mut O,
         err: &mut E,
-    ) -> Result<(), Halt> {
-        match self.reading {
-            Reading::Text(text) => self.end_text_line(text, out)?,
-            Reading::Arguments { breaks, request } => {
-                self.perform(breaks, request, line, out, err)?;
-            }
-            _ => {}
+    ) -> Result<(), Halt>
+        ensures does { (l : Limits) (h : PageHistory) (r : Read) → Stands l.line (text_of h) self.old.env → ReadsAs r self.old.reading self.old.argument →
+            Does l h line (with_events (end_effect (settings_after (text_of h)) r) closing_events) result self.new.env
+            (O.contents out.old) (O.contents out.new) (E.contents err.old) (E.contents err.new) }
+        ensures failures { (O.failures out.old ≤ O.failures out.new) × (E.failures err.old ≤ E.failures err.new) }
+        ensures output_fault { result ≡ Err Halt.Output → Rises (O.failures out.old) (O.failures out.new) }
+        ensures message_fault { result ≡ Err Halt.Messages → Rises (E.failures err.old) (E.failures err.new) }
+    {
+        match self.end_unfinished(line, out, err) {
+            Ok(()) => self.perform_all(&[PageEvent::WordEnd, PageEvent::Break], out),
+            Err(halt) => Err(halt),
         }
-        self.end_word(out)?;
-        self.brk(out)
     }
 
-    /// Takes the first byte of a line.
-    fn begin_line<O: ByteSink>(&mut self, byte: u8, out: &mut O) -> Result<(), Halt> {
-        match byte {
-            b'.' => self.reading = Reading::Control { breaks: true },
-            b'\'' => self.reading = Reading::Control { breaks: false },
-            _ => return self.take_text(TextLine::new(), byte, out),
-        }
-        Ok(())
-    }
-
-    /// Takes a byte of a text line.
-    fn take_text<O: ByteSink>(
+    /// Ends an unfinished line.
+    fn end_unfinished<O: ByteSink, E: ByteSink>(
         &mut self,
-        mut text: TextLine,
-        byte: u8,
+        line: u32,
         out: &mut O,
-    ) -> Result<(), Halt> {
-        match byte {
-            b'\n' => {
-                self.reading = Reading::LineStart;
-                return self.end_text_line(text, out);
-            }
-            b' ' if text.has_glyph => {
-                self.end_word(out)?;
-                self.env.gap(1);
-            }
-            b' ' => {
-                if text.leading == 0 {
-                    self.end_word(out)?;
-                    self.brk(out)?;
-                }
-                text.leading = text.leading.saturating_add(1);
-            }
-            _ if is_silent(byte) => text.has_silent = true,
-            _ => {
-                if text.leading > 0 {
-                    self.glyph(Glyph::Blanks(text.leading))?;
-                }
-                self.glyph(Glyph::Printed(byte))?;
-                text.has_glyph = true;
-                text.leading = 0;
-            }
-        }
-        self.reading = Reading::Text(text);
-        Ok(())
-    }
-
-    /// Takes the byte behind a control line's dot or apostrophe and the blanks there.
-    fn begin_name(&mut self, breaks: bool, byte: u8) {
-        if byte == b' ' {
-            return;
-        }
-        if ends_name(byte) {
-            self.drop_byte(byte);
-        } else {
-            self.reading = Reading::Name {
-                breaks,
-                first: byte,
-            };
+        err: &mut E,
+    ) -> Result<(), Halt>
+        ensures does { (l : Limits) (h : PageHistory) (r : Read) → Stands l.line (text_of h) self.old.env → ReadsAs r self.old.reading self.old.argument →
+            Does l h line (end_effect (settings_after (text_of h)) r) result self.new.env
+            (O.contents out.old) (O.contents out.new) (E.contents err.old) (E.contents err.new) }
+        ensures failures { (O.failures out.old ≤ O.failures out.new) × (E.failures err.old ≤ E.failures err.new) }
+        ensures output_fault { result ≡ Err Halt.Output → Rises (O.failures out.old) (O.failures out.new) }
+        ensures message_fault { result ≡ Err Halt.Messages → Rises (E.failures err.old) (E.failures err.new) }
+    {
+        match self.reading {
+            Reading::Line(part) => self.perform_all(&part.end(), out),
+            Reading::Arguments { breaks, request } => self.obey(breaks, request, line, out, err),
         }
     }
 
-    /// Takes the byte behind the first one of a name. No request has a name of one byte.
-    fn end_name(&mut self, breaks: bool, first: u8, byte: u8) {
-        if ends_name(byte) {
-            self.drop_byte(byte);
-            return;
+    /// Takes a byte of a line without a request.
+    fn take_part<O: ByteSink>(&mut self, part: LinePart, byte: u8, out: &mut O) -> Result<(), Halt>
+        requires { leading_of part + 1 < 2 ^ 32 }
+        ensures performs { (l : Limits) (h : PageHistory) (s : Settings) → Stands l.line (text_of h) self.old.env →
+            Performs l h (kept_taking s (part_of part) byte).effect.events result self.new.env (O.contents out.old) (O.contents out.new) }
+        ensures silent { (s : Settings) → (kept_taking s (part_of part) byte).effect.messages ≡ [] }
+        ensures reads { (s : Settings) → ReadsAs (kept_taking s (part_of part) byte).reading self.new.reading self.new.argument }
+        ensures leading { leading_behind self.new.reading ≤ leading_of part + 1 }
+        ensures failures { O.failures out.old ≤ O.failures out.new }
+        ensures halt { result ≢ Err Halt.Messages }
+        ensures fault { result ≡ Err Halt.Output → Rises (O.failures out.old) (O.failures out.new) }
+    {
+        let taking = part.taking(byte);
+        self.argument = FirstArgument::new();
+        self.reading = taking.reading;
+        self.perform_all(&taking.events, out)
+    }
+
+    /// Takes a byte behind a request's name, on this line of the input.
+    fn take_argument<O: ByteSink, E: ByteSink>(
+        &mut self,
+        breaks: bool,
+        request: Request,
+        byte: u8,
+        line: u32,
+        out: &mut O,
+        err: &mut E,
+    ) -> Result<(), Halt>
+        requires { self.old.reading ≡ Reading.Arguments breaks request }
+        ensures does { (l : Limits) (h : PageHistory) (a : Arguments) → Stands l.line (text_of h) self.old.env → KeepsFirst a self.old.argument →
+            Does l h line (argument_taking (settings_after (text_of h)) breaks request a byte).effect result self.new.env
+            (O.contents out.old) (O.contents out.new) (E.contents err.old) (E.contents err.new) }
+        ensures reads { (s : Settings) (a : Arguments) → KeepsFirst a self.old.argument →
+            ReadsAs (argument_taking s breaks request a byte).reading self.new.reading self.new.argument }
+        ensures leading { leading_behind self.new.reading ≡ 0 }
+        ensures failures { (O.failures out.old ≤ O.failures out.new) × (E.failures err.old ≤ E.failures err.new) }
+        ensures output_fault { result ≡ Err Halt.Output → Rises (O.failures out.old) (O.failures out.new) }
+        ensures message_fault { result ≡ Err Halt.Messages → Rises (E.failures err.old) (E.failures err.new) }
+    {
+        if byte != b'\n' {
+            self.argument.take(byte);
+            return Ok(());
         }
-        self.reading = match Request::named(first, byte) {
-            Some(request) => {
-                self.argument = FirstArgument::new();
-                Reading::Arguments { breaks, request }
-            }
-            None => Reading::Dropped,
-        };
+        self.reading = Reading::Line(LinePart::Start);
+        self.obey(breaks, request, line, out, err)
     }
 
-    /// Takes a byte of a line that is dropped.
-    fn drop_byte(&mut self, byte: u8) {
-        self.reading = if byte == b'\n' {
-            Reading::LineStart
-        } else {
-            Reading::Dropped
-        };
-    }
-
-    /// Ends a text line; one of blanks alone is a break and a blank line.
-    fn end_text_line<O: ByteSink>(&mut self, text: TextLine, out: &mut O) -> Result<(), Halt> {
-        self.end_word(out)?;
-        if text.has_glyph || text.has_silent {
-            self.end_line(out)
-        } else {
-            self.brk(out)?;
-            self.space(1, out)
-        }
-    }
-
-    /// Performs a request of this line of the input, with the argument that was read.
-    fn perform<O: ByteSink, E: ByteSink>(
+    /// Obeys a request of this line of the input, with the argument that was read.
+    fn obey<O: ByteSink, E: ByteSink>(
         &mut self,
         breaks: bool,
         request: Request,
         line: u32,
         out: &mut O,
         err: &mut E,
-    ) -> Result<(), Halt> {
+    ) -> Result<(), Halt>
+        ensures does { (l : Limits) (h : PageHistory) (a : Arguments) → Stands l.line (text_of h) self.old.env → KeepsFirst a self.old.argument →
+            Does l h line (request_effect (settings_after (text_of h)) breaks request (arguments_read a)) result self.new.env
+            (O.contents out.old) (O.contents out.new) (E.contents err.old) (E.contents err.new) }
+        ensures reading { self.new.reading ≡ self.old.reading }
+        ensures argument { self.new.argument ≡ self.old.argument }
+        ensures failures { (O.failures out.old ≤ O.failures out.new) × (E.failures err.old ≤ E.failures err.new) }
+        ensures output_fault { result ≡ Err Halt.Output → Rises (O.failures out.old) (O.failures out.new) }
+        ensures message_fault { result ≡ Err Halt.Messages → Rises (E.failures err.old) (E.failures err.new) }
+    {
         let effect = request.effect(self.env.settings(), self.argument.read());
-        if let Some(message) = effect.message {
-            if report(message, line, err).is_err() {
-                return Err(Halt::Messages);
-            }
+        match tell(effect.message, line, err) {
+            Ok(()) => self.perform_all(&effect.events(breaks), out),
+            Err(halt) => Err(halt),
         }
-        if breaks && effect.breaks {
-            self.end_word(out)?;
-            self.brk(out)?;
-        }
-        match effect.action {
-            Action::None => {}
-            Action::Set(param) => self.env.set(param),
-            Action::Adjust(mode) => {
-                if let Some(mode) = mode {
-                    self.env.set(Param::Mode(mode));
-                }
-                self.env.set(Param::Adjusting(true));
+    }
+
+    /// Performs events, one after another.
+    fn perform_all<O: ByteSink>(&mut self, events: &[PageEvent], out: &mut O) -> Result<(), Halt>
+        ensures performs { (l : Limits) (h : PageHistory) → Stands l.line (text_of h) self.old.env →
+            Performs l h (events_of events.now) result self.new.env (O.contents out.old) (O.contents out.new) }
+        ensures reading { self.new.reading ≡ self.old.reading }
+        ensures argument { self.new.argument ≡ self.old.argument }
+        ensures failures { O.failures out.old ≤ O.failures out.new }
+        ensures halt { result ≢ Err Halt.Messages }
+        ensures fault { result ≡ Err Halt.Output → Rises (O.failures out.old) (O.failures out.new) }
+    {
+        let mut rest = events;
+        while let Some((event, others)) = rest.split_first() {
+            match self.perform(*event, out) {
+                Ok(()) => rest = others,
+                Err(halt) => return Err(halt),
             }
-            Action::Space(lines) => self.space(lines, out)?,
         }
         Ok(())
     }
 
+    /// Performs an event.
+    fn perform<O: ByteSink>(&mut self, event: PageEvent, out: &mut O) -> Result<(), Halt>
+        ensures performs { (l : Limits) (h : PageHistory) → Stands l.line (text_of h) self.old.env →
+            Performs l h (event_of event ∷ []) result self.new.env (O.contents out.old) (O.contents out.new) }
+        ensures reading { self.new.reading ≡ self.old.reading }
+        ensures argument { self.new.argument ≡ self.old.argument }
+        ensures failures { O.failures out.old ≤ O.failures out.new }
+        ensures halt { result ≢ Err Halt.Messages }
+        ensures fault { result ≡ Err Halt.Output → Rises (O.failures out.old) (O.failures out.new) }
+    {
+        match event {
+            PageEvent::Glyph(glyph) => self.glyph(glyph),
+            PageEvent::WordEnd => self.end_word(out),
+            PageEvent::Gap(blanks) => {
+                self.env.gap(blanks);
+                Ok(())
+            }
+            PageEvent::LineEnd => self.end_line(out),
+            PageEvent::Break => self.brk(out),
+            PageEvent::Set(param) => {
+                self.env.set(param);
+                Ok(())
+            }
+            PageEvent::Space(lines) => self.space(lines, out),
+        }
+    }
+
     /// Prints a glyph.
-    fn glyph(&mut self, glyph: Glyph) -> Result<(), Halt> {
+    fn glyph(&mut self, glyph: Glyph) -> Result<(), Halt>
+        ensures performs { (l : Limits) (h : PageHistory) (known : Option (List ℕ)) → Stands l.line (text_of h) self.old.env →
+            Performs l h (Text (Print glyph) ∷ []) result self.new.env known known }
+        ensures reading { self.new.reading ≡ self.old.reading }
+        ensures argument { self.new.argument ≡ self.old.argument }
+        ensures halt { result ≢ Err Halt.Messages }
+        ensures fault { result ≡ Err Halt.Output → ⊥ }
+    {
         match self.env.glyph(glyph) {
             Ok(()) => Ok(()),
             Err(limit) => Err(Halt::Limit(limit)),
@@ -235,43 +270,98 @@ impl Formatter {
     }
 
     /// Ends the open word, and writes the line that it finishes.
-    fn end_word<O: ByteSink>(&mut self, out: &mut O) -> Result<(), Halt> {
-        match self.env.end_word() {
-            None => Ok(()),
-            Some(line) => match self.block.put_line(line, out) {
-                Ok(()) => Ok(()),
-                Err(_) => Err(Halt::Output),
-            },
-        }
+    fn end_word<O: ByteSink>(&mut self, out: &mut O) -> Result<(), Halt>
+        ensures performs { (l : Limits) (h : PageHistory) → Stands l.line (text_of h) self.old.env →
+            Performs l h (Text WordEnd ∷ []) result self.new.env (O.contents out.old) (O.contents out.new) }
+        ensures reading { self.new.reading ≡ self.old.reading }
+        ensures argument { self.new.argument ≡ self.old.argument }
+        ensures failures { O.failures out.old ≤ O.failures out.new }
+        ensures halt { result ≢ Err Halt.Messages }
+        ensures fault { result ≡ Err Halt.Output → Rises (O.failures out.old) (O.failures out.new) }
+    {
+        let line = self.env.end_word();
+        put_finished(&mut self.block, line, out)
     }
 
     /// Ends a line of the input, and writes the line that it finishes.
-    fn end_line<O: ByteSink>(&mut self, out: &mut O) -> Result<(), Halt> {
-        match self.env.end_line() {
-            None => Ok(()),
-            Some(line) => match self.block.put_line(line, out) {
-                Ok(()) => Ok(()),
-                Err(_) => Err(Halt::Output),
-            },
-        }
+    fn end_line<O: ByteSink>(&mut self, out: &mut O) -> Result<(), Halt>
+        ensures performs { (l : Limits) (h : PageHistory) → Stands l.line (text_of h) self.old.env →
+            Performs l h (Text LineEnd ∷ []) result self.new.env (O.contents out.old) (O.contents out.new) }
+        ensures reading { self.new.reading ≡ self.old.reading }
+        ensures argument { self.new.argument ≡ self.old.argument }
+        ensures failures { O.failures out.old ≤ O.failures out.new }
+        ensures halt { result ≢ Err Halt.Messages }
+        ensures fault { result ≡ Err Halt.Output → Rises (O.failures out.old) (O.failures out.new) }
+    {
+        let line = self.env.end_line();
+        put_finished(&mut self.block, line, out)
     }
 
     /// Finishes the pending line, and writes it.
-    fn brk<O: ByteSink>(&mut self, out: &mut O) -> Result<(), Halt> {
-        match self.env.brk() {
-            None => Ok(()),
-            Some(line) => match self.block.put_line(line, out) {
-                Ok(()) => Ok(()),
-                Err(_) => Err(Halt::Output),
-            },
-        }
+    fn brk<O: ByteSink>(&mut self, out: &mut O) -> Result<(), Halt>
+        ensures performs { (l : Limits) (h : PageHistory) → Stands l.line (text_of h) self.old.env →
+            Performs l h (Text Break ∷ []) result self.new.env (O.contents out.old) (O.contents out.new) }
+        ensures reading { self.new.reading ≡ self.old.reading }
+        ensures argument { self.new.argument ≡ self.old.argument }
+        ensures failures { O.failures out.old ≤ O.failures out.new }
+        ensures halt { result ≢ Err Halt.Messages }
+        ensures fault { result ≡ Err Halt.Output → Rises (O.failures out.old) (O.failures out.new) }
+    {
+        let line = self.env.brk();
+        put_finished(&mut self.block, line, out)
     }
 
     /// Writes blank lines.
-    fn space<O: ByteSink>(&mut self, lines: u32, out: &mut O) -> Result<(), Halt> {
+    fn space<O: ByteSink>(&mut self, lines: u32, out: &mut O) -> Result<(), Halt>
+        ensures performs { (l : Limits) (h : PageHistory) → Stands l.line (text_of h) self.old.env →
+            Performs l h (Space lines ∷ []) result self.new.env (O.contents out.old) (O.contents out.new) }
+        ensures reading { self.new.reading ≡ self.old.reading }
+        ensures argument { self.new.argument ≡ self.old.argument }
+        ensures failures { O.failures out.old ≤ O.failures out.new }
+        ensures halt { result ≢ Err Halt.Messages }
+        ensures fault { result ≡ Err Halt.Output → Rises (O.failures out.old) (O.failures out.new) }
+    {
         match self.block.put_blank_lines(lines, out) {
             Ok(()) => Ok(()),
             Err(_) => Err(Halt::Output),
         }
+    }
+}
+
+/// Writes the line that an event finished, if it finished one.
+fn put_finished<O: ByteSink>(
+    block: &mut Block,
+    line: Option<Line<'_>>,
+    out: &mut O,
+) -> Result<(), Halt>
+    ensures ok { OnOk result (Appends (O.contents out.old) (O.contents out.new) (finished_bytes (option_map finished_of line.entry))) }
+    ensures err { OnErr result (AppendsFront (O.contents out.old) (O.contents out.new) (finished_bytes (option_map finished_of line.entry))) }
+    ensures halt { IsOkUnless result Halt.Output }
+    ensures failures { O.failures out.old ≤ O.failures out.new }
+    ensures fault { OnErr result (Rises (O.failures out.old) (O.failures out.new)) }
+{
+    match line {
+        None => Ok(()),
+        Some(line) => match block.put_line(line, out) {
+            Ok(()) => Ok(()),
+            Err(_) => Err(Halt::Output),
+        },
+    }
+}
+
+/// Writes the message of an effect, if it has one.
+fn tell<E: ByteSink>(message: Option<Message>, line: u32, err: &mut E) -> Result<(), Halt>
+    ensures ok { OnOk result (Appends (E.contents err.old) (E.contents err.new) (message_lines line (option_to_list message))) }
+    ensures err { OnErr result (AppendsFront (E.contents err.old) (E.contents err.new) (message_lines line (option_to_list message))) }
+    ensures halt { IsOkUnless result Halt.Messages }
+    ensures failures { E.failures err.old ≤ E.failures err.new }
+    ensures fault { OnErr result (Rises (E.failures err.old) (E.failures err.new)) }
+{
+    match message {
+        None => Ok(()),
+        Some(message) => match report(message, line, err) {
+            Ok(()) => Ok(()),
+            Err(_) => Err(Halt::Messages),
+        },
     }
 }

@@ -3,6 +3,7 @@
 ghost use Rattle.std.specs.Prelude.{◌≡◌, codes};
 ghost use Rattle.roff_lines.specs.declared.limit.Limit.TheVariants.{Bytes, Line};
 ghost use Rattle.roff_tools.specs.declared.engine.Status.TheVariants.{Done, Device, Limit as Limited};
+ghost use Rattle.roff_tools.specs.Laws.{LimitsOnlyCut, SameUntilALimit, FailingOnlyCuts, SameUntilTheFault};
 ghost use Rattle.roff_tools.specs.Rows.{gives, formatted, formatted_within, formatted_failing};
 
 /// What the definitions give on the worked rows of filled text.
@@ -40,4 +41,18 @@ pub fn limit_rows()
         ≡ gives (codes "") (codes "nroff: line 2: limit line (5) reached\n") (Limited Line) }
     ensures source_fails { formatted_failing 8 (codes ".nf\nab\ncd\n")
         ≡ gives (codes "ab\n") (codes "nroff: line 3: read failed\n") Device }
+{}
+
+/// Limits only cut: a run with smaller ones writes and reports a beginning, and comes to the same
+/// state until one of them stops it.
+pub fn limits()
+    ensures beginning { LimitsOnlyCut }
+    ensures same_until_a_limit { SameUntilALimit }
+{}
+
+/// A source that fails only cuts: where it went on, the run would write and report what it does, and
+/// more, and come to the same state until it met the fault.
+pub fn cut()
+    ensures beginning { FailingOnlyCuts }
+    ensures same_until_the_fault { SameUntilTheFault }
 {}

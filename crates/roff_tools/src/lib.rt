@@ -3,8 +3,11 @@
 
 mod arguments;
 mod block;
+mod command;
 mod engine;
+mod event;
 mod formatter;
+mod inputs;
 mod job;
 pub mod laws;
 mod limits;
@@ -12,6 +15,7 @@ mod memory;
 mod message;
 mod meter;
 mod number;
+mod program;
 mod reading;
 mod request;
 mod sink;
@@ -23,6 +27,7 @@ pub use engine::{Engine, Start, Status};
 pub use job::{Job, run};
 pub use limits::Limits;
 pub use memory::{MemSink, MemSource};
+pub use program::main_with;
 pub use roff_lines::Limit;
 pub use sink::{ByteSink, SinkFault, WriteSink};
 pub use source::{ByteSource, Note, ReadSource, Taken};

@@ -1,6 +1,6 @@
 //! What is counted of the input.
 
-ghost use Rattle.std.specs.Prelude.{◌≡◌, ◌+◌, ◌<◌, ◌≤◌, ◌↔◌, IsOk, IsErrOf, OnOk, OnErr, if◌then◌else◌, ◌==◌};
+ghost use Rattle.std.specs.Prelude.{◌≡◌, ◌+◌, ◌<◌, ◌≤◌, ◌^◌, ◌↔◌, IsOk, IsErrOf, OnOk, OnErr, if◌then◌else◌, ◌==◌};
 
 use roff_lines::Limit;
 
@@ -46,6 +46,7 @@ impl Meter {
     pub(crate) fn count(&mut self, byte: u8) -> Result<(), Limit>
         ensures within { IsOk result ↔ (self.old.charge < self.old.limit) }
         ensures charge { OnOk result (self.new.charge ≡ self.old.charge + 1) }
+        ensures fits { OnOk result (self.new.charge < 2 ^ 32) }
         ensures newlines { OnOk result (self.new.newlines ≡ (if byte == 10 then self.old.newlines + 1 else self.old.newlines)) }
         ensures line { OnOk result (self.new.line ≡ self.old.newlines + 1) }
         ensures limit { self.new.limit ≡ self.old.limit }

@@ -1,7 +1,9 @@
 //! Numbers in their simple form: a sign, one to six digits, a scale letter.
 
-ghost use Rattle.std.specs.Prelude.{◌≡◌, ◌<◌};
-ghost use Rattle.roff_tools.specs.Numbers.{is_below_zero, length_set};
+ghost use Rattle.std.specs.Prelude.{◌≡◌, ◌<◌, ◌≤◌, length, take_while};
+ghost use Rattle.std.specs.Char.{is_ascii_digit};
+ghost use Rattle.std.specs.Str.Parse.{AllDigits, digits_value};
+ghost use Rattle.roff_tools.specs.Numbers.{is_below_zero, is_scale_or_nothing, length_set, number_of, scale_test, size_of};
 
 /// The sign before a number.
 #[derive(Clone, Copy, Debug, PartialEq, Eq)]
@@ -31,15 +33,26 @@ pub(crate) struct Number {
 const MOST_COLUMNS: u32 = 89_478_485;
 
 /// The most digits of a number.
-const MOST_DIGITS: u32 = 6;
+const MOST_DIGITS: usize = 6;
 
 impl Scale {
+    /// Whether a byte is a letter of the scale.
+    fn has(self, byte: u8) -> bool
+        ensures { result ≡ scale_test self byte }
+    {
+        match self {
+            Scale::Columns => byte == b'm' || byte == b'n',
+            Scale::Lines => byte == b'v',
+        }
+    }
+
     /// Whether a text is nothing, or one letter of the scale.
-    fn may_end(self, text: &[u8]) -> bool {
-        match (self, text) {
-            (_, []) => true,
-            (Scale::Columns, [b'm' | b'n']) => true,
-            (Scale::Lines, [b'v']) => true,
+    fn may_end(self, text: &[u8]) -> bool
+        ensures { result ≡ is_scale_or_nothing (scale_test self) text.now }
+    {
+        match text {
+            [] => true,
+            [byte] => self.has(*byte),
             _ => false,
         }
     }
@@ -47,18 +60,16 @@ impl Scale {
 
 impl Number {
     /// The number that a text is, if it is one.
-    pub(crate) fn read(text: &[u8], scale: Scale) -> Option<Number> {
-        let (sign, digits) = match text {
-            [b'+', rest @ ..] => (Sign::Plus, rest),
-            [b'-', rest @ ..] => (Sign::Minus, rest),
+    pub(crate) fn read(text: &[u8], scale: Scale) -> Option<Number>
+        ensures { result ≡ number_of (scale_test scale) text.now }
+    {
+        let (sign, unsigned) = match text.split_first() {
+            Some((b'+', rest)) => (Sign::Plus, rest),
+            Some((b'-', rest)) => (Sign::Minus, rest),
             _ => (Sign::Unsigned, text),
         };
-        let (size, rest) = read_digits(digits)?;
-        if scale.may_end(rest) {
-            Some(Number { sign, size })
-        } else {
-            None
-        }
+        let size = size_of(unsigned, scale)?;
+        Some(Number { sign, size })
     }
 
     /// Whether it is below 0.
@@ -84,18 +95,33 @@ impl Number {
     }
 }
 
-/// The value of the one to six digits at the front of a text, and what is behind them.
-fn read_digits(text: &[u8]) -> Option<(u32, &[u8])> {
-    let mut size = 0;
-    let mut count = 0;
-    let mut rest = text;
-    while let Some((digit @ b'0'..=b'9', others)) = rest.split_first() {
-        if count == MOST_DIGITS {
-            return None;
-        }
-        size = size * 10 + u32::from(*digit - b'0');
-        count += 1;
-        rest = others;
+/// The value of one to six digits and at most a letter of the scale.
+fn size_of(text: &[u8], scale: Scale) -> Option<u32>
+    ensures { result ≡ size_of (scale_test scale) text.now }
+{
+    let (digits, rest) = text.split_at(digit_count(text));
+    if digits.is_empty() || digits.len() > MOST_DIGITS || !scale.may_end(rest) {
+        return None;
     }
-    if count == 0 { None } else { Some((size, rest)) }
+    Some(digits_value(digits))
+}
+
+/// How many digits a text begins with.
+fn digit_count(text: &[u8]) -> usize
+    ensures { result ≡ length (take_while is_ascii_digit text.now) }
+{
+    text.iter().take_while(|byte| byte.is_ascii_digit()).count()
+}
+
+/// The value of at most six digits.
+fn digits_value(digits: &[u8]) -> u32
+    requires digits { AllDigits 10 digits.now }
+    requires short { length digits.now ≤ 6 }
+    ensures { result ≡ digits_value 10 digits.now }
+{
+    let mut value = 0;
+    for digit in digits {
+        value = value * 10 + u32::from(*digit - b'0');
+    }
+    value
 }

@@ -1,8 +1,12 @@
 //! The requests: their names, and what each does.
 
-ghost use Rattle.std.specs.Prelude.{◌≡◌, [], ◌∷◌};
-ghost use Rattle.roff_tools.specs.Requests.{mode_named, request_named};
+ghost use Rattle.std.specs.Prelude.{◌≡◌, ℕ, Bool, List, [], ◌∷◌};
+ghost use Rattle.std.specs.Option.{option_copied};
+ghost use Rattle.roff_tools.specs.Arguments.{first_kept};
+ghost use Rattle.roff_tools.specs.Happening.{events_of};
+ghost use Rattle.roff_tools.specs.Requests.{breaking, doing, effect_of, action_events, length_wanted, mode_named, mode_wanted, request_effect, request_named, saying, space_down};
 
+use crate::event::{Events, PageEvent};
 use crate::message::Message;
 use crate::number::{Number, Scale};
 use roff_lines::{AdjustMode, Param, Settings};
@@ -71,7 +75,10 @@ impl Request {
     }
 
     /// What it means in these settings, with this first argument.
-    pub(crate) fn effect(self, settings: Settings, argument: Option<&[u8]>) -> Effect {
+    pub(crate) fn effect(self, settings: Settings, argument: Option<&[u8]>) -> Effect
+        ensures { (breaks : Bool) (as_given : List (List ℕ)) → option_copied argument.entry ≡ first_kept as_given
+            → effect_of breaks result ≡ request_effect settings breaks self as_given }
+    {
         match self {
             Request::Adjust => Effect::acting(Action::Adjust(mode_wanted(argument))),
             Request::Break => Effect::breaking(Action::None),
@@ -100,8 +107,32 @@ impl Request {
 }
 
 impl Effect {
+    /// Its events; behind an apostrophe a request doesn't break.
+    pub(crate) fn events(self, breaks: bool) -> Events
+        ensures { events_of result.items ≡ (effect_of breaks self).events }
+    {
+        let mut events = Events::new();
+        if breaks && self.breaks {
+            events.push(PageEvent::WordEnd);
+            events.push(PageEvent::Break);
+        }
+        match self.action {
+            Action::None => {}
+            Action::Set(param) => events.push(PageEvent::Set(param)),
+            Action::Adjust(Some(mode)) => {
+                events.push(PageEvent::Set(Param::Mode(mode)));
+                events.push(PageEvent::Set(Param::Adjusting(true)));
+            }
+            Action::Adjust(None) => events.push(PageEvent::Set(Param::Adjusting(true))),
+            Action::Space(lines) => events.push(PageEvent::Space(lines)),
+        }
+        events
+    }
+
     /// An action without a break.
-    fn acting(action: Action) -> Effect {
+    fn acting(action: Action) -> Effect
+        ensures { (breaks : Bool) → effect_of breaks result ≡ doing (action_events action) }
+    {
         Effect {
             message: None,
             breaks: false,
@@ -110,7 +141,9 @@ impl Effect {
     }
 
     /// A break and an action.
-    fn breaking(action: Action) -> Effect {
+    fn breaking(action: Action) -> Effect
+        ensures { (breaks : Bool) → effect_of breaks result ≡ doing (breaking breaks (action_events action)) }
+    {
         Effect {
             message: None,
             breaks: true,
@@ -119,7 +152,9 @@ impl Effect {
     }
 
     /// A message, and nothing else.
-    fn saying(message: Message) -> Effect {
+    fn saying(message: Message) -> Effect
+        ensures { (breaks : Bool) → effect_of breaks result ≡ saying message }
+    {
         Effect {
             message: Some(message),
             breaks: false,
@@ -129,7 +164,11 @@ impl Effect {
 }
 
 /// The blank lines of `sp`: one without an argument, none if the number is below 0.
-fn space_down(argument: Option<&[u8]>) -> Effect {
+#[tactic(auto, using(crate::proofs::FirstArguments::space_down_by_first))]
+fn space_down(argument: Option<&[u8]>) -> Effect
+    ensures { (breaks : Bool) (as_given : List (List ℕ)) → option_copied argument.entry ≡ first_kept as_given
+        → effect_of breaks result ≡ space_down breaks as_given }
+{
     let Some(text) = argument else {
         return Effect::breaking(Action::Space(1));
     };
@@ -145,7 +184,11 @@ fn space_down(argument: Option<&[u8]>) -> Effect {
 }
 
 /// The length that a request sets, in columns: the previous one without an argument.
-fn length_wanted(current: u32, previous: u32, argument: Option<&[u8]>) -> Option<u32> {
+#[tactic(auto, using(crate::proofs::FirstArguments::length_wanted_by_first))]
+fn length_wanted(current: u32, previous: u32, argument: Option<&[u8]>) -> Option<u32>
+    ensures { (as_given : List (List ℕ)) → option_copied argument.entry ≡ first_kept as_given
+        → result ≡ length_wanted current previous as_given }
+{
     match argument {
         None => Some(previous),
         Some(text) => Number::read(text, Scale::Columns)?.length_from(current),
@@ -153,7 +196,9 @@ fn length_wanted(current: u32, previous: u32, argument: Option<&[u8]>) -> Option
 }
 
 /// The mode that the first letter of an argument stands for.
-fn mode_wanted(argument: Option<&[u8]>) -> Option<AdjustMode> {
+fn mode_wanted(argument: Option<&[u8]>) -> Option<AdjustMode>
+    ensures { (as_given : List (List ℕ)) → option_copied argument.entry ≡ first_kept as_given → result ≡ mode_wanted as_given }
+{
     mode_named(*argument?.first()?)
 }
 

@@ -1,0 +1,115 @@
+-- A word end, where an environment stands for its history.
+use Rattle.std.proofs.Common.{◌≡◌, ℕ, true, false, not, List, [], ◌∷◌, ◌++◌, refl, sym, ap, ◌∙◌, arith, inl, inr}
+use Rattle.std.proofs.lemmas.Bool.{cond_both, cases_Bool, not-true, not-false}
+use Rattle.roff_lines.specs.Events.{WordEnd, History}
+use Rattle.roff_lines.specs.Words.{has_open_word, open_word}
+use Rattle.roff_lines.specs.Lines.{gap_text, finished, pending_line}
+use Rattle.roff_lines.specs.Kept.{Kept, without_word, word_as_line, word_fits, with_word_ended, finished_by_word}
+use Rattle.roff_lines.specs.Stands.{Stands}
+use Rattle.roff_lines.proofs.PendingLine.{placed-full, line_text-full, line_indent-full, word_text-closed, pending_length-word_end}
+use Rattle.roff_lines.proofs.Stands.{is_empty-pending_line, words-no_line, blanks-counted, word_fits-stands, laid_out-stands}
+
+module _ (line_cap : ℕ) (h : History) (k : Kept) (s : Stands line_cap h k) where
+  -- no word is open
+  Stands-closed : k.is_open ≡ false → Stands line_cap (WordEnd ∷ h) k
+  Stands-closed o =
+      let closed : has_open_word h ≡ false = sym s.is_open ∙ o in
+      record {
+        small = s.small;
+        within = omega (arith, pending_length-word_end h, s.within);
+        cap = s.cap;
+        settings = s.settings;
+        has_line = rw closed s.has_line;
+        line = rw closed s.line;
+        indent = rw closed s.indent;
+        word = s.word ∙ word_text-closed h closed;
+        is_open = o;
+        blanks = rw closed s.blanks;
+        has_glyph = s.has_glyph;
+        ends_sentence = s.ends_sentence;
+      }
+
+  module _ (o : k.is_open ≡ true) where
+    open_before : has_open_word h ≡ true
+    open_before = sym s.is_open ∙ o
+
+    -- no line is pending
+    pending_line-first : k.has_line ≡ false → pending_line (WordEnd ∷ h) ≡ open_word h ∷ []
+    pending_line-first l = rw (open_before, words-no_line line_cap h k s l) refl
+
+    -- the word doesn't fit behind the pending line
+    pending_line-behind : k.has_line ≡ true → word_fits k ≡ false → pending_line (WordEnd ∷ h) ≡ open_word h ∷ []
+    pending_line-behind l f =
+        let behind = sym (word_fits-stands line_cap h k s o l) ∙ f in
+        rw open_before (rw (placed-full (pending_line h) (open_word h) (is_empty-pending_line line_cap h k s l), behind) refl)
+
+    -- the word fits there
+    pending_line-within : k.has_line ≡ true → word_fits k ≡ true → pending_line (WordEnd ∷ h) ≡ open_word h ∷ pending_line h
+    pending_line-within l f =
+        let within = sym (word_fits-stands line_cap h k s o l) ∙ f in
+        rw open_before (rw (placed-full (pending_line h) (open_word h) (is_empty-pending_line line_cap h k s l), within) refl)
+
+    -- the word begins a line, whatever text was handed out last
+    Stands-beginning : (text : List ℕ) → pending_line (WordEnd ∷ h) ≡ open_word h ∷ [] →
+        Stands line_cap (WordEnd ∷ h) (without_word (word_as_line (record k { finished = text })))
+    Stands-beginning text line = record {
+      small = s.small;
+      within = omega (arith, pending_length-word_end h, s.within);
+      cap = s.cap;
+      settings = s.settings;
+      has_line = rw open_before refl;
+      line = rw line s.word;
+      indent = λ _. rw line (ap (λ t. t.indent) s.settings);
+      word = refl;
+      is_open = refl;
+      blanks = rw open_before refl;
+      has_glyph = s.has_glyph;
+      ends_sentence = s.ends_sentence;
+    }
+
+    -- the word stands behind the pending line
+    Stands-within : k.has_line ≡ true → word_fits k ≡ true →
+        Stands line_cap (WordEnd ∷ h) (without_word (record k { line = k.line ++ (gap_text k.blanks ++ k.word) }))
+    Stands-within l f =
+        let line = pending_line-within l f in
+        let full = is_empty-pending_line line_cap h k s l in
+        let counted = blanks-counted line_cap h k s o l in
+        record {
+          small = s.small;
+          within = omega (arith, pending_length-word_end h, s.within);
+          cap = s.cap;
+          settings = s.settings;
+          has_line = rw open_before l;
+          line = rw (line, line_text-full (pending_line h) (open_word h) full, s.line, counted, s.word) refl;
+          indent = λ _. rw (line, line_indent-full (pending_line h) (open_word h) full) (s.indent l);
+          word = refl;
+          is_open = refl;
+          blanks = rw open_before refl;
+          has_glyph = s.has_glyph;
+          ends_sentence = s.ends_sentence;
+        }
+
+  -- what is kept behind a word end stands for the history with it
+  pub Stands-word_end : Stands line_cap (WordEnd ∷ h) (with_word_ended k)
+  Stands-word_end =
+      let Goal : Kept → Type 0 = Stands line_cap (WordEnd ∷ h) in
+      cond_both (not k.is_open) _ _ Goal
+      (λ e. Stands-closed (not-true k.is_open e))
+      (λ e. let o = not-false k.is_open e in
+      cond_both (not k.has_line) _ _ Goal
+      (λ e'. Stands-beginning o k.finished (pending_line-first o (not-true k.has_line e')))
+      (λ e'. let l = not-false k.has_line e' in
+      cond_both (word_fits k) _ _ Goal
+      (Stands-within o l)
+      (λ f. Stands-beginning o k.line (pending_line-behind o l f))))
+
+  -- the line that it finishes is the definition's
+  pub finished_by_word-stands : finished_by_word k ≡ finished h WordEnd
+  finished_by_word-stands =
+      elim (cases_Bool k.is_open) [
+        | inl o ↦ elim (cases_Bool k.has_line) [
+          | inl l ↦ rw (← s.is_open, ← s.has_line, o, l, word_fits-stands line_cap h k s o l, laid_out-stands line_cap h k s true l) refl
+          | inr l ↦ rw (← s.is_open, ← s.has_line, o, l) refl
+        ]
+        | inr o ↦ rw (← s.is_open, o) refl
+      ]

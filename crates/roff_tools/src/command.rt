@@ -1,0 +1,256 @@
+//! The command line: its commands, options and texts, and what its words ask for.
+
+ghost use Rattle.std.specs.Prelude.{◌≡◌, List, ℕ, Some, IfOk, map, option_map};
+ghost use Rattle.clap.specs.Words.{found_of, matched_of, raw_values};
+
+use crate::{Job, Limit, Limits, Start};
+use clap::error::ErrorKind;
+use clap::{Arg, ArgAction, ArgMatches, Command, Error, value_parser};
+use std::alloc::{AllocError, Global};
+use std::convert::AsStr;
+
+const VERSION: &str = "0.1.0";
+
+const ABOUT: &str = "Formats documents of the roff language as plain text";
+
+const NROFF: &str = "nroff";
+
+const NROFF_ABOUT: &str = "Format text for a terminal or a line printer";
+
+const FILE: &str = "FILE";
+
+const FILE_HELP: &str = "Files to be read; '-' is standard input";
+
+/// The name of standard input among the files.
+pub const STANDARD_INPUT: &str = "-";
+
+/// The greatest value that an option of a limit takes.
+const GREATEST_LIMIT: i64 = 1_000_000_000;
+
+/// A limit's option, its default and its line of help.
+struct LimitOption {
+    limit: Limit,
+    name: &'static str,
+    default: &'static str,
+    help: &'static str,
+}
+
+/// The options that set limits. The parser takes them, and their values are read, by this table.
+static LIMIT_OPTIONS: [LimitOption; 2] = [
+    LimitOption {
+        limit: Limit::Bytes,
+        name: "bytes",
+        default: "50000000",
+        help: "Stop after N bytes of input",
+    },
+    LimitOption {
+        limit: Limit::Line,
+        name: "line",
+        default: "4096",
+        help: "Longest pending output line, in bytes",
+    },
+];
+
+// Help ends in these lines, after what it says of the command itself.
+macro_rules! help_end {
+    ($notes:literal) => {
+        concat!(
+            $notes,
+            "Files are read one after another as one input; all are opened before the first\n",
+            "is read. '-', or no file at all, is standard input. Text is written on standard\n",
+            "output, and messages on standard error.\n\n",
+            "Exit status:\n",
+            "  0  done\n",
+            "  1  wrong command line, a file that cannot be opened, or no memory to start\n",
+            "  2  reading or writing failed\n",
+            "  3  a limit was reached"
+        )
+    };
+}
+
+const ROFF_NOTES: &str = help_end!("'roff help COMMAND' says more of a command.\n\n");
+
+const NROFF_NOTES: &str = help_end!(
+    "nroff fills the words of its input into lines, and obeys the control lines among
+them, which begin with a period. Each N is a number from 0 to 1000000000.
+
+"
+);
+
+/// What a command line asks for.
+#[derive(Drop)]
+pub struct Request<'a> {
+    pub job: Job,
+    /// The files to be read, in their order. `STANDARD_INPUT` is among them where it is meant.
+    pub files: Vec<&'a str>,
+}
+
+/// Reads the words of a command line, the first of which names the program. An `Err` holds the
+/// text to be shown: a mistake in the words, or what `--help` or `--version` asks for.
+pub fn parse_words<'a, S: AsStr>(alloc: Global, words: &'a [S]) -> Result<Request<'a>, Error> {
+    let mut command = roff_command(alloc)?;
+    let matches = command.try_get_matches_from_mut(words)?;
+    match matches.subcommand() {
+        Some((NROFF, nroff)) => Ok(nroff_request(alloc, nroff)?),
+        // The parser wants a command, so this one is taken there and has no line here.
+        _ => Err(command.error(ErrorKind::MissingSubcommand, "a command is missing")?),
+    }
+}
+
+fn roff_command<'a>(alloc: Global) -> Result<Command<'a>, AllocError> {
+    Command::new(alloc, "roff")
+        .version(VERSION)
+        .about(ABOUT)
+        .after_help(ROFF_NOTES)
+        .subcommand_required(true)
+        .subcommand(nroff_command(alloc)?)
+}
+
+fn nroff_command<'a>(alloc: Global) -> Result<Command<'a>, AllocError> {
+    let file = Arg::new(alloc, FILE)
+        .num_args(0..)
+        .action(ArgAction::Append)
+        .default_value(STANDARD_INPUT)
+        .help(FILE_HELP);
+    let mut command = Command::new(alloc, NROFF)
+        .about(NROFF_ABOUT)
+        .after_help(NROFF_NOTES)
+        .arg(file)?;
+    for option in &LIMIT_OPTIONS {
+        command = command.arg(limit_argument(alloc, option))?;
+    }
+    Ok(command)
+}
+
+fn limit_argument<'a>(alloc: Global, option: &'static LimitOption) -> Arg<'a> {
+    Arg::new(alloc, option.name)
+        .long(option.name)
+        .value_name("N")
+        .value_parser(value_parser!(u32).range(0..=GREATEST_LIMIT))
+        .allow_negative_numbers(true)
+        .default_value(option.default)
+        .help(option.help)
+}
+
+/// The request of a command `nroff`, whose files are all the values of `FILE` in their order.
+fn nroff_request<'a>(alloc: Global, nroff: &ArgMatches<'a>) -> Result<Request<'a>, AllocError>
+    ensures { IfOk result (λ request. (values : List (List ℕ))
+        → option_map raw_values (matched_of (found_of nroff.now) FILE.now) ≡ Some values
+        → map (λ file. file.now) request.files.items ≡ values) }
+{
+    let mut files = Vec::new(alloc);
+    if let Some(names) = nroff.get_strs(FILE) {
+        files.extend_from_slice(names)?;
+    }
+    Ok(Request {
+        job: Job::Nroff(limits_of(nroff), Start::default()),
+        files,
+    })
+}
+
+fn limits_of(matches: &ArgMatches<'_>) -> Limits {
+    let mut limits = Limits::default();
+    for option in &LIMIT_OPTIONS {
+        if let Some(value) = matches.get_one::<u32>(option.name) {
+            set_limit(&mut limits, option.limit, value);
+        }
+    }
+    limits
+}
+
+fn set_limit(limits: &mut Limits, limit: Limit, value: u32) {
+    match limit {
+        Limit::Bytes => limits.bytes = value,
+        Limit::Line => limits.line = value,
+    }
+}
+
+#[cfg(test)]
+mod tests {
+    use super::*;
+    use std::test::Fail;
+
+    #[test]
+    fn reads_options_and_files(rt: HostRuntime) -> Result<(), Fail> {
+        let usual = Limits::default();
+        let mut few = usual;
+        few.bytes = 7;
+        few.line = 0;
+        let mut most = usual;
+        most.bytes = 1_000_000_000;
+        let rows: [(&[&str], Limits, &[&str]); 5] = [
+            (&["roff", "nroff"], usual, &["-"]),
+            (&["roff", "nroff", "a", "-", "b"], usual, &["a", "-", "b"]),
+            (
+                &["roff", "nroff", "a", "--line=0", "b", "--bytes", "7"],
+                few,
+                &["a", "b"],
+            ),
+            (&["roff", "nroff", "--bytes=1000000000"], most, &["-"]),
+            (&["roff", "nroff", "--", "--line"], usual, &["--line"]),
+        ];
+        for (words, limits, files) in rows {
+            let request = parse_words(rt.alloc(), words)?;
+            assert_eq!(rt;
+                request.job,
+                Job::Nroff(limits, Start::default()),
+                "at {words:?}"
+            );
+            assert!(rt; request.files.as_slice() == files, "at {words:?}");
+        }
+        Ok(())
+    }
+
+    #[test]
+    fn refuses_mistakes(rt: HostRuntime) -> Result<(), Fail> {
+        let rows: [(&[&str], ErrorKind); 8] = [
+            (&["roff"], ErrorKind::MissingSubcommand),
+            (&["roff", "troff"], ErrorKind::InvalidSubcommand),
+            (
+                &["roff", "nroff", "--page", "1"],
+                ErrorKind::UnknownArgument,
+            ),
+            (&["roff", "nroff", "--bytes"], ErrorKind::InvalidValue),
+            (
+                &["roff", "nroff", "--bytes", "-1"],
+                ErrorKind::ValueValidation,
+            ),
+            (
+                &["roff", "nroff", "--bytes", "1000000001"],
+                ErrorKind::ValueValidation,
+            ),
+            (
+                &["roff", "nroff", "--line", "x"],
+                ErrorKind::ValueValidation,
+            ),
+            (
+                &["roff", "nroff", "--line", "1", "--line", "2"],
+                ErrorKind::ArgumentConflict,
+            ),
+        ];
+        for (words, kind) in rows {
+            match parse_words(rt.alloc(), words) {
+                Ok(_) => assert!(rt; false, "at {words:?}"),
+                Err(error) => assert_eq!(rt; error.kind(), kind, "at {words:?}"),
+            }
+        }
+        Ok(())
+    }
+
+    #[test]
+    fn explains_each_option(rt: HostRuntime) -> Result<(), Fail> {
+        let mut text = String::new(rt.alloc());
+        if let Err(error) = parse_words(rt.alloc(), &["roff", "nroff", "--help"]) {
+            write!(text, "{error}")?;
+        }
+        for line in [
+            "--bytes <N>  Stop after N bytes of input [default: 50000000]\n",
+            "--line <N>   Longest pending output line, in bytes [default: 4096]\n",
+            "[FILE]...  Files to be read; '-' is standard input [default: -]\n",
+            "  3  a limit was reached\n",
+        ] {
+            assert!(rt; text.as_str().contains(line), "{line} in {text}");
+        }
+        Ok(())
+    }
+}

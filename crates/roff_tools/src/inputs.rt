@@ -1,0 +1,126 @@
+//! The input: opened files and standard input, read one after another as one.
+
+ghost use Rattle.std.specs.Io.{ReadsAtMost};
+ghost use Rattle.std.specs.Io.KnownBytes.{ReadConsumes};
+ghost use Rattle.std.specs.Prelude.{◌≡◌, ◌<◌, List, [], IfOk, length};
+ghost use Rattle.roff_tools.specs.declared.inputs.Part.{Part};
+ghost use Rattle.roff_tools.specs.Part.{part_remaining};
+
+use std::collections::VecDeque;
+use std::io;
+use std::io::Read;
+use std::marker::Model;
+
+/// One part of the input.
+#[derive(Drop)]
+pub enum Part<F, S> {
+    /// A file that was opened.
+    File(F),
+    /// Standard input.
+    Standard(S),
+}
+
+impl<F: Read, S: Read> Read for Part<F, S> {
+    ghost remaining = { part_remaining F.remaining S.remaining };
+
+    fn read(&mut self, buf: &mut [u8]) -> io::Result<usize> {
+        match self {
+            Part::File(file) => file.read(buf),
+            Part::Standard(standard) => standard.read(buf),
+        }
+    }
+}
+
+/// The parts of the input that are left, as one reader: at the end of a part the next one goes on.
+/// A file is closed where its end is met.
+#[derive(Drop)]
+pub struct Inputs<F, S> {
+    parts: VecDeque<Part<F, S>>,
+}
+
+impl<F, S> Model for Inputs<F, S> {
+    ghost Value = { List (Part F S) };
+
+    ghost view = { λ s. s.parts.items };
+}
+
+impl<F, S> Inputs<F, S> {
+    /// Reads `parts` in their order.
+    pub fn new(parts: Vec<Part<F, S>>) -> Inputs<F, S>
+        ensures { result ≡ parts.items }
+    {
+        Inputs {
+            parts: VecDeque::from_vec(parts),
+        }
+    }
+}
+
+impl<F: Read + Drop, S: Read + Drop> Read for Inputs<F, S> {
+    ghost use Rattle.roff_tools.specs.Inputs.{inputs_remaining};
+
+    ghost remaining = { inputs_remaining F.remaining S.remaining };
+
+    /// Reads the first part once, and the next ones only where it is at its end. An error is
+    /// passed on, and the next call reads the same part again.
+    fn read(&mut self, buf: &mut [u8]) -> io::Result<usize>
+        ensures bound { ReadsAtMost result buf.new }
+        ensures bytes { ReadConsumes (inputs_remaining F.remaining S.remaining self.old)
+            (inputs_remaining F.remaining S.remaining self.new) result buf.new }
+        ensures end { IfOk result (λ count. count ≡ 0 → 0 < length buf.new → self.new ≡ []) }
+        ensures stays { self.old ≡ [] → (result ≡ Ok 0) × (self.new ≡ []) }
+    {
+        while let Some(part) = self.parts.front_mut() {
+            let count = part.read(buf)?;
+            if count > 0 || buf.is_empty() {
+                return Ok(count);
+            }
+            let _ended = self.parts.pop_front();
+        }
+        Ok(0)
+    }
+}
+
+#[cfg(test)]
+mod tests {
+    use super::*;
+    use std::io::ErrorKind;
+    use std::test::Fail;
+
+    /// Fails at its first read, and then has what is left.
+    #[derive(Drop)]
+    struct Flaky<'a> {
+        has_failed: bool,
+        left: &'a [u8],
+    }
+
+    impl Read for Flaky<'_> {
+        fn read(&mut self, buf: &mut [u8]) -> io::Result<usize> {
+            if !self.has_failed {
+                self.has_failed = true;
+                return Err(io::Error::from(ErrorKind::PermissionDenied));
+            }
+            self.left.read(buf)
+        }
+    }
+
+    #[test]
+    fn reads_parts_as_one(rt: HostRuntime) -> Result<(), Fail> {
+        let parts: [Part<&[u8], Flaky<'_>>; 4] = [
+            Part::File(b"one"),
+            Part::File(b""),
+            Part::Standard(Flaky {
+                has_failed: false,
+                left: b"two",
+            }),
+            Part::File(b"three"),
+        ];
+        let mut inputs = Inputs::new(Vec::from_array(rt.alloc(), parts)?);
+        let mut all = Vec::new(rt.alloc());
+        assert!(rt; inputs.read_to_end(&mut all).is_err());
+        assert!(rt; all.as_slice() == b"one".as_slice());
+        inputs.read_to_end(&mut all)?;
+        assert!(rt; all.as_slice() == b"onetwothree".as_slice());
+        assert_eq!(rt; inputs.read(&mut [0; 8])?, 0);
+        Ok(())
+    }
+}

@@ -1,0 +1,303 @@
+//! The program: it reads its words, opens its files, runs the job and tells how it went.
+
+ghost use Rattle.std.specs.Prelude.{◌≡◌, ◌≢◌, ◌≤◌, ◌⊎◌, IfOk, IfErr, OnOk, OnErr, map, bytes_eq};
+ghost use Rattle.std.specs.Io.KnownBytes.{Keeps};
+ghost use Rattle.std.specs.Process.{exit_status};
+ghost use Rattle.clap.specs.Words.{kind_of};
+ghost use Rattle.roff_tools.specs.Part.{is_standard};
+ghost use Rattle.roff_tools.specs.StartFault.{NamesFile, NamesOneOf};
+ghost use Rattle.roff_tools.specs.Status.{status_number};
+ghost use Rattle.roff_tools.specs.declared.program.StartFault.TheVariants.{OutOfMemory};
+
+use crate::command::{Request, STANDARD_INPUT, parse_words};
+use crate::inputs::{Inputs, Part};
+use crate::{Job, ReadSource, SinkFault, Status, WriteSink, run};
+use clap::error::ErrorKind;
+use std::alloc::{AllocError, AllocFailed, Global};
+use std::convert::AsStr;
+use std::io::{BufWriter, Read, Write};
+use std::process::ExitCode;
+use std::rt::{Env, Files};
+use std::{env, fs, io};
+use thiserror::Error;
+
+/// The status to exit with when all is done.
+const DONE: u8 = 0;
+
+/// That of a wrong command line, and of a run that could not start.
+const NOT_STARTED: u8 = 1;
+
+/// That of a failed read or write.
+const DEVICE_FAILED: u8 = 2;
+
+/// That of a run that a limit ended.
+const LIMIT_REACHED: u8 = 3;
+
+/// Why a run could not start.
+#[derive(Debug, Drop, Error)]
+pub enum StartFault {
+    #[error("cannot open {0}")]
+    CannotOpen(String),
+    #[error("an argument is not UTF-8 text")]
+    NotText,
+    #[error("out of memory")]
+    OutOfMemory,
+}
+
+impl From<AllocError> for StartFault {
+    ghost from_gives = { λ _ fault. fault ≡ OutOfMemory };
+
+    fn from(_error: AllocError) -> StartFault {
+        StartFault::OutOfMemory
+    }
+}
+
+impl<T: Drop> From<AllocFailed<T>> for StartFault {
+    ghost from_gives = { λ _ fault. fault ≡ OutOfMemory };
+
+    fn from(_refused: AllocFailed<T>) -> StartFault {
+        StartFault::OutOfMemory
+    }
+}
+
+/// Runs the program on the arguments, files and standard input of `rt`. What is written on
+/// `stdout` is buffered here, and what is written on `stderr` is not.
+pub fn main_with<R, O, E>(rt: &R, mut stdout: O, mut stderr: E) -> ExitCode
+where
+    R: Env + Files + Input + AllocGlobal,
+    O: Write + Drop,
+    E: Write + Drop,
+    ensures { exit_status result ≤ LIMIT_REACHED }
+{
+    let status = match words_of(rt) {
+        Ok(words) => obey(rt, words.as_slice(), &mut stdout, &mut stderr),
+        Err(fault) => report(&fault, &mut stderr),
+    };
+    ExitCode::from(status)
+}
+
+fn words_of<R: Env + AllocGlobal>(rt: &R) -> Result<Vec<String>, StartFault> {
+    match env::args(rt) {
+        Ok(words) => Ok(words.collect(rt.alloc())?),
+        Err(error) if error.kind() == io::ErrorKind::OutOfMemory => Err(StartFault::OutOfMemory),
+        Err(_) => Err(StartFault::NotText),
+    }
+}
+
+/// Writes a fault's message, and gives the status. Where the write fails, there is no one to tell.
+fn report<E: Write>(fault: &StartFault, stderr: &mut E) -> u8
+    ensures { result ≡ NOT_STARTED }
+{
+    let _ = writeln!(stderr, "roff: {fault}");
+    NOT_STARTED
+}
+
+/// Does what the words ask for, and gives the status.
+fn obey<R, S, O, E>(rt: &R, words: &[S], stdout: &mut O, stderr: &mut E) -> u8
+where
+    R: Files + Input + AllocGlobal,
+    S: AsStr,
+    O: Write,
+    E: Write,
+    ensures { result ≤ LIMIT_REACHED }
+{
+    let outcome = match parse_words(rt.alloc(), words) {
+        Ok(request) => perform(rt, &request, stdout, stderr),
+        Err(shown) => show(&shown, stdout, stderr),
+    };
+    match outcome {
+        Ok(status) => status,
+        Err(fault) => report(&fault, stderr),
+    }
+}
+
+/// Writes what a parse of the words has to say in place of a request, and gives the status.
+fn show<O: Write, E: Write>(
+    shown: &clap::Error,
+    stdout: &mut O,
+    stderr: &mut E,
+) -> Result<u8, StartFault>
+    ensures status { IfOk result (λ n. n ≤ LIMIT_REACHED) }
+    ensures mistake { (kind_of shown.now ≢ ErrorKind.DisplayHelp) → (kind_of shown.now ≢ ErrorKind.DisplayVersion)
+        → IfOk result (λ n. n ≡ NOT_STARTED) × Keeps (O.contents stdout.old) (O.contents stdout.new) }
+    ensures asked { (kind_of shown.now ≡ ErrorKind.DisplayHelp) ⊎ (kind_of shown.now ≡ ErrorKind.DisplayVersion)
+        → IfOk result (λ n. n ≢ NOT_STARTED) × Keeps (E.contents stderr.old) (E.contents stderr.new) }
+    ensures fault { IfErr result (λ fault. fault ≡ OutOfMemory) }
+{
+    if shown.kind() == ErrorKind::OutOfMemory {
+        return Err(StartFault::OutOfMemory);
+    }
+    if shown.use_stderr() {
+        let _ = write!(stderr, "{shown}");
+        return Ok(NOT_STARTED);
+    }
+    match write!(stdout, "{shown}") {
+        Ok(()) => Ok(DONE),
+        Err(_) => Ok(DEVICE_FAILED),
+    }
+}
+
+/// Opens all files and then runs the job.
+fn perform<R, O, E>(
+    rt: &R,
+    request: &Request<'_>,
+    stdout: &mut O,
+    stderr: &mut E,
+) -> Result<u8, StartFault>
+where
+    R: Files + Input + AllocGlobal,
+    O: Write,
+    E: Write,
+    ensures status { IfOk result (λ n. n ≤ LIMIT_REACHED) }
+    ensures fault { IfErr result (NamesOneOf (map (λ name. name.now) request.now.files.items)) }
+    ensures unopened { (name : _) → result ≡ Err (StartFault.CannotOpen name)
+        → Keeps (O.contents stdout.old) (O.contents stdout.new) }
+{
+    let inputs = open_all(rt, request.files.as_slice())?;
+    let status = run_on(rt.alloc(), request.job, inputs, stdout, stderr)?;
+    Ok(number_of(status))
+}
+
+/// Opens the files in their order.
+fn open_all<R: Files + Input + AllocGlobal>(
+    rt: &R,
+    names: &[&str],
+) -> Result<Inputs<R::File, R::Reader>, StartFault>
+    ensures parts { IfOk result (λ parts. map is_standard parts
+        ≡ map (λ name. bytes_eq name.now STANDARD_INPUT.now) names.now) }
+    ensures fault { IfErr result (NamesOneOf (map (λ name. name.now) names.now)) }
+{
+    let mut parts = Vec::new(rt.alloc());
+    for name in names {
+        parts.push(open_part(rt, name)?)?;
+    }
+    Ok(Inputs::new(parts))
+}
+
+fn open_part<R: Files + Input + AllocGlobal>(
+    rt: &R,
+    name: &str,
+) -> Result<Part<R::File, R::Reader>, StartFault>
+    ensures part { IfOk result (λ part. is_standard part ≡ bytes_eq name.now STANDARD_INPUT.now) }
+    ensures fault { IfErr result (NamesFile name.now) }
+{
+    if name == STANDARD_INPUT {
+        return Ok(Part::Standard(rt.reader()));
+    }
+    match fs::open(rt, name) {
+        Ok(file) => Ok(Part::File(file)),
+        Err(_) => Err(StartFault::CannotOpen(String::from_str(rt.alloc(), name)?)),
+    }
+}
+
+/// Runs the job, and flushes what it wrote.
+fn run_on<I, O, E>(
+    alloc: Global,
+    job: Job,
+    inputs: I,
+    stdout: &mut O,
+    stderr: &mut E,
+) -> Result<Status, AllocError>
+where
+    I: Read + Drop,
+    O: Write,
+    E: Write,
+{
+    let mut source = ReadSource::new(alloc, inputs)?;
+    let Ok(buffered) = BufWriter::new(alloc, stdout) else {
+        return Err(AllocError);
+    };
+    let mut out = WriteSink::new(buffered);
+    let mut messages = WriteSink::new(stderr);
+    let status = run(alloc, job, &mut source, &mut out, &mut messages)?;
+    Ok(after_flush(status, out.flush()))
+}
+
+/// How a run ended, once its output is flushed: a flush that fails is a failed write.
+fn after_flush(status: Status, flushed: Result<(), SinkFault>) -> Status
+    ensures ok { OnOk flushed (result ≡ status) }
+    ensures err { OnErr flushed (result ≡ Status.Device) }
+{
+    match flushed {
+        Ok(()) => status,
+        Err(_) => Status::Device,
+    }
+}
+
+fn number_of(status: Status) -> u8
+    ensures { result ≡ status_number status }
+{
+    match status {
+        Status::Done => DONE,
+        Status::Device => DEVICE_FAILED,
+        Status::Limit(_) => LIMIT_REACHED,
+    }
+}
+
+#[cfg(test)]
+mod tests {
+    use super::*;
+    use std::test::Fail;
+
+    #[test]
+    fn reports_faults(rt: HostRuntime) -> Result<(), Fail> {
+        let rows: [(StartFault, &[u8]); 3] = [
+            (
+                StartFault::CannotOpen(String::from_str(rt.alloc(), "a file")?),
+                b"roff: cannot open a file\n",
+            ),
+            (
+                StartFault::NotText,
+                b"roff: an argument is not UTF-8 text\n",
+            ),
+            (StartFault::OutOfMemory, b"roff: out of memory\n"),
+        ];
+        for (fault, text) in rows {
+            let mut written = Vec::new(rt.alloc());
+            assert_eq!(rt; report(&fault, &mut written), 1);
+            assert!(rt; written.as_slice() == text);
+        }
+        Ok(())
+    }
+
+    #[test]
+    fn answers_without_a_run(rt: HostRuntime) -> Result<(), Fail> {
+        let rows: [(&[&str], u8, &str, &str); 5] = [
+            (&["roff", "--version"], 0, "roff 0.1.0\n", ""),
+            (&["roff", "--help"], 0, "Formats documents", ""),
+            (&["roff"], 1, "", "error: 'roff' requires a subcommand"),
+            (
+                &["roff", "nroff", "--line", "x"],
+                1,
+                "",
+                "error: invalid value 'x'",
+            ),
+            (
+                &["roff", "nroff", "no/such"],
+                1,
+                "",
+                "roff: cannot open no/such\n",
+            ),
+        ];
+        for (words, status, out, err) in rows {
+            let mut stdout = Vec::new(rt.alloc());
+            let mut stderr = Vec::new(rt.alloc());
+            assert_eq!(rt;
+                obey(&rt, words, &mut stdout, &mut stderr),
+                status,
+                "at {words:?}"
+            );
+            assert!(rt;
+                stdout.as_slice().starts_with(out.as_bytes()),
+                "at {words:?}"
+            );
+            assert!(rt;
+                stderr.as_slice().starts_with(err.as_bytes()),
+                "at {words:?}"
+            );
+            assert_eq!(rt; stdout.is_empty(), out.is_empty(), "at {words:?}");
+            assert_eq!(rt; stderr.is_empty(), err.is_empty(), "at {words:?}");
+        }
+        Ok(())
+    }
+}
