@@ -4,3 +4,5 @@ pub mod PendingLine
 pub mod Stands
 pub mod WordEnd
 pub mod LineEnd
+pub mod Filling
+pub mod Columns

@@ -1,5 +1,5 @@
 -- Where a finished line's text stands, and what it writes (manual, section 4.1).
-use Rattle.std.specs.Prelude.{ℕ, ◌+◌, ◌-◌, ◌*◌, ◌/◌, Bool, ◌&&◌, ◌||◌, List, [], ◌∷◌, ◌++◌, take, replicate, if◌then◌else◌, ◌==◌}
+use Rattle.std.specs.Prelude.{◌≡◌, ℕ, ◌+◌, ◌-◌, ◌*◌, ◌/◌, Bool, ◌&&◌, ◌||◌, List, [], ◌∷◌, ◌++◌, take, replicate, if◌then◌else◌, ◌==◌}
 use Rattle.roff_lines.specs.declared.line.Line.{Line}
 use Rattle.roff_lines.specs.declared.line.TheConstants.{GAP, FURTHER_BLANK, UNPADDABLE}
 use Rattle.roff_lines.specs.Glyphs.{text_width, gaps_in}
@@ -53,3 +53,8 @@ abbrev pub without_blanks : List ℕ → List ℕ
 without_blanks [] = []
 without_blanks (b ∷ text) =
     let rest = without_blanks text in if is_blank_mark b && is_empty rest then [] else b ∷ rest
+
+-- where a line's text stands: what is written before its k-th byte is as wide as the byte's column says
+abbrev pub StandsInColumns : Finished → Type 0
+StandsInColumns l =
+    (k : ℕ) → text_width (spaces l.lead ++ spread l.spare l.gaps 0 (take k l.text)) ≡ column_of l k

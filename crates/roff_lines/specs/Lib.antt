@@ -12,3 +12,4 @@ pub mod LineBytes
 pub mod Stands
 pub mod Rests
 pub mod Lists
+pub mod Filling

@@ -6,6 +6,7 @@
 
 mod env;
 mod glyph;
+pub mod laws;
 mod limit;
 mod line;
 mod line_bytes;

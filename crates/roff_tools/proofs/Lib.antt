@@ -7,3 +7,4 @@ pub mod StepsAppend
 pub mod StepsOnlyCut
 pub mod RunsOnlyCut
 pub mod FirstArguments
+pub mod Running
