@@ -1,30 +1,19 @@
 -- A run of the code, as far as it has come, as a run of the definition.
-use Rattle.std.proofs.Common.{◌≡◌, ◌⊎◌, ℕ, ◌+◌, ◌<◌, Bool, true, false, List, [], ◌∷◌, ◌++◌, Option, Some, None, Result, Ok, Err, append_assoc, append-nil, inl, inr, refl, sym, ap, subst, ◌∙◌, if◌then◌else◌, ◌==◌}
-use Rattle.std.specs.Io.KnownBytes.{Appends}
+use Rattle.std.proofs.Common.{◌≡◌, ℕ, ◌+◌, true, false, List, [], ◌∷◌, ◌++◌, Some, None, append_assoc, append-nil, refl, sym, if◌then◌else◌, ◌==◌}
 use Rattle.roff_lines.specs.Events.{settings_after}
-use Rattle.roff_lines.specs.Stands.{Stands}
-use Rattle.roff_lines.specs.declared.env.Env.{Env}
 use Rattle.roff_lines.specs.declared.limit.Limit.{Limit}
-use Rattle.roff_lines.specs.declared.limit.Limit.TheVariants.{Bytes, Line}
-use Rattle.roff_tools.specs.declared.engine.Status.{Status}
-use Rattle.roff_tools.specs.declared.engine.Status.TheVariants.{Done, Device, Limit as Limited}
-use Rattle.roff_tools.specs.declared.formatter.Halt.{Halt}
-use Rattle.roff_tools.specs.declared.formatter.Halt.TheVariants.{Limit as HaltedBy, Output, Messages}
+use Rattle.roff_lines.specs.declared.limit.Limit.TheVariants.{Bytes}
+use Rattle.roff_tools.specs.declared.engine.Status.TheVariants.{Device, Limit as Limited}
 use Rattle.roff_tools.specs.declared.limits.Limits.{Limits}
-use Rattle.roff_tools.specs.declared.message.Message.{Message}
-use Rattle.roff_tools.specs.declared.message.Message.TheVariants.{LimitReached, ReadFailed, WriteFailed}
-use Rattle.roff_tools.specs.Limits.{value_of}
+use Rattle.roff_tools.specs.declared.message.Message.TheVariants.{ReadFailed}
 use Rattle.roff_tools.specs.Messages.{message_line, message_lines}
-use Rattle.roff_tools.specs.Outcome.{AppendsBetween}
 use Rattle.roff_tools.specs.Output.{PageHistory, text_of, written, written_by}
-use Rattle.roff_tools.specs.Performing.{behind, newly_written, NonePasses, AllPerformed, StoppedAt, FailedAt, Performs, Does, with_events, closing_events}
+use Rattle.roff_tools.specs.Performing.{behind, newly_written, closing_events}
 use Rattle.roff_tools.specs.Reading.{Reading, Taking, taking, end_effect, LineStart}
 use Rattle.roff_tools.specs.Requests.{PageEvent, Effect}
-use Rattle.roff_tools.specs.Run.{State, initial, step, after, output, reported, stopped_by, passes_bytes, passes_line}
-use Rattle.roff_tools.specs.Sinks.{AppendsFront}
+use Rattle.roff_tools.specs.Run.{State, step, stopped_by, passes_bytes}
 use Rattle.roff_tools.specs.Tape.{Tape, OneByte, OneNote, Ended, Failed, Stopped, Gives, Ends, front, behind_front}
-use Rattle.roff_tools.proofs.Appending.{Appends-append, Appends-nothing}
-use Rattle.roff_tools.proofs.Leads.{Leads, Leads-trans, Leads-refl, Leads-step, busy, leads_events, step-stopped}
+use Rattle.roff_tools.proofs.Leads.{busy}
 
 -- a run that reads on
 abbrev pub running : Tape → Reading → PageHistory → ℕ → ℕ → ℕ → List ℕ → State
