@@ -1,5 +1,7 @@
 -- What the code reads as what the definition reads.
-use Rattle.std.specs.Prelude.{◌≡◌, ℕ}
+use Rattle.std.specs.Prelude.{◌≡◌, ℕ, [], ◌∷◌}
+use Rattle.roff_lines.specs.Events.{Print}
+use Rattle.roff_lines.specs.declared.glyph.Glyph.TheVariants.{Printed}
 use Rattle.roff_tools.specs.declared.arguments.FirstArgument.{FirstArgument}
 use Rattle.roff_tools.specs.declared.reading.LinePart.{LinePart}
 use Rattle.roff_tools.specs.declared.reading.LinePart.TheVariants.{Start, Text, Control, Name, Dropped}
@@ -10,7 +12,7 @@ use Rattle.roff_tools.specs.Arguments.{Arguments, no_arguments}
 use Rattle.roff_tools.specs.FirstArgument.{KeepsFirst}
 use Rattle.roff_tools.specs.Happening.{events_of}
 use Rattle.roff_tools.specs.Reading.{Reading, LineStart, InText, BehindControl, InName, InArguments, InDropped, Taking}
-use Rattle.roff_tools.specs.Requests.{doing}
+use Rattle.roff_tools.specs.Requests.{doing, Text as TextEvent}
 
 -- what the code reads of a line without a request
 abbrev pub part_of : LinePart → Reading
@@ -46,3 +48,7 @@ leading_behind (BehindName breaks request) = 0
 -- what a byte does in the code
 abbrev pub taking_of : CodedTaking → Taking
 taking_of t = record { reading = reading_of t.reading; effect = doing (events_of t.events.items) }
+
+-- a glyph more, where a line goes on as it is
+abbrev pub printing : LinePart → ℕ → Taking
+printing part b = record { reading = part_of part; effect = doing (TextEvent (Print (Printed b)) ∷ []) }

@@ -83,6 +83,11 @@ impl Formatter {
         ensures output_fault { result ≡ Err Halt.Output → Rises (O.failures out.old) (O.failures out.new) }
         ensures message_fault { result ≡ Err Halt.Messages → Rises (E.failures err.old) (E.failures err.new) }
     {
+        if let Reading::Line(part) = self.reading
+            && part.goes_on_with(byte)
+        {
+            return self.glyph(Glyph::Printed(byte));
+        }
         if is_dropped(byte) {
             self.argument.take_dropped();
             return Ok(());

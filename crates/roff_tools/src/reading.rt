@@ -6,9 +6,9 @@ ghost use Rattle.roff_lines.specs.declared.glyph.Glyph.TheVariants.{Printed};
 ghost use Rattle.roff_lines.specs.declared.settings.Settings.{Settings};
 ghost use Rattle.roff_tools.specs.Bytes.{is_dropped, is_silent};
 ghost use Rattle.roff_tools.specs.Happening.{events_of};
-ghost use Rattle.roff_tools.specs.Reading.{LineStart, BehindControl, InName, dropped_taking, end_effect, ends_name, kept_taking, leading_blank_events, leading_glyph, text_line_end, text_taking};
+ghost use Rattle.roff_tools.specs.Reading.{LineStart, BehindControl, InName, dropped_taking, end_effect, ends_name, kept_taking, leading_blank_events, leading_glyph, taking, text_line_end, text_taking};
 ghost use Rattle.roff_tools.specs.Requests.{Text, doing};
-ghost use Rattle.roff_tools.specs.ReadsAs.{leading_behind, leading_of, part_of, taking_of};
+ghost use Rattle.roff_tools.specs.ReadsAs.{leading_behind, leading_of, part_of, printing, taking_of};
 
 use crate::event::{Events, PageEvent};
 use crate::request::Request;
@@ -81,6 +81,18 @@ impl TextLine {
 }
 
 impl LinePart {
+    /// Whether a byte is a glyph behind another on a text line, and does nothing else. Most bytes are.
+    pub(crate) fn goes_on_with(self, byte: u8) -> bool
+        ensures { result ≡ true → (s : Settings) → taking s (part_of self) byte ≡ printing self byte }
+    {
+        match self {
+            LinePart::Text(line) => {
+                line.has_glyph && line.leading == 0 && byte > b' ' && byte != 127
+            }
+            _ => false,
+        }
+    }
+
     /// What a byte does that isn't dropped.
     pub(crate) fn taking(self, byte: u8) -> Taking
         requires { leading_of self + 1 < 2 ^ 32 }
