@@ -1,0 +1,137 @@
+#!/usr/bin/env python3
+"""Writes a made-up document on standard output, the same one each time.
+
+    bench/make_text.py text MEGABYTES       running text: sentences in lines of 50 to 75 bytes, now and then a blank line
+    bench/make_text.py requests MEGABYTES   the same with a request after every 2 to 5 lines
+"""
+import random
+import sys
+
+MEGABYTE = 1_000_000
+
+# A document longer than this repeats its beginning.
+NEW_TEXT = 5 * MEGABYTE
+
+WORDS = """
+a a a a about after again all also an an and and and and another any are are as as as at at away back be be because
+been before began behind below beside better between book both bread bring building but but by by came can carry case
+chair change church city clear close cold colour come company could country course day days did different do does done
+door down draw each early earth east edge eight end enough even evening every example eye fact family far farmer father
+few field find fire first fish five floor follow for for for form found four friend from from full garden gave general
+give glass go gold good government great green ground had had half hand hard has have he he head hear heavy held help
+her here high hill him himself his history hold home horse hour house how hundred ice idea if important in in in
+industry into is is island it it its keep kept kind king knew know lake land large last late law lead learn leave left
+letter life light like line list little live long look made make man many map mark matter may mean measure men mile
+mind minute money month moon more morning most mother mountain move much music must name near never new next night no
+north nothing notice now number of of of of of off often old on on once one only open or or order other our out over
+page paper part people perhaps person picture piece place plain plan plant point possible power present press problem
+produce question quick quiet rain read ready reason record red remember rest right river road rock room round rule run
+said sail same say school sea second see seem sentence set several shape she ship short should show side since sister
+six size sky small snow so some something soon sound south space stand star start state step still stone story street
+strong study such summer sun sure system table take talk teach tell ten than that that the the the the the the the the
+their them then there these they thing think this those thought thousand three through time to to to to today together
+told too took top town tree true turn two typewriter under understand unit until up upon us use usual valley very
+village voice wait walk wall war warm was was watch water way we weather week well went were west what wheel when where
+which while white who whole why wide will wind winter wish with with within without woman wood word work world would
+write year yellow yes yet you young your
+""".split()
+
+# A line length is set behind a break: formatters differ in whether the pending line still takes the one before.
+REQUESTS = [
+    ".br",
+    ".sp",
+    ".sp 2",
+    ".fi",
+    ".nf",
+    ".fi",
+    ".br\n.ll 60n",
+    ".br\n.ll 65n",
+    ".br\n.ll",
+    ".in 4n",
+    ".in 0",
+    ".in",
+    ".ad l",
+    ".ad b",
+    ".ad r",
+    ".ad c",
+    ".ad",
+    ".na",
+]
+
+
+class Writer:
+    def __init__(self):
+        # random() alone gives the same numbers in every version of Python.
+        self.random = random.Random(1978).random
+
+    def between(self, low, high):
+        return low + int(self.random() * (high - low + 1))
+
+    def one_of(self, things):
+        return things[int(self.random() * len(things))]
+
+    def sentence(self):
+        """Returns the words of a sentence."""
+        words = [self.one_of(WORDS) for _ in range(self.between(4, 22))]
+        words[0] = words[0].capitalize()
+        for i in range(3, len(words) - 1, 4):
+            if self.random() < 0.3:
+                words[i] += ","
+        if self.random() < 0.05:
+            words[-1] = f"({words[-1]})"
+        words[-1] += self.one_of("...........?!")
+        return words
+
+    def paragraph(self):
+        """Returns the lines of a paragraph. A sentence that begins in mid line has two blanks before it."""
+        lines, line, goal = [], "", self.between(50, 62)
+        for _ in range(self.between(3, 12)):
+            gap = "  "
+            for word in self.sentence():
+                line += gap + word if line else word
+                gap = " "
+                if len(line) >= goal:
+                    lines.append(line)
+                    line, goal = "", self.between(50, 62)
+        return [*lines, line] if line else lines
+
+    def document(self, kind, size):
+        """Returns so many bytes of text, cut at a line's end."""
+        parts, length = [], 0
+        while length < size:
+            lines = self.paragraph()
+            if kind == "requests":
+                lines = self.with_requests(lines)
+            part = "\n".join(lines) + "\n\n"
+            parts.append(part)
+            length += len(part)
+        text = "".join(parts)
+        return text[: text.rfind("\n", 0, size) + 1].encode()
+
+    def with_requests(self, lines):
+        mixed, wait = [], self.between(2, 5)
+        for line in lines:
+            mixed.append(line)
+            wait -= 1
+            if wait == 0:
+                mixed.append(self.one_of(REQUESTS))
+                wait = self.between(2, 5)
+        return mixed
+
+
+def write_document(kind, size, file):
+    text = Writer().document(kind, min(size, NEW_TEXT))
+    whole = size // len(text) if text else 0
+    for _ in range(whole):
+        file.write(text)
+    file.write(text[: text.rfind(b"\n", 0, size - whole * len(text)) + 1])
+
+
+def main():
+    if len(sys.argv) != 3 or sys.argv[1] not in ("text", "requests"):
+        sys.exit(__doc__.strip())
+    write_document(sys.argv[1], int(float(sys.argv[2]) * MEGABYTE), sys.stdout.buffer)
+
+
+if __name__ == "__main__":
+    main()
