@@ -4,14 +4,9 @@ use Rattle.roff_lines.specs.declared.limit.Limit.TheVariants.{Line}
 use Rattle.roff_tools.specs.declared.limits.Limits.{Limits}
 use Rattle.roff_tools.specs.Output.{PageHistory}
 use Rattle.roff_tools.specs.Requests.{PageEvent}
-use Rattle.roff_tools.specs.Run.{State, step, after, stopped_by}
+use Rattle.roff_tools.specs.Run.{State, Leads, step, after, stopped_by}
 use Rattle.roff_tools.specs.Performing.{behind, NonePasses}
 use Rattle.roff_tools.specs.Run.{passes_line}
-
--- some number of steps leads from one state to another
-pub record Leads (l : Limits) (s t : State) : Type 0 where
-  pub steps : ℕ
-  pub there : after l steps s ≡ t
 
 -- steps one after another
 pub after-add : (l : Limits) (m n : ℕ) (s : State) → after l (m + n) s ≡ after l n (after l m s)
@@ -37,7 +32,7 @@ abbrev pub busy : State → List PageEvent → PageHistory → State
 busy s es h = record s { to_do = es; history = h; ended = None }
 
 -- an event that doesn't pass the limit is performed by one step
-step-event : (l : Limits) (s : State) (e : PageEvent) (es : List PageEvent) (h : PageHistory)
+pub step-event : (l : Limits) (s : State) (e : PageEvent) (es : List PageEvent) (h : PageHistory)
     → passes_line l h e ≡ false → step l (busy s (e ∷ es) h) ≡ busy s es (e ∷ h)
 step-event l s e es h not_passed = rw not_passed refl
 

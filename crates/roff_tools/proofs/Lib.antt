@@ -7,4 +7,6 @@ pub mod StepsAppend
 pub mod StepsOnlyCut
 pub mod RunsOnlyCut
 pub mod FirstArguments
-pub mod Running
+pub mod ItemSteps
+pub mod Halting
+pub mod Items

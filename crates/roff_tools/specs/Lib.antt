@@ -18,6 +18,7 @@ pub mod ReadsAs
 pub mod Happening
 pub mod Performing
 pub mod Outcome
+pub mod Running
 pub mod Inputs
 pub mod Part
 pub mod StartFault

@@ -1,26 +1,34 @@
 -- How a run of the code stands to the run of the definition.
-use Rattle.std.specs.Prelude.{◌≡◌, ◌⊎◌, ℕ, List, ◌++◌, Option, Some}
+use Rattle.std.specs.Prelude.{◌≡◌, ◌⊎◌, ℕ, ◌≤◌, List, ◌++◌, Option, Some}
 use Rattle.std.specs.Io.KnownBytes.{Appends}
 use Rattle.roff_tools.specs.declared.engine.Status.{Status}
 use Rattle.roff_tools.specs.declared.engine.Status.TheVariants.{Device}
 use Rattle.roff_tools.specs.declared.limits.Limits.{Limits}
 use Rattle.roff_tools.specs.declared.message.Message.TheVariants.{WriteFailed}
 use Rattle.roff_tools.specs.Messages.{message_line}
-use Rattle.roff_tools.specs.Run.{State, initial, step, after, output, reported}
+use Rattle.roff_tools.specs.Run.{State, Leads, initial, step, output, reported}
 use Rattle.roff_tools.specs.Tape.{Tape, behind_front, Rises}
 
--- what a run changed: what the source still tells, and what each sink told before and tells now, with
--- its count of failures
-pub record Change : Type 0 where
+-- what the devices of a run tell at one moment: what the source still has, what was written to each
+-- sink, and how many faults each device had
+pub record Devices : Type 0 where
   pub left : Option Tape
-  pub out_old : Option (List ℕ)
-  pub out_new : Option (List ℕ)
-  pub out_failures_old : ℕ
-  pub out_failures_new : ℕ
-  pub err_old : Option (List ℕ)
-  pub err_new : Option (List ℕ)
-  pub err_failures_old : ℕ
-  pub err_failures_new : ℕ
+  pub source_failures : ℕ
+  pub out : Option (List ℕ)
+  pub out_failures : ℕ
+  pub err : Option (List ℕ)
+  pub err_failures : ℕ
+
+-- devices that tell this
+abbrev pub devices : Option Tape → ℕ → Option (List ℕ) → ℕ → Option (List ℕ) → ℕ → Devices
+devices left source_failures out out_failures err err_failures = record {
+  left = left;
+  source_failures = source_failures;
+  out = out;
+  out_failures = out_failures;
+  err = err;
+  err_failures = err_failures;
+}
 
 -- what was written begins with one text, and is a beginning of another that goes on from it
 pub record AppendsBetween (old new : Option (List ℕ)) (least most : List ℕ) : Type 0 where
@@ -33,38 +41,59 @@ pub record AppendsBetween (old new : Option (List ℕ)) (least most : List ℕ) 
 abbrev pub IsLeftOf : Option Tape → State → Type 0
 IsLeftOf left s = (left ≡ Some s.tape) ⊎ (left ≡ Some (behind_front s.tape))
 
--- the run ended by itself, and all of it was written and reported
-pub record Completes (l : Limits) (t : Tape) (status : Status) (c : Change) : Type 0 where
-  pub steps : ℕ
-  pub ended : (after l steps (initial t)).ended ≡ Some status
-  pub text : Appends c.out_old c.out_new (output (after l steps (initial t)))
-  pub messages : Appends c.err_old c.err_new (reported (after l steps (initial t)))
-  pub rest : IsLeftOf c.left (after l steps (initial t))
+-- the run of the definition comes to this state, and what it wrote and reported until then was
+-- written and reported
+pub record Reaches (l : Limits) (t : Tape) (before now : Devices) (s : State) : Type 0 where
+  pub comes : Leads l (initial t) s
+  pub text : Appends before.out now.out (output s)
+  pub messages : Appends before.err now.err (reported s)
+  pub rest : IsLeftOf now.left s
 
--- The output failed in one step: what was written begins with the text of all steps before it and is
--- a beginning of that text with the step's own. The fault is reported with that step's line, or a
--- beginning of that where the message sink failed too.
-pub record OutputFails (l : Limits) (t : Tape) (status : Status) (c : Change) : Type 0 where
-  pub is_device : status ≡ Device
-  pub steps : ℕ
-  pub text : AppendsBetween c.out_old c.out_new (output (after l steps (initial t))) (output (step l (after l steps (initial t))))
-  pub fault : Rises c.out_failures_old c.out_failures_new
-  pub messages : Appends c.err_old c.err_new ((after l steps (initial t)).messages ++ message_line (after l steps (initial t)).line WriteFailed)
-      ⊎ (AppendsBetween c.err_old c.err_new (after l steps (initial t)).messages
-      ((after l steps (initial t)).messages ++ message_line (after l steps (initial t)).line WriteFailed)
-      × Rises c.err_failures_old c.err_failures_new)
-  pub rest : IsLeftOf c.left (after l steps (initial t))
+-- the run ended by itself, with all of it written and reported
+pub record Completes (l : Limits) (t : Tape) (status : Status) (before now : Devices) : Type 0 where
+  pub state : State
+  pub reaches : Reaches l t before now state
+  pub ended : state.ended ≡ Some status
 
--- The message sink failed in one step: what was reported begins with the messages of all steps before
--- it and is a beginning of these with the step's own. The text is that of the steps before.
-pub record MessagesFail (l : Limits) (t : Tape) (status : Status) (c : Change) : Type 0 where
+-- The output failed in the step behind this state: what was written begins with the text of all steps
+-- before it and is a beginning of that text with the step's own.
+pub record OutputStops (l : Limits) (t : Tape) (before now : Devices) (s : State) : Type 0 where
+  pub comes : Leads l (initial t) s
+  pub text : AppendsBetween before.out now.out (output s) (output (step l s))
+  pub fault : Rises before.out_failures now.out_failures
+  pub rest : IsLeftOf now.left s
+
+-- The run ended as the output failed. The fault is reported with the line of that step; of this
+-- message a beginning alone was written if the message sink failed too.
+pub record OutputFails (l : Limits) (t : Tape) (status : Status) (before now : Devices) : Type 0 where
   pub is_device : status ≡ Device
-  pub steps : ℕ
-  pub text : Appends c.out_old c.out_new (output (after l steps (initial t)))
-  pub messages : AppendsBetween c.err_old c.err_new (reported (after l steps (initial t))) (reported (step l (after l steps (initial t))))
-  pub fault : Rises c.err_failures_old c.err_failures_new
-  pub rest : IsLeftOf c.left (after l steps (initial t))
+  pub state : State
+  pub stops : OutputStops l t before now state
+  pub messages : Appends before.err now.err (reported state ++ message_line state.line WriteFailed)
+      ⊎ (AppendsBetween before.err now.err (reported state) (reported state ++ message_line state.line WriteFailed)
+      × Rises before.err_failures now.err_failures)
+
+-- The run ended as the message sink failed, in the step behind this state: what was reported begins
+-- with the messages of all steps before it and is a beginning of these with the step's own. The text is
+-- that of the steps before.
+pub record MessagesFail (l : Limits) (t : Tape) (status : Status) (before now : Devices) : Type 0 where
+  pub is_device : status ≡ Device
+  pub state : State
+  pub comes : Leads l (initial t) state
+  pub text : Appends before.out now.out (output state)
+  pub messages : AppendsBetween before.err now.err (reported state) (reported (step l state))
+  pub fault : Rises before.err_failures now.err_failures
+  pub rest : IsLeftOf now.left state
 
 -- a run over a tape comes to one of these
-abbrev pub Outcome : Limits → Tape → Status → Change → Type 0
-Outcome l t status c = Completes l t status c ⊎ OutputFails l t status c ⊎ MessagesFail l t status c
+abbrev pub Outcome : Limits → Tape → Status → Devices → Devices → Type 0
+Outcome l t status before now =
+    Completes l t status before now ⊎ OutputFails l t status before now ⊎ MessagesFail l t status before now
+
+-- the status of a fault is answered only where a device had one
+abbrev pub FaultIsOfADevice : Status → Devices → Devices → Type 0
+FaultIsOfADevice status before now =
+    status ≡ Device →
+    Rises before.source_failures now.source_failures
+    ⊎ Rises before.out_failures now.out_failures
+    ⊎ Rises before.err_failures now.err_failures

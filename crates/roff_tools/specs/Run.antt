@@ -1,5 +1,5 @@
 -- The run: a machine of small steps over the source's tape.
-use Rattle.std.specs.Prelude.{ℕ, zero, suc, ◌+◌, Bool, true, false, List, [], ◌∷◌, ◌++◌, nat_lt, Option, Some, None, if◌then◌else◌, ◌==◌}
+use Rattle.std.specs.Prelude.{◌≡◌, ℕ, zero, suc, ◌+◌, Bool, true, false, List, [], ◌∷◌, ◌++◌, nat_lt, Option, Some, None, if◌then◌else◌, ◌==◌}
 use Rattle.roff_lines.specs.Events.{settings_after}
 use Rattle.roff_lines.specs.Lines.{pending_length}
 use Rattle.roff_lines.specs.declared.limit.Limit.{Limit}
@@ -136,6 +136,11 @@ step l s = elim s.ended [ None ↦ step_with l s.to_do s | Some status ↦ s ]
 abbrev pub after : Limits → ℕ → State → State
 after l zero s = s
 after l (suc n) s = after l n (step l s)
+
+-- some number of steps leads from one state to another
+pub record Leads (l : Limits) (s t : State) : Type 0 where
+  pub steps : ℕ
+  pub there : after l steps s ≡ t
 
 -- what a run wrote
 abbrev pub output : State → List ℕ

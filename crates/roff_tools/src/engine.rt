@@ -1,16 +1,22 @@
 //! The engine: a whole run, from a source to its sinks.
 
-ghost use Rattle.std.specs.Prelude.{◌≡◌};
-ghost use Rattle.roff_tools.specs.ReadsAs.{leading_behind};
+ghost use Rattle.std.specs.Prelude.{◌≡◌, [], Some, IfOk};
+ghost use Rattle.roff_lines.specs.Stands.{Stands};
+ghost use Rattle.roff_tools.specs.declared.limits.Limits.{Limits};
+ghost use Rattle.roff_tools.specs.declared.reading.LinePart.TheVariants.{Start};
+ghost use Rattle.roff_tools.specs.declared.reading.Reading.TheVariants.{Line};
+ghost use Rattle.roff_tools.specs.Outcome.{FaultIsOfADevice, Outcome, devices};
+ghost use Rattle.roff_tools.specs.Tape.{Tape};
 
-use crate::formatter::{Formatter, Halt};
+use crate::formatter::Formatter;
 use crate::limits::Limits;
-use crate::message::{Message, report};
 use crate::meter::Meter;
+use crate::running::Running;
 use crate::sink::ByteSink;
-use crate::source::{ByteSource, Taken};
+use crate::source::ByteSource;
 use roff_lines::Limit;
 use std::alloc::{AllocError, Global};
+use std::marker::Model;
 
 /// What is given to a run besides its limits.
 #[derive(Clone, Copy, Debug, Default, PartialEq, Eq)]
@@ -32,7 +38,14 @@ pub enum Status {
 pub struct Engine {
     limits: Limits,
     formatter: Formatter,
-    ghost fresh: { leading_behind formatter.reading ≡ 0 },
+}
+
+impl Model for Engine {
+    ghost Value = { Limits };
+
+    ghost view = { λ e. e.limits };
+
+    ghost invariant = { λ e. Stands e.limits.line [] e.formatter.env × (e.formatter.reading ≡ Line Start) };
 }
 
 impl Engine {
@@ -41,7 +54,9 @@ impl Engine {
     /// # Errors
     ///
     /// [`AllocError`] if the memory for the limits can't be had.
-    pub fn new(alloc: Global, limits: Limits, _start: Start) -> Result<Engine, AllocError> {
+    pub fn new(alloc: Global, limits: Limits, _start: Start) -> Result<Engine, AllocError>
+        ensures { IfOk result (λ e. e ≡ limits) }
+    {
         Ok(Engine {
             limits,
             formatter: Formatter::new(alloc, limits.line)?,
@@ -54,55 +69,26 @@ impl Engine {
         source: &mut S,
         out: &mut O,
         err: &mut E,
-    ) -> Status {
-        let Engine {
+    ) -> Status
+        // Where the source tells its items, the run is that of the definition over them.
+        ensures runs { (t : Tape) → S.tape source.old ≡ Some t → Outcome self t result
+            (devices (S.tape source.old) (S.failures source.old) (O.contents out.old) (O.failures out.old) (E.contents err.old) (E.failures err.old))
+            (devices (S.tape source.new) (S.failures source.new) (O.contents out.new) (O.failures out.new) (E.contents err.new) (E.failures err.new)) }
+        // Whatever the source is, a fault is answered only where there was one.
+        ensures fault { FaultIsOfADevice result
+            (devices (S.tape source.old) (S.failures source.old) (O.contents out.old) (O.failures out.old) (E.contents err.old) (E.failures err.old))
+            (devices (S.tape source.new) (S.failures source.new) (O.contents out.new) (O.failures out.new) (E.contents err.new) (E.failures err.new)) }
+    {
+        let Engine { limits, formatter } = self;
+        let mut running = Running {
             limits,
-            mut formatter,
-        } = self;
-        let mut meter = Meter::new(limits.bytes);
+            formatter,
+            meter: Meter::new(limits.bytes),
+        };
         loop {
-            let step = match source.next_byte() {
-                Taken::Byte(byte) => match meter.count(byte) {
-                    Ok(()) => formatter.take(byte, meter.line(), out, err),
-                    Err(limit) => Err(Halt::Limit(limit)),
-                },
-                Taken::Note(note) => match err.put(&note) {
-                    Ok(()) => Ok(()),
-                    Err(_) => Err(Halt::Messages),
-                },
-                Taken::End => {
-                    return match formatter.finish(meter.line(), out, err) {
-                        Ok(()) => Status::Done,
-                        Err(halt) => halted(halt, limits, meter.line(), err),
-                    };
-                }
-                Taken::Fault => {
-                    let _ = report(Message::ReadFailed, meter.line(), err);
-                    return Status::Device;
-                }
-                Taken::Stop(limit) => return Status::Limit(limit),
-            };
-            if let Err(halt) = step {
-                return halted(halt, limits, meter.line(), err);
+            if let Err(status) = running.turn(source, out, err) {
+                return status;
             }
         }
-    }
-}
-
-/// How a run ends that was halted. A limit and a fault of the output are reported.
-fn halted<E: ByteSink>(halt: Halt, limits: Limits, line: u32, err: &mut E) -> Status {
-    match halt {
-        Halt::Limit(limit) => {
-            let message = Message::LimitReached(limit, limits.value(limit));
-            match report(message, line, err) {
-                Ok(()) => Status::Limit(limit),
-                Err(_) => Status::Device,
-            }
-        }
-        Halt::Output => {
-            let _ = report(Message::WriteFailed, line, err);
-            Status::Device
-        }
-        Halt::Messages => Status::Device,
     }
 }

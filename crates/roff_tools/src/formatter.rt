@@ -23,23 +23,13 @@ ghost use Rattle.roff_tools.specs.declared.limits.Limits.{Limits};
 use crate::arguments::FirstArgument;
 use crate::block::Block;
 use crate::event::PageEvent;
+use crate::halt::Halt;
 use crate::message::{Message, report};
 use crate::reading::{LinePart, Reading, is_dropped};
 use crate::request::Request;
 use crate::sink::ByteSink;
-use roff_lines::{Env, Glyph, Limit, Line};
+use roff_lines::{Env, Glyph, Line};
 use std::alloc::{AllocError, Global};
-
-/// What ends a run early.
-#[derive(Clone, Copy, Debug, PartialEq, Eq)]
-pub(crate) enum Halt {
-    /// A limit would be passed.
-    Limit(Limit),
-    /// The output failed.
-    Output,
-    /// The message sink failed.
-    Messages,
-}
 
 /// What is being read, the environment, and the block through which lines are written.
 #[derive(Drop)]
@@ -110,6 +100,7 @@ impl Formatter {
         ensures does { (l : Limits) (h : PageHistory) (r : Read) → Stands l.line (text_of h) self.old.env → ReadsAs r self.old.reading self.old.argument →
             Does l h line (with_events (end_effect (settings_after (text_of h)) r) closing_events) result self.new.env
             (O.contents out.old) (O.contents out.new) (E.contents err.old) (E.contents err.new) }
+        ensures reading { self.new.reading ≡ self.old.reading }
         ensures failures { (O.failures out.old ≤ O.failures out.new) × (E.failures err.old ≤ E.failures err.new) }
         ensures output_fault { result ≡ Err Halt.Output → Rises (O.failures out.old) (O.failures out.new) }
         ensures message_fault { result ≡ Err Halt.Messages → Rises (E.failures err.old) (E.failures err.new) }
@@ -130,6 +121,7 @@ impl Formatter {
         ensures does { (l : Limits) (h : PageHistory) (r : Read) → Stands l.line (text_of h) self.old.env → ReadsAs r self.old.reading self.old.argument →
             Does l h line (end_effect (settings_after (text_of h)) r) result self.new.env
             (O.contents out.old) (O.contents out.new) (E.contents err.old) (E.contents err.new) }
+        ensures reading { self.new.reading ≡ self.old.reading }
         ensures failures { (O.failures out.old ≤ O.failures out.new) × (E.failures err.old ≤ E.failures err.new) }
         ensures output_fault { result ≡ Err Halt.Output → Rises (O.failures out.old) (O.failures out.new) }
         ensures message_fault { result ≡ Err Halt.Messages → Rises (E.failures err.old) (E.failures err.new) }

@@ -7,6 +7,7 @@ mod command;
 mod engine;
 mod event;
 mod formatter;
+mod halt;
 mod inputs;
 mod job;
 pub mod laws;
@@ -18,6 +19,7 @@ mod number;
 mod program;
 mod reading;
 mod request;
+mod running;
 mod sink;
 mod source;
 #[cfg(test)]

@@ -1,0 +1,91 @@
+-- How far a run of the code has come, as a run of the definition.
+use Rattle.std.specs.Prelude.{◌≡◌, ℕ, ◌-◌, ◌≤◌, true, false, List, [], Option, Some, None, Result, Ok, Err}
+use Rattle.std.specs.Io.KnownBytes.{Appends}
+use Rattle.roff_lines.specs.Stands.{Stands}
+use Rattle.roff_lines.specs.declared.limit.Limit.{Limit}
+use Rattle.roff_tools.specs.declared.running.Running.{Running as Coded}
+use Rattle.roff_tools.specs.declared.engine.Status.{Status}
+use Rattle.roff_tools.specs.declared.engine.Status.TheVariants.{Device}
+use Rattle.roff_tools.specs.declared.halt.Halt.{Halt}
+use Rattle.roff_tools.specs.declared.halt.Halt.TheVariants.{Limit as Limited, Output, Messages}
+use Rattle.roff_tools.specs.declared.limits.Limits.{Limits}
+use Rattle.roff_tools.specs.declared.meter.Meter.{Meter}
+use Rattle.roff_tools.specs.Outcome.{Devices, Reaches, OutputStops, MessagesFail, Outcome}
+use Rattle.roff_tools.specs.Output.{PageHistory, text_of}
+use Rattle.roff_tools.specs.Reading.{Reading}
+use Rattle.roff_tools.specs.ReadsAs.{ReadsAs}
+use Rattle.roff_tools.specs.Run.{State, step, stopped_by, reported}
+use Rattle.roff_tools.specs.Tape.{Tape}
+
+-- the state of a run that reads on, behind so much of its input
+abbrev pub reading_on : Tape → Reading → PageHistory → Meter → List ℕ → State
+reading_on tape reading h m messages = record {
+  tape = tape;
+  reading = reading;
+  to_do = [];
+  history = h;
+  charge = m.charge;
+  newlines = m.newlines;
+  line = m.line;
+  messages = messages;
+  is_closing = false;
+  ended = None;
+  last_message = [];
+}
+
+-- no device has had fewer faults than before
+pub record NoFewerFaults (before now : Devices) : Type 0 where
+  pub source : before.source_failures ≤ now.source_failures
+  pub out : before.out_failures ≤ now.out_failures
+  pub err : before.err_failures ≤ now.err_failures
+
+-- The run of the code over the tape t has come as far as one of the definition that reads on, with this
+-- tape to come; its first item may have been looked at.
+pub record IsAt (t tape : Tape) (before now : Devices) (run : Coded) : Type 0 where
+  pub reading : Reading
+  pub history : PageHistory
+  pub messages : List ℕ
+  pub reaches : Reaches run.limits t before now (reading_on tape reading history run.meter messages)
+  pub stands : Stands run.limits.line (text_of history) run.formatter.env
+  pub reads : ReadsAs reading run.formatter.reading run.formatter.argument
+  pub cap : run.meter.limit ≡ run.limits.bytes
+  pub faults : NoFewerFaults before now
+
+-- the definition stops at a limit in the step behind a state of this line
+pub record LimitStops (l : Limits) (t : Tape) (line : ℕ) (limit : Limit) (before now : Devices) : Type 0 where
+  pub state : State
+  pub reaches : Reaches l t before now state
+  pub stops : step l state ≡ stopped_by l limit state
+  pub quiet : state.last_message ≡ []
+  pub line_is : state.line ≡ line
+
+-- the output failed in the step behind a state of this line
+pub record OutputStopsAt (l : Limits) (t : Tape) (line : ℕ) (before now : Devices) : Type 0 where
+  pub state : State
+  pub stops : OutputStops l t before now state
+  pub messages : Appends before.err now.err (reported state)
+  pub line_is : state.line ≡ line
+
+-- why the run can't go on, before that is reported
+abbrev pub Halts : Limits → Tape → ℕ → Halt → Devices → Devices → Type 0
+Halts l t line (Limited limit) before now = LimitStops l t line limit before now × NoFewerFaults before now
+Halts l t line Output before now = OutputStopsAt l t line before now × NoFewerFaults before now
+Halts l t line Messages before now = MessagesFail l t Device before now
+
+-- the run goes on behind an item, with this tape to come, or it ended
+abbrev pub Continues : Tape → Tape → Devices → Devices → Result (Unit {0}) Status → Coded → Type 0
+Continues t tape before now (Ok done) run = (now.left ≡ Some tape) × IsAt t tape before now run
+Continues t tape before now (Err status) run = Outcome run.limits t status before now
+
+-- the same devices, where the message sink tells this
+abbrev pub with_messages : Devices → Option (List ℕ) → ℕ → Devices
+with_messages now err failures = record now { err = err; err_failures = failures }
+
+-- and where both sinks tell this
+abbrev pub with_sinks : Devices → Option (List ℕ) → ℕ → Option (List ℕ) → ℕ → Devices
+with_sinks now out out_failures err err_failures =
+    record now { out = out; out_failures = out_failures; err = err; err_failures = err_failures }
+
+-- bytes that may still be taken
+abbrev pub bytes_to_come : Meter → ℕ
+bytes_to_come m = m.limit - m.charge
