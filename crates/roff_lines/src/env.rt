@@ -89,6 +89,7 @@ impl Env {
     /// # Errors
     ///
     /// [`Limit::Line`] if the pending line would pass its limit; the environment is then as it was.
+    #[inline(always)]
     pub fn glyph(&mut self, glyph: Glyph) -> Result<(), Limit>
         ensures stands { OnOk result ((line_cap : ℕ) (h : History) → Stands line_cap h self.old → Stands line_cap (Print glyph ∷ h) self.new) }
         ensures limit { (line_cap : ℕ) (h : History) → Stands line_cap h self.old → (IsErr result ↔ (line_cap < pending_length (Print glyph ∷ h))) }

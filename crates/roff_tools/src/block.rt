@@ -31,6 +31,7 @@ impl Block {
     }
 
     /// Writes a line.
+    #[inline(never)]
     pub(crate) fn put_line<O: ByteSink>(
         &mut self,
         line: Line<'_>,
@@ -68,6 +69,7 @@ impl Block {
 }
 
 /// Adds a byte to those of a block; where they fill it they are put first.
+#[inline(always)]
 fn push<O: ByteSink>(bytes: &mut Vec<u8>, byte: u8, out: &mut O) -> Result<(), SinkFault>
     requires { 8192 ≤ vec_capacity bytes.old }
     ensures capacity { vec_capacity bytes.old ≤ vec_capacity bytes.new }
@@ -85,6 +87,7 @@ fn push<O: ByteSink>(bytes: &mut Vec<u8>, byte: u8, out: &mut O) -> Result<(), S
 }
 
 /// Puts the bytes of a block, which is then empty.
+#[inline(never)]
 fn put<O: ByteSink>(bytes: &mut Vec<u8>, out: &mut O) -> Result<(), SinkFault>
     ensures capacity { vec_capacity bytes.new ≡ vec_capacity bytes.old }
     ensures empty { bytes.new.items ≡ [] }

@@ -252,6 +252,7 @@ impl Formatter {
     }
 
     /// Prints a glyph.
+    #[inline(always)]
     fn glyph(&mut self, glyph: Glyph) -> Result<(), Halt>
         ensures performs { (l : Limits) (h : PageHistory) (known : Option (List ℕ)) → Stands l.line (text_of h) self.old.env →
             Performs l h (Text (Print glyph) ∷ []) result self.new.env known known }
@@ -326,6 +327,7 @@ impl Formatter {
 }
 
 /// Writes the line that an event finished, if it finished one.
+#[inline(always)]
 fn put_finished<O: ByteSink>(
     block: &mut Block,
     line: Option<Line<'_>>,
