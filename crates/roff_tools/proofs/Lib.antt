@@ -6,6 +6,7 @@ pub mod Beginnings
 pub mod StepsAppend
 pub mod StepsOnlyCut
 pub mod RunsOnlyCut
+pub mod RunsStayWithin
 pub mod FirstArguments
 pub mod ItemSteps
 pub mod Halting

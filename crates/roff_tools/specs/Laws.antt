@@ -1,10 +1,12 @@
 -- Laws over whole runs: what limits and failing sources leave as it is.
-use Rattle.std.specs.Prelude.{◌≡◌, ◌≢◌, ℕ, List, ◌++◌, Some}
+use Rattle.std.specs.Prelude.{◌≡◌, ◌≢◌, ℕ, ◌≤◌, List, ◌++◌, Some}
+use Rattle.roff_lines.specs.Lines.{pending_length}
 use Rattle.roff_lines.specs.Lists.{IsBeginning}
 use Rattle.roff_lines.specs.declared.limit.Limit.{Limit}
 use Rattle.roff_tools.specs.declared.engine.Status.TheVariants.{Device, Limit as Limited}
 use Rattle.roff_tools.specs.declared.limits.Limits.{Limits}
 use Rattle.roff_tools.specs.Limits.{AreWithin}
+use Rattle.roff_tools.specs.Output.{text_of}
 use Rattle.roff_tools.specs.Run.{State, initial, after, output}
 use Rattle.roff_tools.specs.Tape.{Tape, Item, Ending, Failed}
 
@@ -52,3 +54,12 @@ SameUntilTheFault =
     let cut : State = after l n (initial (failing_behind items)) in
     let whole : State = after l n (initial (going_on_behind items more ending)) in
     cut.ended ≢ Some Device → over cut.tape whole ≡ cut
+
+-- a state is within the limits: it took no more bytes, and its pending line has no more
+pub record IsWithin (l : Limits) (s : State) : Type 0 where
+  pub bytes : s.charge ≤ l.bytes
+  pub line : pending_length (text_of s.history) ≤ l.line
+
+-- no run passes a limit
+abbrev pub NoLimitIsPassed : Type 0
+NoLimitIsPassed = (l : Limits) (tape : Tape) (n : ℕ) → IsWithin l (after l n (initial tape))

@@ -3,7 +3,7 @@
 ghost use Rattle.std.specs.Prelude.{◌≡◌, codes};
 ghost use Rattle.roff_lines.specs.declared.limit.Limit.TheVariants.{Bytes, Line};
 ghost use Rattle.roff_tools.specs.declared.engine.Status.TheVariants.{Done, Device, Limit as Limited};
-ghost use Rattle.roff_tools.specs.Laws.{LimitsOnlyCut, SameUntilALimit, FailingOnlyCuts, SameUntilTheFault};
+ghost use Rattle.roff_tools.specs.Laws.{LimitsOnlyCut, SameUntilALimit, FailingOnlyCuts, SameUntilTheFault, NoLimitIsPassed};
 ghost use Rattle.roff_tools.specs.Rows.{gives, formatted, formatted_within, formatted_failing};
 
 /// What the definitions give on the worked rows of filled text.
@@ -55,4 +55,9 @@ pub fn limits()
 pub fn cut()
     ensures beginning { FailingOnlyCuts }
     ensures same_until_the_fault { SameUntilTheFault }
+{}
+
+/// No run takes more bytes, or has a longer pending line, than its limits say.
+pub fn bounds()
+    ensures { NoLimitIsPassed }
 {}
