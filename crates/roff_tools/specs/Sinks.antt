@@ -14,3 +14,8 @@ pub record AppendsAllBut (old new : Option (List ℕ)) (piece held : List ℕ) :
   pub front : List ℕ
   pub split : piece ≡ front ++ held
   pub written : Appends old new front
+
+-- what a sink over a writer tells: what was written, where the writer tells it, and how many faults there were
+pub record Sunk : Type 0 where
+  pub contents : Option (List ℕ)
+  pub failures : ℕ

@@ -1,7 +1,6 @@
 //! Devices in memory, that fail where they are told to.
 
-ghost use Rattle.std.specs.Prelude.{◌≡◌, Some, ◌≤◌, length, vec_len, vec_capacity};
-ghost use Rattle.roff_tools.specs.Memory.{tape_of, memory_ending};
+ghost use Rattle.std.specs.Prelude.{◌≡◌, Some, ◌≤◌, [], map, vec_len, vec_capacity, IfOk};
 
 use crate::sink::{ByteSink, SinkFault};
 use crate::source::{ByteSource, Taken};
@@ -16,8 +15,13 @@ pub struct MemSource<'a> {
 }
 
 impl<'a> MemSource<'a> {
+    ghost use Rattle.roff_tools.specs.Memory.{tape_of, tape_of_bytes};
+    ghost use Rattle.roff_tools.specs.Tape.{OneByte};
+
     /// A source of these bytes. It fails after `fail_at` of them, if there are so many.
-    pub fn new(bytes: &'a [u8], fail_at: Option<usize>) -> Self {
+    pub fn new(bytes: &'a [u8], fail_at: Option<usize>) -> Self
+        ensures { tape_of result ≡ tape_of_bytes bytes.now fail_at }
+    {
         match fail_at {
             Some(count) if count <= bytes.len() => MemSource {
                 rest: &bytes[..count],
@@ -33,12 +37,16 @@ impl<'a> MemSource<'a> {
     }
 
     /// The bytes that weren't taken yet.
-    pub fn rest(&self) -> &'a [u8] {
+    pub fn rest(&self) -> &'a [u8]
+        ensures { map OneByte result.now ≡ (tape_of self.now).items }
+    {
         self.rest
     }
 }
 
 impl ByteSource for MemSource<'_> {
+    ghost use Rattle.roff_tools.specs.Memory.{tape_of, memory_ending};
+
     ghost tape = { λ s. Some (tape_of s) };
 
     ghost ended = { memory_ending };
@@ -73,12 +81,16 @@ pub struct MemSink {
 }
 
 impl MemSink {
+    ghost use Rattle.roff_tools.specs.Memory.{kept_by};
+
     /// A sink with room for so many bytes, reserved here.
     ///
     /// # Errors
     ///
     /// [`AllocError`] if the room can't be had.
-    pub fn new(alloc: Global, cap: usize) -> Result<Self, AllocError> {
+    pub fn new(alloc: Global, cap: usize) -> Result<Self, AllocError>
+        ensures { IfOk result (λ s. kept_by s ≡ []) }
+    {
         Ok(MemSink {
             kept: Vec::with_capacity(alloc, cap)?,
             cap,
@@ -87,13 +99,17 @@ impl MemSink {
     }
 
     /// The bytes that were written.
-    pub fn kept(&self) -> &[u8] {
+    pub fn kept(&self) -> &[u8]
+        ensures { result.now ≡ kept_by self.now }
+    {
         self.kept.as_slice()
     }
 }
 
 impl ByteSink for MemSink {
-    ghost contents = { λ s. Some s.kept.items };
+    ghost use Rattle.roff_tools.specs.Memory.{kept_by};
+
+    ghost contents = { λ s. Some (kept_by s) };
 
     ghost failures = { λ s. s.failures };
 

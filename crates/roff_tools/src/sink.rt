@@ -2,10 +2,11 @@
 
 ghost use Rattle.std.specs.Prelude.{◌≡◌, ℕ, ◌+◌, ◌<◌, ◌≤◌, List, Option, OnOk, OnErr, IfSome, IfNone, OnSome, length, min, take};
 ghost use Rattle.std.specs.Io.KnownBytes.{Appends, Keeps};
-ghost use Rattle.roff_tools.specs.Sinks.{AppendsFront};
+ghost use Rattle.roff_tools.specs.Sinks.{AppendsFront, Sunk};
 ghost use Rattle.roff_tools.specs.Tape.{Rises, last_count};
 
 use std::io::Write;
+use std::marker::Model;
 
 /// A sink that took a part of a piece, and no more.
 #[derive(Clone, Copy, Debug, PartialEq, Eq)]
@@ -38,11 +39,16 @@ pub struct WriteSink<W: Write + Drop> {
     failures: u64,
 }
 
+impl<W: Write + Drop> Model for WriteSink<W> {
+    ghost Value = { Sunk };
+
+    ghost view = { λ s. record { contents = W.contents s.writer; failures = s.failures } };
+}
+
 impl<W: Write + Drop> WriteSink<W> {
     /// A sink over a writer, to which nothing is written yet.
     pub fn new(writer: W) -> Self
-        ensures writer { result.writer ≡ writer }
-        ensures failures { result.failures ≡ 0 }
+        ensures { result ≡ record { contents = W.contents writer; failures = 0 } }
     {
         WriteSink {
             writer,
@@ -52,7 +58,7 @@ impl<W: Write + Drop> WriteSink<W> {
 
     /// The writer.
     pub fn into_inner(self) -> W
-        ensures { result ≡ self.writer }
+        ensures { W.contents result ≡ self.contents }
     {
         let WriteSink {
             writer,
@@ -66,7 +72,9 @@ impl<W: Write + Drop> WriteSink<W> {
     /// # Errors
     ///
     /// [`SinkFault`] if that fails.
-    pub fn flush(&mut self) -> Result<(), SinkFault> {
+    pub fn flush(&mut self) -> Result<(), SinkFault>
+        ensures { Keeps self.old.contents self.new.contents }
+    {
         match self.writer.flush() {
             Ok(()) => Ok(()),
             Err(_) => Err(SinkFault),
@@ -77,8 +85,8 @@ impl<W: Write + Drop> WriteSink<W> {
     /// fault, which is counted.
     fn write_some(&mut self, piece: &[u8]) -> Option<usize>
         ensures count { IfSome result (λ n. (0 < n) × (n ≤ length piece.now)) }
-        ensures some { IfSome result (λ n. Appends (W.contents self.old.writer) (W.contents self.new.writer) (take n piece.now)) }
-        ensures none { IfNone result (Keeps (W.contents self.old.writer) (W.contents self.new.writer)) }
+        ensures some { IfSome result (λ n. Appends self.old.contents self.new.contents (take n piece.now)) }
+        ensures none { IfNone result (Keeps self.old.contents self.new.contents) }
         ensures counts { OnSome result (self.new.failures ≡ self.old.failures) }
         ensures fault { IfNone result (self.new.failures ≡ min (self.old.failures + 1) last_count) }
         ensures failures { self.old.failures ≤ self.new.failures }
@@ -94,7 +102,7 @@ impl<W: Write + Drop> WriteSink<W> {
 }
 
 impl<W: Write + Drop> ByteSink for WriteSink<W> {
-    ghost contents = { λ s. W.contents s.writer };
+    ghost contents = { λ s. s.contents };
 
     ghost failures = { λ s. s.failures };
 

@@ -1,8 +1,7 @@
 //! Sources: what a run reads from.
 
-ghost use Rattle.std.specs.Prelude.{◌≡◌, ℕ, ◌<◌, ◌≤◌, ◌^◌, Option, Some, None, vec_len, IsTrue};
+ghost use Rattle.std.specs.Prelude.{◌≡◌, ℕ, ◌<◌, ◌≤◌, ◌^◌, Option, Some, None, vec_len, IfOk};
 ghost use Rattle.roff_tools.specs.Tape.{Tape, Ending, Failed, Gives, Ends, OneNote, answer_of, front, behind_front, Rises};
-ghost use Rattle.roff_tools.specs.Reach.{reach_ending};
 
 use arrayvec::ArrayVec;
 use roff_lines::Limit;
@@ -71,7 +70,7 @@ enum Reach {
 
 /// A source over a reader, read a block of 4,096 bytes at a time.
 #[derive(Drop)]
-pub struct ReadSource<R: Read + Drop> {
+pub struct ReadSource<R> {
     reader: R,
     block: Vec<u8>,
     next: usize,
@@ -82,8 +81,12 @@ pub struct ReadSource<R: Read + Drop> {
 }
 
 impl<R: Read + Drop> ReadSource<R> {
+    ghost use Rattle.roff_tools.specs.Reach.{ending_given};
+
     /// A source over a reader, of which nothing is read yet.
-    pub fn new(alloc: Global, reader: R) -> Result<Self, AllocError> {
+    pub fn new(alloc: Global, reader: R) -> Result<Self, AllocError>
+        ensures { IfOk result (λ s. ending_given s ≡ None) }
+    {
         Ok(ReadSource {
             reader,
             block: vec![in alloc; 0; BLOCK]?,
@@ -96,7 +99,7 @@ impl<R: Read + Drop> ReadSource<R> {
 
     /// Reads the next block, by one read, and answers its first byte. Every error is a fault.
     fn next_block(&mut self) -> Taken
-        ensures ends { (e : Ending) → answer_of result ≡ Ends e → reach_ending self.new.reach ≡ Some e }
+        ensures ends { (e : Ending) → answer_of result ≡ Ends e → ending_given self.new ≡ Some e }
         ensures failures { self.old.failures ≤ self.new.failures }
         ensures fault { answer_of result ≡ Ends Failed → Rises self.old.failures self.new.failures }
         ensures note { (m : _) → answer_of result ≡ Gives (OneNote m) → ⊥ }
@@ -121,9 +124,11 @@ impl<R: Read + Drop> ReadSource<R> {
 }
 
 impl<R: Read + Drop> ByteSource for ReadSource<R> {
+    ghost use Rattle.roff_tools.specs.Reach.{ending_given};
+
     ghost tape = { λ _. None };
 
-    ghost ended = { λ s. reach_ending s.reach };
+    ghost ended = { ending_given };
 
     ghost notes = { λ _. 0 };
 

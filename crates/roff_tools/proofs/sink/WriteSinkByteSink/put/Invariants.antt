@@ -5,7 +5,7 @@ use Rattle.roff_tools.proofs.sink.WriteSinkByteSink.put.Given as goal
 abbrev pub invariant-loop-rest : goal.invariant-loop-rest
 invariant-loop-rest g l = (front : List ℕ)
     × (l.piece ≡ front ++ l.rest)
-    × Appends (g.W.Write.contents l.initial.self.writer) (g.W.Write.contents l.self.writer) front
+    × Appends l.initial.self.contents l.self.contents front
     × (l.initial.self.failures ≤ l.self.failures)
 
 abbrev pub decreases-loop-rest : goal.decreases-loop-rest
