@@ -59,7 +59,7 @@ limit_told l t line limit before mid now stops out left told = record {
 pub limit_not_told : (l : Limits) (t : Tape) (line : ℕ) (limit : Limit) (before mid now : Devices)
     → LimitStops l t line limit before mid → now.out ≡ mid.out → now.left ≡ mid.left
     → AppendsFront mid.err now.err (message_line line (LimitReached limit (value_of l limit)))
-    → Rises before.err_failures now.err_failures
+    → Rises before.faults.err now.faults.err
     → MessagesFail l t Device before now
 limit_not_told l t line limit before mid now stops out left told fault = record {
   is_device = refl;
@@ -73,7 +73,7 @@ limit_not_told l t line limit before mid now stops out left told fault = record 
 
 -- the output failed, and that was reported
 pub output_told : (l : Limits) (t : Tape) (line : ℕ) (before mid now : Devices)
-    → OutputStopsAt l t line before mid → now.out ≡ mid.out → now.out_failures ≡ mid.out_failures → now.left ≡ mid.left
+    → OutputStopsAt l t line before mid → now.out ≡ mid.out → now.faults.out ≡ mid.faults.out → now.left ≡ mid.left
     → Appends mid.err now.err (message_line line WriteFailed)
     → OutputFails l t Device before now
 output_told l t line before mid now stops out failures left told = record {
@@ -85,9 +85,9 @@ output_told l t line before mid now stops out failures left told = record {
 
 -- the output failed, and that could not be reported
 pub output_not_told : (l : Limits) (t : Tape) (line : ℕ) (before mid now : Devices)
-    → OutputStopsAt l t line before mid → now.out ≡ mid.out → now.out_failures ≡ mid.out_failures → now.left ≡ mid.left
+    → OutputStopsAt l t line before mid → now.out ≡ mid.out → now.faults.out ≡ mid.faults.out → now.left ≡ mid.left
     → AppendsFront mid.err now.err (message_line line WriteFailed)
-    → Rises before.err_failures now.err_failures
+    → Rises before.faults.err now.faults.err
     → OutputFails l t Device before now
 output_not_told l t line before mid now stops out failures left told fault = record {
   is_device = refl;
@@ -98,10 +98,10 @@ output_not_told l t line before mid now stops out failures left told fault = rec
 
 -- the output failed, and the report was answered so
 pub output_reported : {F : Type 0} (l : Limits) (t : Tape) (line : ℕ) (before mid now : Devices) (r : Result (Unit {0}) F)
-    → OutputStopsAt l t line before mid → now.out ≡ mid.out → now.out_failures ≡ mid.out_failures → now.left ≡ mid.left
+    → OutputStopsAt l t line before mid → now.out ≡ mid.out → now.faults.out ≡ mid.faults.out → now.left ≡ mid.left
     → OnOk r (Appends mid.err now.err (message_line line WriteFailed))
     → OnErr r (AppendsFront mid.err now.err (message_line line WriteFailed))
-    → OnErr r (Rises before.err_failures now.err_failures)
+    → OnErr r (Rises before.faults.err now.faults.err)
     → OutputFails l t Device before now
 output_reported l t line before mid now (Ok u) stops out failures left told part fault = output_told l t line before mid now stops out failures left told
 output_reported l t line before mid now (Err e) stops out failures left told part fault = output_not_told l t line before mid now stops out failures left part fault
@@ -134,7 +134,7 @@ module _ (l : Limits) (t : Tape) (before mid now : Devices) (u : State) (h : Pag
   }
 
   -- the output fails in one of the events
-  pub failed_at : FailedAt l h es mid.out now.out → Rises before.out_failures now.out_failures → OutputStopsAt l t u.line before now
+  pub failed_at : FailedAt l h es mid.out now.out → Rises before.faults.out now.faults.out → OutputStopsAt l t u.line before now
   failed_at failed fault =
       let written_then : Appends before.out now.out (written (behind failed.done h) ++ failed.front) =
       rw (written-behind, append_assoc) (Appends-append before.out mid.out now.out _ _ text failed.written) in
@@ -176,8 +176,8 @@ module _ (l : Limits) (t : Tape) (before mid now : Devices) (from u : State) (h 
 
   -- or it can't be done
   pub effect_halted : (env : Env) (halt : Halt) → Does l h u.line effect (Err halt) env mid.out now.out mid.err now.err
-      → (halt ≡ Output → Rises before.out_failures now.out_failures) → (halt ≡ Messages → Rises before.err_failures now.err_failures)
-      → NoFewerFaults before now → Halts l t u.line halt before now
+      → (halt ≡ Output → Rises before.faults.out now.faults.out) → (halt ≡ Messages → Rises before.faults.err now.faults.err)
+      → NoFewerFaults before.faults now.faults → Halts l t u.line halt before now
   effect_halted env (ByLimit limit) does out_fault err_fault faults =
       (stopped_at l t before mid now u h effect.events comes_there text_so_far (said_then does.0) rest limit does.1 quiet, faults)
   effect_halted env Output does out_fault err_fault faults =

@@ -17,7 +17,7 @@ use Rattle.roff_tools.specs.declared.halt.Halt.TheVariants.{Output, Messages}
 use Rattle.roff_tools.specs.declared.limits.Limits.{Limits}
 use Rattle.roff_tools.specs.declared.meter.Meter.{Meter}
 use Rattle.roff_tools.specs.Messages.{message_line, message_lines}
-use Rattle.roff_tools.specs.Outcome.{Devices, IsLeftOf, Reaches, Completes, MessagesFail, Outcome}
+use Rattle.roff_tools.specs.Outcome.{Devices, Faults, IsLeftOf, Reaches, Completes, MessagesFail, Outcome}
 use Rattle.roff_tools.specs.Output.{PageHistory, text_of, written}
 use Rattle.roff_tools.specs.Performing.{behind, Does, with_events, closing_events}
 use Rattle.roff_tools.specs.Reading.{Reading, Taking, LineStart, taking, end_effect}
@@ -27,23 +27,28 @@ use Rattle.roff_tools.specs.Running.{NoFewerFaults, IsAt, LimitStops, Halts, rea
 use Rattle.roff_tools.specs.declared.running.Running.{Running as Coded}
 use Rattle.roff_tools.specs.declared.message.Message.TheVariants.{ReadFailed}
 use Rattle.roff_tools.specs.Sinks.{AppendsFront}
-use Rattle.roff_tools.specs.Tape.{Tape, Rises, OneByte, OneNote, Gives, Ends, Ended, Failed, Stopped, front, behind_front}
+use Rattle.roff_tools.specs.Tape.{Tape, Answer, IsItem, Rises, OneByte, OneNote, Gives, Ends, Ended, Failed, Stopped, front, behind_front}
 use Rattle.roff_tools.proofs.Halting.{between, effect_done, effect_halted}
 use Rattle.roff_tools.proofs.Appending.{Appends-append, Appends-nothing}
 use Rattle.roff_tools.proofs.ItemSteps.{step-byte, step-bytes_reached, step-note, step-fault, step-stop, step-end}
 use Rattle.roff_tools.proofs.Leads.{Leads-step, Leads-refl, busy}
 
 -- no device has had fewer faults than it has had
-pub no_fewer : (now : Devices) → NoFewerFaults now now
+pub no_fewer : (now : Faults) → NoFewerFaults now now
 no_fewer now = record { source = omega arith; out = omega arith; err = omega arith }
 
 -- faults are counted on
-pub faults_then : {old mid new : Devices} → NoFewerFaults old mid → NoFewerFaults mid new → NoFewerFaults old new
+pub faults_then : {old mid new : Faults} → NoFewerFaults old mid → NoFewerFaults mid new → NoFewerFaults old new
 faults_then first second = record {
   source = omega (arith, first.source, second.source);
   out = omega (arith, first.out, second.out);
   err = omega (arith, first.err, second.err);
 }
+
+-- behind an item a run may go on
+pub goes_on_anyway : {E : Type 0} (r : Result (Unit {0}) E) → OnOk r (Unit {0})
+goes_on_anyway (Ok u) = tt
+goes_on_anyway (Err e) = tt
 
 -- a byte was counted
 pub record Counts (b : ℕ) (old new : Meter) : Type 0 where
@@ -64,7 +69,7 @@ byte_stops l t tape before now r h ms m b reached gives cap full = record {
 }
 
 module _ (l : Limits) (t tape : Tape) (before mid now : Devices) (r : Reading) (h : PageHistory) (ms : List ℕ) (m n : Meter) (b : ℕ)
-    (reached : Reaches l t before mid (reading_on tape r h m ms)) (left : now.left ≡ Some (behind_front tape))
+    (reached : Reaches l t before mid (reading_on tape r h m ms)) (left : now.left ≡ behind_front tape)
     (gives : front tape ≡ Gives (OneByte b)) (cap : m.limit ≡ l.bytes) (within : m.charge < m.limit) (counts : Counts b m n) where
   abbrev next : Taking
   next = taking (settings_after (text_of h)) r b
@@ -89,8 +94,8 @@ module _ (l : Limits) (t tape : Tape) (before mid now : Devices) (r : Reading) (
 
   -- or it can't be done
   pub byte_halted : (line : ℕ) (env : Env) (halt : Halt) → line ≡ n.line → Does l h line next.effect (Err halt) env mid.out now.out mid.err now.err
-      → (halt ≡ Output → Rises before.out_failures now.out_failures) → (halt ≡ Messages → Rises before.err_failures now.err_failures)
-      → NoFewerFaults before now → Halts l t line halt before now
+      → (halt ≡ Output → Rises before.faults.out now.faults.out) → (halt ≡ Messages → Rises before.faults.err now.faults.err)
+      → NoFewerFaults before.faults now.faults → Halts l t line halt before now
   byte_halted line env halt line_is does out_fault err_fault faults =
       let P : ℕ → Type 0 = λ k. Does l h k next.effect (Err halt) env mid.out now.out mid.err now.err in
       let Q : ℕ → Type 0 = λ k. Halts l t k halt before now in
@@ -98,7 +103,7 @@ module _ (l : Limits) (t tape : Tape) (before mid now : Devices) (r : Reading) (
 
 -- the input's end
 module _ (l : Limits) (t tape : Tape) (before mid now : Devices) (r : Reading) (h : PageHistory) (ms : List ℕ) (m : Meter)
-    (reached : Reaches l t before mid (reading_on tape r h m ms)) (left : now.left ≡ Some (behind_front tape))
+    (reached : Reaches l t before mid (reading_on tape r h m ms)) (left : now.left ≡ behind_front tape)
     (ends : front tape ≡ Ends Ended) where
   abbrev at_the_end : Effect
   at_the_end = with_events (end_effect (settings_after (text_of h)) r) closing_events
@@ -124,22 +129,22 @@ module _ (l : Limits) (t tape : Tape) (before mid now : Devices) (r : Reading) (
 
   -- or it can't be done
   pub end_halted : (line : ℕ) (env : Env) (halt : Halt) → line ≡ m.line → Does l h line at_the_end (Err halt) env mid.out now.out mid.err now.err
-      → (halt ≡ Output → Rises before.out_failures now.out_failures) → (halt ≡ Messages → Rises before.err_failures now.err_failures)
-      → NoFewerFaults before now → Halts l t line halt before now
+      → (halt ≡ Output → Rises before.faults.out now.faults.out) → (halt ≡ Messages → Rises before.faults.err now.faults.err)
+      → NoFewerFaults before.faults now.faults → Halts l t line halt before now
   end_halted line env halt line_is does out_fault err_fault faults =
       let P : ℕ → Type 0 = λ k. Does l h k at_the_end (Err halt) env mid.out now.out mid.err now.err in
       let Q : ℕ → Type 0 = λ k. Halts l t k halt before now in
       subst Q (sym line_is) (effect_halted l t before mid now (reading_on tape r h m ms) closing h at_the_end reached refl end_opens end_said refl (inr left) (inr left) env halt (subst P line_is does) out_fault err_fault faults)
 
 -- the source was looked at
-pub looked_at : (t tape : Tape) (before now : Devices) (run : Coded) (left : Option Tape) (failures : ℕ)
-    → left ≡ Some (behind_front tape) → now.source_failures ≤ failures
-    → IsAt t tape before now run → IsAt t tape before (record now { left = left; source_failures = failures }) run
-looked_at t tape before now run left failures left_is more at = record {
+pub looked_at : (t tape : Tape) (before now : Devices) (run : Coded) (failures : ℕ)
+    → now.faults.source ≤ failures
+    → IsAt t tape before now run → IsAt t tape before (record now { left = behind_front tape; faults = record now.faults { source = failures } }) run
+looked_at t tape before now run failures more at = record {
   reading = at.reading;
   history = at.history;
   messages = at.messages;
-  reaches = record { comes = at.reaches.comes; text = at.reaches.text; messages = at.reaches.messages; rest = inr left_is };
+  reaches = record { comes = at.reaches.comes; text = at.reaches.text; messages = at.reaches.messages; rest = inr refl };
   stands = at.stands;
   reads = at.reads;
   cap = at.cap;
@@ -147,7 +152,7 @@ looked_at t tape before now run left failures left_is more at = record {
 }
 
 module _ (l : Limits) (t tape : Tape) (before mid now : Devices) (r : Reading) (h : PageHistory) (ms : List ℕ) (m : Meter)
-    (reached : Reaches l t before mid (reading_on tape r h m ms)) (left : now.left ≡ Some (behind_front tape)) (out : now.out ≡ mid.out) where
+    (reached : Reaches l t before mid (reading_on tape r h m ms)) (left : now.left ≡ behind_front tape) (out : now.out ≡ mid.out) where
   -- a state one step on that has written no more
   one_more : (s : State) → step l (reading_on tape r h m ms) ≡ s → output s ≡ written h → IsLeftOf now.left s
       → Appends before.err now.err (reported s) → Reaches l t before now s
@@ -168,7 +173,7 @@ module _ (l : Limits) (t tape : Tape) (before mid now : Devices) (r : Reading) (
 
   -- or a beginning of it is
   pub note_failed : (note : List ℕ) → front tape ≡ Gives (OneNote note) → AppendsFront mid.err now.err note
-      → Rises before.err_failures now.err_failures → MessagesFail l t Device before now
+      → Rises before.faults.err now.faults.err → MessagesFail l t Device before now
   note_failed note gives part fault =
       let step_is = step-note l tape r h m.charge m.newlines m.line ms note gives in record {
         is_device = refl;
@@ -183,7 +188,7 @@ module _ (l : Limits) (t tape : Tape) (before mid now : Devices) (r : Reading) (
   -- the source failed, and the report was answered so
   pub source_failed : {F : Type 0} (line : ℕ) (report : Result (Unit {0}) F) → line ≡ m.line → front tape ≡ Ends Failed
       → OnOk report (Appends mid.err now.err (message_line line ReadFailed)) → OnErr report (AppendsFront mid.err now.err (message_line line ReadFailed))
-      → OnErr report (Rises before.err_failures now.err_failures) → Outcome l t Device before now
+      → OnErr report (Rises before.faults.err now.faults.err) → Outcome l t Device before now
   source_failed line (Ok u) line_is ends told part fault =
       let s : State = record (reading_on tape r h m ms) { ended = Some Device; last_message = message_line m.line ReadFailed } in
       let told_then : Appends before.err now.err (ms ++ message_line m.line ReadFailed) =
@@ -215,7 +220,7 @@ module _ (l : Limits) (t tape : Tape) (before mid now : Devices) (r : Reading) (
       }
 
 -- a run before its first item
-pub starts : (t : Tape) (now : Devices) (run : Coded) → now.left ≡ Some t → Stands run.limits.line [] run.formatter.env
+pub starts : (t : Tape) (now : Devices) (run : Coded) → now.left ≡ t → Stands run.limits.line [] run.formatter.env
     → run.formatter.reading ≡ Line Start → run.meter.limit ≡ run.limits.bytes → run.meter.charge ≡ 0 → run.meter.newlines ≡ 0 → run.meter.line ≡ 1
     → IsAt t t now now run
 starts t now run left stands reading cap charge newlines line = record {
@@ -231,9 +236,24 @@ starts t now run left stands reading cap charge newlines line = record {
   stands = stands;
   reads = rw reading refl;
   cap = cap;
-  faults = no_fewer now;
+  faults = no_fewer now.faults;
 }
 
 -- the same outcome by the same limits
 pub outcome_of : (k l : Limits) (t : Tape) (status : Status) (before now : Devices) → k ≡ l → Outcome k t status before now → Outcome l t status before now
 outcome_of k l t status before now same = subst (λ (m : Limits). Outcome m t status before now) same
+
+-- a tape with an answer in front
+abbrev pub with_front : Answer → Tape → Tape
+with_front (Gives item) u = record u { items = item ∷ u.items }
+with_front (Ends ending) u = record { items = []; ending = ending }
+
+-- it begins with the answer
+pub with_front-front : (a : Answer) (u : Tape) → front (with_front a u) ≡ a
+with_front-front (Gives item) u = refl
+with_front-front (Ends ending) u = refl
+
+-- and goes on as before behind an item
+pub with_front-behind : (a : Answer) (u : Tape) → IsItem a → behind_front (with_front a u) ≡ u
+with_front-behind (Gives item) u is = refl
+with_front-behind (Ends ending) u is = absurd is

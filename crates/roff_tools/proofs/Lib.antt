@@ -10,4 +10,5 @@ pub mod RunsStayWithin
 pub mod FirstArguments
 pub mod ItemSteps
 pub mod Halting
+pub mod Giving
 pub mod Items

@@ -9,26 +9,27 @@ use Rattle.roff_tools.specs.Messages.{message_line}
 use Rattle.roff_tools.specs.Run.{State, Leads, initial, step, output, reported}
 use Rattle.roff_tools.specs.Tape.{Tape, behind_front, Rises}
 
--- what the devices of a run tell at one moment: what the source still has, what was written to each
--- sink, and how many faults each device had
-pub record Devices : Type 0 where
-  pub left : Option Tape
-  pub source_failures : ℕ
-  pub out : Option (List ℕ)
-  pub out_failures : ℕ
-  pub err : Option (List ℕ)
-  pub err_failures : ℕ
+-- how many faults each device has had
+pub record Faults : Type 0 where
+  pub source : ℕ
+  pub out : ℕ
+  pub err : ℕ
 
--- devices that tell this
-abbrev pub devices : Option Tape → ℕ → Option (List ℕ) → ℕ → Option (List ℕ) → ℕ → Devices
-devices left source_failures out out_failures err err_failures = record {
-  left = left;
-  source_failures = source_failures;
-  out = out;
-  out_failures = out_failures;
-  err = err;
-  err_failures = err_failures;
-}
+-- these numbers of faults
+abbrev pub faults : ℕ → ℕ → ℕ → Faults
+faults source out err = record { source = source; out = out; err = err }
+
+-- the devices of a run at one moment: what the source has still to give, what was written to each sink,
+-- where the sink tells it, and their faults
+pub record Devices : Type 0 where
+  pub left : Tape
+  pub out : Option (List ℕ)
+  pub err : Option (List ℕ)
+  pub faults : Faults
+
+-- devices of which this is known
+abbrev pub devices : Tape → Option (List ℕ) → Option (List ℕ) → Faults → Devices
+devices left out err faults = record { left = left; out = out; err = err; faults = faults }
 
 -- what was written begins with one text, and is a beginning of another that goes on from it
 pub record AppendsBetween (old new : Option (List ℕ)) (least most : List ℕ) : Type 0 where
@@ -38,8 +39,8 @@ pub record AppendsBetween (old new : Option (List ℕ)) (least most : List ℕ) 
   pub written : Appends old new (least ++ front)
 
 -- what is left of the source is the tape of a state, or that without the item that was looked at
-abbrev pub IsLeftOf : Option Tape → State → Type 0
-IsLeftOf left s = (left ≡ Some s.tape) ⊎ (left ≡ Some (behind_front s.tape))
+abbrev pub IsLeftOf : Tape → State → Type 0
+IsLeftOf left s = (left ≡ s.tape) ⊎ (left ≡ behind_front s.tape)
 
 -- the run of the definition comes to this state, and what it wrote and reported until then was
 -- written and reported
@@ -60,7 +61,7 @@ pub record Completes (l : Limits) (t : Tape) (status : Status) (before now : Dev
 pub record OutputStops (l : Limits) (t : Tape) (before now : Devices) (s : State) : Type 0 where
   pub comes : Leads l (initial t) s
   pub text : AppendsBetween before.out now.out (output s) (output (step l s))
-  pub fault : Rises before.out_failures now.out_failures
+  pub fault : Rises before.faults.out now.faults.out
   pub rest : IsLeftOf now.left s
 
 -- The run ended as the output failed. The fault is reported with the line of that step; of this
@@ -71,7 +72,7 @@ pub record OutputFails (l : Limits) (t : Tape) (status : Status) (before now : D
   pub stops : OutputStops l t before now state
   pub messages : Appends before.err now.err (reported state ++ message_line state.line WriteFailed)
       ⊎ (AppendsBetween before.err now.err (reported state) (reported state ++ message_line state.line WriteFailed)
-      × Rises before.err_failures now.err_failures)
+      × Rises before.faults.err now.faults.err)
 
 -- The run ended as the message sink failed, in the step behind this state: what was reported begins
 -- with the messages of all steps before it and is a beginning of these with the step's own. The text is
@@ -82,7 +83,7 @@ pub record MessagesFail (l : Limits) (t : Tape) (status : Status) (before now : 
   pub comes : Leads l (initial t) state
   pub text : Appends before.out now.out (output state)
   pub messages : AppendsBetween before.err now.err (reported state) (reported (step l state))
-  pub fault : Rises before.err_failures now.err_failures
+  pub fault : Rises before.faults.err now.faults.err
   pub rest : IsLeftOf now.left state
 
 -- a run over a tape comes to one of these
@@ -91,9 +92,6 @@ Outcome l t status before now =
     Completes l t status before now ⊎ OutputFails l t status before now ⊎ MessagesFail l t status before now
 
 -- the status of a fault is answered only where a device had one
-abbrev pub FaultIsOfADevice : Status → Devices → Devices → Type 0
+abbrev pub FaultIsOfADevice : Status → Faults → Faults → Type 0
 FaultIsOfADevice status before now =
-    status ≡ Device →
-    Rises before.source_failures now.source_failures
-    ⊎ Rises before.out_failures now.out_failures
-    ⊎ Rises before.err_failures now.err_failures
+    status ≡ Device → Rises before.source now.source ⊎ Rises before.out now.out ⊎ Rises before.err now.err

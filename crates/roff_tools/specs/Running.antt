@@ -1,5 +1,5 @@
 -- How far a run of the code has come, as a run of the definition.
-use Rattle.std.specs.Prelude.{◌≡◌, ℕ, ◌-◌, ◌≤◌, true, false, List, [], Option, Some, None, Result, Ok, Err}
+use Rattle.std.specs.Prelude.{◌≡◌, ℕ, ◌-◌, ◌≤◌, true, false, List, [], Option, Some, None, Result, Ok, Err, OnOk}
 use Rattle.std.specs.Io.KnownBytes.{Appends}
 use Rattle.roff_lines.specs.Stands.{Stands}
 use Rattle.roff_lines.specs.declared.limit.Limit.{Limit}
@@ -10,12 +10,12 @@ use Rattle.roff_tools.specs.declared.halt.Halt.{Halt}
 use Rattle.roff_tools.specs.declared.halt.Halt.TheVariants.{Limit as Limited, Output, Messages}
 use Rattle.roff_tools.specs.declared.limits.Limits.{Limits}
 use Rattle.roff_tools.specs.declared.meter.Meter.{Meter}
-use Rattle.roff_tools.specs.Outcome.{Devices, Reaches, OutputStops, MessagesFail, Outcome}
+use Rattle.roff_tools.specs.Outcome.{Devices, Faults, devices, Reaches, OutputStops, MessagesFail, Outcome}
 use Rattle.roff_tools.specs.Output.{PageHistory, text_of}
 use Rattle.roff_tools.specs.Reading.{Reading}
 use Rattle.roff_tools.specs.ReadsAs.{ReadsAs}
 use Rattle.roff_tools.specs.Run.{State, step, stopped_by, reported}
-use Rattle.roff_tools.specs.Tape.{Tape}
+use Rattle.roff_tools.specs.Tape.{Tape, Answer, IsItem, front, behind_front}
 
 -- the state of a run that reads on, behind so much of its input
 abbrev pub reading_on : Tape → Reading → PageHistory → Meter → List ℕ → State
@@ -34,10 +34,10 @@ reading_on tape reading h m messages = record {
 }
 
 -- no device has had fewer faults than before
-pub record NoFewerFaults (before now : Devices) : Type 0 where
-  pub source : before.source_failures ≤ now.source_failures
-  pub out : before.out_failures ≤ now.out_failures
-  pub err : before.err_failures ≤ now.err_failures
+pub record NoFewerFaults (before now : Faults) : Type 0 where
+  pub source : before.source ≤ now.source
+  pub out : before.out ≤ now.out
+  pub err : before.err ≤ now.err
 
 -- The run of the code over the tape t has come as far as one of the definition that reads on, with this
 -- tape to come; its first item may have been looked at.
@@ -49,7 +49,7 @@ pub record IsAt (t tape : Tape) (before now : Devices) (run : Coded) : Type 0 wh
   pub stands : Stands run.limits.line (text_of history) run.formatter.env
   pub reads : ReadsAs reading run.formatter.reading run.formatter.argument
   pub cap : run.meter.limit ≡ run.limits.bytes
-  pub faults : NoFewerFaults before now
+  pub faults : NoFewerFaults before.faults now.faults
 
 -- the definition stops at a limit in the step behind a state of this line
 pub record LimitStops (l : Limits) (t : Tape) (line : ℕ) (limit : Limit) (before now : Devices) : Type 0 where
@@ -68,23 +68,30 @@ pub record OutputStopsAt (l : Limits) (t : Tape) (line : ℕ) (before now : Devi
 
 -- why the run can't go on, before that is reported
 abbrev pub Halts : Limits → Tape → ℕ → Halt → Devices → Devices → Type 0
-Halts l t line (Limited limit) before now = LimitStops l t line limit before now × NoFewerFaults before now
-Halts l t line Output before now = OutputStopsAt l t line before now × NoFewerFaults before now
+Halts l t line (Limited limit) before now = LimitStops l t line limit before now × NoFewerFaults before.faults now.faults
+Halts l t line Output before now = OutputStopsAt l t line before now × NoFewerFaults before.faults now.faults
 Halts l t line Messages before now = MessagesFail l t Device before now
 
 -- the run goes on behind an item, with this tape to come, or it ended
 abbrev pub Continues : Tape → Tape → Devices → Devices → Result (Unit {0}) Status → Coded → Type 0
-Continues t tape before now (Ok done) run = (now.left ≡ Some tape) × IsAt t tape before now run
+Continues t tape before now (Ok done) run = IsAt t tape before now run
 Continues t tape before now (Err status) run = Outcome run.limits t status before now
 
 -- the same devices, where the message sink tells this
 abbrev pub with_messages : Devices → Option (List ℕ) → ℕ → Devices
-with_messages now err failures = record now { err = err; err_failures = failures }
+with_messages now err failures = record now { err = err; faults = record now.faults { err = failures } }
 
 -- and where both sinks tell this
 abbrev pub with_sinks : Devices → Option (List ℕ) → ℕ → Option (List ℕ) → ℕ → Devices
 with_sinks now out out_failures err err_failures =
-    record now { out = out; out_failures = out_failures; err = err; err_failures = err_failures }
+    record now { out = out; err = err; faults = record now.faults { out = out_failures; err = err_failures } }
+
+-- behind an answer the run goes on or has ended, whatever the tape is that begins with the answer; it goes
+-- on behind an item alone
+pub record Turns (a : Answer) (old new : Coded) (r : Result (Unit {0}) Status) (out_old out_new err_old err_new : Option (List ℕ)) (faults_old faults_new : Faults) : Type 0 where
+  pub goes_on : OnOk r (IsItem a)
+  pub turns : (t tape : Tape) (before : Devices) → front tape ≡ a → IsAt t tape before (devices tape out_old err_old faults_old) old
+      → Continues t (behind_front tape) before (devices (behind_front tape) out_new err_new faults_new) r new
 
 -- bytes that may still be taken
 abbrev pub bytes_to_come : Meter → ℕ

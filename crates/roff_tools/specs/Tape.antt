@@ -1,5 +1,5 @@
 -- What a source gives: its tape, the items to come and how they end.
-use Rattle.std.specs.Prelude.{ℕ, ◌-◌, ◌^◌, ◌+◌, ◌≤◌, List, [], ◌∷◌, min}
+use Rattle.std.specs.Prelude.{◌≡◌, ℕ, ◌-◌, ◌^◌, ◌+◌, ◌≤◌, List, [], ◌∷◌, min}
 use Rattle.roff_lines.specs.declared.limit.Limit.{Limit}
 use Rattle.roff_tools.specs.declared.source.Taken.{Taken}
 use Rattle.roff_tools.specs.declared.source.Taken.TheVariants.{Byte, Note, End, Fault, Stop}
@@ -39,6 +39,19 @@ front t = elim t.items [ [] ↦ Ends t.ending | item ∷ items ↦ Gives item ]
 -- the tape behind its first answer: an ending stays
 abbrev pub behind_front : Tape → Tape
 behind_front t = elim t.items [ [] ↦ t | item ∷ items ↦ record t { items = items } ]
+
+-- the answer is an item
+abbrev pub IsItem : Answer → Type 0
+IsItem (Gives item) = Unit {0}
+IsItem (Ends ending) = ⊥
+
+-- What a source might give changes by an answer so: what it might give behind the answer, it might have
+-- given with the answer in front. And there is such a tape.
+pub record Answers (old new : Tape → Type 0) (a : Answer) : Type 0 where
+  pub before : (t : Tape) → front t ≡ a → new (behind_front t) → old t
+  pub some : Tape
+  pub some_front : front some ≡ a
+  pub some_given : new (behind_front some)
 
 -- the last value of a count of failures, at which it stays
 abbrev pub last_count : ℕ

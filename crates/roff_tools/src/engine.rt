@@ -1,11 +1,11 @@
 //! The engine: a whole run, from a source to its sinks.
 
-ghost use Rattle.std.specs.Prelude.{◌≡◌, [], Some, IfOk};
+ghost use Rattle.std.specs.Prelude.{◌≡◌, [], IfOk};
 ghost use Rattle.roff_lines.specs.Stands.{Stands};
 ghost use Rattle.roff_tools.specs.declared.limits.Limits.{Limits};
 ghost use Rattle.roff_tools.specs.declared.reading.LinePart.TheVariants.{Start};
 ghost use Rattle.roff_tools.specs.declared.reading.Reading.TheVariants.{Line};
-ghost use Rattle.roff_tools.specs.Outcome.{FaultIsOfADevice, Outcome, devices};
+ghost use Rattle.roff_tools.specs.Outcome.{FaultIsOfADevice, Outcome, devices, faults};
 ghost use Rattle.roff_tools.specs.Tape.{Tape};
 
 use crate::formatter::Formatter;
@@ -70,14 +70,14 @@ impl Engine {
         out: &mut O,
         err: &mut E,
     ) -> Status
-        // Where the source tells its items, the run is that of the definition over them.
-        ensures runs { (t : Tape) → S.tape source.old ≡ Some t → Outcome self t result
-            (devices (S.tape source.old) (S.failures source.old) (O.contents out.old) (O.failures out.old) (E.contents err.old) (E.failures err.old))
-            (devices (S.tape source.new) (S.failures source.new) (O.contents out.new) (O.failures out.new) (E.contents err.new) (E.failures err.new)) }
-        // Whatever the source is, a fault is answered only where there was one.
+        // There is a tape that the source may give over which the run is that of the definition.
+        ensures runs { (t left : Tape) × S.gives source.old t × S.gives source.new left × Outcome self t result
+            (devices t (O.contents out.old) (E.contents err.old) (faults (S.failures source.old) (O.failures out.old) (E.failures err.old)))
+            (devices left (O.contents out.new) (E.contents err.new) (faults (S.failures source.new) (O.failures out.new) (E.failures err.new))) }
+        // A fault is answered only where there was one.
         ensures fault { FaultIsOfADevice result
-            (devices (S.tape source.old) (S.failures source.old) (O.contents out.old) (O.failures out.old) (E.contents err.old) (E.failures err.old))
-            (devices (S.tape source.new) (S.failures source.new) (O.contents out.new) (O.failures out.new) (E.contents err.new) (E.failures err.new)) }
+            (faults (S.failures source.old) (O.failures out.old) (E.failures err.old))
+            (faults (S.failures source.new) (O.failures out.new) (E.failures err.new)) }
     {
         let Engine { limits, formatter } = self;
         let mut running = Running {

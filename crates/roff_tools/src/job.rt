@@ -1,7 +1,7 @@
 //! A run of a command.
 
-ghost use Rattle.std.specs.Prelude.{◌≡◌, Some, IfOk, OnErr};
-ghost use Rattle.roff_tools.specs.Outcome.{FaultIsOfADevice, Outcome, devices};
+ghost use Rattle.std.specs.Prelude.{◌≡◌, IfOk, OnErr};
+ghost use Rattle.roff_tools.specs.Outcome.{FaultIsOfADevice, Outcome, devices, faults};
 ghost use Rattle.roff_tools.specs.Tape.{Tape};
 
 use crate::engine::{Engine, Start, Status};
@@ -29,15 +29,15 @@ pub fn run<S: ByteSource, O: ByteSink, E: ByteSink>(
     out: &mut O,
     err: &mut E,
 ) -> Result<Status, AllocError>
-    // Where the source tells its items, the run is that of the definition over them.
-    ensures nroff { (limits : Limits) (start : Start) (t : Tape) → job ≡ Job.Nroff limits start → S.tape source.old ≡ Some t
-        → IfOk result (λ status. Outcome limits t status
-        (devices (S.tape source.old) (S.failures source.old) (O.contents out.old) (O.failures out.old) (E.contents err.old) (E.failures err.old))
-        (devices (S.tape source.new) (S.failures source.new) (O.contents out.new) (O.failures out.new) (E.contents err.new) (E.failures err.new))) }
-    // Whatever the source is, a fault is answered only where there was one.
+    // There is a tape that the source may give over which the run is that of the definition.
+    ensures nroff { (limits : Limits) (start : Start) → job ≡ Job.Nroff limits start → IfOk result (λ status.
+        (t left : Tape) × S.gives source.old t × S.gives source.new left × Outcome limits t status
+        (devices t (O.contents out.old) (E.contents err.old) (faults (S.failures source.old) (O.failures out.old) (E.failures err.old)))
+        (devices left (O.contents out.new) (E.contents err.new) (faults (S.failures source.new) (O.failures out.new) (E.failures err.new)))) }
+    // A fault is answered only where there was one.
     ensures fault { IfOk result (λ status. FaultIsOfADevice status
-        (devices (S.tape source.old) (S.failures source.old) (O.contents out.old) (O.failures out.old) (E.contents err.old) (E.failures err.old))
-        (devices (S.tape source.new) (S.failures source.new) (O.contents out.new) (O.failures out.new) (E.contents err.new) (E.failures err.new))) }
+        (faults (S.failures source.old) (O.failures out.old) (E.failures err.old))
+        (faults (S.failures source.new) (O.failures out.new) (E.failures err.new))) }
     ensures unread { OnErr result (source.new ≡ source.old) }
     ensures unwritten { OnErr result ((out.new ≡ out.old) × (err.new ≡ err.old)) }
 {

@@ -47,7 +47,7 @@ impl<'a> MemSource<'a> {
 impl ByteSource for MemSource<'_> {
     ghost use Rattle.roff_tools.specs.Memory.{tape_of, memory_ending};
 
-    ghost tape = { λ s. Some (tape_of s) };
+    ghost gives = { λ s t. t ≡ tape_of s };
 
     ghost ended = { memory_ending };
 

@@ -1,9 +1,9 @@
 //! A run under way: what each item of the source does.
 
-ghost use Rattle.std.specs.Prelude.{◌≡◌, ℕ, ◌+◌, ◌<◌, ◌≤◌, ◌⊎◌, Some, Err, IfErr, OnOk};
-ghost use Rattle.roff_tools.specs.Outcome.{Devices, FaultIsOfADevice, Outcome, devices};
+ghost use Rattle.std.specs.Prelude.{◌≡◌, ℕ, ◌+◌, ◌<◌, ◌≤◌, ◌⊎◌, Err, IfErr, OnOk};
+ghost use Rattle.roff_tools.specs.Outcome.{Devices, FaultIsOfADevice, Outcome, faults};
 ghost use Rattle.roff_tools.specs.ReadsAs.{leading_behind};
-ghost use Rattle.roff_tools.specs.Tape.{Tape, Ended, Gives, Ends, OneByte, Rises, behind_front, front};
+ghost use Rattle.roff_tools.specs.Tape.{Tape, Answer, Answers, Ended, Gives, Ends, OneByte, Rises, behind_front, front};
 
 use crate::engine::Status;
 use crate::formatter::Formatter;
@@ -24,7 +24,7 @@ pub(crate) struct Running {
 }
 
 impl Running {
-    ghost use Rattle.roff_tools.specs.Running.{Continues, IsAt, NoFewerFaults, bytes_to_come, with_sinks};
+    ghost use Rattle.roff_tools.specs.Running.{Continues, IsAt, NoFewerFaults, Turns, bytes_to_come, with_sinks};
 
     /// Takes an item of the source, or its ending. An `Err` is the status of a run that ended.
     pub(crate) fn turn<S: ByteSource, O: ByteSink, E: ByteSink>(
@@ -33,15 +33,17 @@ impl Running {
         out: &mut O,
         err: &mut E,
     ) -> Result<(), Status>
-        ensures runs { (t tape : Tape) (before : Devices) → S.tape source.old ≡ Some tape
-            → IsAt t tape before (devices (S.tape source.old) (S.failures source.old) (O.contents out.old) (O.failures out.old) (E.contents err.old) (E.failures err.old)) self.old
-            → Continues t (behind_front tape) before (devices (S.tape source.new) (S.failures source.new) (O.contents out.new) (O.failures out.new) (E.contents err.new) (E.failures err.new)) result self.new }
+        // It goes on, or ends, as the run of the definition over every tape that begins with the answer.
+        ensures turns { (a : Answer) × Answers (S.gives source.old) (S.gives source.new) a × Turns a self.old self.new result
+            (O.contents out.old) (O.contents out.new) (E.contents err.old) (E.contents err.new)
+            (faults (S.failures source.old) (O.failures out.old) (E.failures err.old))
+            (faults (S.failures source.new) (O.failures out.new) (E.failures err.new)) }
         ensures faults { NoFewerFaults
-            (devices (S.tape source.old) (S.failures source.old) (O.contents out.old) (O.failures out.old) (E.contents err.old) (E.failures err.old))
-            (devices (S.tape source.new) (S.failures source.new) (O.contents out.new) (O.failures out.new) (E.contents err.new) (E.failures err.new)) }
+            (faults (S.failures source.old) (O.failures out.old) (E.failures err.old))
+            (faults (S.failures source.new) (O.failures out.new) (E.failures err.new)) }
         ensures fault { IfErr result (λ status. FaultIsOfADevice status
-            (devices (S.tape source.old) (S.failures source.old) (O.contents out.old) (O.failures out.old) (E.contents err.old) (E.failures err.old))
-            (devices (S.tape source.new) (S.failures source.new) (O.contents out.new) (O.failures out.new) (E.contents err.new) (E.failures err.new))) }
+            (faults (S.failures source.old) (O.failures out.old) (E.failures err.old))
+            (faults (S.failures source.new) (O.failures out.new) (E.failures err.new))) }
         ensures limits { self.new.limits ≡ self.old.limits }
         ensures progress { OnOk result (bytes_to_come self.new.meter + S.notes source.new < bytes_to_come self.old.meter + S.notes source.old) }
     {
@@ -67,7 +69,7 @@ impl Running {
         out: &mut O,
         err: &mut E,
     ) -> Result<(), Status>
-        ensures runs { (t tape : Tape) (before now : Devices) → now.left ≡ Some (behind_front tape) → front tape ≡ Gives (OneByte byte)
+        ensures runs { (t tape : Tape) (before now : Devices) → now.left ≡ behind_front tape → front tape ≡ Gives (OneByte byte)
             → IsAt t tape before (with_sinks now (O.contents out.old) (O.failures out.old) (E.contents err.old) (E.failures err.old)) self.old
             → Continues t (behind_front tape) before (with_sinks now (O.contents out.new) (O.failures out.new) (E.contents err.new) (E.failures err.new)) result self.new }
         ensures failures { (O.failures out.old ≤ O.failures out.new) × (E.failures err.old ≤ E.failures err.new) }
@@ -89,7 +91,7 @@ impl Running {
 
     /// The end of the input: the status of the run.
     fn finish<O: ByteSink, E: ByteSink>(&mut self, out: &mut O, err: &mut E) -> Status
-        ensures runs { (t tape : Tape) (before now : Devices) → now.left ≡ Some (behind_front tape) → front tape ≡ Ends Ended
+        ensures runs { (t tape : Tape) (before now : Devices) → now.left ≡ behind_front tape → front tape ≡ Ends Ended
             → IsAt t tape before (with_sinks now (O.contents out.old) (O.failures out.old) (E.contents err.old) (E.failures err.old)) self.old
             → Outcome self.old.limits t result before (with_sinks now (O.contents out.new) (O.failures out.new) (E.contents err.new) (E.failures err.new)) }
         ensures failures { (O.failures out.old ≤ O.failures out.new) × (E.failures err.old ≤ E.failures err.new) }

@@ -1,7 +1,7 @@
 //! Sources: what a run reads from.
 
 ghost use Rattle.std.specs.Prelude.{◌≡◌, ℕ, ◌<◌, ◌≤◌, ◌^◌, Option, Some, None, vec_len, IfOk};
-ghost use Rattle.roff_tools.specs.Tape.{Tape, Ending, Failed, Gives, Ends, OneNote, answer_of, front, behind_front, Rises};
+ghost use Rattle.roff_tools.specs.Tape.{Tape, Answers, Ending, Failed, Gives, Ends, OneNote, answer_of, Rises};
 
 use arrayvec::ArrayVec;
 use roff_lines::Limit;
@@ -28,8 +28,8 @@ pub enum Taken {
 
 /// A source of bytes, one at a time.
 pub trait ByteSource {
-    /// The items to come, where the source tells them.
-    ghost tape: { Self → Option Tape };
+    /// The tapes that the source may give from here on: one alone where it is known what comes.
+    ghost gives: { Self → Tape → Type 0 };
 
     /// The final answer, once it was given.
     ghost ended: { Self → Option Ending };
@@ -42,9 +42,8 @@ pub trait ByteSource {
 
     /// The next item, or how the items end.
     fn next_byte(&mut self) -> Taken
-        // Where the items are told, the answer is the front of them.
-        ensures told { (t : Tape) → tape self.old ≡ Some t →
-            (answer_of result ≡ front t) × (tape self.new ≡ Some (behind_front t)) }
+        // The answer is the front of a tape that the source may give, and what comes is the rest of it.
+        ensures gives { Answers (gives self.old) (gives self.new) (answer_of result) }
         // An ending is final.
         ensures ends { (e : Ending) → answer_of result ≡ Ends e → ended self.new ≡ Some e }
         ensures stays { (e : Ending) → ended self.old ≡ Some e →
@@ -78,14 +77,16 @@ pub struct ReadSource<R> {
     reach: Reach,
     failures: u64,
     ghost within: { len ≤ vec_len block },
+    ghost room: { 0 < vec_len block },
 }
 
 impl<R: Read + Drop> ReadSource<R> {
-    ghost use Rattle.roff_tools.specs.Reach.{ending_given};
+    ghost use Rattle.roff_tools.specs.Reach.{MayGive, ending_given, unread};
 
     /// A source over a reader, of which nothing is read yet.
     pub fn new(alloc: Global, reader: R) -> Result<Self, AllocError>
-        ensures { IfOk result (λ s. ending_given s ≡ None) }
+        ensures ending { IfOk result (λ s. ending_given s ≡ None) }
+        ensures unread { IfOk result (λ s. unread R.remaining s ≡ R.remaining reader) }
     {
         Ok(ReadSource {
             reader,
@@ -99,6 +100,9 @@ impl<R: Read + Drop> ReadSource<R> {
 
     /// Reads the next block, by one read, and answers its first byte. Every error is a fault.
     fn next_block(&mut self) -> Taken
+        requires open { ending_given self.old ≡ None }
+        requires taken { self.old.len ≤ self.old.next }
+        ensures gives { Answers (MayGive (unread R.remaining self.old) (ending_given self.old)) (MayGive (unread R.remaining self.new) (ending_given self.new)) (answer_of result) }
         ensures ends { (e : Ending) → answer_of result ≡ Ends e → ending_given self.new ≡ Some e }
         ensures failures { self.old.failures ≤ self.new.failures }
         ensures fault { answer_of result ≡ Ends Failed → Rises self.old.failures self.new.failures }
@@ -124,9 +128,9 @@ impl<R: Read + Drop> ReadSource<R> {
 }
 
 impl<R: Read + Drop> ByteSource for ReadSource<R> {
-    ghost use Rattle.roff_tools.specs.Reach.{ending_given};
+    ghost use Rattle.roff_tools.specs.Reach.{MayGive, ending_given, unread};
 
-    ghost tape = { λ _. None };
+    ghost gives = { λ s. MayGive (unread R.remaining s) (ending_given s) };
 
     ghost ended = { ending_given };
 

@@ -32,7 +32,7 @@ returns-in-Err-take-clause-runs g c = λ t tape before now left gives at.
     let does = c.in-Err-take.ensures.does limits h at.reading at.stands at.reads in
     let within : c.args.self.now.meter.charge < c.args.self.now.meter.limit = search rules in
     let failures = c.in-Err-take.ensures.failures in
-    let faults : NoFewerFaults before devices = record { source = at.faults.source; out = omega (arith, at.faults.out, failures.0); err = omega (arith, at.faults.err, failures.1) } in
+    let faults : NoFewerFaults before.faults devices.faults = record { source = at.faults.source; out = omega (arith, at.faults.out, failures.0); err = omega (arith, at.faults.err, failures.1) } in
     c.status-in-Err-take.ensures.ends t before devices
     (byte_halted limits t tape before _ devices at.reading h at.messages c.args.self.now.meter c.count.new.self c.args.byte at.reaches left gives at.cap within counts
     _ _ c.in-Err-take.halt c.line-line.ensures does
@@ -48,16 +48,13 @@ returns-in-Ok-take-clause-runs g c = λ t tape before now left gives at.
     let counts : Counts c.args.byte c.args.self.now.meter c.count.new.self = record { charge = c.in-Ok.ensures.charge; newlines = c.in-Ok.ensures.newlines; line = c.in-Ok.ensures.line } in
     let within : c.args.self.now.meter.charge < c.args.self.now.meter.limit = search rules in
     let failures = c.in-Ok-take.ensures.failures in
-    let does = c.in-Ok-take.ensures.does limits h at.reading at.stands at.reads in (
-      left,
-      record {
-        reading = next.reading;
-        history = behind next.effect.events h;
-        messages = at.messages ++ message_lines c.count.new.self.line next.effect.messages;
-        reaches = byte_done limits t tape before _ _ at.reading h at.messages c.args.self.now.meter c.count.new.self c.args.byte at.reaches left gives at.cap within counts _ _ c.line-line.ensures does;
-        stands = does.1.stands;
-        reads = c.in-Ok-take.ensures.reads (settings_after (text_of h)) at.reading at.reads;
-        cap = c.count.ensures.limit ∙ at.cap;
-        faults = record { source = at.faults.source; out = omega (arith, at.faults.out, failures.0); err = omega (arith, at.faults.err, failures.1) };
-      },
-    )
+    let does = c.in-Ok-take.ensures.does limits h at.reading at.stands at.reads in record {
+      reading = next.reading;
+      history = behind next.effect.events h;
+      messages = at.messages ++ message_lines c.count.new.self.line next.effect.messages;
+      reaches = byte_done limits t tape before _ _ at.reading h at.messages c.args.self.now.meter c.count.new.self c.args.byte at.reaches left gives at.cap within counts _ _ c.line-line.ensures does;
+      stands = does.1.stands;
+      reads = c.in-Ok-take.ensures.reads (settings_after (text_of h)) at.reading at.reads;
+      cap = c.count.ensures.limit ∙ at.cap;
+      faults = record { source = at.faults.source; out = omega (arith, at.faults.out, failures.0); err = omega (arith, at.faults.err, failures.1) };
+    }
