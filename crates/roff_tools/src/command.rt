@@ -80,6 +80,7 @@ begin with a period or an apostrophe. Each N is a number from 0 to 1000000000.
 /// What a command line asks for.
 #[derive(Drop)]
 pub struct Request<'a> {
+    /// The command, with its options.
     pub job: Job,
     /// The files to be read, in their order. `STANDARD_INPUT` is among them where it is meant.
     pub files: Vec<&'a str>,

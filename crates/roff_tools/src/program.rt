@@ -36,10 +36,13 @@ const LIMIT_REACHED: u8 = 3;
 /// Why a run could not start.
 #[derive(Debug, Drop, Error)]
 pub enum StartFault {
+    /// The file of this name, one of those on the command line, cannot be opened.
     #[error("cannot open {0}")]
     CannotOpen(String),
+    /// A word of the command line is not UTF-8 text.
     #[error("an argument is not UTF-8 text")]
     NotText,
+    /// There is no memory for what is reserved before the run.
     #[error("out of memory")]
     OutOfMemory,
 }
