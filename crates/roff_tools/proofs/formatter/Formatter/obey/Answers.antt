@@ -3,7 +3,8 @@ use Rattle.roff_lines.specs.Events.{settings_after}
 use Rattle.roff_tools.specs.Arguments.{arguments_read}
 use Rattle.roff_tools.specs.Output.{text_of}
 use Rattle.roff_tools.specs.Performing.{Does, Performs}
-use Rattle.roff_tools.specs.Requests.{Effect, effect_of, request_effect}
+use Rattle.roff_tools.specs.Happening.{effect_of}
+use Rattle.roff_tools.specs.Requests.{Effect, request_effect}
 use Rattle.roff_tools.proofs.Performed.{does_events}
 use Rattle.roff_tools.proofs.formatter.Formatter.obey.Goals as goal
 
