@@ -1,7 +1,6 @@
 //! The formatter: what each byte of the input does.
 
-ghost use Rattle.std.specs.Prelude.{◌≡◌, ◌≢◌, ℕ, ◌+◌, ◌<◌, ◌≤◌, ◌^◌, [], ◌∷◌, List, Option, Err, IfOk, OnOk, OnErr, IsOkUnless, option_map};
-ghost use Rattle.std.specs.Io.KnownBytes.{Appends};
+ghost use Rattle.std.specs.Prelude.{◌≡◌, ◌≢◌, ℕ, ◌+◌, ◌<◌, ◌≤◌, ◌^◌, [], ◌∷◌, List, Option, Err, IfOk, OnOk, IsOkUnless, option_map};
 ghost use Rattle.std.specs.Option.{option_to_list};
 ghost use Rattle.roff_lines.specs.Columns.{finished_of};
 ghost use Rattle.roff_lines.specs.Events.{Print, WordEnd, LineEnd, Break, settings_after};
@@ -16,7 +15,7 @@ ghost use Rattle.roff_tools.specs.Performing.{Does, Performs, closing_events, wi
 ghost use Rattle.roff_tools.specs.Reading.{Reading as Read, argument_taking, end_effect, kept_taking, taking};
 ghost use Rattle.roff_tools.specs.ReadsAs.{ReadsAs, leading_behind, leading_of, part_of};
 ghost use Rattle.roff_tools.specs.Requests.{Text, Space, request_effect};
-ghost use Rattle.roff_tools.specs.Sinks.{AppendsFront};
+ghost use Rattle.roff_tools.specs.Sinks.{Puts};
 ghost use Rattle.roff_tools.specs.Tape.{Rises};
 ghost use Rattle.roff_tools.specs.declared.limits.Limits.{Limits};
 
@@ -333,11 +332,8 @@ fn put_finished<O: ByteSink>(
     line: Option<Line<'_>>,
     out: &mut O,
 ) -> Result<(), Halt>
-    ensures ok { OnOk result (Appends (O.contents out.old) (O.contents out.new) (finished_bytes (option_map finished_of line.entry))) }
-    ensures err { OnErr result (AppendsFront (O.contents out.old) (O.contents out.new) (finished_bytes (option_map finished_of line.entry))) }
+    ensures puts { Puts O.contents O.failures out.old out.new (finished_bytes (option_map finished_of line.entry)) result }
     ensures halt { IsOkUnless result Halt.Output }
-    ensures failures { O.failures out.old ≤ O.failures out.new }
-    ensures fault { OnErr result (Rises (O.failures out.old) (O.failures out.new)) }
 {
     match line {
         None => Ok(()),
@@ -350,11 +346,8 @@ fn put_finished<O: ByteSink>(
 
 /// Writes the message of an effect, if it has one.
 fn tell<E: ByteSink>(message: Option<Message>, line: u32, err: &mut E) -> Result<(), Halt>
-    ensures ok { OnOk result (Appends (E.contents err.old) (E.contents err.new) (message_lines line (option_to_list message))) }
-    ensures err { OnErr result (AppendsFront (E.contents err.old) (E.contents err.new) (message_lines line (option_to_list message))) }
+    ensures puts { Puts E.contents E.failures err.old err.new (message_lines line (option_to_list message)) result }
     ensures halt { IsOkUnless result Halt.Messages }
-    ensures failures { E.failures err.old ≤ E.failures err.new }
-    ensures fault { OnErr result (Rises (E.failures err.old) (E.failures err.new)) }
 {
     match message {
         None => Ok(()),

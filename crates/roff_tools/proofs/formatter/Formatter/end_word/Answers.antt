@@ -7,4 +7,4 @@ pub returns-clause-performs : goal.returns-clause-performs
 returns-clause-performs g c = λ l h s.
     let line = c.end_word-line.ensures.line l.line (text_of h) s in
     text_performs l h WordEnd _ _ _ c.put_finished.result (c.end_word-line.follows.holds-at-none l.line (text_of h) s)
-    (rw (← line) c.put_finished.ensures.ok) (rw (← line) c.put_finished.ensures.err) c.put_finished.ensures.halt
+    (rw (← line) c.put_finished.ensures.puts.ok) (rw (← line) c.put_finished.ensures.puts.err) c.put_finished.ensures.halt
