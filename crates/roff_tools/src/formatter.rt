@@ -11,7 +11,7 @@ ghost use Rattle.roff_tools.specs.FirstArgument.{KeepsFirst};
 ghost use Rattle.roff_tools.specs.Happening.{event_of, events_of};
 ghost use Rattle.roff_tools.specs.Messages.{message_lines};
 ghost use Rattle.roff_tools.specs.Output.{PageHistory, text_of, finished_bytes};
-ghost use Rattle.roff_tools.specs.Performing.{Does, Performs, closing_events, with_events};
+ghost use Rattle.roff_tools.specs.Performing.{Does, Performs, PerformsOnly, closing_events, with_events};
 ghost use Rattle.roff_tools.specs.Reading.{Reading as Read, argument_taking, end_effect, kept_taking, taking};
 ghost use Rattle.roff_tools.specs.ReadsAs.{ReadsAs, leading_behind, leading_of, part_of};
 ghost use Rattle.roff_tools.specs.Requests.{Text, Space, request_effect};
@@ -205,13 +205,7 @@ impl Formatter {
 
     /// Performs events, one after another.
     fn perform_all<O: ByteSink>(&mut self, events: &[PageEvent], out: &mut O) -> Result<(), Halt>
-        ensures performs { (l : Limits) (h : PageHistory) → Stands l.line (text_of h) self.old.env →
-            Performs l h (events_of events.now) result self.new.env (O.contents out.old) (O.contents out.new) }
-        ensures reading { self.new.reading ≡ self.old.reading }
-        ensures argument { self.new.argument ≡ self.old.argument }
-        ensures failures { O.failures out.old ≤ O.failures out.new }
-        ensures halt { result ≢ Err Halt.Messages }
-        ensures fault { result ≡ Err Halt.Output → Rises (O.failures out.old) (O.failures out.new) }
+        ensures { PerformsOnly O.contents O.failures out.old out.new (events_of events.now) self.old self.new result }
     {
         let mut rest = events;
         while let Some((event, others)) = rest.split_first() {
@@ -225,13 +219,7 @@ impl Formatter {
 
     /// Performs an event.
     fn perform<O: ByteSink>(&mut self, event: PageEvent, out: &mut O) -> Result<(), Halt>
-        ensures performs { (l : Limits) (h : PageHistory) → Stands l.line (text_of h) self.old.env →
-            Performs l h (event_of event ∷ []) result self.new.env (O.contents out.old) (O.contents out.new) }
-        ensures reading { self.new.reading ≡ self.old.reading }
-        ensures argument { self.new.argument ≡ self.old.argument }
-        ensures failures { O.failures out.old ≤ O.failures out.new }
-        ensures halt { result ≢ Err Halt.Messages }
-        ensures fault { result ≡ Err Halt.Output → Rises (O.failures out.old) (O.failures out.new) }
+        ensures { PerformsOnly O.contents O.failures out.old out.new (event_of event ∷ []) self.old self.new result }
     {
         match event {
             PageEvent::Glyph(glyph) => self.glyph(glyph),
@@ -268,13 +256,7 @@ impl Formatter {
 
     /// Ends the open word, and writes the line that it finishes.
     fn end_word<O: ByteSink>(&mut self, out: &mut O) -> Result<(), Halt>
-        ensures performs { (l : Limits) (h : PageHistory) → Stands l.line (text_of h) self.old.env →
-            Performs l h (Text WordEnd ∷ []) result self.new.env (O.contents out.old) (O.contents out.new) }
-        ensures reading { self.new.reading ≡ self.old.reading }
-        ensures argument { self.new.argument ≡ self.old.argument }
-        ensures failures { O.failures out.old ≤ O.failures out.new }
-        ensures halt { result ≢ Err Halt.Messages }
-        ensures fault { result ≡ Err Halt.Output → Rises (O.failures out.old) (O.failures out.new) }
+        ensures { PerformsOnly O.contents O.failures out.old out.new (Text WordEnd ∷ []) self.old self.new result }
     {
         let line = self.env.end_word();
         put_finished(&mut self.block, line, out)
@@ -282,13 +264,7 @@ impl Formatter {
 
     /// Ends a line of the input, and writes the line that it finishes.
     fn end_line<O: ByteSink>(&mut self, out: &mut O) -> Result<(), Halt>
-        ensures performs { (l : Limits) (h : PageHistory) → Stands l.line (text_of h) self.old.env →
-            Performs l h (Text LineEnd ∷ []) result self.new.env (O.contents out.old) (O.contents out.new) }
-        ensures reading { self.new.reading ≡ self.old.reading }
-        ensures argument { self.new.argument ≡ self.old.argument }
-        ensures failures { O.failures out.old ≤ O.failures out.new }
-        ensures halt { result ≢ Err Halt.Messages }
-        ensures fault { result ≡ Err Halt.Output → Rises (O.failures out.old) (O.failures out.new) }
+        ensures { PerformsOnly O.contents O.failures out.old out.new (Text LineEnd ∷ []) self.old self.new result }
     {
         let line = self.env.end_line();
         put_finished(&mut self.block, line, out)
@@ -296,13 +272,7 @@ impl Formatter {
 
     /// Finishes the pending line, and writes it.
     fn brk<O: ByteSink>(&mut self, out: &mut O) -> Result<(), Halt>
-        ensures performs { (l : Limits) (h : PageHistory) → Stands l.line (text_of h) self.old.env →
-            Performs l h (Text Break ∷ []) result self.new.env (O.contents out.old) (O.contents out.new) }
-        ensures reading { self.new.reading ≡ self.old.reading }
-        ensures argument { self.new.argument ≡ self.old.argument }
-        ensures failures { O.failures out.old ≤ O.failures out.new }
-        ensures halt { result ≢ Err Halt.Messages }
-        ensures fault { result ≡ Err Halt.Output → Rises (O.failures out.old) (O.failures out.new) }
+        ensures { PerformsOnly O.contents O.failures out.old out.new (Text Break ∷ []) self.old self.new result }
     {
         let line = self.env.brk();
         put_finished(&mut self.block, line, out)
@@ -310,13 +280,7 @@ impl Formatter {
 
     /// Writes blank lines.
     fn space<O: ByteSink>(&mut self, lines: u32, out: &mut O) -> Result<(), Halt>
-        ensures performs { (l : Limits) (h : PageHistory) → Stands l.line (text_of h) self.old.env →
-            Performs l h (Space lines ∷ []) result self.new.env (O.contents out.old) (O.contents out.new) }
-        ensures reading { self.new.reading ≡ self.old.reading }
-        ensures argument { self.new.argument ≡ self.old.argument }
-        ensures failures { O.failures out.old ≤ O.failures out.new }
-        ensures halt { result ≢ Err Halt.Messages }
-        ensures fault { result ≡ Err Halt.Output → Rises (O.failures out.old) (O.failures out.new) }
+        ensures { PerformsOnly O.contents O.failures out.old out.new (Space lines ∷ []) self.old self.new result }
     {
         match self.block.put_blank_lines(lines, out) {
             Ok(()) => Ok(()),

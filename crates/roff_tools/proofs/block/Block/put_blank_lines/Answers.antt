@@ -2,7 +2,6 @@ use Rattle.std.proofs.Common.{◌≡◌, ◌-◌, arith, ◌+◌}
 use Rattle.std.proofs.lemmas.List.{replicate-append-replicate}
 use Rattle.std.proofs.lemmas.Result.{err_from_is_err_and, on_ok_weaker, on_err_weaker}
 use Rattle.roff_tools.proofs.Appending.{AppendsAllBut-push, AppendsAllBut-put, AppendsFront-held}
-use Rattle.roff_tools.proofs.Halting.{Rises-behind}
 use Rattle.roff_tools.proofs.block.Block.put_blank_lines.Goals as goal
 
 pub loop-preserved : goal.loop-preserved
@@ -31,5 +30,5 @@ returns g c =
       ok = on_ok_weaker c.put.result (λ rest. rw (← whole) (AppendsAllBut-put (g.O.ByteSink.contents c.put.new.out) c.loop.invariant.so_far rest)) c.put.ensures.puts.ok;
       err = on_err_weaker c.put.result (λ part. rw (front_and_rest, ← replicate-append-replicate) (AppendsFront-held _ c.loop.invariant.so_far part)) c.put.ensures.puts.err;
       failures = omega (arith, c.loop.invariant.failures, c.put.ensures.puts.failures);
-      fault = on_err_weaker c.put.result (λ rises. Rises-behind _ _ _ c.loop.invariant.failures rises) c.put.ensures.puts.fault;
+      fault = on_err_weaker c.put.result (λ rises. omega (arith, c.loop.invariant.failures, rises)) c.put.ensures.puts.fault;
     }

@@ -2,7 +2,6 @@ use Rattle.std.proofs.Common.{◌≡◌, ◌++◌, ◌∷◌, [], arith, append_
 use Rattle.std.proofs.lemmas.Result.{err_from_is_err_and, on_ok_weaker, on_err_weaker}
 use Rattle.roff_lines.specs.Columns.{finished_of, line_bytes}
 use Rattle.roff_tools.proofs.Appending.{AppendsAllBut-push, AppendsAllBut-put, AppendsFront-held}
-use Rattle.roff_tools.proofs.Halting.{Rises-behind}
 use Rattle.roff_tools.proofs.block.Block.put_line.Goals as goal
 
 pub loop-byte-preserved : goal.loop-byte-preserved
@@ -33,5 +32,5 @@ returns g c =
       ok = on_ok_weaker c.put.result (λ rest. rw (← whole, append-nil) (AppendsAllBut-put (g.O.ByteSink.contents c.put.new.out) c.loop-byte.invariant.so_far rest)) c.put.ensures.puts.ok;
       err = on_err_weaker c.put.result (λ part. rw (← whole) (AppendsFront-held [] c.loop-byte.invariant.so_far part)) c.put.ensures.puts.err;
       failures = omega (arith, c.loop-byte.invariant.failures, c.put.ensures.puts.failures);
-      fault = on_err_weaker c.put.result (λ rises. Rises-behind _ _ _ c.loop-byte.invariant.failures rises) c.put.ensures.puts.fault;
+      fault = on_err_weaker c.put.result (λ rises. omega (arith, c.loop-byte.invariant.failures, rises)) c.put.ensures.puts.fault;
     }
