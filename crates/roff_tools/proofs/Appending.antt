@@ -30,6 +30,11 @@ AppendsFront-held rest all part = record {
   written = Appends-append _ _ _ _ _ all.written part.written;
 }
 
+-- all of a piece is written where what was held back is
+pub AppendsAllBut-put : {old mid : Option (List ℕ)} (new : Option (List ℕ)) {piece held : List ℕ}
+    → AppendsAllBut old mid piece held → Appends mid new held → Appends old new piece
+AppendsAllBut-put new all rest = rw all.split (Appends-append _ _ new _ _ all.written rest)
+
 -- nothing is appended to what stays
 pub Appends-nothing : (known : Option (List ℕ)) → Appends known known []
 Appends-nothing None = tt

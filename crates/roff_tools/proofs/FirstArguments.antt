@@ -2,7 +2,7 @@
 use Rattle.std.proofs.Common.{◌≡◌, ℕ, Bool, List, [], ◌∷◌, take, Option, Some, ap, sym, ◌∙◌}
 use Rattle.std.specs.Option.{option_and_then}
 use Rattle.roff_tools.specs.declared.number.Number.{Number}
-use Rattle.roff_tools.specs.Arguments.{first_kept}
+use Rattle.roff_tools.specs.FirstArgument.{first_kept}
 use Rattle.roff_tools.specs.Numbers.{number_of, is_column_scale, is_line_scale, length_set}
 use Rattle.roff_tools.specs.Requests.{length_wanted, space_down, spaced}
 use Rattle.roff_tools.proofs.Digits.{number_of-take}

@@ -1,22 +1,23 @@
 -- Lists of events that are performed.
-use Rattle.std.proofs.Common.{◌≡◌, ℕ, ◌<◌, false, List, [], ◌∷◌, ◌++◌, Option, Result, Ok, Err, OnOk, OnErr, IsOkUnless, append_assoc, append-nil, refl, sym}
+use Rattle.std.proofs.Common.{◌≡◌, ◌≢◌, ℕ, ◌<◌, false, List, [], ◌∷◌, ◌++◌, Option, Result, Ok, Err, OnOk, OnErr, IsOkUnless, append_assoc, append-nil, refl, sym}
 use Rattle.std.specs.Io.KnownBytes.{Appends}
 use Rattle.std.proofs.lemmas.Bool.{le-ltb, lt-ltb}
 use Rattle.roff_lines.specs.Events.{Event}
-use Rattle.roff_lines.specs.Lines.{pending_length}
+use Rattle.roff_lines.specs.Lines.{Finished, finished, pending_length}
 use Rattle.roff_lines.specs.Stands.{Stands}
 use Rattle.roff_lines.specs.declared.env.Env.{Env}
 use Rattle.roff_lines.specs.declared.limit.Limit.{Limit}
 use Rattle.roff_lines.specs.declared.limit.Limit.TheVariants.{Line}
+use Rattle.roff_tools.specs.declared.formatter.Formatter.{Formatter}
 use Rattle.roff_tools.specs.declared.halt.Halt.{Halt}
 use Rattle.roff_tools.specs.declared.halt.Halt.TheVariants.{Limit as Limited, Output, Messages}
 use Rattle.roff_tools.specs.declared.limits.Limits.{Limits}
-use Rattle.roff_tools.specs.Output.{PageHistory, text_of, written_by}
+use Rattle.roff_tools.specs.Output.{PageHistory, text_of, finished_bytes, written_by}
 use Rattle.roff_tools.specs.Messages.{message_lines}
 use Rattle.roff_tools.specs.Requests.{PageEvent, Text, Space, Effect}
 use Rattle.roff_tools.specs.Run.{passes_line}
-use Rattle.roff_tools.specs.Sinks.{AppendsFront}
-use Rattle.roff_tools.specs.Performing.{behind, newly_written, NonePasses, AllPerformed, StoppedAt, FailedAt, Performs, Does, with_events}
+use Rattle.roff_tools.specs.Sinks.{AppendsFront, Puts}
+use Rattle.roff_tools.specs.Performing.{behind, newly_written, NonePasses, AllPerformed, StoppedAt, FailedAt, Performs, PerformsOnly, Does, with_events}
 use Rattle.roff_tools.proofs.Appending.{Appends-append, Appends-nothing}
 
 -- a history behind two lists of events
@@ -169,6 +170,30 @@ text_performs l h e env a b (Ok u) s ok err halt = text_performed l h e env a b 
 text_performs l h e env a b (Err Output) s ok err halt = text_failed l h e env a b s err
 text_performs l h e env a b (Err Messages) s ok err halt = cc
 text_performs l h e env a b (Err (Limited limit)) s ok err halt = cc
+
+-- what fails at the output alone loses no message
+no_message : (r : Result (Unit {0}) Halt) → IsOkUnless r Output → r ≢ Err Messages
+no_message (Ok u) halt e = cc
+no_message (Err Output) halt e = cc
+no_message (Err Messages) halt e = cc
+no_message (Err (Limited limit)) halt e = cc
+
+-- one event of the text that changes the environment alone, as the line that it finished was put
+pub text_performs_only : {S : Type 0} (contents : S → Option (List ℕ)) (faults : S → ℕ) (a b : S) (e : Event) (line : Option Finished) (old new : Formatter) (r : Result (Unit {0}) Halt)
+    → ((l : Limits) (h : PageHistory) → Stands l.line (text_of h) old.env → line ≡ finished (text_of h) e)
+    → ((l : Limits) (h : PageHistory) → Stands l.line (text_of h) old.env → Stands l.line (e ∷ text_of h) new.env)
+    → new.reading ≡ old.reading → new.argument ≡ old.argument
+    → Puts contents faults a b (finished_bytes line) r → IsOkUnless r Output
+    → PerformsOnly contents faults a b (Text e ∷ []) old new r
+text_performs_only contents faults a b e line old new r is_line stands reading argument puts halt = record {
+  performs = λ l h s. text_performs l h e new.env (contents a) (contents b) r (stands l h s)
+      (rw (← is_line l h s) puts.ok) (rw (← is_line l h s) puts.err) halt;
+  reading = reading;
+  argument = argument;
+  failures = puts.failures;
+  halt = no_message r halt;
+  fault = λ is_output. rw is_output at puts.fault;
+}
 
 -- an effect whose messages are written, as its events were answered
 pub does_events : (l : Limits) (h : PageHistory) (line : ℕ) (effect : Effect) (r : Result (Unit {0}) Halt) (env : Env) (a b c d : Option (List ℕ))

@@ -1,11 +1,12 @@
 -- What the code's answers say of a list of events that it performs.
-use Rattle.std.specs.Prelude.{◌≡◌, ℕ, true, false, List, [], ◌∷◌, ◌++◌, Option, Result, Ok, Err}
+use Rattle.std.specs.Prelude.{◌≡◌, ◌≢◌, ℕ, ◌≤◌, true, false, List, [], ◌∷◌, ◌++◌, Option, Result, Ok, Err}
 use Rattle.std.specs.Io.KnownBytes.{Appends}
 use Rattle.roff_lines.specs.Events.{WordEnd, Break}
 use Rattle.roff_lines.specs.Stands.{Stands}
 use Rattle.roff_lines.specs.declared.env.Env.{Env}
 use Rattle.roff_lines.specs.declared.limit.Limit.{Limit}
 use Rattle.roff_lines.specs.declared.limit.Limit.TheVariants.{Line}
+use Rattle.roff_tools.specs.declared.formatter.Formatter.{Formatter}
 use Rattle.roff_tools.specs.declared.halt.Halt.{Halt}
 use Rattle.roff_tools.specs.declared.halt.Halt.TheVariants.{Limit as Limited, Output, Messages}
 use Rattle.roff_tools.specs.declared.limits.Limits.{Limits}
@@ -14,6 +15,7 @@ use Rattle.roff_tools.specs.Output.{PageHistory, text_of, written_by}
 use Rattle.roff_tools.specs.Requests.{PageEvent, Text, Effect}
 use Rattle.roff_tools.specs.Run.{passes_line}
 use Rattle.roff_tools.specs.Sinks.{AppendsFront}
+use Rattle.roff_tools.specs.Tape.{Rises}
 
 -- a history behind some events more
 abbrev pub behind : List PageEvent → PageHistory → PageHistory
@@ -66,6 +68,17 @@ Performs l h es (Ok done) env old new = AllPerformed l h es env old new
 Performs l h es (Err (Limited limit)) env old new = StoppedAt l h es limit old new
 Performs l h es (Err Output) env old new = FailedAt l h es old new
 Performs l h es (Err Messages) env old new = ⊥
+
+-- a formatter performed some events, as far as it answers, and changed nothing else: what is read stays as it was,
+-- and what failed is the output, which counts its faults
+pub record PerformsOnly {S : Type 0} (contents : S → Option (List ℕ)) (faults : S → ℕ) (out_old out_new : S) (es : List PageEvent) (old new : Formatter) (result : Result (Unit {0}) Halt) : Type 0 where
+  pub performs : (l : Limits) (h : PageHistory) → Stands l.line (text_of h) old.env →
+      Performs l h es result new.env (contents out_old) (contents out_new)
+  pub reading : new.reading ≡ old.reading
+  pub argument : new.argument ≡ old.argument
+  pub failures : faults out_old ≤ faults out_new
+  pub halt : result ≢ Err Messages
+  pub fault : result ≡ Err Output → Rises (faults out_old) (faults out_new)
 
 -- how far an effect was done: its messages were written, or a beginning of them and no event performed
 abbrev pub Does : Limits → PageHistory → ℕ → Effect → Result (Unit {0}) Halt → Env → Option (List ℕ) → Option (List ℕ) → Option (List ℕ) → Option (List ℕ) → Type 0

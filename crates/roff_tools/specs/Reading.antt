@@ -126,10 +126,5 @@ taking s reading b = if is_dropped b then going_on (behind_dropped reading) else
 
 -- what the end of the input does: an unfinished line ends as by a newline
 abbrev pub end_effect : Settings → Reading → Effect
-end_effect s (InText has_glyph has_silent leading) = doing (text_line_end has_glyph has_silent)
-end_effect s (InName breaks first) = elim (request_named (first ∷ [])) [
-  | None ↦ doing []
-  | Some request ↦ request_effect s breaks request []
-]
-end_effect s (InArguments breaks request a) = request_effect s breaks request (arguments_read a)
-end_effect s _ = doing []
+end_effect s LineStart = doing []
+end_effect s reading = (kept_taking s reading newline).effect

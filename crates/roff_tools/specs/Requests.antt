@@ -1,6 +1,5 @@
 -- The requests: their names, and what each does (manual, sections 4 to 6).
-use Rattle.std.specs.Prelude.{ℕ, Bool, true, false, List, [], ◌∷◌, codes, Option, Some, None, if◌then◌else◌, ◌==◌}
-use Rattle.std.specs.Option.{option_to_list}
+use Rattle.std.specs.Prelude.{ℕ, Bool, true, false, List, [], ◌∷◌, bytes_eq, codes, Option, Some, None, if◌then◌else◌, ◌==◌}
 use Rattle.roff_lines.specs.Events.{Event, WordEnd, Break, Set}
 use Rattle.roff_lines.specs.declared.settings.Settings.{Settings}
 use Rattle.roff_lines.specs.declared.settings.AdjustMode.{AdjustMode}
@@ -8,9 +7,6 @@ use Rattle.roff_lines.specs.declared.settings.AdjustMode.TheVariants.{Left, Righ
 use Rattle.roff_lines.specs.declared.settings.Param.TheVariants.{Filling, Adjusting, Mode, LineLength, Indent}
 use Rattle.roff_tools.specs.declared.request.Request.{Request}
 use Rattle.roff_tools.specs.declared.request.Request.TheVariants.{Adjust, Break as BreakLine, Fill, Indent as IndentBy, LineLength as LengthOfLine, NoAdjust, NoFill, Space as SpaceDown}
-use Rattle.roff_tools.specs.declared.request.Action.{Action}
-use Rattle.roff_tools.specs.declared.request.Action.TheVariants.{None as NoAction, Set as SetParam, Adjust as AdjustIn, Space as SpaceBy}
-use Rattle.roff_tools.specs.declared.request.Effect.{Effect as PlannedEffect}
 use Rattle.roff_tools.specs.declared.message.Message.{Message}
 use Rattle.roff_tools.specs.declared.message.Message.TheVariants.{BadNumber, BackwardMotion}
 use Rattle.roff_tools.specs.declared.number.Number.{Number}
@@ -40,17 +36,10 @@ request_names =
     (codes "ad", Adjust) ∷ (codes "br", BreakLine) ∷ (codes "fi", Fill) ∷ (codes "in", IndentBy)
     ∷ (codes "ll", LengthOfLine) ∷ (codes "na", NoAdjust) ∷ (codes "nf", NoFill) ∷ (codes "sp", SpaceDown) ∷ []
 
--- whether two names are the same
-abbrev pub is_name : List ℕ → List ℕ → Bool
-is_name [] [] = true
-is_name [] (c ∷ d) = false
-is_name (b ∷ a) [] = false
-is_name (b ∷ a) (c ∷ d) = if b == c then is_name a d else false
-
 -- what a name has in a list of names
 abbrev pub named_in : List (List ℕ × Request) → List ℕ → Option Request
 named_in [] name = None
-named_in (r ∷ rs) name = if is_name r.0 name then Some r.1 else named_in rs name
+named_in (r ∷ rs) name = if bytes_eq r.0 name then Some r.1 else named_in rs name
 
 -- the request of a name
 abbrev pub request_named : List ℕ → Option Request
@@ -117,18 +106,3 @@ request_effect s breaks LengthOfLine as_given = elim (length_wanted s.line_lengt
 request_effect s breaks NoAdjust as_given = doing (Text (Set (Adjusting false)) ∷ [])
 request_effect s breaks NoFill as_given = doing (breaking breaks (Text (Set (Filling false)) ∷ []))
 request_effect s breaks SpaceDown as_given = space_down breaks as_given
-
--- the events of an action
-abbrev pub action_events : Action → List PageEvent
-action_events NoAction = []
-action_events (SetParam p) = Text (Set p) ∷ []
-action_events (AdjustIn None) = Text (Set (Adjusting true)) ∷ []
-action_events (AdjustIn (Some mode)) = Text (Set (Mode mode)) ∷ Text (Set (Adjusting true)) ∷ []
-action_events (SpaceBy lines) = Space lines ∷ []
-
--- an effect as it is planned, of a request called by a dot or not: the message, the break, the action
-abbrev pub effect_of : Bool → PlannedEffect → Effect
-effect_of breaks e = record {
-  messages = option_to_list e.message;
-  events = if e.breaks then breaking breaks (action_events e.action) else action_events e.action;
-}

@@ -1,6 +1,7 @@
 -- What a sink that fails has written.
-use Rattle.std.specs.Prelude.{◌≡◌, ℕ, List, ◌++◌, Option}
+use Rattle.std.specs.Prelude.{◌≡◌, ℕ, ◌≤◌, List, ◌++◌, Option, Result, OnOk, OnErr}
 use Rattle.std.specs.Io.KnownBytes.{Appends}
+use Rattle.roff_tools.specs.Tape.{Rises}
 
 -- a beginning of the piece was written, and no more
 pub record AppendsFront (old new : Option (List ℕ)) (piece : List ℕ) : Type 0 where
@@ -19,3 +20,10 @@ pub record AppendsAllBut (old new : Option (List ℕ)) (piece held : List ℕ) :
 pub record Sunk : Type 0 where
   pub contents : Option (List ℕ)
   pub failures : ℕ
+
+-- a piece was put: all of it was written, or a beginning where the sink failed, which counts its faults
+pub record Puts {S F : Type 0} (contents : S → Option (List ℕ)) (faults : S → ℕ) (old new : S) (piece : List ℕ) (result : Result (Unit {0}) F) : Type 0 where
+  pub ok : OnOk result (Appends (contents old) (contents new) piece)
+  pub err : OnErr result (AppendsFront (contents old) (contents new) piece)
+  pub failures : faults old ≤ faults new
+  pub fault : OnErr result (Rises (faults old) (faults new))

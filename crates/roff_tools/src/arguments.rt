@@ -2,7 +2,7 @@
 
 ghost use Rattle.std.specs.Prelude.{◌≡◌, ◌≤◌, ◌++◌, ◌∷◌, [], take};
 ghost use Rattle.std.specs.Option.{option_copied};
-ghost use Rattle.roff_tools.specs.Arguments.{Arguments, arguments_read, first_kept, first_step, no_arguments, with_argument_byte, with_dropped_byte};
+ghost use Rattle.roff_tools.specs.Arguments.{Arguments, arguments_read, no_arguments, with_argument_byte, with_dropped_byte};
 
 /// How many bytes of an argument are kept. A number has at most eight: what has more is none.
 const KEPT: usize = 9;
@@ -32,6 +32,8 @@ pub(crate) struct FirstArgument {
 }
 
 impl Place {
+    ghost use Rattle.roff_tools.specs.FirstArgument.{first_step};
+
     /// Where the reading stands behind one byte more, and whether the byte is one of the argument.
     fn step(self, byte: u8) -> (Place, bool)
         ensures { result ≡ first_step self byte }
@@ -49,7 +51,7 @@ impl Place {
 }
 
 impl FirstArgument {
-    ghost use Rattle.roff_tools.specs.FirstArgument.{KeepsFirst};
+    ghost use Rattle.roff_tools.specs.FirstArgument.{KeepsFirst, first_kept};
 
     /// Nothing of it is read yet.
     pub(crate) fn new() -> Self

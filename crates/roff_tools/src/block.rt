@@ -1,9 +1,8 @@
 //! The block through which lines are written.
 
 ghost use Rattle.std.specs.Prelude.{◌≡◌, ◌≤◌, [], ◌∷◌, ◌++◌, replicate, vec_capacity, OnOk, OnErr};
-ghost use Rattle.std.specs.Io.KnownBytes.{Appends};
 ghost use Rattle.roff_lines.specs.Columns.{finished_of, line_bytes};
-ghost use Rattle.roff_tools.specs.Sinks.{AppendsAllBut, AppendsFront};
+ghost use Rattle.roff_tools.specs.Sinks.{AppendsAllBut, AppendsFront, Puts};
 ghost use Rattle.roff_tools.specs.Tape.{Rises};
 
 use crate::sink::{ByteSink, SinkFault};
@@ -37,10 +36,7 @@ impl Block {
         line: Line<'_>,
         out: &mut O,
     ) -> Result<(), SinkFault>
-        ensures ok { OnOk result (Appends (O.contents out.old) (O.contents out.new) (line_bytes (finished_of line.entry))) }
-        ensures err { OnErr result (AppendsFront (O.contents out.old) (O.contents out.new) (line_bytes (finished_of line.entry))) }
-        ensures failures { O.failures out.old ≤ O.failures out.new }
-        ensures fault { OnErr result (Rises (O.failures out.old) (O.failures out.new)) }
+        ensures { Puts O.contents O.failures out.old out.new (line_bytes (finished_of line.entry)) result }
     {
         let bytes = &mut self.bytes;
         for byte in LineBytes::of(line) {
@@ -55,10 +51,7 @@ impl Block {
         lines: u32,
         out: &mut O,
     ) -> Result<(), SinkFault>
-        ensures ok { OnOk result (Appends (O.contents out.old) (O.contents out.new) (replicate lines 10)) }
-        ensures err { OnErr result (AppendsFront (O.contents out.old) (O.contents out.new) (replicate lines 10)) }
-        ensures failures { O.failures out.old ≤ O.failures out.new }
-        ensures fault { OnErr result (Rises (O.failures out.old) (O.failures out.new)) }
+        ensures { Puts O.contents O.failures out.old out.new (replicate lines 10) result }
     {
         let bytes = &mut self.bytes;
         for _ in 0..lines {
@@ -91,10 +84,7 @@ fn push<O: ByteSink>(bytes: &mut Vec<u8>, byte: u8, out: &mut O) -> Result<(), S
 fn put<O: ByteSink>(bytes: &mut Vec<u8>, out: &mut O) -> Result<(), SinkFault>
     ensures capacity { vec_capacity bytes.new ≡ vec_capacity bytes.old }
     ensures empty { bytes.new.items ≡ [] }
-    ensures ok { OnOk result (Appends (O.contents out.old) (O.contents out.new) bytes.old.items) }
-    ensures err { OnErr result (AppendsFront (O.contents out.old) (O.contents out.new) bytes.old.items) }
-    ensures failures { O.failures out.old ≤ O.failures out.new }
-    ensures fault { OnErr result (Rises (O.failures out.old) (O.failures out.new)) }
+    ensures puts { Puts O.contents O.failures out.old out.new bytes.old.items result }
 {
     if bytes.is_empty() {
         return Ok(());

@@ -1,7 +1,6 @@
 //! The formatter: what each byte of the input does.
 
-ghost use Rattle.std.specs.Prelude.{◌≡◌, ◌≢◌, ℕ, ◌+◌, ◌<◌, ◌≤◌, ◌^◌, [], ◌∷◌, List, Option, Err, IfOk, OnOk, OnErr, IsOkUnless, option_map};
-ghost use Rattle.std.specs.Io.KnownBytes.{Appends};
+ghost use Rattle.std.specs.Prelude.{◌≡◌, ◌≢◌, ℕ, ◌+◌, ◌<◌, ◌≤◌, ◌^◌, [], ◌∷◌, List, Option, Err, IfOk, OnOk, IsOkUnless, option_map};
 ghost use Rattle.std.specs.Option.{option_to_list};
 ghost use Rattle.roff_lines.specs.Columns.{finished_of};
 ghost use Rattle.roff_lines.specs.Events.{Print, WordEnd, LineEnd, Break, settings_after};
@@ -12,11 +11,11 @@ ghost use Rattle.roff_tools.specs.FirstArgument.{KeepsFirst};
 ghost use Rattle.roff_tools.specs.Happening.{event_of, events_of};
 ghost use Rattle.roff_tools.specs.Messages.{message_lines};
 ghost use Rattle.roff_tools.specs.Output.{PageHistory, text_of, finished_bytes};
-ghost use Rattle.roff_tools.specs.Performing.{Does, Performs, closing_events, with_events};
+ghost use Rattle.roff_tools.specs.Performing.{Does, Performs, PerformsOnly, closing_events, with_events};
 ghost use Rattle.roff_tools.specs.Reading.{Reading as Read, argument_taking, end_effect, kept_taking, taking};
 ghost use Rattle.roff_tools.specs.ReadsAs.{ReadsAs, leading_behind, leading_of, part_of};
 ghost use Rattle.roff_tools.specs.Requests.{Text, Space, request_effect};
-ghost use Rattle.roff_tools.specs.Sinks.{AppendsFront};
+ghost use Rattle.roff_tools.specs.Sinks.{Puts};
 ghost use Rattle.roff_tools.specs.Tape.{Rises};
 ghost use Rattle.roff_tools.specs.declared.limits.Limits.{Limits};
 
@@ -206,13 +205,7 @@ impl Formatter {
 
     /// Performs events, one after another.
     fn perform_all<O: ByteSink>(&mut self, events: &[PageEvent], out: &mut O) -> Result<(), Halt>
-        ensures performs { (l : Limits) (h : PageHistory) → Stands l.line (text_of h) self.old.env →
-            Performs l h (events_of events.now) result self.new.env (O.contents out.old) (O.contents out.new) }
-        ensures reading { self.new.reading ≡ self.old.reading }
-        ensures argument { self.new.argument ≡ self.old.argument }
-        ensures failures { O.failures out.old ≤ O.failures out.new }
-        ensures halt { result ≢ Err Halt.Messages }
-        ensures fault { result ≡ Err Halt.Output → Rises (O.failures out.old) (O.failures out.new) }
+        ensures { PerformsOnly O.contents O.failures out.old out.new (events_of events.now) self.old self.new result }
     {
         let mut rest = events;
         while let Some((event, others)) = rest.split_first() {
@@ -226,13 +219,7 @@ impl Formatter {
 
     /// Performs an event.
     fn perform<O: ByteSink>(&mut self, event: PageEvent, out: &mut O) -> Result<(), Halt>
-        ensures performs { (l : Limits) (h : PageHistory) → Stands l.line (text_of h) self.old.env →
-            Performs l h (event_of event ∷ []) result self.new.env (O.contents out.old) (O.contents out.new) }
-        ensures reading { self.new.reading ≡ self.old.reading }
-        ensures argument { self.new.argument ≡ self.old.argument }
-        ensures failures { O.failures out.old ≤ O.failures out.new }
-        ensures halt { result ≢ Err Halt.Messages }
-        ensures fault { result ≡ Err Halt.Output → Rises (O.failures out.old) (O.failures out.new) }
+        ensures { PerformsOnly O.contents O.failures out.old out.new (event_of event ∷ []) self.old self.new result }
     {
         match event {
             PageEvent::Glyph(glyph) => self.glyph(glyph),
@@ -269,13 +256,7 @@ impl Formatter {
 
     /// Ends the open word, and writes the line that it finishes.
     fn end_word<O: ByteSink>(&mut self, out: &mut O) -> Result<(), Halt>
-        ensures performs { (l : Limits) (h : PageHistory) → Stands l.line (text_of h) self.old.env →
-            Performs l h (Text WordEnd ∷ []) result self.new.env (O.contents out.old) (O.contents out.new) }
-        ensures reading { self.new.reading ≡ self.old.reading }
-        ensures argument { self.new.argument ≡ self.old.argument }
-        ensures failures { O.failures out.old ≤ O.failures out.new }
-        ensures halt { result ≢ Err Halt.Messages }
-        ensures fault { result ≡ Err Halt.Output → Rises (O.failures out.old) (O.failures out.new) }
+        ensures { PerformsOnly O.contents O.failures out.old out.new (Text WordEnd ∷ []) self.old self.new result }
     {
         let line = self.env.end_word();
         put_finished(&mut self.block, line, out)
@@ -283,13 +264,7 @@ impl Formatter {
 
     /// Ends a line of the input, and writes the line that it finishes.
     fn end_line<O: ByteSink>(&mut self, out: &mut O) -> Result<(), Halt>
-        ensures performs { (l : Limits) (h : PageHistory) → Stands l.line (text_of h) self.old.env →
-            Performs l h (Text LineEnd ∷ []) result self.new.env (O.contents out.old) (O.contents out.new) }
-        ensures reading { self.new.reading ≡ self.old.reading }
-        ensures argument { self.new.argument ≡ self.old.argument }
-        ensures failures { O.failures out.old ≤ O.failures out.new }
-        ensures halt { result ≢ Err Halt.Messages }
-        ensures fault { result ≡ Err Halt.Output → Rises (O.failures out.old) (O.failures out.new) }
+        ensures { PerformsOnly O.contents O.failures out.old out.new (Text LineEnd ∷ []) self.old self.new result }
     {
         let line = self.env.end_line();
         put_finished(&mut self.block, line, out)
@@ -297,13 +272,7 @@ impl Formatter {
 
     /// Finishes the pending line, and writes it.
     fn brk<O: ByteSink>(&mut self, out: &mut O) -> Result<(), Halt>
-        ensures performs { (l : Limits) (h : PageHistory) → Stands l.line (text_of h) self.old.env →
-            Performs l h (Text Break ∷ []) result self.new.env (O.contents out.old) (O.contents out.new) }
-        ensures reading { self.new.reading ≡ self.old.reading }
-        ensures argument { self.new.argument ≡ self.old.argument }
-        ensures failures { O.failures out.old ≤ O.failures out.new }
-        ensures halt { result ≢ Err Halt.Messages }
-        ensures fault { result ≡ Err Halt.Output → Rises (O.failures out.old) (O.failures out.new) }
+        ensures { PerformsOnly O.contents O.failures out.old out.new (Text Break ∷ []) self.old self.new result }
     {
         let line = self.env.brk();
         put_finished(&mut self.block, line, out)
@@ -311,13 +280,7 @@ impl Formatter {
 
     /// Writes blank lines.
     fn space<O: ByteSink>(&mut self, lines: u32, out: &mut O) -> Result<(), Halt>
-        ensures performs { (l : Limits) (h : PageHistory) → Stands l.line (text_of h) self.old.env →
-            Performs l h (Space lines ∷ []) result self.new.env (O.contents out.old) (O.contents out.new) }
-        ensures reading { self.new.reading ≡ self.old.reading }
-        ensures argument { self.new.argument ≡ self.old.argument }
-        ensures failures { O.failures out.old ≤ O.failures out.new }
-        ensures halt { result ≢ Err Halt.Messages }
-        ensures fault { result ≡ Err Halt.Output → Rises (O.failures out.old) (O.failures out.new) }
+        ensures { PerformsOnly O.contents O.failures out.old out.new (Space lines ∷ []) self.old self.new result }
     {
         match self.block.put_blank_lines(lines, out) {
             Ok(()) => Ok(()),
@@ -333,11 +296,8 @@ fn put_finished<O: ByteSink>(
     line: Option<Line<'_>>,
     out: &mut O,
 ) -> Result<(), Halt>
-    ensures ok { OnOk result (Appends (O.contents out.old) (O.contents out.new) (finished_bytes (option_map finished_of line.entry))) }
-    ensures err { OnErr result (AppendsFront (O.contents out.old) (O.contents out.new) (finished_bytes (option_map finished_of line.entry))) }
+    ensures puts { Puts O.contents O.failures out.old out.new (finished_bytes (option_map finished_of line.entry)) result }
     ensures halt { IsOkUnless result Halt.Output }
-    ensures failures { O.failures out.old ≤ O.failures out.new }
-    ensures fault { OnErr result (Rises (O.failures out.old) (O.failures out.new)) }
 {
     match line {
         None => Ok(()),
@@ -350,11 +310,8 @@ fn put_finished<O: ByteSink>(
 
 /// Writes the message of an effect, if it has one.
 fn tell<E: ByteSink>(message: Option<Message>, line: u32, err: &mut E) -> Result<(), Halt>
-    ensures ok { OnOk result (Appends (E.contents err.old) (E.contents err.new) (message_lines line (option_to_list message))) }
-    ensures err { OnErr result (AppendsFront (E.contents err.old) (E.contents err.new) (message_lines line (option_to_list message))) }
+    ensures puts { Puts E.contents E.failures err.old err.new (message_lines line (option_to_list message)) result }
     ensures halt { IsOkUnless result Halt.Messages }
-    ensures failures { E.failures err.old ≤ E.failures err.new }
-    ensures fault { OnErr result (Rises (E.failures err.old) (E.failures err.new)) }
 {
     match message {
         None => Ok(()),

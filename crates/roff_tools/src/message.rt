@@ -1,11 +1,9 @@
 //! The messages of a run.
 
-ghost use Rattle.std.specs.Prelude.{◌≡◌, ◌+◌, ◌≤◌, ◌++◌, length, OnOk, OnErr};
-ghost use Rattle.std.specs.Io.KnownBytes.{Appends};
+ghost use Rattle.std.specs.Prelude.{◌≡◌, ◌+◌, ◌≤◌, ◌++◌, length};
 ghost use Rattle.arrayvec.specs.ArrayVec.{array_vec_len};
 ghost use Rattle.roff_tools.specs.Messages.{message_line, message_text};
-ghost use Rattle.roff_tools.specs.Sinks.{AppendsFront};
-ghost use Rattle.roff_tools.specs.Tape.{Rises};
+ghost use Rattle.roff_tools.specs.Sinks.{Puts};
 
 use crate::sink::{ByteSink, SinkFault};
 use arrayvec::ArrayVec;
@@ -68,10 +66,7 @@ impl Message {
 
 /// Writes a message of this line of the input, in one piece.
 pub(crate) fn report<E: ByteSink>(message: Message, line: u32, err: &mut E) -> Result<(), SinkFault>
-    ensures ok { OnOk result (Appends (E.contents err.old) (E.contents err.new) (message_line line message)) }
-    ensures err { OnErr result (AppendsFront (E.contents err.old) (E.contents err.new) (message_line line message)) }
-    ensures failures { E.failures err.old ≤ E.failures err.new }
-    ensures fault { OnErr result (Rises (E.failures err.old) (E.failures err.new)) }
+    ensures { Puts E.contents E.failures err.old err.new (message_line line message) result }
 {
     err.put(&message.line(line))
 }

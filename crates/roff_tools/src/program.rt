@@ -36,10 +36,13 @@ const LIMIT_REACHED: u8 = 3;
 /// Why a run could not start.
 #[derive(Debug, Drop, Error)]
 pub enum StartFault {
+    /// The file of this name, one of those on the command line, cannot be opened.
     #[error("cannot open {0}")]
     CannotOpen(String),
+    /// A word of the command line is not UTF-8 text.
     #[error("an argument is not UTF-8 text")]
     NotText,
+    /// There is no memory for what is reserved before the run.
     #[error("out of memory")]
     OutOfMemory,
 }
@@ -262,16 +265,20 @@ mod tests {
 
     #[test]
     fn answers_without_a_run(rt: HostRuntime) -> Result<(), Fail> {
-        let rows: [(&[&str], u8, &str, &str); 5] = [
+        let rows: [(&[&str], u8, &str, &str); 14] = [
             (&["roff", "--version"], 0, "roff 0.1.0\n", ""),
-            (&["roff", "--help"], 0, "Formats documents", ""),
-            (&["roff"], 1, "", "error: 'roff' requires a subcommand"),
-            (
-                &["roff", "nroff", "--line", "x"],
-                1,
-                "",
-                "error: invalid value 'x'",
-            ),
+            (&["roff", "--help"], 0, ROFF_HELP, ""),
+            (&["roff", "help"], 0, ROFF_HELP, ""),
+            (&["roff", "nroff", "--help"], 0, NROFF_HELP, ""),
+            (&["roff", "help", "nroff"], 0, NROFF_HELP, ""),
+            (&["roff"], 1, "", NO_COMMAND),
+            (&["roff", "troff"], 1, "", WRONG_COMMAND),
+            (&["roff", "nroff", "--page"], 1, "", WRONG_OPTION),
+            (&["roff", "nroff", "--bytes"], 1, "", NO_VALUE),
+            (&["roff", "nroff", "--line", "x"], 1, "", NO_NUMBER),
+            (&["roff", "nroff", "--bytes", "-1"], 1, "", BELOW_RANGE),
+            (&["roff", "nroff", "--bytes=1000000001"], 1, "", ABOVE_RANGE),
+            (&["roff", "nroff", "--line=1", "--line=2"], 1, "", TWICE),
             (
                 &["roff", "nroff", "no/such"],
                 1,
@@ -287,17 +294,123 @@ mod tests {
                 status,
                 "at {words:?}"
             );
-            assert!(rt;
-                stdout.as_slice().starts_with(out.as_bytes()),
-                "at {words:?}"
-            );
-            assert!(rt;
-                stderr.as_slice().starts_with(err.as_bytes()),
-                "at {words:?}"
-            );
-            assert_eq!(rt; stdout.is_empty(), out.is_empty(), "at {words:?}");
-            assert_eq!(rt; stderr.is_empty(), err.is_empty(), "at {words:?}");
+            assert_eq!(rt; str::from_utf8(&stdout), Ok(out), "at {words:?}");
+            assert_eq!(rt; str::from_utf8(&stderr), Ok(err), "at {words:?}");
         }
         Ok(())
     }
+
+    const ROFF_HELP: &str = "\
+Format documents of the roff language as plain text
+
+Usage: roff <COMMAND>
+
+Commands:
+  nroff  Format text for a terminal or a line printer
+  help   Print this message or the help of the given subcommand(s)
+
+Options:
+  -h, --help     Print help
+  -V, --version  Print version
+
+'roff help COMMAND' says more about a command.
+
+Files are read one after another as one input; all are opened before the first
+is read. '-', or no file at all, is standard input. Text is written on standard
+output, and messages on standard error.
+
+Exit status:
+  0  done
+  1  wrong command line, a file that cannot be opened, or no memory to start
+  2  reading or writing failed
+  3  a limit was reached
+";
+
+    const NROFF_HELP: &str = "\
+Format text for a terminal or a line printer
+
+Usage: roff nroff [OPTIONS] [FILE]...
+
+Arguments:
+  [FILE]...  Files to be read; '-' is standard input [default: -]
+
+Options:
+      --bytes <N>  Stop after N bytes of input [default: 50000000]
+      --line <N>   Longest pending output line, in bytes [default: 4096]
+  -h, --help       Print help
+
+nroff fills lines with the words of its input, and obeys its control lines, which
+begin with a period or an apostrophe. Each N is a number from 0 to 1000000000.
+
+Files are read one after another as one input; all are opened before the first
+is read. '-', or no file at all, is standard input. Text is written on standard
+output, and messages on standard error.
+
+Exit status:
+  0  done
+  1  wrong command line, a file that cannot be opened, or no memory to start
+  2  reading or writing failed
+  3  a limit was reached
+";
+
+    const NO_COMMAND: &str = "\
+error: 'roff' requires a subcommand but one was not provided
+  [subcommands: nroff, help]
+
+Usage: roff <COMMAND>
+
+For more information, try '--help'.
+";
+
+    const WRONG_COMMAND: &str = "\
+error: unrecognized subcommand 'troff'
+
+  tip: a similar subcommand exists: 'nroff'
+
+Usage: roff <COMMAND>
+
+For more information, try '--help'.
+";
+
+    const WRONG_OPTION: &str = "\
+error: unexpected argument '--page' found
+
+  tip: to pass '--page' as a value, use '-- --page'
+
+Usage: roff nroff [OPTIONS] [FILE]...
+
+For more information, try '--help'.
+";
+
+    const NO_VALUE: &str = "\
+error: a value is required for '--bytes <N>' but none was supplied
+
+For more information, try '--help'.
+";
+
+    const NO_NUMBER: &str = "\
+error: invalid value 'x' for '--line <N>': invalid digit found in string
+
+For more information, try '--help'.
+";
+
+    const BELOW_RANGE: &str = "\
+error: invalid value '-1' for '--bytes <N>': -1 is not in 0..=1000000000
+
+For more information, try '--help'.
+";
+
+    const ABOVE_RANGE: &str = "\
+error: invalid value '1000000001' for '--bytes <N>': 1000000001 is not in 0..=1000000000
+
+For more information, try '--help'.
+";
+
+    const TWICE: &str = "\
+error: the argument '--line <N>' cannot be used multiple times
+
+Usage: roff nroff [OPTIONS] [FILE]...
+
+For more information, try '--help'.
+";
 }

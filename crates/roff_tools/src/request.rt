@@ -2,9 +2,9 @@
 
 ghost use Rattle.std.specs.Prelude.{◌≡◌, ℕ, Bool, List, [], ◌∷◌};
 ghost use Rattle.std.specs.Option.{option_copied};
-ghost use Rattle.roff_tools.specs.Arguments.{first_kept};
-ghost use Rattle.roff_tools.specs.Happening.{events_of};
-ghost use Rattle.roff_tools.specs.Requests.{breaking, doing, effect_of, action_events, length_wanted, mode_named, mode_wanted, request_effect, request_named, saying, space_down};
+ghost use Rattle.roff_tools.specs.FirstArgument.{first_kept};
+ghost use Rattle.roff_tools.specs.Happening.{action_events, effect_of, events_of};
+ghost use Rattle.roff_tools.specs.Requests.{breaking, doing, length_wanted, mode_named, mode_wanted, request_effect, request_named, saying, space_down};
 
 use crate::event::{Events, PageEvent};
 use crate::message::Message;

@@ -1,7 +1,7 @@
-use Rattle.std.proofs.Common.{◌≡◌, ◌++◌, ◌∷◌, [], arith, append_assoc}
-use Rattle.std.proofs.lemmas.Result.{err_from_is_err_and, on_err_weaker}
+use Rattle.std.proofs.Common.{◌≡◌, ◌++◌, ◌∷◌, [], arith, append_assoc, append-nil}
+use Rattle.std.proofs.lemmas.Result.{err_from_is_err_and, on_ok_weaker, on_err_weaker}
 use Rattle.roff_lines.specs.Columns.{finished_of, line_bytes}
-use Rattle.roff_tools.proofs.Appending.{AppendsAllBut-push, AppendsFront-held}
+use Rattle.roff_tools.proofs.Appending.{AppendsAllBut-push, AppendsAllBut-put, AppendsFront-held}
 use Rattle.roff_tools.proofs.block.Block.put_line.Goals as goal
 
 pub loop-byte-preserved : goal.loop-byte-preserved
@@ -14,13 +14,23 @@ loop-byte-preserved g c = record {
   failures = omega (arith, c.in_ok-push.ensures.failures);
 }
 
-pub returns-in_err-push-clause-err : goal.returns-in_err-push-clause-err
-returns-in_err-push-clause-err g c =
+pub returns-in_err-push : goal.returns-in_err-push
+returns-in_err-push g c =
     let failed = err_from_is_err_and c.from_residual.result c.from_residual.ensures.1 in
     let whole : c.loop-byte.yielded ++ (c.in-Some.byte ∷ c.next.new.self) ≡ line_bytes (finished_of c.args.line) = rw (← c.in-Some.ensures.steps) c.loop-byte.invariant.to_come in
-    rw (failed.1, ← whole) (AppendsFront-held _ c.loop-byte.invariant.so_far c.in_err-push.ensures.err)
+    rw failed.1 (record {
+      ok = tt;
+      err = rw (← whole) (AppendsFront-held _ c.loop-byte.invariant.so_far c.in_err-push.ensures.err);
+      failures = omega (arith, c.loop-byte.invariant.failures, c.in_err-push.ensures.failures);
+      fault = omega (arith, c.loop-byte.invariant.failures, c.in_err-push.ensures.fault);
+    })
 
-pub returns-clause-err : goal.returns-clause-err
-returns-clause-err g c =
+pub returns : goal.returns
+returns g c =
     let whole = rw c.in-None.ensures.steps.0 at c.loop-byte.invariant.to_come in
-    on_err_weaker c.put.result (λ part. rw (← whole) (AppendsFront-held [] c.loop-byte.invariant.so_far part)) c.put.ensures.err
+    record {
+      ok = on_ok_weaker c.put.result (λ rest. rw (← whole, append-nil) (AppendsAllBut-put (g.O.ByteSink.contents c.put.new.out) c.loop-byte.invariant.so_far rest)) c.put.ensures.puts.ok;
+      err = on_err_weaker c.put.result (λ part. rw (← whole) (AppendsFront-held [] c.loop-byte.invariant.so_far part)) c.put.ensures.puts.err;
+      failures = omega (arith, c.loop-byte.invariant.failures, c.put.ensures.puts.failures);
+      fault = on_err_weaker c.put.result (λ rises. omega (arith, c.loop-byte.invariant.failures, rises)) c.put.ensures.puts.fault;
+    }

@@ -3,7 +3,8 @@ use Rattle.roff_lines.specs.Events.{settings_after}
 use Rattle.roff_tools.specs.Arguments.{arguments_read}
 use Rattle.roff_tools.specs.Output.{text_of}
 use Rattle.roff_tools.specs.Performing.{Does, Performs}
-use Rattle.roff_tools.specs.Requests.{Effect, effect_of, request_effect}
+use Rattle.roff_tools.specs.Happening.{effect_of}
+use Rattle.roff_tools.specs.Requests.{Effect, request_effect}
 use Rattle.roff_tools.proofs.Performed.{does_events}
 use Rattle.roff_tools.proofs.formatter.Formatter.obey.Goals as goal
 
@@ -19,4 +20,4 @@ returns-in-Ok-clause-does g c = λ l h a stands keeps.
     let performed : Performs l h planned.events c.perform_all.result c.perform_all.new.self.env
     (g.O.ByteSink.contents c.args.out.now) (g.O.ByteSink.contents c.perform_all.new.out) =
     rw (← c.events.ensures, ← given) (c.perform_all.ensures.performs l h stands) in
-    subst P told (does_events l h c.args.line planned c.perform_all.result _ _ _ _ _ c.in-Ok.ensures.ok performed)
+    subst P told (does_events l h c.args.line planned c.perform_all.result _ _ _ _ _ c.in-Ok.ensures.puts.ok performed)

@@ -1,5 +1,13 @@
+use Rattle.std.proofs.Common.{rules}
 use Rattle.roff_tools.proofs.Performed.{space_failed}
 use Rattle.roff_tools.proofs.formatter.Formatter.space.Goals as goal
 
-pub returns-in-Err-clause-performs : goal.returns-in-Err-clause-performs
-returns-in-Err-clause-performs g c = λ l h s. space_failed l h c.args.lines _ _ c.in-Err.ensures.err
+pub returns-in-Err : goal.returns-in-Err
+returns-in-Err g c = record {
+  performs = λ l h s. space_failed l h c.args.lines _ _ c.in-Err.ensures.err;
+  reading = search rules;
+  argument = search rules;
+  failures = c.in-Err.ensures.failures;
+  halt = λ wrong. cc;
+  fault = λ is_output. c.in-Err.ensures.fault;
+}
