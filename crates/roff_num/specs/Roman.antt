@@ -1,0 +1,22 @@
+-- Roman numbers, by a table of digits for each decimal place (manual, section 8: the format `i`).
+use Rattle.std.specs.Prelude.{ℕ, ◌/◌, ◌%◌, List, [], ◌∷◌, ◌++◌, slice_index_or, codes}
+
+abbrev pub ones : List (List ℕ)
+ones = codes "" ∷ codes "i" ∷ codes "ii" ∷ codes "iii" ∷ codes "iv" ∷ codes "v" ∷ codes "vi" ∷ codes "vii" ∷ codes "viii" ∷ codes "ix" ∷ []
+
+abbrev pub tens : List (List ℕ)
+tens = codes "" ∷ codes "x" ∷ codes "xx" ∷ codes "xxx" ∷ codes "xl" ∷ codes "l" ∷ codes "lx" ∷ codes "lxx" ∷ codes "lxxx" ∷ codes "xc" ∷ []
+
+abbrev pub hundreds : List (List ℕ)
+hundreds = codes "" ∷ codes "c" ∷ codes "cc" ∷ codes "ccc" ∷ codes "cd" ∷ codes "d" ∷ codes "dc" ∷ codes "dcc" ∷ codes "dccc" ∷ codes "cm" ∷ []
+
+abbrev pub thousands : List (List ℕ)
+thousands = codes "" ∷ codes "m" ∷ codes "mm" ∷ codes "mmm" ∷ []
+
+-- the digit of one place
+abbrev pub digit_of : List (List ℕ) → ℕ → List ℕ
+digit_of table digit = slice_index_or table digit []
+
+-- a number of 1 to 3999
+unfoldable pub roman : ℕ → List ℕ
+roman n = digit_of thousands (n / 1000) ++ digit_of hundreds (n / 100 % 10) ++ digit_of tens (n / 10 % 10) ++ digit_of ones (n % 10)

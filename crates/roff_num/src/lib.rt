@@ -1,0 +1,9 @@
+//! Numbers: formats of registers.
+#![tactic(auto)]
+
+mod format;
+pub mod laws;
+mod num;
+
+pub use format::{Format, NumText, read_format, write_num};
+pub use num::Num;
