@@ -1,5 +1,5 @@
 -- The texts that name a format (manual, section 8: `.af`).
-use Rattle.std.specs.Prelude.{◌≡◌, ℕ, ◌≤◌, ◌&&◌, List, [], ◌∷◌, length, nat_le, codes, Option, Some, None, if◌then◌else◌, ◌==◌}
+use Rattle.std.specs.Prelude.{◌≡◌, ℕ, ◌≤◌, Bool, ◌&&◌, List, [], ◌∷◌, length, nat_le, codes, Option, Some, None, if◌then◌else◌, ◌==◌}
 use Rattle.std.specs.Char.{is_ascii_digit, IsAsciiDigit}
 use Rattle.std.specs.List.{list_all, AllByRecursion}
 use Rattle.roff_num.specs.declared.format.Format.{Format}
@@ -14,11 +14,15 @@ letter_format c =
     else if c == 65 then Some AlphaUpper
     else None
 
--- the format that a text names: 1 to 32 digits a field of as many, else a letter alone
+-- whether a text is 1 to 32 digits
+abbrev pub is_field : List ℕ → Bool
+is_field text = nat_le 1 (length text) && nat_le (length text) 32 && list_all is_ascii_digit text
+
+-- the format that a text names: 1 to 32 digits a field of as many, else one letter
 abbrev pub format_of : List ℕ → Option Format
 format_of [] = None
 format_of (c ∷ text) =
-    if list_all is_ascii_digit (c ∷ text) && nat_le (length (c ∷ text)) 32 then Some (Decimal (length (c ∷ text)))
+    if is_field (c ∷ text) then Some (Decimal (length (c ∷ text)))
     else if length text == 0 then letter_format c
     else None
 
