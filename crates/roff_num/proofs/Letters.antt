@@ -6,11 +6,11 @@ use Rattle.std.proofs.lemmas.Grind.{reverse_onto}
 use Rattle.roff_num.specs.Words.{next, backward, word}
 
 -- a letter before `z` moves on
-next-letter : (c : ℕ) (w : List ℕ) → c < 122 → next (c ∷ w) ≡ (c + 1) ∷ w
+pub next-letter : (c : ℕ) (w : List ℕ) → c < 122 → next (c ∷ w) ≡ (c + 1) ∷ w
 next-letter c w below = grind (arith, nat_tests)
 
 -- the word behind another one
-backward-suc : (n : ℕ) → backward (n + 1) ≡ next (backward n)
+pub backward-suc : (n : ℕ) → backward (n + 1) ≡ next (backward n)
 unfolding backward
 backward-suc n = rw (add-one n) refl
 

@@ -5,7 +5,7 @@ ghost use Rattle.roff_num.specs.declared.format.Format.{Format};
 ghost use Rattle.roff_num.specs.declared.format.Format.TheVariants.{Decimal, RomanLower, RomanUpper, AlphaLower, AlphaUpper};
 ghost use Rattle.roff_num.specs.RegisterText.{register_text};
 ghost use Rattle.roff_num.specs.Formats.{format_of};
-ghost use Rattle.roff_num.specs.Words.{place};
+ghost use Rattle.roff_num.specs.Words.{ComesBefore, IsOverLetters, place, word};
 
 /// What the definitions give for some values in letters.
 pub fn alphabetic_rows()
@@ -57,4 +57,15 @@ pub fn format_rows()
     ensures two_letters { format_of (codes "ii") ≡ None }
     ensures digit_and_letter { format_of (codes "1a") ≡ None }
     ensures sign { format_of (codes "+1") ≡ None }
+{}
+
+/// What the format `a` means: the words over `a` to `z` are listed by length and then by alphabet. Each
+/// is there, at its place, and an earlier one comes before a later one; so nothing stands between two
+/// that follow one another.
+pub fn listing()
+    ensures empty_before_the_first { word 0 ≡ [] }
+    ensures of_letters { (n : ℕ) → IsOverLetters (word n) }
+    ensures in_order { (m n : ℕ) → m < n → ComesBefore (word m) (word n) }
+    ensures each_is_listed { (w : List ℕ) → IsOverLetters w → word (place w) ≡ w }
+    ensures each_at_one_place { (n : ℕ) → place (word n) ≡ n }
 {}

@@ -1,0 +1,14 @@
+use Rattle.std.proofs.Common.{refl}
+use Rattle.roff_num.specs.Words.{backward, word}
+use Rattle.roff_num.proofs.Listing.{ComesBefore-word, IsOverLetters-word, place-word, word-place}
+use Rattle.roff_num.proofs.laws.listing.Goals as goal
+
+pub returns : goal.returns
+unfolding word backward
+returns c = record {
+  empty_before_the_first = refl;
+  of_letters = IsOverLetters-word;
+  in_order = ComesBefore-word;
+  each_is_listed = word-place;
+  each_at_one_place = place-word;
+}
