@@ -1,2 +1,4 @@
 pub mod Letters
 pub mod Listing
+pub mod FormatTexts
+pub mod RomanValues

@@ -1,11 +1,11 @@
 -- The listing of the words over `a` to `z`: of letters, in order, whole, each word once.
-use Rattle.std.proofs.Common.{◌≡◌, ℕ, zero, suc, ◌+◌, ◌-◌, ◌*◌, ◌<◌, ◌≤◌, ◌⊎◌, inl, inr, Bool, true, false, cond, eqb, List, [], ◌∷◌, ◌++◌, length, reverse, refl, ap, sym, ◌∙◌, subst, add-one, arith, length-append}
+use Rattle.std.proofs.Common.{◌≡◌, ℕ, zero, suc, ◌+◌, ◌-◌, ◌*◌, ◌<◌, ◌≤◌, inl, inr, Bool, true, false, cond, eqb, List, [], ◌∷◌, ◌++◌, reverse, refl, ap, ◌∙◌, add-one, arith, length-append}
 use Rattle.std.proofs.lemmas.Bool.Decides.{nat_tests}
-use Rattle.std.proofs.lemmas.List.{length-reverse, reverse-reverse}
+use Rattle.std.proofs.lemmas.List.{reverse-reverse}
 use Rattle.std.proofs.lemmas.Grind.{reverse_onto}
 use Rattle.std.proofs.Math.Nat.{eq-or-lt_of_le}
 use Rattle.roff_num.specs.Words.{next, backward, word, IsOverLetters, StandsFirst, ComesBefore, place, place_backward}
-use Rattle.roff_num.proofs.Letters.{backward-letter, backward-suc, next-letter}
+use Rattle.roff_num.proofs.Letters.{backward-letter}
 
 -- letters before letters are letters
 IsOverLetters-append : (v w : List ℕ) → IsOverLetters v → IsOverLetters w → IsOverLetters (v ++ w)

@@ -1,5 +1,5 @@
 -- Roman numbers, by a table of digits for each decimal place (manual, section 8: the format `i`).
-use Rattle.std.specs.Prelude.{ℕ, ◌/◌, ◌%◌, List, [], ◌∷◌, ◌++◌, slice_index_or, codes}
+use Rattle.std.specs.Prelude.{ℕ, ◌+◌, ◌-◌, ◌/◌, ◌%◌, nat_lt, List, [], ◌∷◌, ◌++◌, slice_index_or, codes, if◌then◌else◌, ◌==◌}
 
 abbrev pub ones : List (List ℕ)
 ones = codes "" ∷ codes "i" ∷ codes "ii" ∷ codes "iii" ∷ codes "iv" ∷ codes "v" ∷ codes "vi" ∷ codes "vii" ∷ codes "viii" ∷ codes "ix" ∷ []
@@ -20,3 +20,22 @@ digit_of table digit = slice_index_or table digit []
 -- a number of 1 to 3999
 unfoldable pub roman : ℕ → List ℕ
 roman n = digit_of thousands (n / 1000) ++ digit_of hundreds (n / 100 % 10) ++ digit_of tens (n / 10 % 10) ++ digit_of ones (n % 10)
+
+-- what a letter counts
+abbrev pub letter_value : ℕ → ℕ
+letter_value c =
+    if c == 109 then 1000
+    else if c == 100 then 500
+    else if c == 99 then 100
+    else if c == 108 then 50
+    else if c == 120 then 10
+    else if c == 118 then 5
+    else 1
+
+-- the value of a Roman number: its letters' sum, but a letter before a greater one is taken off
+abbrev pub roman_value : List ℕ → ℕ
+roman_value [] = 0
+roman_value (c ∷ []) = letter_value c
+roman_value (c ∷ d ∷ text) =
+    let behind = roman_value (d ∷ text) in
+    if nat_lt (letter_value c) (letter_value d) then behind - letter_value c else letter_value c + behind

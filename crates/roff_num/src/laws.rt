@@ -1,10 +1,11 @@
 //! Facts about the definitions alone, as contracts of functions that do nothing.
 
-ghost use Rattle.std.specs.Prelude.{◌≡◌, ℕ, ◌<◌, ◌↔◌, List, Some, None, [], codes, pos, negsuc};
+ghost use Rattle.std.specs.Prelude.{◌≡◌, ℕ, ◌<◌, ◌≤◌, List, Some, None, [], codes, pos, negsuc};
 ghost use Rattle.roff_num.specs.declared.format.Format.{Format};
 ghost use Rattle.roff_num.specs.declared.format.Format.TheVariants.{Decimal, RomanLower, RomanUpper, AlphaLower, AlphaUpper};
 ghost use Rattle.roff_num.specs.RegisterText.{register_text};
-ghost use Rattle.roff_num.specs.Formats.{format_of};
+ghost use Rattle.roff_num.specs.Formats.{format_of, IsWritten};
+ghost use Rattle.roff_num.specs.Roman.{roman, roman_value};
 ghost use Rattle.roff_num.specs.Words.{ComesBefore, IsOverLetters, place, word};
 
 /// What the definitions give for some values in letters.
@@ -68,4 +69,15 @@ pub fn listing()
     ensures in_order { (m n : ℕ) → m < n → ComesBefore (word m) (word n) }
     ensures each_is_listed { (w : List ℕ) → IsOverLetters w → word (place w) ≡ w }
     ensures each_at_one_place { (n : ℕ) → place (word n) ≡ n }
+{}
+
+/// What the format `i` means: a Roman number counts the number that it writes.
+pub fn roman_numbers()
+    ensures { (n : ℕ) → n ≤ 3999 → roman_value (roman n) ≡ n }
+{}
+
+/// Which texts are formats, and which format each is.
+pub fn formats()
+    ensures read { (text : List ℕ) (format : Format) → format_of text ≡ Some format → IsWritten format text }
+    ensures written { (text : List ℕ) (format : Format) → IsWritten format text → format_of text ≡ Some format }
 {}
