@@ -4,6 +4,8 @@
 mod format;
 pub mod laws;
 mod num;
+#[cfg(test)]
+mod tests;
 
 pub use format::{Format, NumText, read_format, write_num};
 pub use num::Num;
