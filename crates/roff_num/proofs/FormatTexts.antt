@@ -60,7 +60,7 @@ pub format_of-written : (text : List ℕ) (format : Format) → IsWritten format
 format_of-written [] (Decimal digits) (all, same, low, high) = absurd (omega arith)
 format_of-written (c ∷ text) (Decimal digits) (all, same, low, high) =
     let sized : (leb 1 (length (c ∷ text)) && leb (length (c ∷ text)) 32) ≡ true =
-        and_from (leb 1 (length (c ∷ text))) (leb (length (c ∷ text)) 32) (le-leb 1 (length (c ∷ text)) (omega arith)) (le-leb (length (c ∷ text)) 32 (omega arith)) in
+    and_from (leb 1 (length (c ∷ text))) (leb (length (c ∷ text)) 32) (le-leb 1 (length (c ∷ text)) (omega arith)) (le-leb (length (c ∷ text)) 32 (omega arith)) in
     let field : is_field (c ∷ text) ≡ true = and_from (leb 1 (length (c ∷ text)) && leb (length (c ∷ text)) 32) (list_all is_ascii_digit (c ∷ text)) sized (list_all-digits (c ∷ text) all) in
     cond-true (is_field (c ∷ text)) _ _ field ∙ ap (λ n. Some (Decimal n)) same
 format_of-written text RomanLower e = ap format_of e

@@ -3,7 +3,7 @@ use Rattle.std.proofs.Common.{◌≡◌, ℕ, zero, suc, ◌+◌, ◌-◌, ◌*�
 use Rattle.std.proofs.lemmas.Bool.Decides.{nat_tests}
 use Rattle.std.proofs.lemmas.List.{drop-set}
 use Rattle.std.proofs.lemmas.Grind.{reverse_onto}
-use Rattle.roff_num.specs.Words.{next, backward, word}
+use Rattle.roff_num.specs.Alphabetic.{next, backward, word}
 
 -- a letter before `z` moves on
 pub next-letter : (c : ℕ) (w : List ℕ) → c < 122 → next (c ∷ w) ≡ (c + 1) ∷ w

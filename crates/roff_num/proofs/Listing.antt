@@ -4,7 +4,7 @@ use Rattle.std.proofs.lemmas.Bool.Decides.{nat_tests}
 use Rattle.std.proofs.lemmas.List.{reverse-reverse}
 use Rattle.std.proofs.lemmas.Grind.{reverse_onto}
 use Rattle.std.proofs.Math.Nat.{eq-or-lt_of_le}
-use Rattle.roff_num.specs.Words.{next, backward, word, IsOverLetters, StandsFirst, ComesBefore, place, place_backward}
+use Rattle.roff_num.specs.Alphabetic.{next, backward, word, IsOverLetters, StandsFirst, ComesBefore, place, place_backward}
 use Rattle.roff_num.proofs.Letters.{backward-letter}
 
 -- letters before letters are letters

@@ -1,4 +1,4 @@
-pub mod Words
+pub mod Alphabetic
 pub mod Roman
 pub mod RegisterText
 pub mod Formats

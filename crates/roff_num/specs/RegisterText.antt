@@ -4,7 +4,7 @@ use Rattle.std.specs.Str.{str_to_ascii_uppercase}
 use Rattle.roff_num.specs.declared.format.Format.{Format}
 use Rattle.roff_num.specs.declared.format.Format.TheVariants.{Decimal, RomanLower, RomanUpper, AlphaLower, AlphaUpper}
 use Rattle.roff_num.specs.Roman.{roman}
-use Rattle.roff_num.specs.Words.{word}
+use Rattle.roff_num.specs.Alphabetic.{word}
 
 -- decimal, with zeros in front up to so many digits
 abbrev pub decimal_field : ℕ → ℕ → List ℕ

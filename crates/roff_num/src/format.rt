@@ -8,7 +8,7 @@ ghost use Rattle.arrayvec.specs.ArrayVec.{array_vec_len};
 ghost use Rattle.roff_num.specs.Formats.{format_of, is_field, letter_format};
 ghost use Rattle.roff_num.specs.RegisterText.{alphabetic_text, decimal_field, register_text, roman_text, size_text};
 ghost use Rattle.roff_num.specs.Roman.{digit_of, hundreds, ones, roman, tens, thousands};
-ghost use Rattle.roff_num.specs.Words.{word};
+ghost use Rattle.roff_num.specs.Alphabetic.{word};
 
 use crate::num::Num;
 use arrayvec::ArrayVec;

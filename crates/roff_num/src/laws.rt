@@ -1,12 +1,13 @@
 //! Facts about the definitions alone, as contracts of functions that do nothing.
 
-ghost use Rattle.std.specs.Prelude.{◌≡◌, ℕ, ◌<◌, ◌≤◌, List, Some, None, [], codes, pos, negsuc};
+ghost use Rattle.std.specs.Prelude.{◌≡◌, ℕ, ◌<◌, ◌≤◌, ◌^◌, length, decimal, List, Some, None, [], codes, pos, negsuc};
+ghost use Rattle.std.specs.Str.Parse.{AllDigits, digits_value};
 ghost use Rattle.roff_num.specs.declared.format.Format.{Format};
 ghost use Rattle.roff_num.specs.declared.format.Format.TheVariants.{Decimal, RomanLower, RomanUpper, AlphaLower, AlphaUpper};
-ghost use Rattle.roff_num.specs.RegisterText.{register_text};
+ghost use Rattle.roff_num.specs.RegisterText.{decimal_field, register_text};
 ghost use Rattle.roff_num.specs.Formats.{format_of, IsWritten};
 ghost use Rattle.roff_num.specs.Roman.{roman, roman_value};
-ghost use Rattle.roff_num.specs.Words.{ComesBefore, IsOverLetters, place, word};
+ghost use Rattle.roff_num.specs.Alphabetic.{ComesBefore, IsOverLetters, place, word};
 
 /// What the definitions give for some values in letters.
 pub fn alphabetic_rows()
@@ -63,7 +64,7 @@ pub fn format_rows()
 /// What the format `a` means: the words over `a` to `z` are listed by length and then by alphabet. Each
 /// is there, at its place, and an earlier one comes before a later one; so nothing stands between two
 /// that follow one another.
-pub fn listing()
+pub fn alphabetic_listing()
     ensures empty_before_the_first { word 0 ≡ [] }
     ensures of_letters { (n : ℕ) → IsOverLetters (word n) }
     ensures in_order { (m n : ℕ) → m < n → ComesBefore (word m) (word n) }
@@ -74,6 +75,15 @@ pub fn listing()
 /// What the format `i` means: a Roman number counts the number that it writes.
 pub fn roman_numbers()
     ensures { (n : ℕ) → n ≤ 3999 → roman_value (roman n) ≡ n }
+{}
+
+/// What a decimal field means: digits that count the number, as many as the field has, or more if the
+/// number has more.
+pub fn decimal_fields()
+    ensures of_digits { (width n : ℕ) → n < 2 ^ 64 → AllDigits 10 (decimal_field width n) }
+    ensures value { (width n : ℕ) → n < 2 ^ 64 → digits_value 10 (decimal_field width n) ≡ n }
+    ensures wide_enough { (width n : ℕ) → width ≤ length (decimal_field width n) }
+    ensures no_wider { (width n : ℕ) → width < length (decimal_field width n) → decimal_field width n ≡ decimal n }
 {}
 
 /// Which texts are formats, and which format each is.

@@ -48,9 +48,22 @@ fn texts_of_all_small_values(rt: HostRuntime) -> Result<(), Fail> {
 #[test]
 fn texts_of_some_values(rt: HostRuntime) -> Result<(), Fail> {
     let rows = [
-        (-2147483648, ["-2147483648", "-2147483648", "-2147483648", "-2147483648", "-fxshrxx", "-FXSHRXX"]),
+        (
+            -2147483648,
+            [
+                "-2147483648",
+                "-2147483648",
+                "-2147483648",
+                "-2147483648",
+                "-fxshrxx",
+                "-FXSHRXX",
+            ],
+        ),
         (-4000, ["-4000", "-4000", "-4000", "-4000", "-ewv", "-EWV"]),
-        (-3999, ["-3999", "-3999", "-mmmcmxcix", "-MMMCMXCIX", "-ewu", "-EWU"]),
+        (
+            -3999,
+            ["-3999", "-3999", "-mmmcmxcix", "-MMMCMXCIX", "-ewu", "-EWU"],
+        ),
         (-40, ["-40", "-040", "-xl", "-XL", "-an", "-AN"]),
         (-28, ["-28", "-028", "-xxviii", "-XXVIII", "-ab", "-AB"]),
         (-5, ["-5", "-005", "-v", "-V", "-e", "-E"]),
@@ -70,12 +83,35 @@ fn texts_of_some_values(rt: HostRuntime) -> Result<(), Fail> {
         (702, ["702", "702", "dccii", "DCCII", "zz", "ZZ"]),
         (703, ["703", "703", "dcciii", "DCCIII", "aaa", "AAA"]),
         (1994, ["1994", "1994", "mcmxciv", "MCMXCIV", "bxr", "BXR"]),
-        (3888, ["3888", "3888", "mmmdccclxxxviii", "MMMDCCCLXXXVIII", "esn", "ESN"]),
-        (3999, ["3999", "3999", "mmmcmxcix", "MMMCMXCIX", "ewu", "EWU"]),
+        (
+            3888,
+            [
+                "3888",
+                "3888",
+                "mmmdccclxxxviii",
+                "MMMDCCCLXXXVIII",
+                "esn",
+                "ESN",
+            ],
+        ),
+        (
+            3999,
+            ["3999", "3999", "mmmcmxcix", "MMMCMXCIX", "ewu", "EWU"],
+        ),
         (4000, ["4000", "4000", "4000", "4000", "ewv", "EWV"]),
         (18278, ["18278", "18278", "18278", "18278", "zzz", "ZZZ"]),
         (18279, ["18279", "18279", "18279", "18279", "aaaa", "AAAA"]),
-        (2147483647, ["2147483647", "2147483647", "2147483647", "2147483647", "fxshrxw", "FXSHRXW"]),
+        (
+            2147483647,
+            [
+                "2147483647",
+                "2147483647",
+                "2147483647",
+                "2147483647",
+                "fxshrxw",
+                "FXSHRXW",
+            ],
+        ),
     ];
     let mut text = NumText::new();
     for (value, texts) in rows {
@@ -91,7 +127,18 @@ fn texts_of_some_values(rt: HostRuntime) -> Result<(), Fail> {
 #[test]
 fn texts_that_are_no_format(rt: HostRuntime) {
     let texts = [
-        "", "x", "ii", "aa", "1a", "a1", "+1", "-1", " 1", "1 ", "1.", "\u{e9}",
+        "",
+        "x",
+        "ii",
+        "aa",
+        "1a",
+        "a1",
+        "+1",
+        "-1",
+        " 1",
+        "1 ",
+        "1.",
+        "\u{e9}",
         "000000000000000000000000000000001",
     ];
     for text in texts {
@@ -103,7 +150,10 @@ fn texts_that_are_no_format(rt: HostRuntime) {
 fn a_wider_field_is_cut_to_32_digits(rt: HostRuntime) {
     let mut text = NumText::new();
     write_num(Num(-7), Format::Decimal(255), &mut text);
-    assert_eq!(rt; text.as_slice(), b"-00000000000000000000000000000007".as_slice());
+    assert_eq!(rt;
+        text.as_slice(),
+        b"-00000000000000000000000000000007".as_slice()
+    );
     write_num(Num(7), Format::Decimal(0), &mut text);
     assert_eq!(rt; text.as_slice(), b"7".as_slice());
 }

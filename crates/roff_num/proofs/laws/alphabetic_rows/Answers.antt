@@ -1,5 +1,5 @@
 use Rattle.std.proofs.Common.{refl}
-use Rattle.roff_num.specs.Words.{backward, place, word}
+use Rattle.roff_num.specs.Alphabetic.{backward, place, word}
 use Rattle.roff_num.proofs.laws.alphabetic_rows.Goals as goal
 
 pub returns-clause-first : goal.returns-clause-first

@@ -1,7 +1,7 @@
 use Rattle.std.proofs.Common.{refl}
-use Rattle.roff_num.specs.Words.{backward, word}
+use Rattle.roff_num.specs.Alphabetic.{backward, word}
 use Rattle.roff_num.proofs.Listing.{ComesBefore-word, IsOverLetters-word, place-word, word-place}
-use Rattle.roff_num.proofs.laws.listing.Goals as goal
+use Rattle.roff_num.proofs.laws.alphabetic_listing.Goals as goal
 
 pub returns : goal.returns
 unfolding word backward
