@@ -4,7 +4,7 @@
 use crate::{Format, Num, NumText, read_format, write_num};
 use std::test::Fail;
 
-/// The formats of the columns of the rows.
+/// The formats in which each row has its value.
 const COLUMNS: [&str; 6] = ["1", "001", "i", "I", "a", "A"];
 
 /// Adds a byte to a checksum (FNV-1a of 32 bits).
@@ -50,72 +50,42 @@ fn texts_of_some_values(rt: HostRuntime) -> Result<(), Fail> {
     let rows = [
         (
             -2147483648,
-            [
-                "-2147483648",
-                "-2147483648",
-                "-2147483648",
-                "-2147483648",
-                "-fxshrxx",
-                "-FXSHRXX",
-            ],
+            "-2147483648 -2147483648 -2147483648 -2147483648 -fxshrxx -FXSHRXX",
         ),
-        (-4000, ["-4000", "-4000", "-4000", "-4000", "-ewv", "-EWV"]),
-        (
-            -3999,
-            ["-3999", "-3999", "-mmmcmxcix", "-MMMCMXCIX", "-ewu", "-EWU"],
-        ),
-        (-40, ["-40", "-040", "-xl", "-XL", "-an", "-AN"]),
-        (-28, ["-28", "-028", "-xxviii", "-XXVIII", "-ab", "-AB"]),
-        (-5, ["-5", "-005", "-v", "-V", "-e", "-E"]),
-        (-1, ["-1", "-001", "-i", "-I", "-a", "-A"]),
-        (0, ["0", "000", "0", "0", "0", "0"]),
-        (1, ["1", "001", "i", "I", "a", "A"]),
-        (4, ["4", "004", "iv", "IV", "d", "D"]),
-        (9, ["9", "009", "ix", "IX", "i", "I"]),
-        (14, ["14", "014", "xiv", "XIV", "n", "N"]),
-        (26, ["26", "026", "xxvi", "XXVI", "z", "Z"]),
-        (27, ["27", "027", "xxvii", "XXVII", "aa", "AA"]),
-        (28, ["28", "028", "xxviii", "XXVIII", "ab", "AB"]),
-        (49, ["49", "049", "xlix", "XLIX", "aw", "AW"]),
-        (52, ["52", "052", "lii", "LII", "az", "AZ"]),
-        (90, ["90", "090", "xc", "XC", "cl", "CL"]),
-        (444, ["444", "444", "cdxliv", "CDXLIV", "qb", "QB"]),
-        (702, ["702", "702", "dccii", "DCCII", "zz", "ZZ"]),
-        (703, ["703", "703", "dcciii", "DCCIII", "aaa", "AAA"]),
-        (1994, ["1994", "1994", "mcmxciv", "MCMXCIV", "bxr", "BXR"]),
-        (
-            3888,
-            [
-                "3888",
-                "3888",
-                "mmmdccclxxxviii",
-                "MMMDCCCLXXXVIII",
-                "esn",
-                "ESN",
-            ],
-        ),
-        (
-            3999,
-            ["3999", "3999", "mmmcmxcix", "MMMCMXCIX", "ewu", "EWU"],
-        ),
-        (4000, ["4000", "4000", "4000", "4000", "ewv", "EWV"]),
-        (18278, ["18278", "18278", "18278", "18278", "zzz", "ZZZ"]),
-        (18279, ["18279", "18279", "18279", "18279", "aaaa", "AAAA"]),
+        (-4000, "-4000 -4000 -4000 -4000 -ewv -EWV"),
+        (-3999, "-3999 -3999 -mmmcmxcix -MMMCMXCIX -ewu -EWU"),
+        (-40, "-40 -040 -xl -XL -an -AN"),
+        (-28, "-28 -028 -xxviii -XXVIII -ab -AB"),
+        (-5, "-5 -005 -v -V -e -E"),
+        (-1, "-1 -001 -i -I -a -A"),
+        (0, "0 000 0 0 0 0"),
+        (1, "1 001 i I a A"),
+        (4, "4 004 iv IV d D"),
+        (9, "9 009 ix IX i I"),
+        (14, "14 014 xiv XIV n N"),
+        (26, "26 026 xxvi XXVI z Z"),
+        (27, "27 027 xxvii XXVII aa AA"),
+        (28, "28 028 xxviii XXVIII ab AB"),
+        (49, "49 049 xlix XLIX aw AW"),
+        (52, "52 052 lii LII az AZ"),
+        (90, "90 090 xc XC cl CL"),
+        (444, "444 444 cdxliv CDXLIV qb QB"),
+        (702, "702 702 dccii DCCII zz ZZ"),
+        (703, "703 703 dcciii DCCIII aaa AAA"),
+        (1994, "1994 1994 mcmxciv MCMXCIV bxr BXR"),
+        (3888, "3888 3888 mmmdccclxxxviii MMMDCCCLXXXVIII esn ESN"),
+        (3999, "3999 3999 mmmcmxcix MMMCMXCIX ewu EWU"),
+        (4000, "4000 4000 4000 4000 ewv EWV"),
+        (18278, "18278 18278 18278 18278 zzz ZZZ"),
+        (18279, "18279 18279 18279 18279 aaaa AAAA"),
         (
             2147483647,
-            [
-                "2147483647",
-                "2147483647",
-                "2147483647",
-                "2147483647",
-                "fxshrxw",
-                "FXSHRXW",
-            ],
+            "2147483647 2147483647 2147483647 2147483647 fxshrxw FXSHRXW",
         ),
     ];
     let mut text = NumText::new();
     for (value, texts) in rows {
-        for (name, want) in COLUMNS.iter().zip(texts) {
+        for (name, want) in COLUMNS.iter().zip(texts.split_whitespace()) {
             let format = read_format(name.as_bytes()).ok_or("no format")?;
             write_num(Num(value), format, &mut text);
             assert_eq!(rt; text.as_slice(), want.as_bytes(), "{value} in {name}");
