@@ -1,6 +1,7 @@
 -- The listing of the words over `a` to `z`: of letters, in order, whole, each word once.
-use Rattle.std.proofs.Common.{◌≡◌, ℕ, zero, suc, ◌+◌, ◌-◌, ◌*◌, ◌<◌, ◌≤◌, inl, inr, Bool, true, false, cond, eqb, List, [], ◌∷◌, ◌++◌, reverse, refl, ap, ◌∙◌, add-one, arith, length-append}
+use Rattle.std.proofs.Common.{◌≡◌, ℕ, zero, suc, ◌+◌, ◌-◌, ◌*◌, ◌<◌, ◌≤◌, inl, inr, Bool, true, false, cond, eqb, List, [], ◌∷◌, ◌++◌, reverse, refl, ap, sym, subst, ◌∙◌, add-one, arith, length-append}
 use Rattle.std.proofs.lemmas.Bool.Decides.{nat_tests}
+use Rattle.std.proofs.lemmas.Bool.{cases_lt}
 use Rattle.std.proofs.lemmas.List.{reverse-reverse}
 use Rattle.std.proofs.lemmas.Grind.{reverse_onto}
 use Rattle.std.proofs.Math.Nat.{eq-or-lt_of_le}
@@ -142,3 +143,29 @@ place_backward-backward (suc n) =
 pub place-word : (n : ℕ) → place (word n) ≡ n
 unfolding word place
 place-word n = rw (reverse-reverse (backward n)) (place_backward-backward n)
+
+-- no word comes before itself
+StandsFirst-irrefl : (w : List ℕ) → ¬ StandsFirst w w
+StandsFirst-irrefl [] first = first
+StandsFirst-irrefl (c ∷ w) first = elim first [ inl lt ↦ absurd (omega arith) | inr (same, rest) ↦ StandsFirst-irrefl w rest ]
+
+ComesBefore-irrefl : (w : List ℕ) → ¬ ComesBefore w w
+ComesBefore-irrefl w first = elim first [ inl lt ↦ absurd (omega arith) | inr (same, rest) ↦ StandsFirst-irrefl w rest ]
+
+-- so what comes before another word of the listing stands at an earlier place
+lt-ComesBefore : (m n : ℕ) → ComesBefore (word m) (word n) → m < n
+lt-ComesBefore m n first = elim (cases_lt m n) [
+  | inl lt ↦ lt
+  | inr le ↦ elim (eq-or-lt_of_le le) [
+    | inl same ↦ absurd (ComesBefore-irrefl (word m) (rw same at first))
+    | inr below ↦ absurd (ComesBefore-irrefl (word m) (ComesBefore-trans (word m) (word n) (word m) first (ComesBefore-word n m below)))
+  ]
+]
+
+-- and nothing stands between two words that follow one another
+pub word-between : (n : ℕ) (w : List ℕ) → IsOverLetters w → ComesBefore (word n) w → ¬ ComesBefore w (word (n + 1))
+word-between n w all behind before =
+    let listed : w ≡ word (place w) = sym (word-place w all) in
+    let low : n < place w = lt-ComesBefore n (place w) (let P : List ℕ → Type 0 = λ v. ComesBefore (word n) v in subst P listed behind) in
+    let high : place w < n + 1 = lt-ComesBefore (place w) (n + 1) (let P : List ℕ → Type 0 = λ v. ComesBefore v (word (n + 1)) in subst P listed before) in
+    absurd (omega arith)

@@ -1,6 +1,6 @@
 //! Facts about the definitions alone, as contracts of functions that do nothing.
 
-ghost use Rattle.std.specs.Prelude.{◌≡◌, ℕ, ◌<◌, ◌≤◌, ◌^◌, length, decimal, List, Some, None, [], codes, pos, negsuc};
+ghost use Rattle.std.specs.Prelude.{◌≡◌, ℕ, ◌+◌, ◌<◌, ◌≤◌, ◌^◌, length, decimal, List, Some, None, [], codes, pos, negsuc};
 ghost use Rattle.std.specs.Str.Parse.{AllDigits, digits_value};
 ghost use Rattle.roff_num.specs.declared.format.Format.{Format};
 ghost use Rattle.roff_num.specs.declared.format.Format.TheVariants.{Decimal, RomanLower, RomanUpper, AlphaLower, AlphaUpper};
@@ -62,13 +62,14 @@ pub fn format_rows()
 {}
 
 /// What the format `a` means: the words over `a` to `z` are listed by length and then by alphabet. Each
-/// is there, at its place, and an earlier one comes before a later one; so nothing stands between two
-/// that follow one another.
+/// is there, at its place, an earlier one comes before a later one, and no word stands between two that
+/// follow one another.
 pub fn alphabetic_listing()
     ensures empty_before_the_first { word 0 ≡ [] }
     ensures of_letters { (n : ℕ) → IsOverLetters (word n) }
     ensures in_order { (m n : ℕ) → m < n → ComesBefore (word m) (word n) }
     ensures each_is_listed { (w : List ℕ) → IsOverLetters w → word (place w) ≡ w }
+    ensures nothing_between { (n : ℕ) (w : List ℕ) → IsOverLetters w → ComesBefore (word n) w → ¬ ComesBefore w (word (n + 1)) }
     ensures each_at_one_place { (n : ℕ) → place (word n) ≡ n }
 {}
 
