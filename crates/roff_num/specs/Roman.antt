@@ -1,6 +1,7 @@
 -- Roman numbers, by a table of digits for each decimal place (manual, section 8: the format `i`).
 use Rattle.std.specs.Prelude.{ℕ, ◌+◌, ◌-◌, ◌/◌, ◌%◌, nat_lt, List, [], ◌∷◌, ◌++◌, slice_index_or, codes, if◌then◌else◌, ◌==◌}
 
+-- the digits 0 to 9 of each place; there are thousands up to 3
 abbrev pub ones : List (List ℕ)
 ones = codes "" ∷ codes "i" ∷ codes "ii" ∷ codes "iii" ∷ codes "iv" ∷ codes "v" ∷ codes "vi" ∷ codes "vii" ∷ codes "viii" ∷ codes "ix" ∷ []
 
