@@ -1,0 +1,4 @@
+pub mod Alphabetic
+pub mod Roman
+pub mod RegisterText
+pub mod Formats
