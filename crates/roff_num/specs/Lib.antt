@@ -1,0 +1,6 @@
+pub mod LimitNames
+pub mod LimitValues
+pub mod Names
+pub mod Rounding
+pub mod Ranges
+pub mod Operators
