@@ -4,3 +4,5 @@ pub mod Names
 pub mod Rounding
 pub mod Ranges
 pub mod Operators
+pub mod Steps
+pub mod Numerals

@@ -7,6 +7,7 @@ mod limit;
 mod limits;
 mod name;
 mod num;
+mod numeral;
 mod operator;
 
 pub use limit::Limit;

@@ -1,0 +1,3 @@
+pub mod Digits
+pub mod Sizes
+pub mod Numerals
