@@ -3,3 +3,6 @@ pub mod Listing
 pub mod Fields
 pub mod FormatTexts
 pub mod RomanValues
+pub mod Digits
+pub mod Sizes
+pub mod Numerals

@@ -2,3 +2,11 @@ pub mod Alphabetic
 pub mod Roman
 pub mod RegisterText
 pub mod Formats
+pub mod LimitNames
+pub mod LimitValues
+pub mod Names
+pub mod Rounding
+pub mod Ranges
+pub mod Operators
+pub mod Steps
+pub mod Numerals

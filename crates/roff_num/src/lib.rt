@@ -1,11 +1,21 @@
-//! Numbers: formats of registers.
+//! Numbers: names, limits, rounding, the numerals of a text, and the formats of registers.
+//!
+//! Numbers count basic units, 240 to the inch (manual, sections 1.3 and 1.4).
 #![tactic(auto)]
 
 mod format;
 pub mod laws;
+mod limit;
+mod limits;
+mod name;
 mod num;
+mod numeral;
+mod operator;
 #[cfg(test)]
 mod tests;
 
 pub use format::{Format, NumText, read_format, write_num};
-pub use num::Num;
+pub use limit::Limit;
+pub use limits::Limits;
+pub use name::Name;
+pub use num::{Num, NumFault, Scale, round_h, round_v};

@@ -1,0 +1,34 @@
+-- The size of a numeral whose digits are counted up to a cap.
+use Rattle.std.proofs.Common.{◌≡◌, ℕ, zero, suc, ◌+◌, ◌*◌, ◌-◌, ◌/◌, ◌^◌, ◌<◌, ◌≤◌, min, Bool, true, false, List, refl, arith, ap, inl, inr, Err, ◌∙◌, sym}
+use Rattle.std.specs.Prelude.{pos, ℤ, Result}
+use Rattle.std.proofs.Math.Nat.{le-div_iff_mul-le, mul-le-mul, mul-pos, min-eq_left, min-eq_right}
+use Rattle.std.proofs.lemmas.Bool.{cases_lt}
+use Rattle.std.proofs.lemmas.Bool.Decides.{nat_tests}
+use Rattle.roff_num.specs.declared.num.NumFault.{NumFault}
+use Rattle.roff_num.specs.declared.num.NumFault.TheVariants.{Range}
+use Rattle.roff_num.specs.Ranges.{in_range, signed}
+
+-- a size above 2147483648 is out of range behind either sign
+out_of_range : (is_negative : Bool) (n : ℕ) → 2147483649 ≤ n → in_range (signed is_negative (pos n)) ≡ Err Range
+out_of_range false n large = grind (arith, nat_tests)
+out_of_range true zero large = absurd (omega arith)
+out_of_range true (suc n) large = grind (arith, nat_tests)
+
+-- a number of 2^64 - 1 and more is a size out of range, in any unit of one basic unit or more, with up to nine decimals
+large_size : (n over under part : ℕ) → 0 < under → under ≤ over → 0 < part → part ≤ 1000000000
+    → 18446744073709551615 ≤ n → 2147483649 ≤ n * over / (part * under)
+large_size n over under part some more parts few large =
+    let divisor : 0 < part * under = mul-pos parts some in
+    let products : part * under ≤ 1000000000 * over = mul-le-mul few more in
+    let whole : 18446744073709551615 * over ≤ n * over = mul-le-mul large (omega arith) in
+    (le-div_iff_mul-le divisor).1 (omega arith)
+
+-- so a cap on the number changes no value
+pub in_range-capped : (is_negative : Bool) (n over under part : ℕ) → 0 < under → under ≤ over → 0 < part → part ≤ 1000000000
+    → in_range (signed is_negative (pos (min n 18446744073709551615 * over / (part * under)))) ≡ in_range (signed is_negative (pos (n * over / (part * under))))
+in_range-capped is_negative n over under part some more parts few = elim (cases_lt n 18446744073709551615) [
+  | inl small ↦ ap (λ k. in_range (signed is_negative (pos (k * over / (part * under))))) (min-eq_left (omega arith))
+  | inr large ↦
+      out_of_range is_negative (min n 18446744073709551615 * over / (part * under)) (large_size (min n 18446744073709551615) over under part some more parts few (omega arith))
+      ∙ sym (out_of_range is_negative (n * over / (part * under)) (large_size n over under part some more parts few large))
+]
