@@ -1,4 +1,3 @@
-pub mod Limits
 pub mod Glyphs
 pub mod Settings
 pub mod Events

@@ -9,11 +9,11 @@ ghost use Rattle.roff_lines.specs.Lines.{finished, gap_text, may_be_wide, pendin
 ghost use Rattle.roff_lines.specs.Shape.{shaped};
 
 use crate::glyph::{Glyph, kept_byte};
-use crate::limit::Limit;
 use crate::line::{FURTHER_BLANK, GAP, Line, UNPADDABLE};
 use crate::settings::{Param, Settings};
 use crate::shape::Shape;
 use crate::stretch::Stretch;
+use roff_num::Limit;
 use std::alloc::{AllocError, Global};
 use std::marker::Model;
 use std::mem;

@@ -7,7 +7,6 @@
 mod env;
 mod glyph;
 pub mod laws;
-mod limit;
 mod line;
 mod line_bytes;
 mod settings;
@@ -16,7 +15,6 @@ mod stretch;
 
 pub use env::Env;
 pub use glyph::Glyph;
-pub use limit::Limit;
 pub use line::{FURTHER_BLANK, GAP, Line, UNPADDABLE};
 pub use line_bytes::LineBytes;
 pub use settings::{AdjustMode, Param, Settings};

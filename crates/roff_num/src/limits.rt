@@ -1,7 +1,7 @@
 //! The values of the formatter's limits.
 
 ghost use Rattle.std.specs.Prelude.{◌≡◌};
-ghost use Rattle.roff_num.specs.LimitValues.{default_limits, value_of};
+ghost use Rattle.roff_num.specs.LimitValues.{default_limits, limits_with, value_of};
 
 use crate::limit::Limit;
 
@@ -53,23 +53,43 @@ impl Default for Limits {
 }
 
 impl Limits {
-    /// The value of a limit, or nothing where it is one of tables.
-    pub fn value(self, limit: Limit) -> Option<u32>
+    /// The value of a limit; 0 for those of tables, which never stop the formatter.
+    pub fn value(self, limit: Limit) -> u32
         ensures { result ≡ value_of self limit }
     {
         match limit {
-            Limit::Bytes => Some(self.bytes),
-            Limit::Stack => Some(self.stack),
-            Limit::Depth => Some(self.depth),
-            Limit::Line => Some(self.line),
-            Limit::Traps => Some(self.traps),
-            Limit::Diversions => Some(self.diversions),
-            Limit::Environments => Some(self.environments),
-            Limit::Conditions => Some(self.conditions),
-            Limit::Output => Some(self.output),
-            Limit::Store => Some(self.store),
-            Limit::Names => Some(self.names),
-            Limit::Rows | Limit::Columns | Limit::Text | Limit::Width | Limit::TblBytes => None,
+            Limit::Bytes => self.bytes,
+            Limit::Stack => self.stack,
+            Limit::Depth => self.depth,
+            Limit::Line => self.line,
+            Limit::Traps => self.traps,
+            Limit::Diversions => self.diversions,
+            Limit::Environments => self.environments,
+            Limit::Conditions => self.conditions,
+            Limit::Output => self.output,
+            Limit::Store => self.store,
+            Limit::Names => self.names,
+            Limit::Rows | Limit::Columns | Limit::Text | Limit::Width | Limit::TblBytes => 0,
+        }
+    }
+
+    /// Sets a limit. One of tables isn't among these, and changes nothing.
+    pub fn set(&mut self, limit: Limit, value: u32)
+        ensures { self.new ≡ limits_with self.old limit value }
+    {
+        match limit {
+            Limit::Bytes => self.bytes = value,
+            Limit::Stack => self.stack = value,
+            Limit::Depth => self.depth = value,
+            Limit::Line => self.line = value,
+            Limit::Traps => self.traps = value,
+            Limit::Diversions => self.diversions = value,
+            Limit::Environments => self.environments = value,
+            Limit::Conditions => self.conditions = value,
+            Limit::Output => self.output = value,
+            Limit::Store => self.store = value,
+            Limit::Names => self.names = value,
+            Limit::Rows | Limit::Columns | Limit::Text | Limit::Width | Limit::TblBytes => {}
         }
     }
 }

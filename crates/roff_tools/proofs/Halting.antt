@@ -3,15 +3,15 @@ use Rattle.std.proofs.Common.{◌≡◌, ◌≤◌, ◌+◌, ◌-◌, ◌^◌, m
 use Rattle.std.specs.Io.KnownBytes.{Appends}
 use Rattle.roff_lines.specs.Stands.{Stands}
 use Rattle.roff_lines.specs.declared.env.Env.{Env}
-use Rattle.roff_lines.specs.declared.limit.Limit.{Limit}
-use Rattle.roff_lines.specs.declared.limit.Limit.TheVariants.{Line}
+use Rattle.roff_num.specs.declared.limit.Limit.{Limit}
+use Rattle.roff_num.specs.declared.limit.Limit.TheVariants.{Line}
 use Rattle.roff_tools.specs.declared.engine.Status.{Status}
 use Rattle.roff_tools.specs.declared.engine.Status.TheVariants.{Done, Device, Limit as Limited}
 use Rattle.roff_tools.specs.declared.halt.Halt.{Halt}
 use Rattle.roff_tools.specs.declared.halt.Halt.TheVariants.{Limit as ByLimit, Output, Messages}
-use Rattle.roff_tools.specs.declared.limits.Limits.{Limits}
+use Rattle.roff_num.specs.declared.limits.Limits.{Limits}
 use Rattle.roff_tools.specs.declared.message.Message.TheVariants.{LimitReached, WriteFailed}
-use Rattle.roff_tools.specs.Limits.{value_of}
+use Rattle.roff_num.specs.LimitValues.{value_of}
 use Rattle.roff_tools.specs.Messages.{message_line, message_lines}
 use Rattle.roff_tools.specs.Outcome.{Devices, AppendsBetween, IsLeftOf, Reaches, Completes, OutputStops, OutputFails, MessagesFail}
 use Rattle.roff_tools.specs.Output.{PageHistory, text_of, written, written_by}

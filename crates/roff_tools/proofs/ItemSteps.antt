@@ -1,10 +1,10 @@
 -- A run of the code, as far as it has come, as a run of the definition.
 use Rattle.std.proofs.Common.{◌≡◌, ℕ, ◌+◌, true, false, List, [], ◌∷◌, ◌++◌, Some, None, append_assoc, append-nil, refl, sym, if◌then◌else◌, ◌==◌}
 use Rattle.roff_lines.specs.Events.{settings_after}
-use Rattle.roff_lines.specs.declared.limit.Limit.{Limit}
-use Rattle.roff_lines.specs.declared.limit.Limit.TheVariants.{Bytes}
+use Rattle.roff_num.specs.declared.limit.Limit.{Limit}
+use Rattle.roff_num.specs.declared.limit.Limit.TheVariants.{Bytes}
 use Rattle.roff_tools.specs.declared.engine.Status.TheVariants.{Device, Limit as Limited}
-use Rattle.roff_tools.specs.declared.limits.Limits.{Limits}
+use Rattle.roff_num.specs.declared.limits.Limits.{Limits}
 use Rattle.roff_tools.specs.declared.message.Message.TheVariants.{ReadFailed}
 use Rattle.roff_tools.specs.Messages.{message_line, message_lines}
 use Rattle.roff_tools.specs.Output.{PageHistory, text_of, written, written_by}

@@ -7,14 +7,14 @@ use Rattle.roff_lines.specs.Stands.{Stands}
 use Rattle.roff_lines.specs.declared.env.Env.{Env}
 use Rattle.roff_tools.specs.declared.reading.LinePart.TheVariants.{Start}
 use Rattle.roff_tools.specs.declared.reading.Reading.TheVariants.{Line}
-use Rattle.roff_lines.specs.declared.limit.Limit.{Limit}
-use Rattle.roff_lines.specs.declared.limit.Limit.TheVariants.{Bytes}
+use Rattle.roff_num.specs.declared.limit.Limit.{Limit}
+use Rattle.roff_num.specs.declared.limit.Limit.TheVariants.{Bytes}
 use Rattle.roff_lines.specs.declared.settings.Settings.{Settings}
 use Rattle.roff_tools.specs.declared.engine.Status.{Status}
 use Rattle.roff_tools.specs.declared.engine.Status.TheVariants.{Done, Device, Limit as Limited}
 use Rattle.roff_tools.specs.declared.halt.Halt.{Halt}
 use Rattle.roff_tools.specs.declared.halt.Halt.TheVariants.{Output, Messages}
-use Rattle.roff_tools.specs.declared.limits.Limits.{Limits}
+use Rattle.roff_num.specs.declared.limits.Limits.{Limits}
 use Rattle.roff_tools.specs.declared.meter.Meter.{Meter}
 use Rattle.roff_tools.specs.Messages.{message_line, message_lines}
 use Rattle.roff_tools.specs.Outcome.{Devices, Faults, IsLeftOf, Reaches, Completes, MessagesFail, Outcome}

@@ -1,7 +1,7 @@
 -- Runs of the definition: where some steps lead.
 use Rattle.std.proofs.Common.{◌≡◌, ℕ, zero, suc, ◌+◌, true, false, List, [], ◌∷◌, ◌++◌, None, zero-add, suc-add, refl, ap, ◌∙◌}
-use Rattle.roff_lines.specs.declared.limit.Limit.TheVariants.{Line}
-use Rattle.roff_tools.specs.declared.limits.Limits.{Limits}
+use Rattle.roff_num.specs.declared.limit.Limit.TheVariants.{Line}
+use Rattle.roff_num.specs.declared.limits.Limits.{Limits}
 use Rattle.roff_tools.specs.Output.{PageHistory}
 use Rattle.roff_tools.specs.Requests.{PageEvent}
 use Rattle.roff_tools.specs.Run.{State, Leads, step, after, stopped_by}

@@ -6,12 +6,12 @@ use Rattle.roff_lines.specs.Events.{Event}
 use Rattle.roff_lines.specs.Lines.{Finished, finished, pending_length}
 use Rattle.roff_lines.specs.Stands.{Stands}
 use Rattle.roff_lines.specs.declared.env.Env.{Env}
-use Rattle.roff_lines.specs.declared.limit.Limit.{Limit}
-use Rattle.roff_lines.specs.declared.limit.Limit.TheVariants.{Line}
+use Rattle.roff_num.specs.declared.limit.Limit.{Limit}
+use Rattle.roff_num.specs.declared.limit.Limit.TheVariants.{Line}
 use Rattle.roff_tools.specs.declared.formatter.Formatter.{Formatter}
 use Rattle.roff_tools.specs.declared.halt.Halt.{Halt}
 use Rattle.roff_tools.specs.declared.halt.Halt.TheVariants.{Limit as Limited, Output, Messages}
-use Rattle.roff_tools.specs.declared.limits.Limits.{Limits}
+use Rattle.roff_num.specs.declared.limits.Limits.{Limits}
 use Rattle.roff_tools.specs.Output.{PageHistory, text_of, finished_bytes, written_by}
 use Rattle.roff_tools.specs.Messages.{message_lines}
 use Rattle.roff_tools.specs.Requests.{PageEvent, Text, Space, Effect}

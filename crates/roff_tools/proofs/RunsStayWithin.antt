@@ -6,7 +6,7 @@ use Rattle.std.specs.Prelude.{nat_lt, if◌then◌else◌}
 use Rattle.std.proofs.lemmas.Bool.Decides.{nat_tests}
 use Rattle.roff_lines.specs.Events.{Event}
 use Rattle.roff_lines.specs.Lines.{pending_length}
-use Rattle.roff_tools.specs.declared.limits.Limits.{Limits}
+use Rattle.roff_num.specs.declared.limits.Limits.{Limits}
 use Rattle.roff_tools.specs.Laws.{IsWithin, NoLimitIsPassed}
 use Rattle.roff_tools.specs.Output.{PageHistory, text_of}
 use Rattle.roff_tools.specs.Requests.{PageEvent, Text, Space}

@@ -5,7 +5,7 @@
 -- messages alone, `OnlyCuts-message s _ _ refl refl`; and where it calls another function, that one's lemma.
 use Rattle.std.proofs.Common.{◌≡◌, ℕ, Bool, true, false, List, [], ◌∷◌, ◌++◌, Some, None, refl}
 use Rattle.std.specs.Prelude.{if◌then◌else◌}
-use Rattle.roff_tools.specs.declared.limits.Limits.{Limits}
+use Rattle.roff_num.specs.declared.limits.Limits.{Limits}
 use Rattle.roff_tools.specs.Laws.{OnlyCuts}
 use Rattle.roff_tools.specs.Requests.{PageEvent}
 use Rattle.roff_tools.specs.Run.{State, passes_line, passes_bytes, performing, byte_taken, end_met, answered, step_with, step}

@@ -8,13 +8,14 @@ use Rattle.std.specs.Prelude.{nat_lt, if◌then◌else◌}
 use Rattle.std.proofs.lemmas.Bool.{cases_Bool, both_ways, false_from_ne_true}
 use Rattle.std.proofs.lemmas.Bool.Decides.{nat_tests}
 use Rattle.roff_lines.specs.Lines.{pending_length}
-use Rattle.roff_lines.specs.declared.limit.Limit.{Limit}
-use Rattle.roff_lines.specs.declared.limit.Limit.TheVariants.{Bytes, Line}
+use Rattle.roff_num.specs.declared.limit.Limit.{Limit}
+use Rattle.roff_num.specs.declared.limit.Limit.TheVariants.{Bytes, Line}
 use Rattle.roff_tools.specs.declared.engine.Status.{Status}
 use Rattle.roff_tools.specs.declared.engine.Status.TheVariants.{Device, Limit as Limited}
-use Rattle.roff_tools.specs.declared.limits.Limits.{Limits}
+use Rattle.roff_num.specs.declared.limits.Limits.{Limits}
 use Rattle.roff_tools.specs.Laws.{OnlyCuts, over}
-use Rattle.roff_tools.specs.Limits.{value_of, AreWithin}
+use Rattle.roff_num.specs.LimitValues.{value_of}
+use Rattle.roff_tools.specs.Limits.{AreWithin}
 use Rattle.roff_tools.specs.Output.{PageHistory, text_of}
 use Rattle.roff_tools.specs.Requests.{PageEvent, Text, Space}
 use Rattle.roff_tools.specs.Run.{State, stopped_by, passes_line, passes_bytes, performing, answered, step_with, step, after}

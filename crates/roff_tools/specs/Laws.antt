@@ -2,9 +2,9 @@
 use Rattle.std.specs.Prelude.{◌≡◌, ◌≢◌, ℕ, ◌≤◌, List, ◌++◌, Some}
 use Rattle.roff_lines.specs.Lines.{pending_length}
 use Rattle.roff_lines.specs.Lists.{IsBeginning}
-use Rattle.roff_lines.specs.declared.limit.Limit.{Limit}
+use Rattle.roff_num.specs.declared.limit.Limit.{Limit}
 use Rattle.roff_tools.specs.declared.engine.Status.TheVariants.{Device, Limit as Limited}
-use Rattle.roff_tools.specs.declared.limits.Limits.{Limits}
+use Rattle.roff_num.specs.declared.limits.Limits.{Limits}
 use Rattle.roff_tools.specs.Limits.{AreWithin}
 use Rattle.roff_tools.specs.Output.{text_of}
 use Rattle.roff_tools.specs.Run.{State, initial, after, output}

@@ -1,6 +1,6 @@
 -- The messages of a run.
 use Rattle.std.specs.Prelude.{ℕ, List, [], ◌∷◌, ◌++◌, codes, decimal}
-use Rattle.roff_lines.specs.Limits.{limit_name}
+use Rattle.roff_num.specs.LimitNames.{limit_name}
 use Rattle.roff_tools.specs.declared.message.Message.{Message}
 use Rattle.roff_tools.specs.declared.message.Message.TheVariants.{LimitReached, BadNumber, BackwardMotion, ReadFailed, WriteFailed}
 use Rattle.roff_tools.specs.Bytes.{newline}

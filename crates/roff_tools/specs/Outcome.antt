@@ -3,7 +3,7 @@ use Rattle.std.specs.Prelude.{◌≡◌, ◌⊎◌, ℕ, ◌≤◌, List, ◌++�
 use Rattle.std.specs.Io.KnownBytes.{Appends}
 use Rattle.roff_tools.specs.declared.engine.Status.{Status}
 use Rattle.roff_tools.specs.declared.engine.Status.TheVariants.{Device}
-use Rattle.roff_tools.specs.declared.limits.Limits.{Limits}
+use Rattle.roff_num.specs.declared.limits.Limits.{Limits}
 use Rattle.roff_tools.specs.declared.message.Message.TheVariants.{WriteFailed}
 use Rattle.roff_tools.specs.Messages.{message_line}
 use Rattle.roff_tools.specs.Run.{State, Leads, initial, step, output, reported}

@@ -4,12 +4,12 @@ use Rattle.std.specs.Io.KnownBytes.{Appends}
 use Rattle.roff_lines.specs.Events.{WordEnd, Break}
 use Rattle.roff_lines.specs.Stands.{Stands}
 use Rattle.roff_lines.specs.declared.env.Env.{Env}
-use Rattle.roff_lines.specs.declared.limit.Limit.{Limit}
-use Rattle.roff_lines.specs.declared.limit.Limit.TheVariants.{Line}
+use Rattle.roff_num.specs.declared.limit.Limit.{Limit}
+use Rattle.roff_num.specs.declared.limit.Limit.TheVariants.{Line}
 use Rattle.roff_tools.specs.declared.formatter.Formatter.{Formatter}
 use Rattle.roff_tools.specs.declared.halt.Halt.{Halt}
 use Rattle.roff_tools.specs.declared.halt.Halt.TheVariants.{Limit as Limited, Output, Messages}
-use Rattle.roff_tools.specs.declared.limits.Limits.{Limits}
+use Rattle.roff_num.specs.declared.limits.Limits.{Limits}
 use Rattle.roff_tools.specs.Messages.{message_lines}
 use Rattle.roff_tools.specs.Output.{PageHistory, text_of, written_by}
 use Rattle.roff_tools.specs.Requests.{PageEvent, Text, Effect}

@@ -1,7 +1,8 @@
 -- What a run gives on a small text: worked rows are computed with these.
 use Rattle.std.specs.Prelude.{ℕ, List, map, take, Option, Some}
 use Rattle.roff_tools.specs.declared.engine.Status.{Status}
-use Rattle.roff_tools.specs.declared.limits.Limits.{Limits}
+use Rattle.roff_num.specs.LimitValues.{default_limits}
+use Rattle.roff_num.specs.declared.limits.Limits.{Limits}
 use Rattle.roff_tools.specs.Run.{State, initial, after, output, reported}
 use Rattle.roff_tools.specs.Tape.{OneByte, Ending, Ended, Failed}
 
@@ -23,12 +24,12 @@ result_of l text ending =
 
 -- with the limits as they are without an option
 abbrev pub formatted : List ℕ → Result
-formatted text = result_of (record { bytes = 50000000; line = 4096 }) text Ended
+formatted text = result_of default_limits text Ended
 
 -- with these limits on the bytes, and on the pending line
 abbrev pub formatted_within : ℕ → ℕ → List ℕ → Result
-formatted_within bytes line text = result_of (record { bytes = bytes; line = line }) text Ended
+formatted_within bytes line text = result_of (record default_limits { bytes = bytes; line = line }) text Ended
 
 -- where the source fails after so many bytes
 abbrev pub formatted_failing : ℕ → List ℕ → Result
-formatted_failing count text = result_of (record { bytes = 50000000; line = 4096 }) (take count text) Failed
+formatted_failing count text = result_of default_limits (take count text) Failed

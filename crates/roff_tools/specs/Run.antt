@@ -2,15 +2,15 @@
 use Rattle.std.specs.Prelude.{◌≡◌, ℕ, zero, suc, ◌+◌, Bool, true, false, List, [], ◌∷◌, ◌++◌, nat_lt, Option, Some, None, if◌then◌else◌, ◌==◌}
 use Rattle.roff_lines.specs.Events.{settings_after}
 use Rattle.roff_lines.specs.Lines.{pending_length}
-use Rattle.roff_lines.specs.declared.limit.Limit.{Limit}
-use Rattle.roff_lines.specs.declared.limit.Limit.TheVariants.{Bytes, Line}
+use Rattle.roff_num.specs.declared.limit.Limit.{Limit}
+use Rattle.roff_num.specs.declared.limit.Limit.TheVariants.{Bytes, Line}
 use Rattle.roff_tools.specs.declared.engine.Status.{Status}
 use Rattle.roff_tools.specs.declared.engine.Status.TheVariants.{Done, Device, Limit as Limited}
-use Rattle.roff_tools.specs.declared.limits.Limits.{Limits}
+use Rattle.roff_num.specs.declared.limits.Limits.{Limits}
 use Rattle.roff_tools.specs.declared.message.Message.{Message}
 use Rattle.roff_tools.specs.declared.message.Message.TheVariants.{LimitReached, ReadFailed}
 use Rattle.roff_tools.specs.Bytes.{newline}
-use Rattle.roff_tools.specs.Limits.{value_of}
+use Rattle.roff_num.specs.LimitValues.{value_of}
 use Rattle.roff_tools.specs.Messages.{message_line, message_lines}
 use Rattle.roff_tools.specs.Output.{PageHistory, text_of, written}
 use Rattle.roff_tools.specs.Reading.{Reading, LineStart, Taking, taking, end_effect}

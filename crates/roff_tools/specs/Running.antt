@@ -2,13 +2,13 @@
 use Rattle.std.specs.Prelude.{◌≡◌, ℕ, ◌-◌, ◌≤◌, true, false, List, [], Option, Some, None, Result, Ok, Err, OnOk}
 use Rattle.std.specs.Io.KnownBytes.{Appends}
 use Rattle.roff_lines.specs.Stands.{Stands}
-use Rattle.roff_lines.specs.declared.limit.Limit.{Limit}
+use Rattle.roff_num.specs.declared.limit.Limit.{Limit}
 use Rattle.roff_tools.specs.declared.running.Running.{Running as Coded}
 use Rattle.roff_tools.specs.declared.engine.Status.{Status}
 use Rattle.roff_tools.specs.declared.engine.Status.TheVariants.{Device}
 use Rattle.roff_tools.specs.declared.halt.Halt.{Halt}
 use Rattle.roff_tools.specs.declared.halt.Halt.TheVariants.{Limit as Limited, Output, Messages}
-use Rattle.roff_tools.specs.declared.limits.Limits.{Limits}
+use Rattle.roff_num.specs.declared.limits.Limits.{Limits}
 use Rattle.roff_tools.specs.declared.meter.Meter.{Meter}
 use Rattle.roff_tools.specs.Outcome.{Devices, Faults, devices, Reaches, OutputStops, MessagesFail, Outcome}
 use Rattle.roff_tools.specs.Output.{PageHistory, text_of}

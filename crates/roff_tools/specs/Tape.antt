@@ -1,6 +1,6 @@
 -- What a source gives: its tape, the items to come and how they end.
 use Rattle.std.specs.Prelude.{◌≡◌, ℕ, ◌-◌, ◌^◌, ◌+◌, ◌≤◌, List, [], ◌∷◌, min}
-use Rattle.roff_lines.specs.declared.limit.Limit.{Limit}
+use Rattle.roff_num.specs.declared.limit.Limit.{Limit}
 use Rattle.roff_tools.specs.declared.source.Taken.{Taken}
 use Rattle.roff_tools.specs.declared.source.Taken.TheVariants.{Byte, Note, End, Fault, Stop}
 

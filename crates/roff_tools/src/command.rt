@@ -153,17 +153,10 @@ fn limits_of(matches: &ArgMatches<'_>) -> Limits {
     let mut limits = Limits::default();
     for option in &LIMIT_OPTIONS {
         if let Some(value) = matches.get_one::<u32>(option.name) {
-            set_limit(&mut limits, option.limit, value);
+            limits.set(option.limit, value);
         }
     }
     limits
-}
-
-fn set_limit(limits: &mut Limits, limit: Limit, value: u32) {
-    match limit {
-        Limit::Bytes => limits.bytes = value,
-        Limit::Line => limits.line = value,
-    }
 }
 
 #[cfg(test)]

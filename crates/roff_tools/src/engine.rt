@@ -2,19 +2,19 @@
 
 ghost use Rattle.std.specs.Prelude.{◌≡◌, [], IfOk};
 ghost use Rattle.roff_lines.specs.Stands.{Stands};
-ghost use Rattle.roff_tools.specs.declared.limits.Limits.{Limits};
+ghost use Rattle.roff_num.specs.declared.limits.Limits.{Limits};
 ghost use Rattle.roff_tools.specs.declared.reading.LinePart.TheVariants.{Start};
 ghost use Rattle.roff_tools.specs.declared.reading.Reading.TheVariants.{Line};
 ghost use Rattle.roff_tools.specs.Outcome.{FaultIsOfADevice, Outcome, devices, faults};
 ghost use Rattle.roff_tools.specs.Tape.{Tape};
 
 use crate::formatter::Formatter;
-use crate::limits::Limits;
+use roff_num::Limits;
 use crate::meter::Meter;
 use crate::running::Running;
 use crate::sink::ByteSink;
 use crate::source::ByteSource;
-use roff_lines::Limit;
+use roff_num::Limit;
 use std::alloc::{AllocError, Global};
 use std::marker::Model;
 

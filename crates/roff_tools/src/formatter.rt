@@ -17,7 +17,7 @@ ghost use Rattle.roff_tools.specs.ReadsAs.{ReadsAs, leading_behind, leading_of, 
 ghost use Rattle.roff_tools.specs.Requests.{Text, Space, request_effect};
 ghost use Rattle.roff_tools.specs.Sinks.{Puts};
 ghost use Rattle.roff_tools.specs.Tape.{Rises};
-ghost use Rattle.roff_tools.specs.declared.limits.Limits.{Limits};
+ghost use Rattle.roff_num.specs.declared.limits.Limits.{Limits};
 
 use crate::arguments::FirstArgument;
 use crate::block::Block;

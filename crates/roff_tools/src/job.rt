@@ -5,7 +5,7 @@ ghost use Rattle.roff_tools.specs.Outcome.{FaultIsOfADevice, Outcome, devices, f
 ghost use Rattle.roff_tools.specs.Tape.{Tape};
 
 use crate::engine::{Engine, Start, Status};
-use crate::limits::Limits;
+use roff_num::Limits;
 use crate::sink::ByteSink;
 use crate::source::ByteSource;
 use std::alloc::{AllocError, Global};

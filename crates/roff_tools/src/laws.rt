@@ -1,7 +1,7 @@
 //! Facts about the definitions alone, as contracts of functions that do nothing.
 
 ghost use Rattle.std.specs.Prelude.{◌≡◌, codes};
-ghost use Rattle.roff_lines.specs.declared.limit.Limit.TheVariants.{Bytes, Line};
+ghost use Rattle.roff_num.specs.declared.limit.Limit.TheVariants.{Bytes, Line};
 ghost use Rattle.roff_tools.specs.declared.engine.Status.TheVariants.{Done, Device, Limit as Limited};
 ghost use Rattle.roff_tools.specs.Laws.{LimitsOnlyCut, SameUntilALimit, FailingOnlyCuts, SameUntilTheFault, NoLimitIsPassed};
 ghost use Rattle.roff_tools.specs.Rows.{gives, formatted, formatted_within, formatted_failing};

@@ -11,7 +11,6 @@ mod halt;
 mod inputs;
 mod job;
 pub mod laws;
-mod limits;
 mod memory;
 mod message;
 mod meter;
@@ -27,9 +26,8 @@ mod tests;
 
 pub use engine::{Engine, Start, Status};
 pub use job::{Job, run};
-pub use limits::Limits;
 pub use memory::{MemSink, MemSource};
 pub use program::main_with;
-pub use roff_lines::Limit;
+pub use roff_num::{Limit, Limits};
 pub use sink::{ByteSink, SinkFault, WriteSink};
 pub use source::{ByteSource, Note, ReadSource, Taken};

@@ -8,7 +8,7 @@ ghost use Rattle.roff_tools.specs.Sinks.{Puts};
 use crate::sink::{ByteSink, SinkFault};
 use arrayvec::ArrayVec;
 use itoa::Buffer;
-use roff_lines::Limit;
+use roff_num::Limit;
 
 /// What a run reports.
 #[derive(Clone, Copy, Debug, PartialEq, Eq)]

@@ -2,7 +2,7 @@
 
 ghost use Rattle.std.specs.Prelude.{◌≡◌, ◌+◌, ◌<◌, ◌≤◌, ◌^◌, ◌↔◌, IsOk, IsErrOf, OnOk, OnErr, if◌then◌else◌, ◌==◌};
 
-use roff_lines::Limit;
+use roff_num::Limit;
 
 /// How many bytes were taken, and on which line the last one stands.
 #[derive(Clone, Copy, Debug)]

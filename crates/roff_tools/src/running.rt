@@ -8,7 +8,7 @@ ghost use Rattle.roff_tools.specs.Tape.{Tape, Answer, Answers, Ended, Gives, End
 use crate::engine::Status;
 use crate::formatter::Formatter;
 use crate::halt::Halt;
-use crate::limits::Limits;
+use roff_num::Limits;
 use crate::message::{Message, report};
 use crate::meter::Meter;
 use crate::sink::ByteSink;

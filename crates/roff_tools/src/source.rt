@@ -4,7 +4,7 @@ ghost use Rattle.std.specs.Prelude.{◌≡◌, ℕ, ◌<◌, ◌≤◌, ◌^◌,
 ghost use Rattle.roff_tools.specs.Tape.{Tape, Answers, Ending, Failed, Gives, Ends, OneNote, answer_of, Rises};
 
 use arrayvec::ArrayVec;
-use roff_lines::Limit;
+use roff_num::Limit;
 use std::alloc::{AllocError, Global};
 use std::io::Read;
 

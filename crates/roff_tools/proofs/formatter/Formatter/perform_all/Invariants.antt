@@ -1,6 +1,6 @@
 use Rattle.std.proofs.Common.{◌≡◌, ◌≤◌, ◌++◌, List, length}
 use Rattle.roff_lines.specs.Stands.{Stands}
-use Rattle.roff_tools.specs.declared.limits.Limits.{Limits}
+use Rattle.roff_num.specs.declared.limits.Limits.{Limits}
 use Rattle.roff_tools.specs.Happening.{events_of}
 use Rattle.roff_tools.specs.Output.{PageHistory, text_of}
 use Rattle.roff_tools.specs.Performing.{AllPerformed}

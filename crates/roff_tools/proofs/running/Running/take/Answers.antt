@@ -1,5 +1,5 @@
 use Rattle.std.proofs.Common.{◌≡◌, ◌≤◌, ◌<◌, arith, ◌∙◌, ◌++◌, Err, ap, rules}
-use Rattle.roff_lines.specs.declared.limit.Limit.TheVariants.{Bytes}
+use Rattle.roff_num.specs.declared.limit.Limit.TheVariants.{Bytes}
 use Rattle.roff_tools.specs.Outcome.{Devices}
 use Rattle.roff_tools.specs.Running.{NoFewerFaults, with_sinks}
 use Rattle.roff_lines.specs.Events.{settings_after}
