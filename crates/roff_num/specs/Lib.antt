@@ -6,3 +6,5 @@ pub mod Ranges
 pub mod Operators
 pub mod Steps
 pub mod Numerals
+pub mod Expressions
+pub mod Frames

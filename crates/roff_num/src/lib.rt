@@ -3,6 +3,8 @@
 //! Numbers count basic units, 240 to the inch (manual, sections 1.3 and 1.4).
 #![tactic(auto)]
 
+mod evaluation;
+mod expression;
 mod limit;
 mod limits;
 mod name;
@@ -10,6 +12,7 @@ mod num;
 mod numeral;
 mod operator;
 
+pub use evaluation::eval;
 pub use limit::Limit;
 pub use limits::Limits;
 pub use name::Name;
