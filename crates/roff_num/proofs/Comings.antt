@@ -15,13 +15,13 @@ use Rattle.roff_num.specs.declared.num.NumFault.{NumFault}
 use Rattle.roff_num.specs.declared.num.NumFault.TheVariants.{Missing}
 use Rattle.roff_num.specs.declared.num.Scale.{Scale}
 use Rattle.roff_num.specs.declared.operator.Operator.{Operator}
-use Rattle.roff_num.specs.Expressions.{closed_behind, operand_within, past, sign_at, unsigned_of}
-use Rattle.roff_num.specs.Frames.{combined, come_to, entered, folded_from, held_value, left_behind, outcome_of, outcome_opened, outcome_stepped}
+use Rattle.roff_num.specs.Expressions.{closed_behind, expression_of, folded_onto, operand_within, past, sign_at, unsigned_of}
+use Rattle.roff_num.specs.Frames.{combined, come_to, entered, folded_from, held_value, left_behind, outcome_behind, outcome_of, outcome_opened, outcome_stepped, starts_at}
 use Rattle.roff_num.specs.Numerals.{numeral_at}
 use Rattle.roff_num.specs.Operators.{applied, begins_with, operator_at}
 use Rattle.roff_num.specs.Ranges.{in_range, signed}
 use Rattle.roff_num.specs.Steps.{followed}
-use Rattle.roff_num.proofs.Folds.{folded_from-none, folded_from-some, past-past}
+use Rattle.roff_num.proofs.Folds.{folded_onto-drop, folded_from-none, folded_from-some, past-past}
 use Rattle.roff_num.proofs.Openings.{unsigned_of-bar, unsigned_of-no_place, unsigned_of-numeral, unsigned_of-parenthesis}
 
 -- steps behind a step that has two of its own
@@ -195,13 +195,19 @@ OpensWithin-parenthesis text scale place reading at is_negative found = record {
 }
 
 -- `|` does, where there is a place
-pub OpensWithin-bar : (text : List ℕ) (scale : Scale) (from : ℤ) (reading : Reading) (at : ℕ) (is_negative : Bool)
+OpensWithin-some_place : (text : List ℕ) (scale : Scale) (from : ℤ) (reading : Reading) (at : ℕ) (is_negative : Bool)
     → begins_with 40 (drop at text) ≡ false → begins_with 124 (drop at text) ≡ true → OpensWithin text scale (Some from) reading at is_negative (Bar from)
 unfolding come_to
-OpensWithin-bar text scale from reading at is_negative other found = record {
+OpensWithin-some_place text scale from reading at is_negative other found = record {
   same = λ n. sym (unsigned_of-bar text scale from (operand_within scale (Some from) n) is_negative at
     (λ r. followed (combined reading.pending r.0) (λ v. come_to text scale (Some from) (suc n) (reverse reading.frames.items) v r.1)) other found)
 }
+
+pub OpensWithin-bar : (text : List ℕ) (scale : Scale) (place : Option ℤ) (from : ℤ) (reading : Reading) (at : ℕ) (is_negative : Bool)
+    → place ≡ Some from → begins_with 40 (drop at text) ≡ false → begins_with 124 (drop at text) ≡ true → OpensWithin text scale place reading at is_negative (Bar from)
+OpensWithin-bar text scale place from reading at is_negative e other found =
+    let P : Option ℤ → Type 0 = λ p. OpensWithin text scale p reading at is_negative (Bar from) in
+    subst P (sym e) (OpensWithin-some_place text scale from reading at is_negative other found)
 
 -- a test of two numbers, and what it chooses
 chosen : (m n : ℕ) (x y z : Result Next NumFault) → z ≡ cond (nat_lt m n) x y → m < n → z ≡ x
@@ -257,3 +263,27 @@ outcome_opened-numeral text scale place reading at sign s e few other found =
     ∙ (ap (λ x. followed (past at x) (λ r. followed (combined reading.pending r.0) (λ v. come_to text scale place (suc n) (reverse reading.frames.items) v r.1)))
       (unsigned_of-numeral (drop at text) scale place (operand_within scale place n) sign.0 other found)
     ∙ ap (λ l. followed (past at (numeral_at scale sign.0 (drop at text))) (λ r. followed (combined reading.pending r.0) (λ v. come_to text scale place l (reverse reading.frames.items) v r.1))) levels))
+
+-- a value within an operand that has just been taken off the frames
+pub come_to-innermost : (text : List ℕ) (scale : Scale) (place : Option ℤ) (old new : List Frame) (f : Frame) (levels : ℕ) (pending : Option (Operator × ℤ)) (value w : ℤ) (at : ℕ)
+    → combined pending value ≡ Ok w → old ≡ new ++ f ∷ [] → levels ≡ 33 - length old
+    → come_to text scale place levels (f ∷ reverse new) w at
+      ≡ followed (combined pending value) (λ v. come_to text scale place (33 - length old) (reverse old) v at)
+come_to-innermost text scale place old new f levels pending value w at k e l =
+    ap (λ n. come_to text scale place n (f ∷ reverse new) w at) l
+    ∙ (ap (λ fs. come_to text scale place (33 - length old) fs w at) (sym (ap reverse e ∙ reverse-innermost new f))
+    ∙ ap (λ x. followed x (λ v. come_to text scale place (33 - length old) (reverse old) v at)) (sym k))
+
+-- an expression that begins comes to its value
+started : (text : List ℕ) (operand : List ℕ → Result (ℤ × ℕ) NumFault) (at : ℕ) (x : Result (ℤ × ℕ) NumFault)
+    → followed (past at x) (λ r. folded_from text operand r.0 r.1) ≡ past at (followed x (λ r. past r.1 (folded_onto operand r.1 r.0 (drop at text))))
+started text operand at (Ok r) =
+    ap (λ l. past (at + r.1) (folded_onto operand 0 r.0 l)) (sym (drop-drop r.1 at text))
+    ∙ (ap (past (at + r.1)) (sym (folded_onto-drop operand r.1 r.0 (drop at text)))
+    ∙ sym (past-past at r.1 (folded_onto operand r.1 r.0 (drop at text))))
+started text operand at (Err e) = refl
+
+pub outcome_opened-start : (text : List ℕ) (scale : Scale) (place : Option ℤ) (at : ℕ)
+    → outcome_opened text scale place (starts_at at) ≡ past at (expression_of (operand_within scale place 33) (drop at text))
+unfolding come_to
+outcome_opened-start text scale place at = started text (operand_within scale place 33) at (operand_within scale place 33 (drop at text))

@@ -4,3 +4,4 @@ pub mod Numerals
 pub mod Folds
 pub mod Openings
 pub mod Comings
+pub mod LeftFold

@@ -54,6 +54,11 @@ outcome_opened text scale place reading =
 abbrev pub outcome_behind : List ℕ → Scale → Option ℤ → Reading → ℤ → Result (ℤ × ℕ) NumFault
 outcome_behind text scale place reading value = outcome_of text scale place reading (Ok (value, reading.at))
 
+-- what it comes to where an operand is read next, or one has been read
+abbrev pub outcome_now : List ℕ → Scale → Option ℤ → Reading → Option ℤ → Result (ℤ × ℕ) NumFault
+outcome_now text scale place reading None = outcome_opened text scale place reading
+outcome_now text scale place reading (Some value) = outcome_behind text scale place reading value
+
 -- what it comes to behind a step
 abbrev pub outcome_next : List ℕ → Scale → Option ℤ → Reading → Next → Result (ℤ × ℕ) NumFault
 outcome_next text scale place reading Opened = outcome_opened text scale place reading

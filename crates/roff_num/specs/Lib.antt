@@ -8,3 +8,4 @@ pub mod Steps
 pub mod Numerals
 pub mod Expressions
 pub mod Frames
+pub mod Laws

@@ -22,11 +22,7 @@ pub fn eval(
     let mut reading = Reading::new(at);
     let mut operand = None;
     loop {
-        let next = match operand {
-            None => reading.open(text, scale, place),
-            Some(value) => reading.close(text, value),
-        };
-        match next {
+        match reading.step(text, scale, place, operand) {
             Ok(Next::Opened) => operand = None,
             Ok(Next::Operand(value)) => operand = Some(value),
             Ok(Next::Ended(value)) => return Ok((Num(value), reading.place())),

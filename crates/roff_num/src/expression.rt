@@ -14,6 +14,9 @@ use crate::numeral::{in_range, read_numeral};
 use crate::operator::{Operator, begins_with};
 use arrayvec::ArrayVec;
 
+/// How many operands may hold one another.
+const MOST_NESTED: usize = 32;
+
 /// What opens an operand within an operand.
 #[derive(Clone, Copy, Debug, PartialEq, Eq)]
 pub(crate) enum Opening {
@@ -66,7 +69,7 @@ pub(crate) struct Reading {
 }
 
 impl Reading {
-    ghost use Rattle.roff_num.specs.Frames.{come_to, entered, LeavesLess, left_behind, outcome_behind, outcome_opened, outcome_stepped, starts_at, with_frame};
+    ghost use Rattle.roff_num.specs.Frames.{come_to, entered, LeavesLess, left_behind, outcome_behind, outcome_now, outcome_opened, outcome_stepped, starts_at, with_frame};
 
     /// Nothing is read yet of the expression that begins at a place.
     pub(crate) fn new(at: usize) -> Self
@@ -86,8 +89,25 @@ impl Reading {
         self.at
     }
 
+    /// Goes on where an operand is read next, or behind one of a value.
+    pub(crate) fn step(
+        &mut self,
+        text: &[u8],
+        scale: Scale,
+        place: Option<i32>,
+        operand: Option<i32>,
+    ) -> Result<Next, NumFault>
+        ensures goes_on { outcome_stepped text.now scale place self.new result ≡ outcome_now text.now scale place self.old operand }
+        ensures less_left { IfOk result (LeavesLess text.now self.old self.new) }
+    {
+        match operand {
+            None => self.open(text, scale, place),
+            Some(value) => self.close(text, value),
+        }
+    }
+
     /// Reads an operand's sign, and a numeral or what opens an operand within.
-    pub(crate) fn open(
+    fn open(
         &mut self,
         text: &[u8],
         scale: Scale,
@@ -96,6 +116,7 @@ impl Reading {
         ensures goes_on { outcome_stepped text.now scale place self.new result ≡ outcome_opened text.now scale place self.old }
         ensures less_left { IfOk result (LeavesLess text.now self.old self.new) }
     {
+        prove!(self.frames.len() <= MOST_NESTED);
         let (negative, sign) = read_sign(text_from(text, self.at));
         let at = self.at + sign;
         let rest = text_from(text, at);
@@ -135,7 +156,7 @@ impl Reading {
 
     /// Goes on behind an operand of a value: to the next operand, out of the operand that holds it, or to
     /// the expression's end.
-    pub(crate) fn close(&mut self, text: &[u8], value: i32) -> Result<Next, NumFault>
+    fn close(&mut self, text: &[u8], value: i32) -> Result<Next, NumFault>
         ensures goes_on { (scale : Scale) (place : Option ℤ) → outcome_stepped text.now scale place self.new result ≡ outcome_behind text.now scale place self.old value }
         ensures less_left { IfOk result (LeavesLess text.now self.old self.new) }
     {
@@ -143,6 +164,7 @@ impl Reading {
             Ok(value) => value,
             Err(fault) => return Err(fault),
         };
+        prove!(self.frames.len() <= MOST_NESTED);
         match self.frames.pop() {
             None => self.end(text, value),
             Some(frame) => match frame.opening {

@@ -5,6 +5,7 @@
 
 mod evaluation;
 mod expression;
+pub mod laws;
 mod limit;
 mod limits;
 mod name;
