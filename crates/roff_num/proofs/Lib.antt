@@ -6,3 +6,7 @@ pub mod RomanValues
 pub mod Digits
 pub mod Sizes
 pub mod Numerals
+pub mod Folds
+pub mod Openings
+pub mod Comings
+pub mod LeftFold

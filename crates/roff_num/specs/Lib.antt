@@ -10,3 +10,6 @@ pub mod Ranges
 pub mod Operators
 pub mod Steps
 pub mod Numerals
+pub mod Expressions
+pub mod Frames
+pub mod Laws

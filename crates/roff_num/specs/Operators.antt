@@ -38,14 +38,14 @@ applied Or a b = Ok (truth (is_true a || is_true b))
 abbrev pub alone : Operator → Option (Operator × ℕ)
 alone operator = Some (operator, 0)
 
--- whether an `=` stands at a text's front
-abbrev pub begins_with_equals : List ℕ → Bool
-begins_with_equals [] = false
-begins_with_equals (c ∷ text) = c == 61
+-- whether a byte stands at a text's front
+abbrev pub begins_with : ℕ → List ℕ → Bool
+begins_with byte [] = false
+begins_with byte (c ∷ text) = c == byte
 
 -- an operator that an `=` behind its first byte makes another one
 abbrev pub with_equals : Operator → Operator → List ℕ → Option (Operator × ℕ)
-with_equals bare equals text = if begins_with_equals text then Some (equals, 1) else alone bare
+with_equals bare equals text = if begins_with 61 text then Some (equals, 1) else alone bare
 
 -- the operator that begins with a byte, before what follows it: `+ - * / % < > <= >= = == & :`
 abbrev pub operator_from : ℕ → List ℕ → Option (Operator × ℕ)

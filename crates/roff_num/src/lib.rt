@@ -1,8 +1,10 @@
-//! Numbers: names, limits, rounding, the numerals of a text, and the formats of registers.
+//! Numbers: names, limits, rounding, expressions, and the formats of registers.
 //!
 //! Numbers count basic units, 240 to the inch (manual, sections 1.3 and 1.4).
 #![tactic(auto)]
 
+mod evaluation;
+mod expression;
 mod format;
 pub mod laws;
 mod limit;
@@ -14,6 +16,7 @@ mod operator;
 #[cfg(test)]
 mod tests;
 
+pub use evaluation::eval;
 pub use format::{Format, NumText, read_format, write_num};
 pub use limit::Limit;
 pub use limits::Limits;

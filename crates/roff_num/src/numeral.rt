@@ -20,6 +20,7 @@ const MOST_DECIMALS: usize = 9;
 /// The value of the numeral at a text's front behind a sign, in basic units, and how many bytes it takes.
 pub(crate) fn read_numeral(text: &[u8], scale: Scale, negative: bool) -> Result<(i32, usize), NumFault>
     ensures value { result ≡ numeral_at scale negative text.now }
+    ensures some { IfOk result (λ r. 0 < r.1) }
     ensures within { IfOk result (λ r. r.1 ≤ length text.now) }
 {
     let (whole, behind) = text.split_at(digit_count(text));

@@ -1,7 +1,7 @@
 //! The operators of expressions.
 
-ghost use Rattle.std.specs.Prelude.{◌≡◌};
-ghost use Rattle.roff_num.specs.Operators.{applied, begins_with_equals, operator_at, truth};
+ghost use Rattle.std.specs.Prelude.{◌≡◌, ◌<◌, length, IfSome, IsTrue};
+ghost use Rattle.roff_num.specs.Operators.{applied, begins_with, operator_at, truth};
 
 use crate::num::NumFault;
 
@@ -25,7 +25,8 @@ pub(crate) enum Operator {
 impl Operator {
     /// The operator at a text's front, and how many bytes it has behind its first.
     pub(crate) fn read(text: &[u8]) -> Option<(Operator, usize)>
-        ensures { result ≡ operator_at text.now }
+        ensures value { result ≡ operator_at text.now }
+        ensures within { IfSome result (λ o. o.1 < length text.now) }
     {
         let (first, rest) = text.split_first()?;
         match *first {
@@ -34,11 +35,11 @@ impl Operator {
             b'*' => Some((Operator::Multiply, 0)),
             b'/' => Some((Operator::Divide, 0)),
             b'%' => Some((Operator::Remainder, 0)),
-            b'<' if begins_with_equals(rest) => Some((Operator::LessOrEqual, 1)),
+            b'<' if begins_with(rest, b'=') => Some((Operator::LessOrEqual, 1)),
             b'<' => Some((Operator::Less, 0)),
-            b'>' if begins_with_equals(rest) => Some((Operator::GreaterOrEqual, 1)),
+            b'>' if begins_with(rest, b'=') => Some((Operator::GreaterOrEqual, 1)),
             b'>' => Some((Operator::Greater, 0)),
-            b'=' if begins_with_equals(rest) => Some((Operator::Equal, 1)),
+            b'=' if begins_with(rest, b'=') => Some((Operator::Equal, 1)),
             b'=' => Some((Operator::Equal, 0)),
             b'&' => Some((Operator::And, 0)),
             b':' => Some((Operator::Or, 0)),
@@ -94,12 +95,13 @@ fn truth(holds: bool) -> i32
     if holds { 1 } else { 0 }
 }
 
-/// Whether a text begins with `=`.
-fn begins_with_equals(text: &[u8]) -> bool
-    ensures { result ≡ begins_with_equals text.now }
+/// Whether a text begins with a byte.
+pub(crate) fn begins_with(text: &[u8], byte: u8) -> bool
+    ensures value { result ≡ begins_with byte text.now }
+    ensures some { IsTrue result → 0 < length text.now }
 {
     match text.split_first() {
-        Some((byte, _)) => *byte == b'=',
+        Some((first, _)) => *first == byte,
         None => false,
     }
 }
