@@ -32,7 +32,7 @@ folded_onto-terms operand value (t ∷ terms) text (k, lengths, found, read, res
     ∙ (ap (λ x. followed x (λ r. followed (applied t.operator value r.0) (λ v. past (1 + k + r.1) (folded_onto operand 0 v (drop (1 + k + r.1) text))))) behind
     ∙ (ap (λ n. followed (applied t.operator value t.value) (λ v. past (n + t.operand_length) (folded_onto operand 0 v (drop (n + t.operand_length) text)))) bytes
     ∙ fold_term operand terms text (t.operator_length + t.operand_length) (applied t.operator value t.value)
-      (λ v. folded_onto-terms operand v terms (drop (t.operator_length + t.operand_length) text) rest)))
+    (λ v. folded_onto-terms operand v terms (drop (t.operator_length + t.operand_length) text) rest)))
 
 -- so the expression is that fold onto its first operand
 pub expression_of-terms : IsLeftFold

@@ -9,9 +9,10 @@ pub overflow_sub-digit : goal.overflow_sub-digit
 overflow_sub-digit c = omega (arith, digit_at c.args.digits.now c.loop-digit.digit-index c.requires c.loop-digit-test.true)
 
 pub loop-digit-preserved : goal.loop-digit-preserved
-loop-digit-preserved c =
-    (digits_value_after-step c.args.digits.now c.loop-digit.digit-index (2 ^ 64 - 1) c.loop-digit.number c.saturating_add-number.result _ c.requires c.loop-digit-test.true (omega arith) c.loop-digit.invariant.0,
-     omega arith)
+loop-digit-preserved c = (
+  digits_value_after-step c.args.digits.now c.loop-digit.digit-index (2 ^ 64 - 1) c.loop-digit.number c.saturating_add-number.result _ c.requires c.loop-digit-test.true (omega arith) c.loop-digit.invariant.0,
+  omega arith,
+)
 
 pub returns : goal.returns
 returns c =
