@@ -80,6 +80,13 @@ pub record PerformsOnly {S : Type 0} (contents : S → Option (List ℕ)) (fault
   pub halt : result ≢ Err Messages
   pub fault : result ≡ Err Output → Rises (faults out_old) (faults out_new)
 
+-- both sinks count their faults, and the one at which a halt lost something had one more
+pub record CountsFaults {S T : Type 0} (out_faults : S → ℕ) (err_faults : T → ℕ) (out_old out_new : S) (err_old err_new : T) (result : Result (Unit {0}) Halt) : Type 0 where
+  pub out : out_faults out_old ≤ out_faults out_new
+  pub err : err_faults err_old ≤ err_faults err_new
+  pub output_fault : result ≡ Err Output → Rises (out_faults out_old) (out_faults out_new)
+  pub message_fault : result ≡ Err Messages → Rises (err_faults err_old) (err_faults err_new)
+
 -- how far an effect was done: its messages were written, or a beginning of them and no event performed
 abbrev pub Does : Limits → PageHistory → ℕ → Effect → Result (Unit {0}) Halt → Env → Option (List ℕ) → Option (List ℕ) → Option (List ℕ) → Option (List ℕ) → Type 0
 Does l h line effect (Err Messages) env old new told_old told_new =

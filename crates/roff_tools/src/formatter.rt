@@ -11,7 +11,7 @@ ghost use Rattle.roff_tools.specs.FirstArgument.{KeepsFirst};
 ghost use Rattle.roff_tools.specs.Happening.{event_of, events_of};
 ghost use Rattle.roff_tools.specs.Messages.{message_lines};
 ghost use Rattle.roff_tools.specs.Output.{PageHistory, text_of, finished_bytes};
-ghost use Rattle.roff_tools.specs.Performing.{Does, Performs, PerformsOnly, closing_events, with_events};
+ghost use Rattle.roff_tools.specs.Performing.{CountsFaults, Does, Performs, PerformsOnly, closing_events, with_events};
 ghost use Rattle.roff_tools.specs.Reading.{Reading as Read, argument_taking, end_effect, kept_taking, taking};
 ghost use Rattle.roff_tools.specs.ReadsAs.{ReadsAs, leading_behind, leading_of, part_of};
 ghost use Rattle.roff_tools.specs.Requests.{Text, Space, request_effect};
@@ -68,9 +68,7 @@ impl Formatter {
         ensures reads { (s : Settings) (r : Read) → ReadsAs r self.old.reading self.old.argument →
             OnOk result (ReadsAs (taking s r byte).reading self.new.reading self.new.argument) }
         ensures leading { leading_behind self.new.reading ≤ leading_behind self.old.reading + 1 }
-        ensures failures { (O.failures out.old ≤ O.failures out.new) × (E.failures err.old ≤ E.failures err.new) }
-        ensures output_fault { result ≡ Err Halt.Output → Rises (O.failures out.old) (O.failures out.new) }
-        ensures message_fault { result ≡ Err Halt.Messages → Rises (E.failures err.old) (E.failures err.new) }
+        ensures faults { CountsFaults O.failures E.failures out.old out.new err.old err.new result }
     {
         if let Reading::Line(part) = self.reading
             && part.goes_on_with(byte)
@@ -100,9 +98,7 @@ impl Formatter {
             Does l h line (with_events (end_effect (settings_after (text_of h)) r) closing_events) result self.new.env
             (O.contents out.old) (O.contents out.new) (E.contents err.old) (E.contents err.new) }
         ensures reading { self.new.reading ≡ self.old.reading }
-        ensures failures { (O.failures out.old ≤ O.failures out.new) × (E.failures err.old ≤ E.failures err.new) }
-        ensures output_fault { result ≡ Err Halt.Output → Rises (O.failures out.old) (O.failures out.new) }
-        ensures message_fault { result ≡ Err Halt.Messages → Rises (E.failures err.old) (E.failures err.new) }
+        ensures faults { CountsFaults O.failures E.failures out.old out.new err.old err.new result }
     {
         match self.end_unfinished(line, out, err) {
             Ok(()) => self.perform_all(&[PageEvent::WordEnd, PageEvent::Break], out),
@@ -121,9 +117,7 @@ impl Formatter {
             Does l h line (end_effect (settings_after (text_of h)) r) result self.new.env
             (O.contents out.old) (O.contents out.new) (E.contents err.old) (E.contents err.new) }
         ensures reading { self.new.reading ≡ self.old.reading }
-        ensures failures { (O.failures out.old ≤ O.failures out.new) × (E.failures err.old ≤ E.failures err.new) }
-        ensures output_fault { result ≡ Err Halt.Output → Rises (O.failures out.old) (O.failures out.new) }
-        ensures message_fault { result ≡ Err Halt.Messages → Rises (E.failures err.old) (E.failures err.new) }
+        ensures faults { CountsFaults O.failures E.failures out.old out.new err.old err.new result }
     {
         match self.reading {
             Reading::Line(part) => self.perform_all(&part.end(), out),
@@ -166,9 +160,7 @@ impl Formatter {
         ensures reads { (s : Settings) (a : Arguments) → KeepsFirst a self.old.argument →
             ReadsAs (argument_taking s breaks request a byte).reading self.new.reading self.new.argument }
         ensures leading { leading_behind self.new.reading ≡ 0 }
-        ensures failures { (O.failures out.old ≤ O.failures out.new) × (E.failures err.old ≤ E.failures err.new) }
-        ensures output_fault { result ≡ Err Halt.Output → Rises (O.failures out.old) (O.failures out.new) }
-        ensures message_fault { result ≡ Err Halt.Messages → Rises (E.failures err.old) (E.failures err.new) }
+        ensures faults { CountsFaults O.failures E.failures out.old out.new err.old err.new result }
     {
         if byte != b'\n' {
             self.argument.take(byte);
@@ -192,9 +184,7 @@ impl Formatter {
             (O.contents out.old) (O.contents out.new) (E.contents err.old) (E.contents err.new) }
         ensures reading { self.new.reading ≡ self.old.reading }
         ensures argument { self.new.argument ≡ self.old.argument }
-        ensures failures { (O.failures out.old ≤ O.failures out.new) × (E.failures err.old ≤ E.failures err.new) }
-        ensures output_fault { result ≡ Err Halt.Output → Rises (O.failures out.old) (O.failures out.new) }
-        ensures message_fault { result ≡ Err Halt.Messages → Rises (E.failures err.old) (E.failures err.new) }
+        ensures faults { CountsFaults O.failures E.failures out.old out.new err.old err.new result }
     {
         let effect = request.effect(self.env.settings(), self.argument.read());
         match tell(effect.message, line, err) {

@@ -30,7 +30,7 @@ returns-in-Err g c =
     record {
       performs = λ l h s.
           let P : List PageEvent → Type 0 = λ es. Performs l h es (Err c.in-Err.halt) c.perform.new.self.env
-              (g.O.ByteSink.contents c.args.out.now) (g.O.ByteSink.contents c.perform.new.out) in
+          (g.O.ByteSink.contents c.args.out.now) (g.O.ByteSink.contents c.perform.new.out) in
           subst P (sym split) (halted_then l h (so_far.done ++ event ∷ []) (events_of c.in-Some.others.now) c.in-Err.halt _ _ _
           (performed_then l h so_far.done (event ∷ []) (Err c.in-Err.halt) _ _ _ _ _ (so_far.performed l h s)
           (c.in-Err.ensures.performs l (behind so_far.done h) (so_far.performed l h s).stands)));

@@ -16,10 +16,10 @@ returns-in-Err-clause-runs g c = λ t tape before now left ends at.
     let limits = c.args.self.now.limits in
     let devices : Devices = with_sinks now (g.O.ByteSink.contents c.finish.new.out) (g.O.ByteSink.failures c.finish.new.out) (g.E.ByteSink.contents c.finish.new.err) (g.E.ByteSink.failures c.finish.new.err) in
     let does = c.in-Err.ensures.does limits at.history at.reading at.stands at.reads in
-    let failures = c.in-Err.ensures.failures in
-    let faults : NoFewerFaults before.faults devices.faults = record { source = at.faults.source; out = omega (arith, at.faults.out, failures.0); err = omega (arith, at.faults.err, failures.1) } in
+    let failures = c.in-Err.ensures.faults in
+    let faults : NoFewerFaults before.faults devices.faults = record { source = at.faults.source; out = omega (arith, at.faults.out, failures.out); err = omega (arith, at.faults.err, failures.err) } in
     c.status.ensures.ends t before devices
     (end_halted limits t tape before _ devices at.reading at.history at.messages c.args.self.now.meter at.reaches left ends _ _ c.in-Err.halt c.line-line.ensures does
-    (λ is_output. Rises-behind _ _ _ at.faults.out (c.in-Err.ensures.output_fault (ap Err is_output)))
-    (λ is_messages. Rises-behind _ _ _ at.faults.err (c.in-Err.ensures.message_fault (ap Err is_messages)))
+    (λ is_output. Rises-behind _ _ _ at.faults.out (failures.output_fault (ap Err is_output)))
+    (λ is_messages. Rises-behind _ _ _ at.faults.err (failures.message_fault (ap Err is_messages)))
     faults)

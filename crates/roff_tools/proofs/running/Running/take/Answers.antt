@@ -31,13 +31,13 @@ returns-in-Err-take-clause-runs g c = λ t tape before now left gives at.
     let devices : Devices = with_sinks now (g.O.ByteSink.contents c.take.new.out) (g.O.ByteSink.failures c.take.new.out) (g.E.ByteSink.contents c.take.new.err) (g.E.ByteSink.failures c.take.new.err) in
     let does = c.in-Err-take.ensures.does limits h at.reading at.stands at.reads in
     let within : c.args.self.now.meter.charge < c.args.self.now.meter.limit = search rules in
-    let failures = c.in-Err-take.ensures.failures in
-    let faults : NoFewerFaults before.faults devices.faults = record { source = at.faults.source; out = omega (arith, at.faults.out, failures.0); err = omega (arith, at.faults.err, failures.1) } in
+    let failures = c.in-Err-take.ensures.faults in
+    let faults : NoFewerFaults before.faults devices.faults = record { source = at.faults.source; out = omega (arith, at.faults.out, failures.out); err = omega (arith, at.faults.err, failures.err) } in
     c.status-in-Err-take.ensures.ends t before devices
     (byte_halted limits t tape before _ devices at.reading h at.messages c.args.self.now.meter c.count.new.self c.args.byte at.reaches left gives at.cap within counts
     _ _ c.in-Err-take.halt c.line-line.ensures does
-    (λ is_output. Rises-behind _ _ _ at.faults.out (c.in-Err-take.ensures.output_fault (ap Err is_output)))
-    (λ is_messages. Rises-behind _ _ _ at.faults.err (c.in-Err-take.ensures.message_fault (ap Err is_messages)))
+    (λ is_output. Rises-behind _ _ _ at.faults.out (failures.output_fault (ap Err is_output)))
+    (λ is_messages. Rises-behind _ _ _ at.faults.err (failures.message_fault (ap Err is_messages)))
     faults)
 
 pub returns-in-Ok-take-clause-runs : goal.returns-in-Ok-take-clause-runs
@@ -47,7 +47,7 @@ returns-in-Ok-take-clause-runs g c = λ t tape before now left gives at.
     let next : Taking = taking (settings_after (text_of h)) at.reading c.args.byte in
     let counts : Counts c.args.byte c.args.self.now.meter c.count.new.self = record { charge = c.in-Ok.ensures.charge; newlines = c.in-Ok.ensures.newlines; line = c.in-Ok.ensures.line } in
     let within : c.args.self.now.meter.charge < c.args.self.now.meter.limit = search rules in
-    let failures = c.in-Ok-take.ensures.failures in
+    let failures = c.in-Ok-take.ensures.faults in
     let does = c.in-Ok-take.ensures.does limits h at.reading at.stands at.reads in record {
       reading = next.reading;
       history = behind next.effect.events h;
@@ -56,5 +56,5 @@ returns-in-Ok-take-clause-runs g c = λ t tape before now left gives at.
       stands = does.1.stands;
       reads = c.in-Ok-take.ensures.reads (settings_after (text_of h)) at.reading at.reads;
       cap = c.count.ensures.limit ∙ at.cap;
-      faults = record { source = at.faults.source; out = omega (arith, at.faults.out, failures.0); err = omega (arith, at.faults.err, failures.1) };
+      faults = record { source = at.faults.source; out = omega (arith, at.faults.out, failures.out); err = omega (arith, at.faults.err, failures.err) };
     }
