@@ -5,7 +5,7 @@ use Rattle.std.proofs.Math.Seq.{take-append_seam}
 use Rattle.std.proofs.lemmas.List.{nil_from_length, drop_all, drop_more, get_or-take}
 use Rattle.std.proofs.KnownBytes.{Consumes-nil, Consumes-trans}
 use Rattle.roff_tools.specs.Reach.{IsRead}
-use Rattle.roff_tools.specs.Tape.{Tape, Item, Answer, Answers, Ending, OneByte, Gives, Ends, Ended, Failed, front, behind_front}
+use Rattle.roff_tools.specs.Tape.{Tape, Item, Answers, Ending, OneByte, Gives, Ends, Ended, Failed, front, behind_front}
 
 -- a tape that ends so at once
 abbrev pub only : Ending → Tape

@@ -1,27 +1,24 @@
 -- How a run ends that is halted, and how it goes on.
-use Rattle.std.proofs.Common.{◌≡◌, ◌≤◌, ◌+◌, ◌-◌, ◌^◌, min, ℕ, List, [], ◌∷◌, ◌++◌, Option, Some, None, true, false, Result, Ok, Err, OnOk, OnErr, inl, inr, refl, sym, ap, ◌∙◌, arith, append_assoc, append-nil, subst}
+use Rattle.std.proofs.Common.{◌≡◌, ◌≤◌, ℕ, List, [], ◌∷◌, ◌++◌, Option, Result, Ok, Err, OnOk, OnErr, inl, inr, refl, arith, append_assoc, append-nil, subst}
 use Rattle.std.specs.Io.KnownBytes.{Appends}
-use Rattle.roff_lines.specs.Stands.{Stands}
 use Rattle.roff_lines.specs.declared.env.Env.{Env}
 use Rattle.roff_num.specs.declared.limit.Limit.{Limit}
-use Rattle.roff_num.specs.declared.limit.Limit.TheVariants.{Line}
-use Rattle.roff_tools.specs.declared.engine.Status.{Status}
-use Rattle.roff_tools.specs.declared.engine.Status.TheVariants.{Done, Device, Limit as Limited}
+use Rattle.roff_tools.specs.declared.engine.Status.TheVariants.{Device, Limit as Limited}
 use Rattle.roff_tools.specs.declared.halt.Halt.{Halt}
 use Rattle.roff_tools.specs.declared.halt.Halt.TheVariants.{Limit as ByLimit, Output, Messages}
 use Rattle.roff_num.specs.declared.limits.Limits.{Limits}
 use Rattle.roff_tools.specs.declared.message.Message.TheVariants.{LimitReached, WriteFailed}
 use Rattle.roff_num.specs.LimitValues.{value_of}
 use Rattle.roff_tools.specs.Messages.{message_line, message_lines}
-use Rattle.roff_tools.specs.Outcome.{Devices, AppendsBetween, IsLeftOf, Reaches, Completes, OutputStops, OutputFails, MessagesFail}
-use Rattle.roff_tools.specs.Output.{PageHistory, text_of, written, written_by}
-use Rattle.roff_tools.specs.Performing.{behind, newly_written, AllPerformed, StoppedAt, FailedAt, Performs, Does}
+use Rattle.roff_tools.specs.Outcome.{Devices, AppendsBetween, IsLeftOf, Reaches, Completes, OutputFails, MessagesFail}
+use Rattle.roff_tools.specs.Output.{PageHistory, written}
+use Rattle.roff_tools.specs.Performing.{behind, AllPerformed, StoppedAt, FailedAt, Does}
 use Rattle.roff_tools.specs.Requests.{PageEvent, Effect}
 use Rattle.roff_tools.specs.Run.{State, Leads, initial, step, stopped_by, output, reported}
 use Rattle.roff_tools.specs.Running.{NoFewerFaults, LimitStops, OutputStopsAt, Halts}
 use Rattle.roff_tools.specs.Sinks.{AppendsFront}
-use Rattle.roff_tools.specs.Tape.{Tape, Rises, last_count}
-use Rattle.roff_tools.proofs.Appending.{Appends-append, Appends-nothing}
+use Rattle.roff_tools.specs.Tape.{Tape, Rises}
+use Rattle.roff_tools.proofs.Appending.{Appends-append}
 use Rattle.roff_tools.proofs.ItemSteps.{written-behind}
 use Rattle.roff_tools.proofs.Leads.{Leads-step, Leads-trans, leads_events, step-stopped, step-event, busy}
 

@@ -1,5 +1,5 @@
 -- What each item of the source does to a run that reads on.
-use Rattle.std.proofs.Common.{◌≡◌, ◌<◌, ◌≤◌, ◌+◌, ℕ, List, [], ◌∷◌, ◌++◌, Option, Some, None, true, false, Result, Ok, Err, OnOk, OnErr, inl, inr, refl, sym, subst, arith, append-nil, append_assoc, if◌then◌else◌, ◌==◌}
+use Rattle.std.proofs.Common.{◌≡◌, ◌<◌, ◌≤◌, ◌+◌, ℕ, List, [], ◌∷◌, ◌++◌, Some, true, Result, Ok, Err, OnOk, OnErr, inl, inr, refl, sym, subst, arith, append-nil, if◌then◌else◌, ◌==◌}
 use Rattle.std.proofs.lemmas.Bool.{le-ltb, lt-ltb}
 use Rattle.std.specs.Io.KnownBytes.{Appends}
 use Rattle.roff_lines.specs.Events.{settings_after}
@@ -9,7 +9,6 @@ use Rattle.roff_tools.specs.declared.reading.LinePart.TheVariants.{Start}
 use Rattle.roff_tools.specs.declared.reading.Reading.TheVariants.{Line}
 use Rattle.roff_num.specs.declared.limit.Limit.{Limit}
 use Rattle.roff_num.specs.declared.limit.Limit.TheVariants.{Bytes}
-use Rattle.roff_lines.specs.declared.settings.Settings.{Settings}
 use Rattle.roff_tools.specs.declared.engine.Status.{Status}
 use Rattle.roff_tools.specs.declared.engine.Status.TheVariants.{Done, Device, Limit as Limited}
 use Rattle.roff_tools.specs.declared.halt.Halt.{Halt}
@@ -21,7 +20,7 @@ use Rattle.roff_tools.specs.Outcome.{Devices, Faults, IsLeftOf, Reaches, Complet
 use Rattle.roff_tools.specs.Output.{PageHistory, text_of, written}
 use Rattle.roff_tools.specs.Performing.{behind, Does, with_events, closing_events}
 use Rattle.roff_tools.specs.Reading.{Reading, Taking, LineStart, taking, end_effect}
-use Rattle.roff_tools.specs.Requests.{PageEvent, Effect}
+use Rattle.roff_tools.specs.Requests.{Effect}
 use Rattle.roff_tools.specs.Run.{State, Leads, initial, step, ending_as, output, reported}
 use Rattle.roff_tools.specs.Running.{NoFewerFaults, IsAt, LimitStops, Halts, reading_on}
 use Rattle.roff_tools.specs.declared.running.Running.{Running as Coded}

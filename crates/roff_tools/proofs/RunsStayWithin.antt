@@ -4,14 +4,13 @@
 use Rattle.std.proofs.Common.{◌≡◌, ◌≤◌, ◌+◌, ℕ, zero, suc, Bool, true, false, List, [], ◌∷◌, Some, None, refl, arith}
 use Rattle.std.specs.Prelude.{nat_lt, if◌then◌else◌}
 use Rattle.std.proofs.lemmas.Bool.Decides.{nat_tests}
-use Rattle.roff_lines.specs.Events.{Event}
 use Rattle.roff_lines.specs.Lines.{pending_length}
 use Rattle.roff_num.specs.declared.limits.Limits.{Limits}
 use Rattle.roff_tools.specs.Laws.{IsWithin, NoLimitIsPassed}
 use Rattle.roff_tools.specs.Output.{PageHistory, text_of}
 use Rattle.roff_tools.specs.Requests.{PageEvent, Text, Space}
-use Rattle.roff_tools.specs.Run.{State, initial, passes_line, passes_bytes, performing, byte_taken, end_met, answered, step_with, step, after}
-use Rattle.roff_tools.specs.Tape.{Tape, Answer, Gives, Ends, OneByte, OneNote, Ended, Failed, Stopped, front}
+use Rattle.roff_tools.specs.Run.{State, initial, passes_line, passes_bytes, performing, answered, step_with, step, after}
+use Rattle.roff_tools.specs.Tape.{Answer, Gives, Ends, OneByte, OneNote, Ended, Failed, Stopped, front}
 
 -- what isn't above a limit is within it
 within : (limit size : ℕ) → nat_lt limit size ≡ false → size ≤ limit

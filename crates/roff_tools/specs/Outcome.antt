@@ -1,5 +1,5 @@
 -- How a run of the code stands to the run of the definition.
-use Rattle.std.specs.Prelude.{◌≡◌, ◌⊎◌, ℕ, ◌≤◌, List, ◌++◌, Option, Some}
+use Rattle.std.specs.Prelude.{◌≡◌, ◌⊎◌, ℕ, List, ◌++◌, Option, Some}
 use Rattle.std.specs.Io.KnownBytes.{Appends}
 use Rattle.roff_tools.specs.declared.engine.Status.{Status}
 use Rattle.roff_tools.specs.declared.engine.Status.TheVariants.{Device}

@@ -9,12 +9,11 @@ ghost use Rattle.roff_tools.specs.Outcome.{FaultIsOfADevice, Outcome, devices, f
 ghost use Rattle.roff_tools.specs.Tape.{Tape};
 
 use crate::formatter::Formatter;
-use roff_num::Limits;
 use crate::meter::Meter;
 use crate::running::Running;
 use crate::sink::ByteSink;
 use crate::source::ByteSource;
-use roff_num::Limit;
+use roff_num::{Limit, Limits};
 use std::alloc::{AllocError, Global};
 use std::marker::Model;
 

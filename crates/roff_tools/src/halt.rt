@@ -6,10 +6,9 @@ ghost use Rattle.roff_tools.specs.Running.{Halts, with_messages};
 ghost use Rattle.roff_tools.specs.Tape.{Tape, Rises};
 
 use crate::engine::Status;
-use roff_num::Limits;
 use crate::message::{Message, report};
 use crate::sink::ByteSink;
-use roff_num::Limit;
+use roff_num::{Limit, Limits};
 
 /// What ends a run early.
 #[derive(Clone, Copy, Debug, PartialEq, Eq)]

@@ -5,9 +5,9 @@ ghost use Rattle.roff_tools.specs.Outcome.{FaultIsOfADevice, Outcome, devices, f
 ghost use Rattle.roff_tools.specs.Tape.{Tape};
 
 use crate::engine::{Engine, Start, Status};
-use roff_num::Limits;
 use crate::sink::ByteSink;
 use crate::source::ByteSource;
+use roff_num::Limits;
 use std::alloc::{AllocError, Global};
 
 /// What to run.

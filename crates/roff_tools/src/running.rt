@@ -8,11 +8,11 @@ ghost use Rattle.roff_tools.specs.Tape.{Tape, Answer, Answers, Ended, Gives, End
 use crate::engine::Status;
 use crate::formatter::Formatter;
 use crate::halt::Halt;
-use roff_num::Limits;
 use crate::message::{Message, report};
 use crate::meter::Meter;
 use crate::sink::ByteSink;
 use crate::source::{ByteSource, Taken};
+use roff_num::Limits;
 
 /// A run under way.
 #[derive(Drop)]

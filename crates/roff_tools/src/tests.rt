@@ -38,7 +38,11 @@ fn plain(name: &'static str, input: &'static [u8], output: &'static [u8]) -> Row
 /// A row with limits, and with what it reports.
 fn limited(row: Row, bytes: u32, line: u32, messages: &'static [u8], status: Status) -> Row {
     Row {
-        limits: Limits { bytes, line, ..Limits::default() },
+        limits: Limits {
+            bytes,
+            line,
+            ..Limits::default()
+        },
         messages,
         status,
         ..row

@@ -1,5 +1,4 @@
-use Rattle.std.proofs.Common.{◌≡◌, refl, subst, ◌∙◌}
-use Rattle.roff_tools.specs.Running.{Continues}
+use Rattle.std.proofs.Common.{◌≡◌, refl, ◌∙◌}
 use Rattle.roff_tools.specs.Tape.{Tape, behind_front}
 use Rattle.roff_tools.proofs.Items.{faults_then, no_fewer, outcome_of, starts, with_front, with_front-front, with_front-behind}
 use Rattle.roff_tools.proofs.engine.Engine.format.Goals as goal

@@ -1,9 +1,6 @@
-use Rattle.std.proofs.Common.{inl, inr, refl, subst, sym}
+use Rattle.std.proofs.Common.{inl, inr, refl}
 use Rattle.std.proofs.lemmas.Result.{on_err_weaker}
-use Rattle.roff_tools.specs.declared.halt.Halt.{Halt}
-use Rattle.roff_tools.specs.Outcome.{Devices}
-use Rattle.roff_tools.specs.Running.{Halts, with_messages}
-use Rattle.roff_tools.proofs.Halting.{Rises-behind, limit_told, limit_not_told, output_reported, all_performed, stopped_at, failed_at}
+use Rattle.roff_tools.proofs.Halting.{Rises-behind, limit_told, limit_not_told, output_reported}
 use Rattle.roff_tools.proofs.halt.Halt.status.Goals as goal
 
 pub returns-in-Ok-clause-ends : goal.returns-in-Ok-clause-ends

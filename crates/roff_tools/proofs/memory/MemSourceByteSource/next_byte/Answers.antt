@@ -1,4 +1,4 @@
-use Rattle.std.proofs.Common.{rules, refl}
+use Rattle.std.proofs.Common.{refl}
 use Rattle.roff_tools.specs.Tape.{Ended, Failed}
 use Rattle.roff_tools.proofs.Giving.{told_byte, told_end}
 use Rattle.roff_tools.proofs.memory.MemSourceByteSource.next_byte.Goals as goal

@@ -1,4 +1,4 @@
-use Rattle.std.proofs.Common.{◌≡◌, ◌++◌, arith, inl, inr, refl, rules, sym}
+use Rattle.std.proofs.Common.{◌≡◌, ◌++◌, arith, inl, inr, refl, rules}
 use Rattle.std.proofs.lemmas.Result.{on_err_weaker}
 use Rattle.roff_tools.specs.Outcome.{Devices, devices, faults}
 use Rattle.roff_tools.specs.Tape.{answer_of, behind_front}

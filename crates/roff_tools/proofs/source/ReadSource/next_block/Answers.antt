@@ -1,8 +1,7 @@
-use Rattle.std.proofs.Common.{◌≡◌, ◌<◌, ◌≤◌, ◌∷◌, [], length, get_or, vec_len, arith, rules, ◌∙◌}
-use Rattle.std.specs.Io.KnownBytes.{Consumes, IsAtEnd}
+use Rattle.std.proofs.Common.{◌≡◌, ◌<◌, ◌≤◌, [], length, get_or, vec_len, arith, rules, ◌∙◌}
+use Rattle.std.specs.Io.KnownBytes.{Consumes}
 use Rattle.std.specs.Vec.{with_items}
 use Rattle.std.proofs.lemmas.List.{get_or_default}
-use Rattle.roff_tools.specs.Reach.{unread}
 use Rattle.roff_tools.proofs.Giving.{block_over, block_read, block_written, read_byte, read_end, read_fault}
 use Rattle.roff_tools.proofs.source.ReadSource.next_block.Goals as goal
 
