@@ -1,5 +1,5 @@
 -- What an expression that is being read comes to, step by step.
-use Rattle.std.proofs.Common.{◌≡◌, ℕ, zero, suc, ◌+◌, ◌-◌, ◌<◌, ◌≤◌, Bool, true, false, cond, List, [], ◌∷◌, ◌++◌, length, drop, reverse, refl, ap, sym, subst, ◌∙◌, arith, inl, inr, Ok, Err, Some, None, add-zero, length-append}
+use Rattle.std.proofs.Common.{◌≡◌, ℕ, suc, ◌+◌, ◌-◌, ◌<◌, ◌≤◌, Bool, true, false, cond, List, [], ◌∷◌, ◌++◌, length, drop, reverse, refl, ap, sym, subst, ◌∙◌, arith, inl, inr, Ok, Err, Some, None, length-append}
 use Rattle.std.specs.Prelude.{ℤ, ◌-ℤ◌, Result, Option, OnOk}
 use Rattle.std.specs.Prelude.{nat_lt}
 use Rattle.std.proofs.lemmas.Bool.{cases_lt}
@@ -7,7 +7,7 @@ use Rattle.std.proofs.lemmas.Bool.Decides.{nat_tests}
 use Rattle.std.proofs.lemmas.List.{drop-drop, reverse-append}
 use Rattle.roff_num.specs.declared.expression.Frame.{Frame}
 use Rattle.roff_num.specs.declared.expression.Next.{Next}
-use Rattle.roff_num.specs.declared.expression.Next.TheVariants.{Opened, Operand, Ended}
+use Rattle.roff_num.specs.declared.expression.Next.TheVariants.{Opened, Operand}
 use Rattle.roff_num.specs.declared.expression.Opening.{Opening}
 use Rattle.roff_num.specs.declared.expression.Opening.TheVariants.{Parenthesis, Bar}
 use Rattle.roff_num.specs.declared.expression.Reading.{Reading}
@@ -16,7 +16,7 @@ use Rattle.roff_num.specs.declared.num.NumFault.TheVariants.{Missing}
 use Rattle.roff_num.specs.declared.num.Scale.{Scale}
 use Rattle.roff_num.specs.declared.operator.Operator.{Operator}
 use Rattle.roff_num.specs.Expressions.{closed_behind, expression_of, folded_onto, operand_within, past, sign_at, unsigned_of}
-use Rattle.roff_num.specs.Frames.{combined, come_to, entered, folded_from, held_value, left_behind, outcome_behind, outcome_of, outcome_opened, outcome_stepped, starts_at}
+use Rattle.roff_num.specs.Frames.{combined, come_to, entered, folded_from, held_value, left_behind, outcome_of, outcome_opened, outcome_stepped, starts_at}
 use Rattle.roff_num.specs.Numerals.{numeral_at}
 use Rattle.roff_num.specs.Operators.{applied, begins_with, operator_at}
 use Rattle.roff_num.specs.Ranges.{in_range, signed}
@@ -27,7 +27,7 @@ use Rattle.roff_num.proofs.Openings.{unsigned_of-bar, unsigned_of-no_place, unsi
 -- steps behind a step that has two of its own
 folded_steps : (operand : ℤ → ℕ → Result (ℤ × ℕ) NumFault) (o : Operator) (value : ℤ) (first second : ℤ × ℕ → Result (ℤ × ℕ) NumFault) (x : Result (ℤ × ℕ) NumFault)
     → followed x (λ r. followed (applied o value r.0) (λ v. followed (followed (operand v r.1) first) second))
-      ≡ followed (followed (followed x (λ r. followed (applied o value r.0) (λ v. operand v r.1))) first) second
+    ≡ followed (followed (followed x (λ r. followed (applied o value r.0) (λ v. operand v r.1))) first) second
 folded_steps operand o value first second (Ok r) = by_value (applied o value r.0)
   where
     by_value : (y : Result ℤ NumFault) → followed y (λ v. followed (followed (operand v r.1) first) second) ≡ followed (followed (followed y (λ v. operand v r.1)) first) second
@@ -39,7 +39,7 @@ folded_steps operand o value first second (Err e) = refl
 pub come_to-operator : (text : List ℕ) (scale : Scale) (place : Option ℤ) (levels : ℕ) (value : ℤ) (at behind : ℕ) (o : Operator) (k : ℕ)
     → operator_at (drop at text) ≡ Some (o, k) → behind ≡ at + (1 + k)
     → followed (past behind (operand_within scale place levels (drop behind text))) (λ r. followed (applied o value r.0) (λ v. come_to text scale place levels [] v r.1))
-      ≡ come_to text scale place levels [] value at
+    ≡ come_to text scale place levels [] value at
 unfolding come_to
 come_to-operator text scale place levels value at behind o k found e = sym (folded_from-some text (operand_within scale place levels) value at behind o k found e)
 
@@ -53,26 +53,26 @@ come_to-end text scale place levels value at found = sym (folded_from-none text 
 come_to-parenthesis_operator : (text : List ℕ) (scale : Scale) (place : Option ℤ) (levels : ℕ) (pending : Option (Operator × ℤ)) (is_negative : Bool) (frames : List Frame) (value : ℤ) (at behind : ℕ) (o : Operator) (k : ℕ)
     → operator_at (drop at text) ≡ Some (o, k) → behind ≡ at + (1 + k)
     → followed (past behind (operand_within scale place levels (drop behind text)))
-        (λ r. followed (applied o value r.0) (λ v. come_to text scale place levels (record { pending = pending; negative = is_negative; opening = Parenthesis } ∷ frames) v r.1))
-      ≡ come_to text scale place levels (record { pending = pending; negative = is_negative; opening = Parenthesis } ∷ frames) value at
+    (λ r. followed (applied o value r.0) (λ v. come_to text scale place levels (record { pending = pending; negative = is_negative; opening = Parenthesis } ∷ frames) v r.1))
+    ≡ come_to text scale place levels (record { pending = pending; negative = is_negative; opening = Parenthesis } ∷ frames) value at
 unfolding come_to
 come_to-parenthesis_operator text scale place levels pending is_negative frames value at behind o k found e =
     folded_steps (folded_from text (operand_within scale place levels)) o value
-      (λ r. past r.1 (closed_behind is_negative r.0 (drop r.1 text)))
-      (λ r. followed (combined pending r.0) (λ v. come_to text scale place (suc levels) frames v r.1))
-      (past behind (operand_within scale place levels (drop behind text)))
+    (λ r. past r.1 (closed_behind is_negative r.0 (drop r.1 text)))
+    (λ r. followed (combined pending r.0) (λ v. come_to text scale place (suc levels) frames v r.1))
+    (past behind (operand_within scale place levels (drop behind text)))
     ∙ ap (λ x. followed (followed x (λ r. past r.1 (closed_behind is_negative r.0 (drop r.1 text)))) (λ r. followed (combined pending r.0) (λ v. come_to text scale place (suc levels) frames v r.1)))
-      (sym (folded_from-some text (operand_within scale place levels) value at behind o k found e))
+    (sym (folded_from-some text (operand_within scale place levels) value at behind o k found e))
 
 pub come_to-operator_within : (text : List ℕ) (scale : Scale) (place : Option ℤ) (levels : ℕ) (f : Frame) (frames : List Frame) (value : ℤ) (at behind : ℕ) (o : Operator) (k : ℕ)
     → f.opening ≡ Parenthesis → operator_at (drop at text) ≡ Some (o, k) → behind ≡ at + (1 + k)
     → followed (past behind (operand_within scale place levels (drop behind text))) (λ r. followed (applied o value r.0) (λ v. come_to text scale place levels (f ∷ frames) v r.1))
-      ≡ come_to text scale place levels (f ∷ frames) value at
+    ≡ come_to text scale place levels (f ∷ frames) value at
 come_to-operator_within text scale place levels f frames value at behind o k opened found e =
     let P : Opening → Type 0 = λ opening.
-      followed (past behind (operand_within scale place levels (drop behind text)))
-        (λ r. followed (applied o value r.0) (λ v. come_to text scale place levels (record { pending = f.pending; negative = f.negative; opening = opening } ∷ frames) v r.1))
-      ≡ come_to text scale place levels (record { pending = f.pending; negative = f.negative; opening = opening } ∷ frames) value at in
+    followed (past behind (operand_within scale place levels (drop behind text)))
+    (λ r. followed (applied o value r.0) (λ v. come_to text scale place levels (record { pending = f.pending; negative = f.negative; opening = opening } ∷ frames) v r.1))
+    ≡ come_to text scale place levels (record { pending = f.pending; negative = f.negative; opening = opening } ∷ frames) value at in
     subst P (sym opened) (come_to-parenthesis_operator text scale place levels f.pending f.negative frames value at behind o k found e)
 
 -- behind a value in parentheses without an operator stands a `)`, or there is a fault
@@ -93,7 +93,7 @@ ended_at at taken next (Err e) = refl
 pub come_to-closed : (text : List ℕ) (scale : Scale) (place : Option ℤ) (levels : ℕ) (f : Frame) (frames : List Frame) (value : ℤ) (at : ℕ)
     → f.opening ≡ Parenthesis → operator_at (drop at text) ≡ None → begins_with 41 (drop at text) ≡ true
     → followed (in_range (signed f.negative value)) (λ v. followed (combined f.pending v) (λ w. come_to text scale place (suc levels) frames w (at + 1)))
-      ≡ come_to text scale place levels (f ∷ frames) value at
+    ≡ come_to text scale place levels (f ∷ frames) value at
 unfolding come_to
 come_to-closed text scale place levels f frames value at opened found closed =
     let next : ℤ × ℕ → Result (ℤ × ℕ) NumFault = λ r. followed (combined f.pending r.0) (λ v. come_to text scale place (suc levels) frames v r.1) in
@@ -115,7 +115,7 @@ come_to-not_closed text scale place levels f frames value at opened found closed
 pub come_to-bar : (text : List ℕ) (scale : Scale) (place : Option ℤ) (levels : ℕ) (f : Frame) (frames : List Frame) (value from : ℤ) (at : ℕ)
     → f.opening ≡ Bar from
     → followed (in_range (signed f.negative (value -ℤ from))) (λ v. followed (combined f.pending v) (λ w. come_to text scale place (suc levels) frames w at))
-      ≡ come_to text scale place levels (f ∷ frames) value at
+    ≡ come_to text scale place levels (f ∷ frames) value at
 unfolding come_to
 come_to-bar text scale place levels f frames value from at opened =
     let next : ℤ × ℕ → Result (ℤ × ℕ) NumFault = λ r. followed (combined f.pending r.0) (λ v. come_to text scale place (suc levels) frames v r.1) in
@@ -130,7 +130,7 @@ come_to-bar text scale place levels f frames value from at opened =
 pub outcome_stepped-left : (text : List ℕ) (scale : Scale) (place : Option ℤ) (f : Frame) (at levels : ℕ) (old new : Reading) (result : Result Next NumFault) (x : Result ℤ NumFault)
     → result ≡ followed x (λ v. Ok (Operand v)) → OnOk result (new ≡ left_behind f at old) → levels ≡ 33 - length old.frames.items
     → outcome_stepped text scale place new result
-      ≡ followed x (λ v. followed (combined f.pending v) (λ w. come_to text scale place levels (reverse old.frames.items) w at))
+    ≡ followed x (λ v. followed (combined f.pending v) (λ w. come_to text scale place levels (reverse old.frames.items) w at))
 outcome_stepped-left text scale place f at levels old new result (Ok v) e left l =
     let stands : new ≡ left_behind f at old = rw e at left in
     ap (outcome_stepped text scale place new) e
@@ -146,7 +146,7 @@ reverse-innermost frames f = reverse-append frames (f ∷ [])
 outcome_opened-named : (text : List ℕ) (scale : Scale) (place : Option ℤ) (at : ℕ) (pending : Option (Operator × ℤ)) (items frames : List Frame) (levels : ℕ)
     → levels ≡ 33 - length items → frames ≡ reverse items
     → outcome_opened text scale place (record { at = at; pending = pending; frames = record { items = items } })
-      ≡ followed (past at (operand_within scale place levels (drop at text))) (λ r. followed (combined pending r.0) (λ v. come_to text scale place levels frames v r.1))
+    ≡ followed (past at (operand_within scale place levels (drop at text))) (λ r. followed (combined pending r.0) (λ v. come_to text scale place levels frames v r.1))
 outcome_opened-named text scale place at pending items frames levels l f =
     ap (λ n. followed (past at (operand_within scale place n (drop at text))) (λ r. followed (combined pending r.0) (λ v. come_to text scale place n (reverse items) v r.1))) (sym l)
     ∙ ap (λ fs. followed (past at (operand_within scale place levels (drop at text))) (λ r. followed (combined pending r.0) (λ v. come_to text scale place levels fs v r.1))) (sym f)
@@ -155,7 +155,7 @@ outcome_opened-named text scale place at pending items frames levels l f =
 pub outcome_opened-operator : (text : List ℕ) (scale : Scale) (place : Option ℤ) (levels : ℕ) (f : Frame) (items more : List Frame) (value : ℤ) (at behind : ℕ) (o : Operator) (k : ℕ)
     → f.opening ≡ Parenthesis → operator_at (drop at text) ≡ Some (o, k) → behind ≡ at + (1 + k) → more ≡ items ++ f ∷ [] → levels ≡ 33 - length more
     → outcome_opened text scale place (record { at = behind; pending = Some (o, value); frames = record { items = more } })
-      ≡ come_to text scale place levels (f ∷ reverse items) value at
+    ≡ come_to text scale place levels (f ∷ reverse items) value at
 outcome_opened-operator text scale place levels f items more value at behind o k opened found e m l =
     let innermost : f ∷ reverse items ≡ reverse more = sym (ap reverse m ∙ reverse-innermost items f) in
     outcome_opened-named text scale place behind (Some (o, value)) more (f ∷ reverse items) levels l innermost
@@ -165,8 +165,8 @@ outcome_opened-operator text scale place levels f items more value at behind o k
 pub outcome_opened-unsigned : (text : List ℕ) (scale : Scale) (place : Option ℤ) (reading : Reading) (n at : ℕ) (sign : Bool × ℕ)
     → suc n ≡ 33 - length reading.frames.items → sign ≡ sign_at (drop reading.at text) → at ≡ reading.at + sign.1
     → outcome_opened text scale place reading
-      ≡ followed (past at (unsigned_of scale place (operand_within scale place n) sign.0 (drop at text)))
-        (λ r. followed (combined reading.pending r.0) (λ v. come_to text scale place (suc n) (reverse reading.frames.items) v r.1))
+    ≡ followed (past at (unsigned_of scale place (operand_within scale place n) sign.0 (drop at text)))
+    (λ r. followed (combined reading.pending r.0) (λ v. come_to text scale place (suc n) (reverse reading.frames.items) v r.1))
 unfolding operand_within
 outcome_opened-unsigned text scale place reading n at sign l s e =
     let next : ℤ × ℕ → Result (ℤ × ℕ) NumFault = λ r. followed (combined reading.pending r.0) (λ v. come_to text scale place (suc n) (reverse reading.frames.items) v r.1) in
@@ -180,10 +180,10 @@ outcome_opened-unsigned text scale place reading n at sign l s e =
 -- what opens an operand within an operand: what the operand comes to is what the one within it does, on a level less
 pub record OpensWithin (text : List ℕ) (scale : Scale) (place : Option ℤ) (reading : Reading) (at : ℕ) (is_negative : Bool) (opening : Opening) : Type 0 where
   pub same : (n : ℕ)
-    → followed (past (at + 1) (operand_within scale place n (drop (at + 1) text)))
-        (λ r. come_to text scale place n (record { pending = reading.pending; negative = is_negative; opening = opening } ∷ reverse reading.frames.items) r.0 r.1)
+      → followed (past (at + 1) (operand_within scale place n (drop (at + 1) text)))
+      (λ r. come_to text scale place n (record { pending = reading.pending; negative = is_negative; opening = opening } ∷ reverse reading.frames.items) r.0 r.1)
       ≡ followed (past at (unsigned_of scale place (operand_within scale place n) is_negative (drop at text)))
-        (λ r. followed (combined reading.pending r.0) (λ v. come_to text scale place (suc n) (reverse reading.frames.items) v r.1))
+      (λ r. followed (combined reading.pending r.0) (λ v. come_to text scale place (suc n) (reverse reading.frames.items) v r.1))
 
 -- `(` does
 pub OpensWithin-parenthesis : (text : List ℕ) (scale : Scale) (place : Option ℤ) (reading : Reading) (at : ℕ) (is_negative : Bool)
@@ -191,7 +191,7 @@ pub OpensWithin-parenthesis : (text : List ℕ) (scale : Scale) (place : Option 
 unfolding come_to
 OpensWithin-parenthesis text scale place reading at is_negative found = record {
   same = λ n. sym (unsigned_of-parenthesis text scale place (operand_within scale place n) is_negative at
-    (λ r. followed (combined reading.pending r.0) (λ v. come_to text scale place (suc n) (reverse reading.frames.items) v r.1)) found)
+      (λ r. followed (combined reading.pending r.0) (λ v. come_to text scale place (suc n) (reverse reading.frames.items) v r.1)) found);
 }
 
 -- `|` does, where there is a place
@@ -200,7 +200,7 @@ OpensWithin-some_place : (text : List ℕ) (scale : Scale) (from : ℤ) (reading
 unfolding come_to
 OpensWithin-some_place text scale from reading at is_negative other found = record {
   same = λ n. sym (unsigned_of-bar text scale from (operand_within scale (Some from) n) is_negative at
-    (λ r. followed (combined reading.pending r.0) (λ v. come_to text scale (Some from) (suc n) (reverse reading.frames.items) v r.1)) other found)
+      (λ r. followed (combined reading.pending r.0) (λ v. come_to text scale (Some from) (suc n) (reverse reading.frames.items) v r.1)) other found);
 }
 
 pub OpensWithin-bar : (text : List ℕ) (scale : Scale) (place : Option ℤ) (from : ℤ) (reading : Reading) (at : ℕ) (is_negative : Bool)
@@ -261,14 +261,14 @@ outcome_opened-numeral text scale place reading at sign s e few other found =
     let levels : suc n ≡ 33 - length reading.frames.items = omega arith in
     sym (outcome_opened-unsigned text scale place reading n at sign levels s e
     ∙ (ap (λ x. followed (past at x) (λ r. followed (combined reading.pending r.0) (λ v. come_to text scale place (suc n) (reverse reading.frames.items) v r.1)))
-      (unsigned_of-numeral (drop at text) scale place (operand_within scale place n) sign.0 other found)
+    (unsigned_of-numeral (drop at text) scale place (operand_within scale place n) sign.0 other found)
     ∙ ap (λ l. followed (past at (numeral_at scale sign.0 (drop at text))) (λ r. followed (combined reading.pending r.0) (λ v. come_to text scale place l (reverse reading.frames.items) v r.1))) levels))
 
 -- a value within an operand that has just been taken off the frames
 pub come_to-innermost : (text : List ℕ) (scale : Scale) (place : Option ℤ) (old new : List Frame) (f : Frame) (levels : ℕ) (pending : Option (Operator × ℤ)) (value w : ℤ) (at : ℕ)
     → combined pending value ≡ Ok w → old ≡ new ++ f ∷ [] → levels ≡ 33 - length old
     → come_to text scale place levels (f ∷ reverse new) w at
-      ≡ followed (combined pending value) (λ v. come_to text scale place (33 - length old) (reverse old) v at)
+    ≡ followed (combined pending value) (λ v. come_to text scale place (33 - length old) (reverse old) v at)
 come_to-innermost text scale place old new f levels pending value w at k e l =
     ap (λ n. come_to text scale place n (f ∷ reverse new) w at) l
     ∙ (ap (λ fs. come_to text scale place (33 - length old) fs w at) (sym (ap reverse e ∙ reverse-innermost new f))

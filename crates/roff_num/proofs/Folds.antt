@@ -1,5 +1,5 @@
 -- What follows a value, folded onto it: with an operator there, or with none.
-use Rattle.std.proofs.Common.{◌≡◌, ℕ, zero, suc, ◌+◌, Bool, true, false, cond, List, [], ◌∷◌, drop, refl, ap, sym, ◌∙◌, arith, Ok, Err, Some, None, add_assoc, add-zero, add-one, zero-add, add_comm}
+use Rattle.std.proofs.Common.{◌≡◌, ℕ, zero, suc, ◌+◌, List, [], ◌∷◌, drop, refl, ap, sym, ◌∙◌, arith, Ok, Err, Some, None, add_assoc, add-zero}
 use Rattle.std.specs.Prelude.{ℤ, Result, Option}
 use Rattle.std.proofs.lemmas.List.{drop-drop}
 use Rattle.roff_num.specs.declared.num.NumFault.{NumFault}
@@ -29,7 +29,7 @@ drop-one_more n c text = ap (λ k. drop k (c ∷ text)) (let e : suc n ≡ 1 + n
 -- behind an operator stands an operand, then the rest
 folded_behind : (operand : List ℕ → Result (ℤ × ℕ) NumFault) (value : ℤ) (c : ℕ) (text : List ℕ) (o : Operator) (k : ℕ) (r : ℤ × ℕ) (x : Result ℤ NumFault)
     → followed x (λ v. past (1 + k + r.1) (folded_onto operand (k + r.1) v text))
-      ≡ followed x (λ v. past (1 + k + r.1) (folded_onto operand 0 v (drop (1 + k + r.1) (c ∷ text))))
+    ≡ followed x (λ v. past (1 + k + r.1) (folded_onto operand 0 v (drop (1 + k + r.1) (c ∷ text))))
 folded_behind operand value c text o k r (Ok v) =
     ap (past (1 + k + r.1))
     (folded_onto-drop operand (k + r.1) v text
@@ -38,7 +38,7 @@ folded_behind operand value c text o k r (Err e) = refl
 
 folded_operand : (operand : List ℕ → Result (ℤ × ℕ) NumFault) (value : ℤ) (c : ℕ) (text : List ℕ) (o : Operator) (k : ℕ) (x : Result (ℤ × ℕ) NumFault)
     → followed x (λ r. followed (applied o value r.0) (λ v. past (1 + k + r.1) (folded_onto operand (k + r.1) v text)))
-      ≡ followed x (λ r. followed (applied o value r.0) (λ v. past (1 + k + r.1) (folded_onto operand 0 v (drop (1 + k + r.1) (c ∷ text)))))
+    ≡ followed x (λ r. followed (applied o value r.0) (λ v. past (1 + k + r.1) (folded_onto operand 0 v (drop (1 + k + r.1) (c ∷ text)))))
 folded_operand operand value c text o k (Ok r) = folded_behind operand value c text o k r (applied o value r.0)
 folded_operand operand value c text o k (Err e) = refl
 
@@ -56,14 +56,14 @@ folded_onto-cons operand value c text = refl
 pub folded_onto-some : (operand : List ℕ → Result (ℤ × ℕ) NumFault) (value : ℤ) (text : List ℕ) (o : Operator) (k : ℕ)
     → operator_at text ≡ Some (o, k)
     → folded_onto operand 0 value text
-      ≡ followed (operand (drop (1 + k) text)) (λ r. followed (applied o value r.0) (λ v. past (1 + k + r.1) (folded_onto operand 0 v (drop (1 + k + r.1) text))))
+    ≡ followed (operand (drop (1 + k) text)) (λ r. followed (applied o value r.0) (λ v. past (1 + k + r.1) (folded_onto operand 0 v (drop (1 + k + r.1) text))))
 folded_onto-some operand value [] o k found = cc
 folded_onto-some operand value (c ∷ text) o k found =
     folded_onto-cons operand value c text
     ∙ (ap (folded_by operand value text) found
     ∙ (folded_operand operand value c text o k (operand (drop k text))
     ∙ ap (λ x. followed x (λ r. followed (applied o value r.0) (λ v. past (1 + k + r.1) (folded_onto operand 0 v (drop (1 + k + r.1) (c ∷ text))))))
-      (ap operand (drop-one_more k c text))))
+    (ap operand (drop-one_more k c text))))
 
 -- without an operator the value stands
 pub folded_onto-none : (operand : List ℕ → Result (ℤ × ℕ) NumFault) (value : ℤ) (text : List ℕ)
@@ -82,7 +82,7 @@ folded_from-none text operand value at found =
 folded_further : (text : List ℕ) (operand : List ℕ → Result (ℤ × ℕ) NumFault) (at taken behind : ℕ) (r : ℤ × ℕ) (x : Result ℤ NumFault)
     → behind ≡ at + taken
     → past at (followed x (λ v. past (taken + r.1) (folded_onto operand 0 v (drop (taken + r.1) (drop at text)))))
-      ≡ followed x (λ v. folded_from text operand v (behind + r.1))
+    ≡ followed x (λ v. folded_from text operand v (behind + r.1))
 folded_further text operand at taken behind r (Ok v) e =
     past-past at (taken + r.1) (folded_onto operand 0 v (drop (taken + r.1) (drop at text)))
     ∙ (ap (λ l. past (at + (taken + r.1)) (folded_onto operand 0 v l)) (drop-drop (taken + r.1) at text)
@@ -92,16 +92,16 @@ folded_further text operand at taken behind r (Err f) e = refl
 folded_further_operand : (text : List ℕ) (operand : List ℕ → Result (ℤ × ℕ) NumFault) (value : ℤ) (at taken behind : ℕ) (o : Operator) (x : Result (ℤ × ℕ) NumFault)
     → behind ≡ at + taken
     → past at (followed x (λ r. followed (applied o value r.0) (λ v. past (taken + r.1) (folded_onto operand 0 v (drop (taken + r.1) (drop at text))))))
-      ≡ followed (past behind x) (λ r. followed (applied o value r.0) (λ v. folded_from text operand v r.1))
+    ≡ followed (past behind x) (λ r. followed (applied o value r.0) (λ v. folded_from text operand v r.1))
 folded_further_operand text operand value at taken behind o (Ok r) e = folded_further text operand at taken behind r (applied o value r.0) e
 folded_further_operand text operand value at taken behind o (Err f) e = refl
 
 pub folded_from-some : (text : List ℕ) (operand : List ℕ → Result (ℤ × ℕ) NumFault) (value : ℤ) (at behind : ℕ) (o : Operator) (k : ℕ)
     → operator_at (drop at text) ≡ Some (o, k) → behind ≡ at + (1 + k)
     → folded_from text operand value at
-      ≡ followed (past behind (operand (drop behind text))) (λ r. followed (applied o value r.0) (λ v. folded_from text operand v r.1))
+    ≡ followed (past behind (operand (drop behind text))) (λ r. followed (applied o value r.0) (λ v. folded_from text operand v r.1))
 folded_from-some text operand value at behind o k found e =
     ap (past at) (folded_onto-some operand value (drop at text) o k found)
     ∙ (folded_further_operand text operand value at (1 + k) behind o (operand (drop (1 + k) (drop at text))) e
     ∙ ap (λ l. followed (past behind (operand l)) (λ r. followed (applied o value r.0) (λ v. folded_from text operand v r.1)))
-      (drop-drop (1 + k) at text ∙ ap (λ n. drop n text) (sym e)))
+    (drop-drop (1 + k) at text ∙ ap (λ n. drop n text) (sym e)))

@@ -1,11 +1,10 @@
 -- The value of an expression is the left fold over its operands.
-use Rattle.std.proofs.Common.{◌≡◌, ℕ, ◌+◌, List, [], ◌∷◌, drop, refl, ap, sym, ◌∙◌, arith, Ok, Err, Some, None, add_assoc, add-zero}
+use Rattle.std.proofs.Common.{◌≡◌, ℕ, ◌+◌, List, [], ◌∷◌, drop, refl, ap, sym, ◌∙◌, Ok, Err}
 use Rattle.std.specs.Prelude.{ℤ, Result}
-use Rattle.std.proofs.lemmas.List.{drop-drop}
 use Rattle.roff_num.specs.declared.num.NumFault.{NumFault}
 use Rattle.roff_num.specs.Expressions.{folded_onto, past}
 use Rattle.roff_num.specs.Laws.{IsLeftFold, left_fold, ReadsAs, Term, terms_length}
-use Rattle.roff_num.specs.Operators.{applied, operator_at}
+use Rattle.roff_num.specs.Operators.{applied}
 use Rattle.roff_num.specs.Steps.{followed}
 use Rattle.roff_num.proofs.Folds.{folded_onto-drop, folded_onto-none, folded_onto-some}
 
@@ -32,7 +31,7 @@ folded_onto-terms operand value (t ∷ terms) text (k, lengths, found, read, res
     ∙ (ap (λ x. followed x (λ r. followed (applied t.operator value r.0) (λ v. past (1 + k + r.1) (folded_onto operand 0 v (drop (1 + k + r.1) text))))) behind
     ∙ (ap (λ n. followed (applied t.operator value t.value) (λ v. past (n + t.operand_length) (folded_onto operand 0 v (drop (n + t.operand_length) text)))) bytes
     ∙ fold_term operand terms text (t.operator_length + t.operand_length) (applied t.operator value t.value)
-      (λ v. folded_onto-terms operand v terms (drop (t.operator_length + t.operand_length) text) rest)))
+    (λ v. folded_onto-terms operand v terms (drop (t.operator_length + t.operand_length) text) rest)))
 
 -- so the expression is that fold onto its first operand
 pub expression_of-terms : IsLeftFold

@@ -1,5 +1,5 @@
 -- The parts of a numeral, put together.
-use Rattle.std.proofs.Common.{◌≡◌, ℕ, zero, suc, ◌+◌, ◌<◌, Bool, true, false, cond, List, length, drop, take, refl, arith, ap, Ok, Err, ◌∙◌, sym}
+use Rattle.std.proofs.Common.{◌≡◌, ℕ, ◌+◌, ◌<◌, Bool, cond, List, length, drop, arith, ap, Ok, Err, ◌∙◌}
 use Rattle.std.specs.Prelude.{pos, ℤ, Result, ◌==◌}
 use Rattle.std.proofs.lemmas.Bool.Decides.{nat_tests}
 use Rattle.roff_num.specs.declared.num.NumFault.{NumFault}
@@ -39,12 +39,12 @@ pub numeral_at-parts : (text : List ℕ) (scale : Scale) (is_negative : Bool) (w
     → followed given (λ v. Ok (v, length whole + (dot + length decimals) + unit.1)) ≡ numeral_at scale is_negative text
 numeral_at-parts text scale is_negative whole behind decimals rest dot unit given w b k d r u g some =
     let as_given : followed given (λ v. Ok (v, length whole + (dot + length decimals) + unit.1)) ≡ given_by is_negative whole dot decimals unit =
-      ap (λ x. followed x (λ v. Ok (v, length whole + (dot + length decimals) + unit.1))) g in
+    ap (λ x. followed x (λ v. Ok (v, length whole + (dot + length decimals) + unit.1))) g in
     let as_unit : unit ≡ unit_at scale (drop (dot_at behind + length (decimals_at behind)) behind) = u ∙ ap (unit_at scale) (r ∙ (ap (λ n. drop (n + length decimals) behind) k ∙ ap (λ ds. drop (dot_at behind + length ds) behind) d)) in
     let as_dot : given_by is_negative whole dot decimals unit ≡ given_by is_negative whole (dot_at behind) decimals unit = ap (λ n. given_by is_negative whole n decimals unit) k in
     let as_decimals : given_by is_negative whole (dot_at behind) decimals unit ≡ given_by is_negative whole (dot_at behind) (decimals_at behind) unit = ap (λ ds. given_by is_negative whole (dot_at behind) ds unit) d in
     let as_whole : given_by is_negative whole (dot_at behind) (decimals_at behind) unit ≡ given_by is_negative whole (dot_at behind) (decimals_at behind) (unit_at scale (drop (dot_at behind + length (decimals_at behind)) behind)) =
-      ap (given_by is_negative whole (dot_at behind) (decimals_at behind)) as_unit in
+    ap (given_by is_negative whole (dot_at behind) (decimals_at behind)) as_unit in
     let parts : numeral_of scale is_negative whole behind ≡ numeral_at scale is_negative text =
-      ap (λ ds. numeral_of scale is_negative ds behind) w ∙ ap (numeral_of scale is_negative (digits_at text)) b in
+    ap (λ ds. numeral_of scale is_negative ds behind) w ∙ ap (numeral_of scale is_negative (digits_at text)) b in
     as_given ∙ (as_dot ∙ (as_decimals ∙ (as_whole ∙ (numeral_of-some scale is_negative whole behind (some_digits (ap (λ ds. length whole + length ds) d) some) ∙ parts))))

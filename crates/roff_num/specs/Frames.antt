@@ -1,6 +1,6 @@
 -- An expression that is being read, and what it comes to: the frames say what its value is when the operand
 -- that is read next has a value.
-use Rattle.std.specs.Prelude.{ℕ, zero, suc, ◌+◌, ◌-◌, ◌*◌, ◌<◌, Bool, List, [], ◌∷◌, ◌++◌, length, drop, reverse, ℤ, ◌-ℤ◌, Option, Some, None, Result, Ok, Err}
+use Rattle.std.specs.Prelude.{ℕ, suc, ◌+◌, ◌-◌, ◌*◌, ◌<◌, Bool, List, [], ◌∷◌, ◌++◌, length, drop, reverse, ℤ, ◌-ℤ◌, Option, Some, None, Result, Ok, Err}
 use Rattle.roff_num.specs.declared.expression.Frame.{Frame}
 use Rattle.roff_num.specs.declared.expression.Next.{Next}
 use Rattle.roff_num.specs.declared.expression.Next.TheVariants.{Opened, Operand, Ended}
@@ -42,7 +42,7 @@ come_to text scale place levels (f ∷ frames) value at =
 abbrev pub outcome_of : List ℕ → Scale → Option ℤ → Reading → Result (ℤ × ℕ) NumFault → Result (ℤ × ℕ) NumFault
 outcome_of text scale place reading operand =
     followed operand (λ r. followed (combined reading.pending r.0)
-      (λ v. come_to text scale place (most_levels - length reading.frames.items) (reverse reading.frames.items) v r.1))
+    (λ v. come_to text scale place (most_levels - length reading.frames.items) (reverse reading.frames.items) v r.1))
 
 -- what it comes to where an operand is read next
 abbrev pub outcome_opened : List ℕ → Scale → Option ℤ → Reading → Result (ℤ × ℕ) NumFault
@@ -80,7 +80,7 @@ entered reading at is_negative opening =
     record {
       at = at;
       pending = None;
-      frames = record { items = reading.frames.items ++ (record { pending = reading.pending; negative = is_negative; opening = opening }) ∷ [] }
+      frames = record { items = reading.frames.items ++ (record { pending = reading.pending; negative = is_negative; opening = opening }) ∷ [] };
     }
 
 -- a reading within one more frame

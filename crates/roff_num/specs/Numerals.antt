@@ -67,7 +67,7 @@ numeral_of scale is_negative whole behind =
     let unit = unit_at scale (drop (dot_at behind + length decimals) behind) in
     if length whole + length decimals == 0 then Err Missing
     else followed (in_range (signed is_negative (pos (size_of whole decimals unit.0))))
-      (λ v. Ok (v, length whole + (dot_at behind + length decimals) + unit.1))
+    (λ v. Ok (v, length whole + (dot_at behind + length decimals) + unit.1))
 
 -- the value of the numeral at a text's front, behind a sign, with the number of its bytes
 abbrev pub numeral_at : Scale → Bool → List ℕ → Result (ℤ × ℕ) NumFault

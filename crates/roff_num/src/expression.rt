@@ -107,12 +107,7 @@ impl Reading {
     }
 
     /// Reads an operand's sign, and a numeral or what opens an operand within.
-    fn open(
-        &mut self,
-        text: &[u8],
-        scale: Scale,
-        place: Option<i32>,
-    ) -> Result<Next, NumFault>
+    fn open(&mut self, text: &[u8], scale: Scale, place: Option<i32>) -> Result<Next, NumFault>
         ensures goes_on { outcome_stepped text.now scale place self.new result ≡ outcome_opened text.now scale place self.old }
         ensures less_left { IfOk result (LeavesLess text.now self.old self.new) }
     {
@@ -144,7 +139,11 @@ impl Reading {
         ensures entered { OnOk result (self.new ≡ entered self.old at negative opening) }
     {
         let pending = self.pending;
-        match self.frames.try_push(Frame { pending, negative, opening }) {
+        match self.frames.try_push(Frame {
+            pending,
+            negative,
+            opening,
+        }) {
             Ok(()) => {
                 self.at = at;
                 self.pending = None;

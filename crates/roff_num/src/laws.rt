@@ -6,7 +6,6 @@ ghost use Rattle.roff_num.specs.Laws.{IsLeftFold};
 ghost use Rattle.roff_num.specs.declared.num.NumFault.TheVariants.{Missing, Range, ZeroDivisor};
 ghost use Rattle.roff_num.specs.declared.num.Scale.TheVariants.{Units};
 
-
 /// The value of an expression is the left fold over its operands.
 pub fn left_fold()
     ensures { IsLeftFold }

@@ -12,6 +12,8 @@ mod name;
 mod num;
 mod numeral;
 mod operator;
+#[cfg(test)]
+mod tests;
 
 pub use evaluation::eval;
 pub use limit::Limit;

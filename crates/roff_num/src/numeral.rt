@@ -18,7 +18,11 @@ pub(crate) struct Ratio {
 const MOST_DECIMALS: usize = 9;
 
 /// The value of the numeral at a text's front behind a sign, in basic units, and how many bytes it takes.
-pub(crate) fn read_numeral(text: &[u8], scale: Scale, negative: bool) -> Result<(i32, usize), NumFault>
+pub(crate) fn read_numeral(
+    text: &[u8],
+    scale: Scale,
+    negative: bool,
+) -> Result<(i32, usize), NumFault>
     ensures value { result ≡ numeral_at scale negative text.now }
     ensures some { IfOk result (λ r. 0 < r.1) }
     ensures within { IfOk result (λ r. r.1 ≤ length text.now) }
@@ -68,7 +72,9 @@ fn digits_behind(before: u64, digits: &[u8]) -> u64
 {
     let mut number = before;
     for digit in digits {
-        number = number.saturating_mul(10).saturating_add(u64::from(*digit - b'0'));
+        number = number
+            .saturating_mul(10)
+            .saturating_add(u64::from(*digit - b'0'));
     }
     number
 }
@@ -142,10 +148,16 @@ fn letter_unit(letter: u8) -> Option<Ratio>
     ensures one_or_more { IfSome result (λ unit. unit.under ≤ unit.over) }
 {
     match letter {
-        b'i' => Some(Ratio { over: 240, under: 1 }),
+        b'i' => Some(Ratio {
+            over: 240,
+            under: 1,
+        }),
         b'P' => Some(Ratio { over: 40, under: 1 }),
         b'p' => Some(Ratio { over: 10, under: 3 }),
-        b'c' => Some(Ratio { over: 12_000, under: 127 }),
+        b'c' => Some(Ratio {
+            over: 12_000,
+            under: 127,
+        }),
         b'm' | b'n' => Some(Ratio { over: 24, under: 1 }),
         b'v' => Some(Ratio { over: 40, under: 1 }),
         b'u' => Some(Ratio { over: 1, under: 1 }),

@@ -1,4 +1,4 @@
-use Rattle.std.proofs.Common.{◌≡◌, ◌+◌, ◌≤◌, length, ap, sym, ◌∙◌, refl, Some, None, Ok, Err, true, false, w32, to_z, of_z, drop, arith, rules, FitsSigned}
+use Rattle.std.proofs.Common.{◌≡◌, ◌+◌, ap, sym, ◌∙◌, refl, Some, Ok, Err, true, false, w32, to_z, of_z, drop, arith, rules, FitsSigned}
 use Rattle.std.proofs.lemmas.Int.{to_z-of_z}
 use Rattle.roff_num.specs.declared.expression.Opening.TheVariants.{Bar, Parenthesis}
 use Rattle.roff_num.specs.Expressions.{sign_at}
@@ -47,7 +47,7 @@ returns-in-Ok-clause-goes_on c =
     let other : begins_with 40 (drop at c.args.text.now) ≡ false = ap (begins_with 40) (sym c.text_from-rest.ensures.value) ∙ (sym c.begins_with.ensures.value ∙ c.if-begins_with.false) in
     let bar : begins_with 124 (drop at c.args.text.now) ≡ false = ap (begins_with 124) (sym c.text_from-rest.ensures.value) ∙ (sym c.begins_with-2.ensures.value ∙ c.if-begins_with-2.false) in
     let read : numeral_at c.args.scale sign.0 (drop at c.args.text.now) ≡ Ok (c.in-Ok.value, c.in-Ok.taken) =
-      ap (numeral_at c.args.scale sign.0) (sym c.text_from-rest.ensures.value) ∙ (sym c.read_numeral.ensures.value ∙ c.in-Ok.is) in
+    ap (numeral_at c.args.scale sign.0) (sym c.text_from-rest.ensures.value) ∙ (sym c.read_numeral.ensures.value ∙ c.in-Ok.is) in
     let fits : FitsSigned w32 c.in-Ok.value = search rules in
     let same = outcome_opened-numeral c.args.text.now c.args.scale c.args.place c.args.self.now at sign signs refl (omega arith) other bar in
     rw (to_z-of_z w32 c.in-Ok.value fits) (rw read at same)
@@ -60,6 +60,6 @@ returns-in-Err-clause-goes_on c =
     let other : begins_with 40 (drop at c.args.text.now) ≡ false = ap (begins_with 40) (sym c.text_from-rest.ensures.value) ∙ (sym c.begins_with.ensures.value ∙ c.if-begins_with.false) in
     let bar : begins_with 124 (drop at c.args.text.now) ≡ false = ap (begins_with 124) (sym c.text_from-rest.ensures.value) ∙ (sym c.begins_with-2.ensures.value ∙ c.if-begins_with-2.false) in
     let read : numeral_at c.args.scale sign.0 (drop at c.args.text.now) ≡ Err c.in-Err.fault =
-      ap (numeral_at c.args.scale sign.0) (sym c.text_from-rest.ensures.value) ∙ (sym c.read_numeral.ensures.value ∙ c.in-Err.is) in
+    ap (numeral_at c.args.scale sign.0) (sym c.text_from-rest.ensures.value) ∙ (sym c.read_numeral.ensures.value ∙ c.in-Err.is) in
     let same = outcome_opened-numeral c.args.text.now c.args.scale c.args.place c.args.self.now at sign signs refl (omega arith) other bar in
     rw read at same
