@@ -1,5 +1,5 @@
 -- What an expression that is being read comes to, step by step.
-use Rattle.std.proofs.Common.{◌≡◌, ℕ, zero, suc, ◌+◌, ◌-◌, ◌<◌, ◌≤◌, Bool, true, false, cond, List, [], ◌∷◌, ◌++◌, length, drop, reverse, refl, ap, sym, subst, ◌∙◌, arith, inl, inr, Ok, Err, Some, None, add-zero, length-append}
+use Rattle.std.proofs.Common.{◌≡◌, ℕ, suc, ◌+◌, ◌-◌, ◌<◌, ◌≤◌, Bool, true, false, cond, List, [], ◌∷◌, ◌++◌, length, drop, reverse, refl, ap, sym, subst, ◌∙◌, arith, inl, inr, Ok, Err, Some, None, length-append}
 use Rattle.std.specs.Prelude.{ℤ, ◌-ℤ◌, Result, Option, OnOk}
 use Rattle.std.specs.Prelude.{nat_lt}
 use Rattle.std.proofs.lemmas.Bool.{cases_lt}
@@ -7,7 +7,7 @@ use Rattle.std.proofs.lemmas.Bool.Decides.{nat_tests}
 use Rattle.std.proofs.lemmas.List.{drop-drop, reverse-append}
 use Rattle.roff_num.specs.declared.expression.Frame.{Frame}
 use Rattle.roff_num.specs.declared.expression.Next.{Next}
-use Rattle.roff_num.specs.declared.expression.Next.TheVariants.{Opened, Operand, Ended}
+use Rattle.roff_num.specs.declared.expression.Next.TheVariants.{Opened, Operand}
 use Rattle.roff_num.specs.declared.expression.Opening.{Opening}
 use Rattle.roff_num.specs.declared.expression.Opening.TheVariants.{Parenthesis, Bar}
 use Rattle.roff_num.specs.declared.expression.Reading.{Reading}
@@ -16,7 +16,7 @@ use Rattle.roff_num.specs.declared.num.NumFault.TheVariants.{Missing}
 use Rattle.roff_num.specs.declared.num.Scale.{Scale}
 use Rattle.roff_num.specs.declared.operator.Operator.{Operator}
 use Rattle.roff_num.specs.Expressions.{closed_behind, expression_of, folded_onto, operand_within, past, sign_at, unsigned_of}
-use Rattle.roff_num.specs.Frames.{combined, come_to, entered, folded_from, held_value, left_behind, outcome_behind, outcome_of, outcome_opened, outcome_stepped, starts_at}
+use Rattle.roff_num.specs.Frames.{combined, come_to, entered, folded_from, held_value, left_behind, outcome_of, outcome_opened, outcome_stepped, starts_at}
 use Rattle.roff_num.specs.Numerals.{numeral_at}
 use Rattle.roff_num.specs.Operators.{applied, begins_with, operator_at}
 use Rattle.roff_num.specs.Ranges.{in_range, signed}

@@ -1,5 +1,5 @@
 -- Digits at a text's front, and the numbers that they write.
-use Rattle.std.proofs.Common.{◌≡◌, ℕ, zero, suc, ◌+◌, ◌*◌, ◌-◌, ◌/◌, ◌^◌, ◌<◌, ◌≤◌, min, Bool, true, false, cond, List, [], ◌∷◌, ◌++◌, length, take, drop, get_or, refl, arith, ◌∙◌, add-one}
+use Rattle.std.proofs.Common.{◌≡◌, ℕ, ◌+◌, ◌*◌, ◌-◌, ◌<◌, min, Bool, true, false, cond, List, [], ◌∷◌, ◌++◌, length, take, drop, get_or, refl, arith, ◌∙◌, add-one}
 use Rattle.std.specs.Char.{is_ascii_digit, digit_value}
 use Rattle.std.specs.List.{take_while}
 use Rattle.std.specs.Str.Parse.{AllDigits, digits_value, digits_value_after}
@@ -27,12 +27,6 @@ AllDigits-take_while (c ∷ text) = rw take_while-cons (AllDigits-cond (is_ascii
 -- so they are, as they are cut off by their number
 pub AllDigits-take : (text : List ℕ) → AllDigits 10 (take (length (take_while is_ascii_digit text)) text)
 AllDigits-take text = rw length-prefix_len (AllDigits-take_while text)
-
--- the same again, of any number of them
-pub AllDigits-front : (n : ℕ) (digits : List ℕ) → AllDigits 10 digits → AllDigits 10 (take n digits)
-AllDigits-front zero digits all = tt
-AllDigits-front (suc n) [] all = tt
-AllDigits-front (suc n) (c ∷ digits) all = (all.0, AllDigits-front n digits all.1)
 
 -- digits behind two numbers that are the same up to a cap write numbers that are the same up to it
 pub digits_value_after-capped : (cap m n : ℕ) (digits : List ℕ) → min m cap ≡ min n cap

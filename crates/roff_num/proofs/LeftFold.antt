@@ -1,11 +1,10 @@
 -- The value of an expression is the left fold over its operands.
-use Rattle.std.proofs.Common.{◌≡◌, ℕ, ◌+◌, List, [], ◌∷◌, drop, refl, ap, sym, ◌∙◌, arith, Ok, Err, Some, None, add_assoc, add-zero}
+use Rattle.std.proofs.Common.{◌≡◌, ℕ, ◌+◌, List, [], ◌∷◌, drop, refl, ap, sym, ◌∙◌, Ok, Err}
 use Rattle.std.specs.Prelude.{ℤ, Result}
-use Rattle.std.proofs.lemmas.List.{drop-drop}
 use Rattle.roff_num.specs.declared.num.NumFault.{NumFault}
 use Rattle.roff_num.specs.Expressions.{folded_onto, past}
 use Rattle.roff_num.specs.Laws.{IsLeftFold, left_fold, ReadsAs, Term, terms_length}
-use Rattle.roff_num.specs.Operators.{applied, operator_at}
+use Rattle.roff_num.specs.Operators.{applied}
 use Rattle.roff_num.specs.Steps.{followed}
 use Rattle.roff_num.proofs.Folds.{folded_onto-drop, folded_onto-none, folded_onto-some}
 

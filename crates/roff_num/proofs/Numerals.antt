@@ -1,5 +1,5 @@
 -- The parts of a numeral, put together.
-use Rattle.std.proofs.Common.{◌≡◌, ℕ, zero, suc, ◌+◌, ◌<◌, Bool, true, false, cond, List, length, drop, take, refl, arith, ap, Ok, Err, ◌∙◌, sym}
+use Rattle.std.proofs.Common.{◌≡◌, ℕ, ◌+◌, ◌<◌, Bool, cond, List, length, drop, arith, ap, Ok, Err, ◌∙◌}
 use Rattle.std.specs.Prelude.{pos, ℤ, Result, ◌==◌}
 use Rattle.std.proofs.lemmas.Bool.Decides.{nat_tests}
 use Rattle.roff_num.specs.declared.num.NumFault.{NumFault}

@@ -1,11 +1,11 @@
 -- An operand that holds another one: the reading goes on within it.
-use Rattle.std.proofs.Common.{◌≡◌, ℕ, zero, suc, ◌+◌, Bool, true, false, cond, List, [], ◌∷◌, drop, refl, ap, sym, ◌∙◌, arith, Ok, Err, Some, None, add_assoc}
+use Rattle.std.proofs.Common.{◌≡◌, ℕ, ◌+◌, Bool, true, false, List, drop, refl, ap, sym, ◌∙◌, Ok, Err, Some, None, add_assoc}
 use Rattle.std.specs.Prelude.{ℤ, Result, Option, ◌-ℤ◌}
 use Rattle.std.proofs.lemmas.List.{drop-drop}
 use Rattle.roff_num.specs.declared.num.NumFault.{NumFault}
 use Rattle.roff_num.specs.declared.num.NumFault.TheVariants.{Missing}
 use Rattle.roff_num.specs.declared.num.Scale.{Scale}
-use Rattle.roff_num.specs.Expressions.{closed_behind, distance_of, expression_of, folded_onto, parenthesis_of, past, unsigned_of}
+use Rattle.roff_num.specs.Expressions.{closed_behind, distance_of, folded_onto, parenthesis_of, past, unsigned_of}
 use Rattle.roff_num.specs.Frames.{folded_from}
 use Rattle.roff_num.specs.Numerals.{numeral_at}
 use Rattle.roff_num.specs.Operators.{begins_with}

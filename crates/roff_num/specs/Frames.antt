@@ -1,6 +1,6 @@
 -- An expression that is being read, and what it comes to: the frames say what its value is when the operand
 -- that is read next has a value.
-use Rattle.std.specs.Prelude.{ℕ, zero, suc, ◌+◌, ◌-◌, ◌*◌, ◌<◌, Bool, List, [], ◌∷◌, ◌++◌, length, drop, reverse, ℤ, ◌-ℤ◌, Option, Some, None, Result, Ok, Err}
+use Rattle.std.specs.Prelude.{ℕ, suc, ◌+◌, ◌-◌, ◌*◌, ◌<◌, Bool, List, [], ◌∷◌, ◌++◌, length, drop, reverse, ℤ, ◌-ℤ◌, Option, Some, None, Result, Ok, Err}
 use Rattle.roff_num.specs.declared.expression.Frame.{Frame}
 use Rattle.roff_num.specs.declared.expression.Next.{Next}
 use Rattle.roff_num.specs.declared.expression.Next.TheVariants.{Opened, Operand, Ended}

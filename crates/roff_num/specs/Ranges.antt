@@ -1,5 +1,5 @@
 -- The numbers that a register or a length may be: 32 bits with a sign.
-use Rattle.std.specs.Prelude.{ℕ, ◌^◌, Bool, List, ℤ, pos, negsuc, neg_ℤ, nat_lt, Result, Ok, Err, if◌then◌else◌}
+use Rattle.std.specs.Prelude.{Bool, ℤ, pos, negsuc, neg_ℤ, nat_lt, Result, Ok, Err, if◌then◌else◌}
 use Rattle.roff_num.specs.declared.num.NumFault.{NumFault}
 use Rattle.roff_num.specs.declared.num.NumFault.TheVariants.{Range}
 

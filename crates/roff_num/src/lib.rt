@@ -6,15 +6,17 @@
 mod evaluation;
 mod expression;
 mod format;
+#[cfg(test)]
+mod format_tests;
 pub mod laws;
 mod limit;
 mod limits;
 mod name;
 mod num;
+#[cfg(test)]
+mod number_tests;
 mod numeral;
 mod operator;
-#[cfg(test)]
-mod tests;
 
 pub use evaluation::eval;
 pub use format::{Format, NumText, read_format, write_num};

@@ -1,4 +1,4 @@
-use Rattle.std.proofs.Common.{◌≡◌, Ok, ap, sym, ◌∙◌, w32, rules, FitsSigned}
+use Rattle.std.proofs.Common.{Ok, ap, sym, ◌∙◌, w32, rules, FitsSigned}
 use Rattle.std.proofs.lemmas.Int.{to_z-of_z}
 use Rattle.roff_num.specs.Expressions.{as_number, value_at}
 use Rattle.roff_num.specs.Frames.{outcome_opened, outcome_stepped}

@@ -1,4 +1,4 @@
-use Rattle.std.proofs.Common.{arith, ◌≡◌, ◌+◌, ◌<◌, rules, length, w32, FitsSigned, take, drop, ap, ◌∙◌}
+use Rattle.std.proofs.Common.{arith, ◌+◌, ◌<◌, rules, length, w32, FitsSigned, take, drop, ap, ◌∙◌}
 use Rattle.std.proofs.lemmas.Int.{to_z-of_z}
 use Rattle.roff_num.proofs.Digits.{AllDigits-take, digits_at-take}
 use Rattle.roff_num.proofs.Numerals.{numeral_at-parts}

@@ -1,4 +1,4 @@
-use Rattle.std.proofs.Common.{◌≡◌, ◌+◌, ◌≤◌, length, ap, sym, ◌∙◌, refl, Some, None, Ok, Err, true, false, w32, to_z, of_z, drop, arith, rules, FitsSigned}
+use Rattle.std.proofs.Common.{◌≡◌, ◌+◌, ap, sym, ◌∙◌, refl, Some, Ok, Err, true, false, w32, to_z, of_z, drop, arith, rules, FitsSigned}
 use Rattle.std.proofs.lemmas.Int.{to_z-of_z}
 use Rattle.roff_num.specs.declared.expression.Opening.TheVariants.{Bar, Parenthesis}
 use Rattle.roff_num.specs.Expressions.{sign_at}

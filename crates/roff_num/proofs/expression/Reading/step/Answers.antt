@@ -1,4 +1,4 @@
-use Rattle.std.proofs.Common.{◌≡◌, ap, sym, ◌∙◌, w32, rules, FitsSigned}
+use Rattle.std.proofs.Common.{ap, sym, ◌∙◌, w32, rules, FitsSigned}
 use Rattle.std.proofs.lemmas.Int.{to_z-of_z}
 use Rattle.roff_num.specs.Frames.{outcome_now}
 use Rattle.roff_num.proofs.expression.Reading.step.Goals as goal
