@@ -1,7 +1,8 @@
 -- The devices in memory, and a source over a reader.
-use Rattle.std.specs.Prelude.{ℕ, List, [], ◌∷◌, length, map, nat_le, take, Option, Some, None, if◌then◌else◌}
+use Rattle.std.specs.Prelude.{◌≡◌, ℕ, ◌≤◌, ◌++◌, ◌↔◌, IsOk, Result, List, [], ◌∷◌, length, map, nat_le, take, Option, Some, None, if◌then◌else◌}
 use Rattle.roff_tools.specs.declared.memory.MemSink.{MemSink}
 use Rattle.roff_tools.specs.declared.memory.MemSource.{MemSource}
+use Rattle.roff_tools.specs.declared.sink.SinkFault.{SinkFault}
 use Rattle.roff_tools.specs.Tape.{Tape, OneByte, Ending, Ended, Failed}
 
 -- how a source in memory ends
@@ -24,6 +25,21 @@ tape_of_bytes bytes (Some count) =
     then record { items = map OneByte (take count bytes); ending = Failed }
     else record { items = map OneByte bytes; ending = Ended }
 
+-- how many faults a sink in memory has had
+abbrev pub faults_of : MemSink → ℕ
+faults_of s = s.failures
+
+-- for how many bytes a sink in memory has room, in all
+abbrev pub room_of : MemSink → ℕ
+room_of s = s.cap
+
 -- what a sink in memory has kept
 abbrev pub kept_by : MemSink → List ℕ
 kept_by s = s.kept.items
+
+-- a piece that a sink in memory was given: all of it is kept if there is room, and else as much of it as there is
+-- room for, and that is a fault
+pub record KeepsWithin (old new : MemSink) (r : Result (Unit {0}) SinkFault) (piece : List ℕ) : Type 0 where
+  pub room : room_of new ≡ room_of old
+  pub kept : kept_by new ≡ take (room_of old) (kept_by old ++ piece)
+  pub fits : IsOk r ↔ (length (kept_by old ++ piece) ≤ room_of old)

@@ -1,6 +1,6 @@
 //! Devices in memory, that fail where they are told to.
 
-ghost use Rattle.std.specs.Prelude.{◌≡◌, Some, ◌≤◌, [], map, vec_len, vec_capacity, IfOk};
+ghost use Rattle.std.specs.Prelude.{◌≡◌, Some, ◌≤◌, [], map, vec_len, vec_capacity, IfOk, OnOk, OnErr};
 
 use crate::sink::{ByteSink, SinkFault};
 use crate::source::{ByteSource, Taken};
@@ -81,7 +81,7 @@ pub struct MemSink {
 }
 
 impl MemSink {
-    ghost use Rattle.roff_tools.specs.Memory.{kept_by};
+    ghost use Rattle.roff_tools.specs.Memory.{kept_by, room_of};
 
     /// A sink with room for so many bytes, reserved here.
     ///
@@ -89,7 +89,8 @@ impl MemSink {
     ///
     /// [`AllocError`] if the room can't be had.
     pub fn new(alloc: Global, cap: usize) -> Result<Self, AllocError>
-        ensures { IfOk result (λ s. kept_by s ≡ []) }
+        ensures empty { IfOk result (λ s. kept_by s ≡ []) }
+        ensures room { IfOk result (λ s. room_of s ≡ cap) }
     {
         Ok(MemSink {
             kept: Vec::with_capacity(alloc, cap)?,
@@ -107,13 +108,22 @@ impl MemSink {
 }
 
 impl ByteSink for MemSink {
-    ghost use Rattle.roff_tools.specs.Memory.{kept_by};
+    ghost use Rattle.std.specs.Io.KnownBytes.{Appends};
+    ghost use Rattle.roff_tools.specs.Memory.{KeepsWithin, faults_of, kept_by};
+    ghost use Rattle.roff_tools.specs.Sinks.{AppendsFront};
+    ghost use Rattle.roff_tools.specs.Tape.{Rises};
 
     ghost contents = { λ s. Some (kept_by s) };
 
-    ghost failures = { λ s. s.failures };
+    ghost failures = { faults_of };
 
-    fn put(&mut self, piece: &[u8]) -> Result<(), SinkFault> {
+    fn put(&mut self, piece: &[u8]) -> Result<(), SinkFault>
+        ensures ok { OnOk result (Appends (Some (kept_by self.old)) (Some (kept_by self.new)) piece.now) }
+        ensures err { OnErr result (AppendsFront (Some (kept_by self.old)) (Some (kept_by self.new)) piece.now) }
+        ensures failures { faults_of self.old ≤ faults_of self.new }
+        ensures fault { OnErr result (Rises (faults_of self.old) (faults_of self.new)) }
+        ensures keeps { KeepsWithin self.old self.new result piece.now }
+    {
         let room = self.cap - self.kept.len();
         if piece.len() <= room {
             self.kept.extend_from_slice(piece).unwrap();

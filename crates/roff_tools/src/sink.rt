@@ -71,13 +71,18 @@ impl<W: Write + Drop> WriteSink<W> {
     ///
     /// # Errors
     ///
-    /// [`SinkFault`] if that fails.
+    /// [`SinkFault`] if that fails; the fault is counted.
     pub fn flush(&mut self) -> Result<(), SinkFault>
-        ensures { Keeps self.old.contents self.new.contents }
+        ensures contents { Keeps self.old.contents self.new.contents }
+        ensures ok { OnOk result (self.new.failures ≡ self.old.failures) }
+        ensures fault { OnErr result (self.new.failures ≡ min (self.old.failures + 1) last_count) }
     {
         match self.writer.flush() {
             Ok(()) => Ok(()),
-            Err(_) => Err(SinkFault),
+            Err(_) => {
+                self.failures = self.failures.saturating_add(1);
+                Err(SinkFault)
+            }
         }
     }
 
