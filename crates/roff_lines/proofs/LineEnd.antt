@@ -5,8 +5,8 @@ use Rattle.std.proofs.lemmas.Bool.{cond_both, cases_Bool, true≢false}
 use Rattle.roff_lines.specs.Events.{LineEnd, History, settings_after}
 use Rattle.roff_lines.specs.Words.{is_empty, line_glyphs, blanks, words}
 use Rattle.roff_lines.specs.Lines.{empty_line, finished, laid_out, line_laid_out, pending_line}
-use Rattle.roff_lines.specs.Kept.{Kept, with_input_line_ended, finished_by_line_end}
-use Rattle.roff_lines.specs.Stands.{Stands}
+use Rattle.roff_lines.specs.Env.Kept.{Kept, with_input_line_ended, finished_by_line_end}
+use Rattle.roff_lines.specs.Env.Stands.{Stands}
 use Rattle.roff_lines.proofs.PendingLine.{pending_length-line_end}
 use Rattle.roff_lines.proofs.Stands.{laid_out-stands}
 

@@ -4,8 +4,8 @@ use Rattle.std.proofs.lemmas.Bool.{cond_both, cases_Bool, not-true, not-false}
 use Rattle.roff_lines.specs.Events.{WordEnd, History}
 use Rattle.roff_lines.specs.Words.{has_open_word, open_word}
 use Rattle.roff_lines.specs.Lines.{gap_text, finished, pending_line}
-use Rattle.roff_lines.specs.Kept.{Kept, without_word, word_as_line, word_fits, with_word_ended, finished_by_word}
-use Rattle.roff_lines.specs.Stands.{Stands}
+use Rattle.roff_lines.specs.Env.Kept.{Kept, without_word, word_as_line, word_fits, with_word_ended, finished_by_word}
+use Rattle.roff_lines.specs.Env.Stands.{Stands}
 use Rattle.roff_lines.proofs.PendingLine.{placed-full, line_text-full, line_indent-full, word_text-closed, pending_length-word_end}
 use Rattle.roff_lines.proofs.Stands.{is_empty-pending_line, words-no_line, blanks-counted, word_fits-stands, laid_out-stands}
 

@@ -5,10 +5,7 @@ pub mod Words
 pub mod Lines
 pub mod Columns
 pub mod Stretch
-pub mod Kept
+pub mod Env
 pub mod Shape
 pub mod LineBytes
-pub mod Stands
-pub mod Rests
-pub mod Lists
 pub mod Filling

@@ -6,7 +6,7 @@ ghost use Rattle.roff_lines.specs.Columns.{finished_of};
 ghost use Rattle.roff_lines.specs.Events.{Print, WordEnd, Gap, LineEnd, Break, Set, History, settings_after};
 ghost use Rattle.roff_lines.specs.Glyphs.{text_width};
 ghost use Rattle.roff_lines.specs.Lines.{finished, gap_text, may_be_wide, pending_length};
-ghost use Rattle.roff_lines.specs.Shape.{shaped};
+ghost use Rattle.roff_lines.specs.Shape.Shaped.{shaped};
 
 use crate::glyph::{Glyph, kept_byte};
 use crate::line::{FURTHER_BLANK, GAP, Line, UNPADDABLE};
@@ -42,7 +42,7 @@ pub struct Env {
 }
 
 impl Model for Env {
-    ghost use Rattle.roff_lines.specs.Kept.{Kept, kept_by, IsSound};
+    ghost use Rattle.roff_lines.specs.Env.Kept.{Kept, kept_by, IsSound};
 
     ghost Value = { Kept };
 
@@ -52,9 +52,9 @@ impl Model for Env {
 }
 
 impl Env {
-    ghost use Rattle.roff_lines.specs.Kept.{with_word_ended, finished_by_word, with_line_finished, finished_by_break, with_input_line_ended, finished_by_line_end};
-    ghost use Rattle.roff_lines.specs.Stands.{Stands};
-    ghost use Rattle.roff_lines.specs.Rests.{RestsBehind};
+    ghost use Rattle.roff_lines.specs.Env.Kept.{with_word_ended, finished_by_word, with_line_finished, finished_by_break, with_input_line_ended, finished_by_line_end};
+    ghost use Rattle.roff_lines.specs.Env.Stands.{Stands};
+    ghost use Rattle.roff_lines.specs.Env.Rests.{RestsBehind};
 
     /// An environment in which nothing has happened, whose pending line may have `line_cap` bytes.
     pub fn new(alloc: Global, line_cap: u32) -> Result<Self, AllocError>

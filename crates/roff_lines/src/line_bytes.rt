@@ -24,7 +24,7 @@ pub struct LineBytes<'a> {
 
 impl<'a> Model for LineBytes<'a> {
     ghost use Rattle.std.specs.Prelude.{ℕ, ◌+◌, ◌<◌, ◌^◌, List, length};
-    ghost use Rattle.roff_lines.specs.LineBytes.{bytes_left};
+    ghost use Rattle.roff_lines.specs.LineBytes.Left.{bytes_left};
 
     ghost Value = { List ℕ };
 

@@ -3,7 +3,7 @@
 ghost use Rattle.std.specs.Prelude.{◌≡◌, ◌<◌, ◌^◌, []};
 ghost use Rattle.roff_lines.specs.Columns.{finished_of};
 ghost use Rattle.roff_lines.specs.Lines.{empty_line, laid_out};
-ghost use Rattle.roff_lines.specs.Shape.{shaped};
+ghost use Rattle.roff_lines.specs.Shape.Shaped.{shaped};
 
 use crate::line::Line;
 use crate::settings::{AdjustMode, Settings};

@@ -18,7 +18,7 @@ pub(crate) struct Stretch {
 }
 
 impl Model for Stretch {
-    ghost use Rattle.roff_lines.specs.Stretch.{Held, held_by, IsKept};
+    ghost use Rattle.roff_lines.specs.Stretch.Held.{Held, held_by, IsKept};
 
     ghost Value = { Held };
 
@@ -28,7 +28,7 @@ impl Model for Stretch {
 }
 
 impl Stretch {
-    ghost use Rattle.roff_lines.specs.Stretch.{Held};
+    ghost use Rattle.roff_lines.specs.Stretch.Held.{Held};
 
     /// An empty text, with room for so many bytes.
     pub(crate) fn new(alloc: Global, room: usize) -> Result<Self, AllocError>

@@ -16,7 +16,7 @@ use Rattle.roff_num.specs.declared.num.NumFault.TheVariants.{Missing}
 use Rattle.roff_num.specs.declared.num.Scale.{Scale}
 use Rattle.roff_num.specs.declared.operator.Operator.{Operator}
 use Rattle.roff_num.specs.Expressions.{closed_behind, expression_of, folded_onto, operand_within, past, sign_at, unsigned_of}
-use Rattle.roff_num.specs.Frames.{combined, come_to, entered, folded_from, held_value, left_behind, outcome_of, outcome_opened, outcome_stepped, starts_at}
+use Rattle.roff_num.specs.Reading.Frames.{combined, come_to, entered, folded_from, held_value, left_behind, outcome_of, outcome_opened, outcome_stepped, starts_at}
 use Rattle.roff_num.specs.Numerals.{numeral_at}
 use Rattle.roff_num.specs.Operators.{applied, begins_with, operator_at}
 use Rattle.roff_num.specs.Ranges.{in_range, signed}

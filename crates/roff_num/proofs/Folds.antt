@@ -5,7 +5,7 @@ use Rattle.std.proofs.lemmas.List.{drop-drop}
 use Rattle.roff_num.specs.declared.num.NumFault.{NumFault}
 use Rattle.roff_num.specs.declared.operator.Operator.{Operator}
 use Rattle.roff_num.specs.Expressions.{folded_onto, past}
-use Rattle.roff_num.specs.Frames.{folded_from}
+use Rattle.roff_num.specs.Reading.Frames.{folded_from}
 use Rattle.roff_num.specs.Operators.{applied, operator_at, operator_from}
 use Rattle.roff_num.specs.Steps.{followed}
 

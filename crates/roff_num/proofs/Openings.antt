@@ -6,7 +6,7 @@ use Rattle.roff_num.specs.declared.num.NumFault.{NumFault}
 use Rattle.roff_num.specs.declared.num.NumFault.TheVariants.{Missing}
 use Rattle.roff_num.specs.declared.num.Scale.{Scale}
 use Rattle.roff_num.specs.Expressions.{closed_behind, distance_of, folded_onto, parenthesis_of, past, unsigned_of}
-use Rattle.roff_num.specs.Frames.{folded_from}
+use Rattle.roff_num.specs.Reading.Frames.{folded_from}
 use Rattle.roff_num.specs.Numerals.{numeral_at}
 use Rattle.roff_num.specs.Operators.{begins_with}
 use Rattle.roff_num.specs.Ranges.{in_range, signed}

@@ -4,6 +4,7 @@ pub mod RegisterText
 pub mod Formats
 pub mod LimitNames
 pub mod LimitValues
+pub mod Lists
 pub mod Names
 pub mod Rounding
 pub mod Ranges
@@ -11,5 +12,5 @@ pub mod Operators
 pub mod Steps
 pub mod Numerals
 pub mod Expressions
-pub mod Frames
+pub mod Reading
 pub mod Laws

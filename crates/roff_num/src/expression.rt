@@ -3,7 +3,7 @@
 ghost use Rattle.std.specs.Prelude.{◌≡◌, ◌-◌, ◌<◌, ◌≤◌, ℕ, [], ◌∷◌, length, drop, reverse, nat_lt, ℤ, Option, IfOk, OnOk, FitsSigned, neg_ℤ, if◌then◌else◌};
 ghost use Rattle.std.specs.Int.{w64};
 ghost use Rattle.roff_num.specs.Expressions.{most_levels, sign_at};
-ghost use Rattle.roff_num.specs.Frames.{combined};
+ghost use Rattle.roff_num.specs.Reading.Frames.{combined};
 ghost use Rattle.roff_num.specs.Ranges.{in_range, signed};
 ghost use Rattle.roff_num.specs.Steps.{followed};
 ghost use Rattle.arrayvec.specs.ArrayVec.{array_vec_len};
@@ -69,7 +69,7 @@ pub(crate) struct Reading {
 }
 
 impl Reading {
-    ghost use Rattle.roff_num.specs.Frames.{come_to, entered, LeavesLess, left_behind, outcome_behind, outcome_now, outcome_opened, outcome_stepped, starts_at, with_frame};
+    ghost use Rattle.roff_num.specs.Reading.Frames.{come_to, entered, LeavesLess, left_behind, outcome_behind, outcome_now, outcome_opened, outcome_stepped, starts_at, with_frame};
 
     /// Nothing is read yet of the expression that begins at a place.
     pub(crate) fn new(at: usize) -> Self

@@ -2,8 +2,8 @@
 use Rattle.std.specs.Prelude.{◌≡◌, ℕ, ◌≤◌, ◌++◌, ◌↔◌, IsOk, Result, List, [], ◌∷◌, length, map, nat_le, take, Option, Some, None, if◌then◌else◌}
 use Rattle.roff_tools.specs.declared.memory.MemSink.{MemSink}
 use Rattle.roff_tools.specs.declared.memory.MemSource.{MemSource}
-use Rattle.roff_tools.specs.declared.sink.SinkFault.{SinkFault}
-use Rattle.roff_tools.specs.Tape.{Tape, OneByte, Ending, Ended, Failed}
+use Rattle.roff_engine.specs.declared.sink.SinkFault.{SinkFault}
+use Rattle.roff_scan.specs.Tape.{Tape, OneByte, Ending, Ended, Failed}
 
 -- how a source in memory ends
 abbrev pub ending_of : MemSource → Ending

@@ -4,7 +4,7 @@ ghost use Rattle.std.specs.Io.{ReadsAtMost};
 ghost use Rattle.std.specs.Io.KnownBytes.{ReadConsumes};
 ghost use Rattle.std.specs.Prelude.{◌≡◌, ◌<◌, List, [], IfOk, length};
 ghost use Rattle.roff_tools.specs.declared.inputs.Part.{Part};
-ghost use Rattle.roff_tools.specs.Part.{part_remaining};
+ghost use Rattle.roff_tools.specs.Inputs.Part.{part_remaining};
 
 use std::collections::VecDeque;
 use std::io;
@@ -56,7 +56,7 @@ impl<F, S> Inputs<F, S> {
 }
 
 impl<F: Read + Drop, S: Read + Drop> Read for Inputs<F, S> {
-    ghost use Rattle.roff_tools.specs.Inputs.{inputs_remaining};
+    ghost use Rattle.roff_tools.specs.Inputs.Remaining.{inputs_remaining};
 
     ghost remaining = { inputs_remaining F.remaining S.remaining };
 

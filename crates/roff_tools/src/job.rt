@@ -1,13 +1,12 @@
 //! A run of a command.
 
 ghost use Rattle.std.specs.Prelude.{◌≡◌, IfOk, OnErr};
-ghost use Rattle.roff_tools.specs.Outcome.{FaultIsOfADevice, Outcome, devices, faults};
-ghost use Rattle.roff_tools.specs.Tape.{Tape};
+ghost use Rattle.roff_engine.specs.Engine.Outcome.{FaultIsOfADevice, Outcome, devices, faults};
+ghost use Rattle.roff_scan.specs.Tape.{Tape};
 
-use crate::engine::{Engine, Start, Status};
-use crate::sink::ByteSink;
-use crate::source::ByteSource;
+use roff_engine::{ByteSink, Engine, Start, Status};
 use roff_num::Limits;
+use roff_scan::ByteSource;
 use std::alloc::{AllocError, Global};
 
 /// What to run.

@@ -2,8 +2,8 @@
 
 ghost use Rattle.std.specs.Prelude.{◌≡◌, Some, ◌≤◌, [], map, vec_len, vec_capacity, IfOk, OnOk, OnErr};
 
-use crate::sink::{ByteSink, SinkFault};
-use crate::source::{ByteSource, Taken};
+use roff_engine::{ByteSink, SinkFault};
+use roff_scan::{ByteSource, Taken};
 use std::alloc::{AllocError, Global};
 
 /// A source of the bytes of a slice, which may fail behind some of them.
@@ -16,7 +16,7 @@ pub struct MemSource<'a> {
 
 impl<'a> MemSource<'a> {
     ghost use Rattle.roff_tools.specs.Memory.{tape_of, tape_of_bytes};
-    ghost use Rattle.roff_tools.specs.Tape.{OneByte};
+    ghost use Rattle.roff_scan.specs.Tape.{OneByte};
 
     /// A source of these bytes. It fails after `fail_at` of them, if there are so many.
     pub fn new(bytes: &'a [u8], fail_at: Option<usize>) -> Self
@@ -110,8 +110,8 @@ impl MemSink {
 impl ByteSink for MemSink {
     ghost use Rattle.std.specs.Io.KnownBytes.{Appends};
     ghost use Rattle.roff_tools.specs.Memory.{KeepsWithin, faults_of, kept_by};
-    ghost use Rattle.roff_tools.specs.Sinks.{AppendsFront};
-    ghost use Rattle.roff_tools.specs.Tape.{Rises};
+    ghost use Rattle.roff_engine.specs.Sinks.{AppendsFront};
+    ghost use Rattle.roff_scan.specs.Tape.{Rises};
 
     ghost contents = { λ s. Some (kept_by s) };
 

@@ -4,7 +4,7 @@ ghost use Rattle.std.specs.Prelude.{◌≡◌, ◌≢◌, ◌≤◌, ◌⊎◌, 
 ghost use Rattle.std.specs.Io.KnownBytes.{Keeps};
 ghost use Rattle.std.specs.Process.{exit_status};
 ghost use Rattle.clap.specs.Words.{kind_of};
-ghost use Rattle.roff_tools.specs.Part.{is_standard};
+ghost use Rattle.roff_tools.specs.Inputs.Part.{is_standard};
 ghost use Rattle.roff_tools.specs.StartFault.{NamesFile, NamesOneOf};
 ghost use Rattle.roff_tools.specs.Status.{status_number};
 ghost use Rattle.roff_tools.specs.declared.program.StartFault.TheVariants.{OutOfMemory};

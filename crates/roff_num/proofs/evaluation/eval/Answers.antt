@@ -1,7 +1,7 @@
 use Rattle.std.proofs.Common.{Ok, ap, sym, ◌∙◌, w32, rules, FitsSigned}
 use Rattle.std.proofs.lemmas.Int.{to_z-of_z}
 use Rattle.roff_num.specs.Expressions.{as_number, value_at}
-use Rattle.roff_num.specs.Frames.{outcome_opened, outcome_stepped}
+use Rattle.roff_num.specs.Reading.Frames.{outcome_opened, outcome_stepped}
 use Rattle.roff_num.proofs.Comings.{outcome_opened-start}
 use Rattle.roff_num.proofs.evaluation.eval.Goals as goal
 

@@ -1,6 +1,6 @@
 use Rattle.std.proofs.Common.{◌≡◌, drop}
 use Rattle.roff_num.specs.Expressions.{expression_of, operand_within, past}
-use Rattle.roff_num.specs.Frames.{outcome_now, work_left}
+use Rattle.roff_num.specs.Reading.Frames.{outcome_now, work_left}
 use Rattle.roff_num.proofs.evaluation.eval.Given as goal
 
 abbrev pub invariant-loop-operand : goal.invariant-loop-operand

@@ -1,5 +1,5 @@
 use Rattle.std.proofs.Common.{◌≡◌, map, take, bytes_eq}
-use Rattle.roff_tools.specs.Part.{is_standard}
+use Rattle.roff_tools.specs.Inputs.Part.{is_standard}
 use Rattle.roff_tools.specs.declared.command.TheConstants.{STANDARD_INPUT}
 use Rattle.roff_tools.proofs.program.open_all.Given as goal
 

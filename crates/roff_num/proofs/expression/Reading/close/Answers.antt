@@ -2,7 +2,7 @@ use Rattle.std.proofs.Common.{◌≡◌, ◌-◌, suc, length, reverse, ap, sym,
 use Rattle.std.specs.Prelude.{◌-ℤ◌}
 use Rattle.std.proofs.lemmas.Int.{ints, to_z-of_z}
 use Rattle.roff_num.specs.declared.expression.Next.TheVariants.{Operand}
-use Rattle.roff_num.specs.Frames.{combined}
+use Rattle.roff_num.specs.Reading.Frames.{combined}
 use Rattle.roff_num.specs.Ranges.{in_range, signed}
 use Rattle.roff_num.specs.Steps.{followed}
 use Rattle.roff_num.proofs.Comings.{come_to-bar, come_to-innermost, outcome_stepped-left}

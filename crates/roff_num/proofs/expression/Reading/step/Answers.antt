@@ -1,6 +1,6 @@
 use Rattle.std.proofs.Common.{ap, sym, ◌∙◌, w32, rules, FitsSigned}
 use Rattle.std.proofs.lemmas.Int.{to_z-of_z}
-use Rattle.roff_num.specs.Frames.{outcome_now}
+use Rattle.roff_num.specs.Reading.Frames.{outcome_now}
 use Rattle.roff_num.proofs.expression.Reading.step.Goals as goal
 
 pub returns-in-None-clause-goes_on : goal.returns-in-None-clause-goes_on

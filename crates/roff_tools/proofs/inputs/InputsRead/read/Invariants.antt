@@ -1,6 +1,6 @@
 use Rattle.std.proofs.Common.{◌≤◌, length}
 use Rattle.std.specs.Io.KnownBytes.{Keeps}
-use Rattle.roff_tools.specs.Inputs.{inputs_remaining}
+use Rattle.roff_tools.specs.Inputs.Remaining.{inputs_remaining}
 use Rattle.roff_tools.proofs.inputs.InputsRead.read.Given as goal
 
 -- the parts that were taken off had nothing left

@@ -1,0 +1,13 @@
+pub mod Appending
+pub mod Performed
+pub mod Leads
+pub mod Digits
+pub mod Beginnings
+pub mod StepsAppend
+pub mod StepsOnlyCut
+pub mod RunsOnlyCut
+pub mod RunsStayWithin
+pub mod FirstArguments
+pub mod ItemSteps
+pub mod Halting
+pub mod Items

@@ -1,0 +1,2 @@
+-- A whole run of the code.
+pub mod Outcome

@@ -1,0 +1,4 @@
+-- What the code of the formatter does, as the definition has it.
+pub mod ReadsAs
+pub mod Happening
+pub mod Performing

@@ -1,0 +1,65 @@
+-- Laws over whole runs: what limits and failing sources leave as it is.
+use Rattle.std.specs.Prelude.{◌≡◌, ◌≢◌, ℕ, ◌≤◌, List, ◌++◌, Some}
+use Rattle.roff_lines.specs.Lines.{pending_length}
+use Rattle.roff_num.specs.Lists.{IsBeginning}
+use Rattle.roff_num.specs.declared.limit.Limit.{Limit}
+use Rattle.roff_engine.specs.declared.status.Status.TheVariants.{Device, Limit as Limited}
+use Rattle.roff_num.specs.declared.limits.Limits.{Limits}
+use Rattle.roff_engine.specs.Limits.{AreWithin}
+use Rattle.roff_engine.specs.Output.{text_of}
+use Rattle.roff_engine.specs.Run.{State, initial, after, output}
+use Rattle.roff_scan.specs.Tape.{Tape, Item, Ending, Failed}
+
+-- one run is only cut beside another: what it wrote is a beginning of what the other did, and so are its
+-- messages, without the one with which it ended
+pub record OnlyCuts (cut whole : State) : Type 0 where
+  pub text : IsBeginning (output cut) (output whole)
+  pub messages : IsBeginning cut.messages whole.messages
+
+-- limits only cut
+abbrev pub LimitsOnlyCut : Type 0
+LimitsOnlyCut =
+    (small large : Limits) → AreWithin small large → (tape : Tape) (n : ℕ) →
+    OnlyCuts (after small n (initial tape)) (after large n (initial tape))
+
+-- larger limits change nothing until a limit stops the run
+abbrev pub SameUntilALimit : Type 0
+SameUntilALimit =
+    (small large : Limits) → AreWithin small large → (tape : Tape) (n : ℕ) →
+    ((limit : Limit) → (after small n (initial tape)).ended ≢ Some (Limited limit)) →
+    after large n (initial tape) ≡ after small n (initial tape)
+
+-- a source that fails behind these items
+abbrev pub failing_behind : List Item → Tape
+failing_behind items = record { items = items; ending = Failed }
+
+-- a source that has more behind these items, and ends in any way
+abbrev pub going_on_behind : List Item → List Item → Ending → Tape
+going_on_behind items more ending = record { items = items ++ more; ending = ending }
+
+-- a source that fails only cuts
+abbrev pub FailingOnlyCuts : Type 0
+FailingOnlyCuts =
+    (l : Limits) (items more : List Item) (ending : Ending) (n : ℕ) →
+    OnlyCuts (after l n (initial (failing_behind items))) (after l n (initial (going_on_behind items more ending)))
+
+-- the same state over another tape
+abbrev pub over : Tape → State → State
+over tape s = record s { tape = tape }
+
+-- a source that goes on changes nothing but what is left to take, until the run meets the fault
+abbrev pub SameUntilTheFault : Type 0
+SameUntilTheFault =
+    (l : Limits) (items more : List Item) (ending : Ending) (n : ℕ) →
+    let cut : State = after l n (initial (failing_behind items)) in
+    let whole : State = after l n (initial (going_on_behind items more ending)) in
+    cut.ended ≢ Some Device → over cut.tape whole ≡ cut
+
+-- a state is within the limits: it took no more bytes, and its pending line has no more
+pub record IsWithin (l : Limits) (s : State) : Type 0 where
+  pub bytes : s.charge ≤ l.bytes
+  pub line : pending_length (text_of s.history) ≤ l.line
+
+-- no run passes a limit
+abbrev pub NoLimitIsPassed : Type 0
+NoLimitIsPassed = (l : Limits) (tape : Tape) (n : ℕ) → IsWithin l (after l n (initial tape))

@@ -1,0 +1,16 @@
+pub use Rattle.roff_scan.specs.Tape
+pub mod Limits
+pub mod Sinks
+pub mod Messages
+pub mod Numbers
+pub mod Arguments
+pub mod Requests
+pub mod Reading
+pub mod Output
+pub mod Run
+pub mod Rows
+pub mod Laws
+pub mod FirstArgument
+pub mod Formatter
+pub mod Engine
+pub mod Running

@@ -1,0 +1,2 @@
+-- A run of the code under way.
+pub mod Turning

@@ -1,0 +1,95 @@
+//! The block through which lines are written.
+
+ghost use Rattle.std.specs.Prelude.{◌≡◌, ◌≤◌, [], ◌∷◌, ◌++◌, replicate, vec_capacity, OnOk, OnErr};
+ghost use Rattle.roff_lines.specs.Columns.{finished_of, line_bytes};
+ghost use Rattle.roff_engine.specs.Sinks.{AppendsAllBut, AppendsFront, Puts};
+ghost use Rattle.roff_scan.specs.Tape.{Rises};
+
+use crate::sink::{ByteSink, SinkFault};
+use roff_lines::{Line, LineBytes};
+use std::alloc::{AllocError, Global};
+
+/// How many bytes are put at once, at the most.
+const BLOCK: usize = 8_192;
+
+/// A block of bytes, reserved from the start, and empty between two lines. A line that it has room for
+/// is put in one piece.
+#[derive(Drop)]
+pub(crate) struct Block {
+    bytes: Vec<u8>,
+    ghost reserved: { 8192 ≤ vec_capacity bytes },
+    ghost empty: { bytes.items ≡ [] },
+}
+
+impl Block {
+    /// An empty block.
+    pub(crate) fn new(alloc: Global) -> Result<Self, AllocError> {
+        Ok(Block {
+            bytes: Vec::with_capacity(alloc, BLOCK)?,
+        })
+    }
+
+    /// Writes a line.
+    #[inline(never)]
+    pub(crate) fn put_line<O: ByteSink>(
+        &mut self,
+        line: Line<'_>,
+        out: &mut O,
+    ) -> Result<(), SinkFault>
+        ensures { Puts O.contents O.failures out.old out.new (line_bytes (finished_of line.entry)) result }
+    {
+        let bytes = &mut self.bytes;
+        for byte in LineBytes::of(line) {
+            push(bytes, byte, out)?;
+        }
+        put(bytes, out)
+    }
+
+    /// Writes so many blank lines.
+    pub(crate) fn put_blank_lines<O: ByteSink>(
+        &mut self,
+        lines: u32,
+        out: &mut O,
+    ) -> Result<(), SinkFault>
+        ensures { Puts O.contents O.failures out.old out.new (replicate lines 10) result }
+    {
+        let bytes = &mut self.bytes;
+        for _ in 0..lines {
+            push(bytes, b'\n', out)?;
+        }
+        put(bytes, out)
+    }
+}
+
+/// Adds a byte to those of a block; where they fill it they are put first.
+#[inline(always)]
+fn push<O: ByteSink>(bytes: &mut Vec<u8>, byte: u8, out: &mut O) -> Result<(), SinkFault>
+    requires { 8192 ≤ vec_capacity bytes.old }
+    ensures capacity { vec_capacity bytes.old ≤ vec_capacity bytes.new }
+    ensures ok { OnOk result (AppendsAllBut (O.contents out.old) (O.contents out.new) (bytes.old.items ++ byte ∷ []) bytes.new.items) }
+    ensures err { OnErr result (AppendsFront (O.contents out.old) (O.contents out.new) bytes.old.items) }
+    ensures empty { OnErr result (bytes.new.items ≡ []) }
+    ensures failures { O.failures out.old ≤ O.failures out.new }
+    ensures fault { OnErr result (Rises (O.failures out.old) (O.failures out.new)) }
+{
+    if bytes.len() >= BLOCK {
+        put(bytes, out)?;
+    }
+    bytes.push(byte).unwrap();
+    Ok(())
+}
+
+/// Puts the bytes of a block, which is then empty.
+#[inline(never)]
+fn put<O: ByteSink>(bytes: &mut Vec<u8>, out: &mut O) -> Result<(), SinkFault>
+    ensures capacity { vec_capacity bytes.new ≡ vec_capacity bytes.old }
+    ensures empty { bytes.new.items ≡ [] }
+    ensures puts { Puts O.contents O.failures out.old out.new bytes.old.items result }
+{
+    if bytes.is_empty() {
+        return Ok(());
+    }
+    let answer = out.put(bytes);
+    bytes.clear();
+    answer
+}

@@ -1,0 +1,83 @@
+//! The engine: a whole run, from a source to its sinks.
+
+ghost use Rattle.std.specs.Prelude.{◌≡◌, [], IfOk};
+ghost use Rattle.roff_lines.specs.Env.Stands.{Stands};
+ghost use Rattle.roff_num.specs.declared.limits.Limits.{Limits};
+ghost use Rattle.roff_engine.specs.declared.reading.LinePart.TheVariants.{Start};
+ghost use Rattle.roff_engine.specs.declared.reading.Reading.TheVariants.{Line};
+ghost use Rattle.roff_engine.specs.Engine.Outcome.{FaultIsOfADevice, Outcome, devices, faults};
+ghost use Rattle.roff_scan.specs.Tape.{Tape};
+
+use crate::formatter::Formatter;
+use crate::meter::Meter;
+use crate::running::Running;
+use crate::sink::ByteSink;
+use crate::status::Status;
+use roff_num::Limits;
+use roff_scan::ByteSource;
+use std::alloc::{AllocError, Global};
+use std::marker::Model;
+
+/// What is given to a run besides its limits.
+#[derive(Clone, Copy, Debug, Default, PartialEq, Eq)]
+pub struct Start {}
+
+/// The formatter before a run. All memory of the run is reserved as it is made.
+#[derive(Drop)]
+pub struct Engine {
+    limits: Limits,
+    formatter: Formatter,
+}
+
+impl Model for Engine {
+    ghost Value = { Limits };
+
+    ghost view = { λ e. e.limits };
+
+    ghost invariant = { λ e. Stands e.limits.line [] e.formatter.env × (e.formatter.reading ≡ Line Start) };
+}
+
+impl Engine {
+    /// A formatter with these limits.
+    ///
+    /// # Errors
+    ///
+    /// [`AllocError`] if the memory for the limits can't be had.
+    pub fn new(alloc: Global, limits: Limits, _start: Start) -> Result<Engine, AllocError>
+        ensures { IfOk result (λ e. e ≡ limits) }
+    {
+        Ok(Engine {
+            limits,
+            formatter: Formatter::new(alloc, limits.line)?,
+        })
+    }
+
+    /// Formats a source: the text goes to `out`, the messages go to `err`.
+    pub fn format<S: ByteSource, O: ByteSink, E: ByteSink>(
+        self,
+        source: &mut S,
+        out: &mut O,
+        err: &mut E,
+    ) -> Status
+        // There is a tape that the source may give over which the run is that of the definition.
+        ensures runs { (t left : Tape) × S.gives source.old t × S.gives source.new left × Outcome self t result
+            (devices t (O.contents out.old) (E.contents err.old) (faults (S.failures source.old) (O.failures out.old) (E.failures err.old)))
+            (devices left (O.contents out.new) (E.contents err.new) (faults (S.failures source.new) (O.failures out.new) (E.failures err.new))) }
+        // A fault is answered only where there was one.
+        ensures fault { FaultIsOfADevice result
+            (faults (S.failures source.old) (O.failures out.old) (E.failures err.old))
+            (faults (S.failures source.new) (O.failures out.new) (E.failures err.new)) }
+    {
+        let Engine { limits, formatter } = self;
+        let mut running = Running {
+            limits,
+            formatter,
+            meter: Meter::new(limits.bytes),
+        };
+        loop {
+            if let Err(status) = running.turn(source, out, err) {
+                return status;
+            }
+        }
+    }
+}

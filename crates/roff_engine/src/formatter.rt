@@ -1,0 +1,314 @@
+//! The formatter: what each byte of the input does.
+
+ghost use Rattle.std.specs.Prelude.{◌≡◌, ◌≢◌, ℕ, ◌+◌, ◌<◌, ◌≤◌, ◌^◌, [], ◌∷◌, List, Option, Err, IfOk, OnOk, IsOkUnless, option_map};
+ghost use Rattle.std.specs.Option.{option_to_list};
+ghost use Rattle.roff_lines.specs.Columns.{finished_of};
+ghost use Rattle.roff_lines.specs.Events.{Print, WordEnd, LineEnd, Break, settings_after};
+ghost use Rattle.roff_lines.specs.Env.Stands.{Stands};
+ghost use Rattle.roff_lines.specs.declared.settings.Settings.{Settings};
+ghost use Rattle.roff_engine.specs.Arguments.{Arguments, arguments_read};
+ghost use Rattle.roff_engine.specs.FirstArgument.Keeping.{KeepsFirst};
+ghost use Rattle.roff_engine.specs.Formatter.Happening.{event_of, events_of};
+ghost use Rattle.roff_engine.specs.Messages.{message_lines};
+ghost use Rattle.roff_engine.specs.Output.{PageHistory, text_of, finished_bytes};
+ghost use Rattle.roff_engine.specs.Formatter.Performing.{CountsFaults, Does, Performs, PerformsOnly, closing_events, with_events};
+ghost use Rattle.roff_engine.specs.Reading.{Reading as Read, argument_taking, end_effect, kept_taking, taking};
+ghost use Rattle.roff_engine.specs.Formatter.ReadsAs.{ReadsAs, leading_behind, leading_of, part_of};
+ghost use Rattle.roff_engine.specs.Requests.{Text, Space, request_effect};
+ghost use Rattle.roff_engine.specs.Sinks.{Puts};
+ghost use Rattle.roff_scan.specs.Tape.{Rises};
+ghost use Rattle.roff_num.specs.declared.limits.Limits.{Limits};
+
+use crate::arguments::FirstArgument;
+use crate::block::Block;
+use crate::event::PageEvent;
+use crate::halt::Halt;
+use crate::message::{Message, report};
+use crate::reading::{LinePart, Reading};
+use crate::request::Request;
+use crate::sink::ByteSink;
+use roff_lines::{Env, Glyph, Line};
+use roff_scan::is_dropped;
+use std::alloc::{AllocError, Global};
+
+/// What is being read, the environment, and the block through which lines are written.
+#[derive(Drop)]
+pub(crate) struct Formatter {
+    reading: Reading,
+    argument: FirstArgument,
+    env: Env,
+    block: Block,
+}
+
+impl Formatter {
+    /// A formatter before the first line, whose pending line may have `line_cap` bytes.
+    pub(crate) fn new(alloc: Global, line_cap: u32) -> Result<Self, AllocError>
+        ensures stands { IfOk result (λ f. Stands line_cap [] f.env) }
+        ensures reading { IfOk result (λ f. f.reading ≡ Reading.Line LinePart.Start) }
+    {
+        Ok(Formatter {
+            reading: Reading::Line(LinePart::Start),
+            argument: FirstArgument::new(),
+            env: Env::new(alloc, line_cap)?,
+            block: Block::new(alloc)?,
+        })
+    }
+
+    /// Takes a byte, which stands on this line of the input.
+    pub(crate) fn take<O: ByteSink, E: ByteSink>(
+        &mut self,
+        byte: u8,
+        line: u32,
+        out: &mut O,
+        err: &mut E,
+    ) -> Result<(), Halt>
+        requires { leading_behind self.old.reading + 1 < 2 ^ 32 }
+        ensures does { (l : Limits) (h : PageHistory) (r : Read) → Stands l.line (text_of h) self.old.env → ReadsAs r self.old.reading self.old.argument →
+            Does l h line (taking (settings_after (text_of h)) r byte).effect result self.new.env
+            (O.contents out.old) (O.contents out.new) (E.contents err.old) (E.contents err.new) }
+        ensures reads { (s : Settings) (r : Read) → ReadsAs r self.old.reading self.old.argument →
+            OnOk result (ReadsAs (taking s r byte).reading self.new.reading self.new.argument) }
+        ensures leading { leading_behind self.new.reading ≤ leading_behind self.old.reading + 1 }
+        ensures faults { CountsFaults O.failures E.failures out.old out.new err.old err.new result }
+    {
+        if let Reading::Line(part) = self.reading
+            && part.goes_on_with(byte)
+        {
+            return self.glyph(Glyph::Printed(byte));
+        }
+        if is_dropped(byte) {
+            self.argument.take_dropped();
+            return Ok(());
+        }
+        match self.reading {
+            Reading::Line(part) => self.take_part(part, byte, out),
+            Reading::Arguments { breaks, request } => {
+                self.take_argument(breaks, request, byte, line, out, err)
+            }
+        }
+    }
+
+    /// The end of the input: an unfinished line ends, and the pending line is placed.
+    pub(crate) fn finish<O: ByteSink, E: ByteSink>(
+        &mut self,
+        line: u32,
+        out: &mut O,
+        err: &mut E,
+    ) -> Result<(), Halt>
+        ensures does { (l : Limits) (h : PageHistory) (r : Read) → Stands l.line (text_of h) self.old.env → ReadsAs r self.old.reading self.old.argument →
+            Does l h line (with_events (end_effect (settings_after (text_of h)) r) closing_events) result self.new.env
+            (O.contents out.old) (O.contents out.new) (E.contents err.old) (E.contents err.new) }
+        ensures reading { self.new.reading ≡ self.old.reading }
+        ensures faults { CountsFaults O.failures E.failures out.old out.new err.old err.new result }
+    {
+        match self.end_unfinished(line, out, err) {
+            Ok(()) => self.perform_all(&[PageEvent::WordEnd, PageEvent::Break], out),
+            Err(halt) => Err(halt),
+        }
+    }
+
+    /// Ends an unfinished line.
+    fn end_unfinished<O: ByteSink, E: ByteSink>(
+        &mut self,
+        line: u32,
+        out: &mut O,
+        err: &mut E,
+    ) -> Result<(), Halt>
+        ensures does { (l : Limits) (h : PageHistory) (r : Read) → Stands l.line (text_of h) self.old.env → ReadsAs r self.old.reading self.old.argument →
+            Does l h line (end_effect (settings_after (text_of h)) r) result self.new.env
+            (O.contents out.old) (O.contents out.new) (E.contents err.old) (E.contents err.new) }
+        ensures reading { self.new.reading ≡ self.old.reading }
+        ensures faults { CountsFaults O.failures E.failures out.old out.new err.old err.new result }
+    {
+        match self.reading {
+            Reading::Line(part) => self.perform_all(&part.end(), out),
+            Reading::Arguments { breaks, request } => self.obey(breaks, request, line, out, err),
+        }
+    }
+
+    /// Takes a byte of a line without a request.
+    fn take_part<O: ByteSink>(&mut self, part: LinePart, byte: u8, out: &mut O) -> Result<(), Halt>
+        requires { leading_of part + 1 < 2 ^ 32 }
+        ensures performs { (l : Limits) (h : PageHistory) (s : Settings) → Stands l.line (text_of h) self.old.env →
+            Performs l h (kept_taking s (part_of part) byte).effect.events result self.new.env (O.contents out.old) (O.contents out.new) }
+        ensures silent { (s : Settings) → (kept_taking s (part_of part) byte).effect.messages ≡ [] }
+        ensures reads { (s : Settings) → ReadsAs (kept_taking s (part_of part) byte).reading self.new.reading self.new.argument }
+        ensures leading { leading_behind self.new.reading ≤ leading_of part + 1 }
+        ensures failures { O.failures out.old ≤ O.failures out.new }
+        ensures halt { result ≢ Err Halt.Messages }
+        ensures fault { result ≡ Err Halt.Output → Rises (O.failures out.old) (O.failures out.new) }
+    {
+        let taking = part.taking(byte);
+        self.argument = FirstArgument::new();
+        self.reading = taking.reading;
+        self.perform_all(&taking.events, out)
+    }
+
+    /// Takes a byte behind a request's name, on this line of the input.
+    fn take_argument<O: ByteSink, E: ByteSink>(
+        &mut self,
+        breaks: bool,
+        request: Request,
+        byte: u8,
+        line: u32,
+        out: &mut O,
+        err: &mut E,
+    ) -> Result<(), Halt>
+        requires { self.old.reading ≡ Reading.Arguments breaks request }
+        ensures does { (l : Limits) (h : PageHistory) (a : Arguments) → Stands l.line (text_of h) self.old.env → KeepsFirst a self.old.argument →
+            Does l h line (argument_taking (settings_after (text_of h)) breaks request a byte).effect result self.new.env
+            (O.contents out.old) (O.contents out.new) (E.contents err.old) (E.contents err.new) }
+        ensures reads { (s : Settings) (a : Arguments) → KeepsFirst a self.old.argument →
+            ReadsAs (argument_taking s breaks request a byte).reading self.new.reading self.new.argument }
+        ensures leading { leading_behind self.new.reading ≡ 0 }
+        ensures faults { CountsFaults O.failures E.failures out.old out.new err.old err.new result }
+    {
+        if byte != b'\n' {
+            self.argument.take(byte);
+            return Ok(());
+        }
+        self.reading = Reading::Line(LinePart::Start);
+        self.obey(breaks, request, line, out, err)
+    }
+
+    /// Obeys a request of this line of the input, with the argument that was read.
+    fn obey<O: ByteSink, E: ByteSink>(
+        &mut self,
+        breaks: bool,
+        request: Request,
+        line: u32,
+        out: &mut O,
+        err: &mut E,
+    ) -> Result<(), Halt>
+        ensures does { (l : Limits) (h : PageHistory) (a : Arguments) → Stands l.line (text_of h) self.old.env → KeepsFirst a self.old.argument →
+            Does l h line (request_effect (settings_after (text_of h)) breaks request (arguments_read a)) result self.new.env
+            (O.contents out.old) (O.contents out.new) (E.contents err.old) (E.contents err.new) }
+        ensures reading { self.new.reading ≡ self.old.reading }
+        ensures argument { self.new.argument ≡ self.old.argument }
+        ensures faults { CountsFaults O.failures E.failures out.old out.new err.old err.new result }
+    {
+        let effect = request.effect(self.env.settings(), self.argument.read());
+        match tell(effect.message, line, err) {
+            Ok(()) => self.perform_all(&effect.events(breaks), out),
+            Err(halt) => Err(halt),
+        }
+    }
+
+    /// Performs events, one after another.
+    fn perform_all<O: ByteSink>(&mut self, events: &[PageEvent], out: &mut O) -> Result<(), Halt>
+        ensures { PerformsOnly O.contents O.failures out.old out.new (events_of events.now) self.old self.new result }
+    {
+        let mut rest = events;
+        while let Some((event, others)) = rest.split_first() {
+            match self.perform(*event, out) {
+                Ok(()) => rest = others,
+                Err(halt) => return Err(halt),
+            }
+        }
+        Ok(())
+    }
+
+    /// Performs an event.
+    fn perform<O: ByteSink>(&mut self, event: PageEvent, out: &mut O) -> Result<(), Halt>
+        ensures { PerformsOnly O.contents O.failures out.old out.new (event_of event ∷ []) self.old self.new result }
+    {
+        match event {
+            PageEvent::Glyph(glyph) => self.glyph(glyph),
+            PageEvent::WordEnd => self.end_word(out),
+            PageEvent::Gap(blanks) => {
+                self.env.gap(blanks);
+                Ok(())
+            }
+            PageEvent::LineEnd => self.end_line(out),
+            PageEvent::Break => self.brk(out),
+            PageEvent::Set(param) => {
+                self.env.set(param);
+                Ok(())
+            }
+            PageEvent::Space(lines) => self.space(lines, out),
+        }
+    }
+
+    /// Prints a glyph.
+    #[inline(always)]
+    fn glyph(&mut self, glyph: Glyph) -> Result<(), Halt>
+        ensures performs { (l : Limits) (h : PageHistory) (known : Option (List ℕ)) → Stands l.line (text_of h) self.old.env →
+            Performs l h (Text (Print glyph) ∷ []) result self.new.env known known }
+        ensures reading { self.new.reading ≡ self.old.reading }
+        ensures argument { self.new.argument ≡ self.old.argument }
+        ensures halt { result ≢ Err Halt.Messages }
+        ensures fault { result ≡ Err Halt.Output → ⊥ }
+    {
+        match self.env.glyph(glyph) {
+            Ok(()) => Ok(()),
+            Err(limit) => Err(Halt::Limit(limit)),
+        }
+    }
+
+    /// Ends the open word, and writes the line that it finishes.
+    fn end_word<O: ByteSink>(&mut self, out: &mut O) -> Result<(), Halt>
+        ensures { PerformsOnly O.contents O.failures out.old out.new (Text WordEnd ∷ []) self.old self.new result }
+    {
+        let line = self.env.end_word();
+        put_finished(&mut self.block, line, out)
+    }
+
+    /// Ends a line of the input, and writes the line that it finishes.
+    fn end_line<O: ByteSink>(&mut self, out: &mut O) -> Result<(), Halt>
+        ensures { PerformsOnly O.contents O.failures out.old out.new (Text LineEnd ∷ []) self.old self.new result }
+    {
+        let line = self.env.end_line();
+        put_finished(&mut self.block, line, out)
+    }
+
+    /// Finishes the pending line, and writes it.
+    fn brk<O: ByteSink>(&mut self, out: &mut O) -> Result<(), Halt>
+        ensures { PerformsOnly O.contents O.failures out.old out.new (Text Break ∷ []) self.old self.new result }
+    {
+        let line = self.env.brk();
+        put_finished(&mut self.block, line, out)
+    }
+
+    /// Writes blank lines.
+    fn space<O: ByteSink>(&mut self, lines: u32, out: &mut O) -> Result<(), Halt>
+        ensures { PerformsOnly O.contents O.failures out.old out.new (Space lines ∷ []) self.old self.new result }
+    {
+        match self.block.put_blank_lines(lines, out) {
+            Ok(()) => Ok(()),
+            Err(_) => Err(Halt::Output),
+        }
+    }
+}
+
+/// Writes the line that an event finished, if it finished one.
+#[inline(always)]
+fn put_finished<O: ByteSink>(
+    block: &mut Block,
+    line: Option<Line<'_>>,
+    out: &mut O,
+) -> Result<(), Halt>
+    ensures puts { Puts O.contents O.failures out.old out.new (finished_bytes (option_map finished_of line.entry)) result }
+    ensures halt { IsOkUnless result Halt.Output }
+{
+    match line {
+        None => Ok(()),
+        Some(line) => match block.put_line(line, out) {
+            Ok(()) => Ok(()),
+            Err(_) => Err(Halt::Output),
+        },
+    }
+}
+
+/// Writes the message of an effect, if it has one.
+fn tell<E: ByteSink>(message: Option<Message>, line: u32, err: &mut E) -> Result<(), Halt>
+    ensures puts { Puts E.contents E.failures err.old err.new (message_lines line (option_to_list message)) result }
+    ensures halt { IsOkUnless result Halt.Messages }
+{
+    match message {
+        None => Ok(()),
+        Some(message) => match report(message, line, err) {
+            Ok(()) => Ok(()),
+            Err(_) => Err(Halt::Messages),
+        },
+    }
+}

@@ -1,0 +1,2 @@
+-- An expression that the code is reading.
+pub mod Frames

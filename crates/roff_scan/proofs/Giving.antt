@@ -1,0 +1,152 @@
+-- What sources might have given, by what they may give behind an answer.
+use Rattle.std.proofs.Common.{◌≡◌, ◌<◌, ◌≤◌, ◌+◌, ℕ, List, [], ◌∷◌, ◌++◌, Option, Some, None, length, map, take, drop, get_or, refl, sym, ap, ◌∙◌, arith, length-take}
+use Rattle.std.specs.Io.KnownBytes.{Consumes, IsAtEnd, prepend_known}
+use Rattle.std.proofs.Math.Seq.{take-append_seam}
+use Rattle.std.proofs.lemmas.List.{nil_from_length, drop_all, drop_more, get_or-take}
+use Rattle.std.proofs.KnownBytes.{Consumes-nil, Consumes-trans}
+use Rattle.roff_scan.specs.ReadSource.Reach.{IsRead}
+use Rattle.roff_scan.specs.Tape.{Tape, Item, Answers, Ending, OneByte, Gives, Ends, Ended, Failed, front, behind_front}
+
+-- a tape that ends so at once
+abbrev pub only : Ending → Tape
+only ending = record { items = []; ending = ending }
+
+-- a tape that begins with an item, by its parts
+front_gives_parts : (items : List Item) (ending : Ending) (item : Item) → front (record { items = items; ending = ending }) ≡ Gives item
+    → items ≡ item ∷ (behind_front (record { items = items; ending = ending })).items
+front_gives_parts [] ending item is = cc
+front_gives_parts (i ∷ items) ending item is = cc
+
+-- its ending stays
+behind_ending : (items : List Item) (ending : Ending) → (behind_front (record { items = items; ending = ending })).ending ≡ ending
+behind_ending [] ending = refl
+behind_ending (i ∷ items) ending = refl
+
+-- a tape that ends at once, by its parts
+front_ends_parts : (items : List Item) (ending e : Ending) → front (record { items = items; ending = ending }) ≡ Ends e
+    → record { items = items; ending = ending } ≡ only e
+front_ends_parts [] ending e is = cc
+front_ends_parts (i ∷ items) ending e is = cc
+
+-- a tape that begins with an item
+pub front_gives : (t : Tape) (item : Item) → front t ≡ Gives item → t.items ≡ item ∷ (behind_front t).items
+front_gives t item is = front_gives_parts t.items t.ending item is
+
+-- a tape that ends at once
+pub front_ends : (t : Tape) (e : Ending) → front t ≡ Ends e → t ≡ only e
+front_ends t e is = front_ends_parts t.items t.ending e is
+
+-- a tape by its parts
+by_parts : (t : Tape) (items : List Item) (ending : Ending) → t.items ≡ items → t.ending ≡ ending → t ≡ record { items = items; ending = ending }
+by_parts t items ending items_are ends = rw (← items_are, ← ends) refl
+
+-- bytes that are told, one after another
+pub told_byte : (bytes rest : List ℕ) (ending : Ending) (b : ℕ) → bytes ≡ b ∷ rest
+    → Answers (λ t. t ≡ record { items = map OneByte bytes; ending = ending }) (λ t. t ≡ record { items = map OneByte rest; ending = ending }) (Gives (OneByte b))
+told_byte bytes rest ending b split = record {
+  before = λ t is given. by_parts t _ ending
+      (front_gives t (OneByte b) is ∙ (ap (λ (u : Tape). OneByte b ∷ u.items) given ∙ ap (λ (bs : List ℕ). map OneByte bs) (sym split)))
+      (sym (behind_ending t.items t.ending) ∙ ap (λ (u : Tape). u.ending) given);
+  some = record { items = map OneByte bytes; ending = ending };
+  some_front = rw split refl;
+  some_given = rw split refl;
+}
+
+-- an ending that was given
+pub told_ending : (ending : Ending) → Answers (λ t. t ≡ only ending) (λ t. t ≡ only ending) (Ends ending)
+told_ending ending = record {
+  before = λ t is given. front_ends t ending is;
+  some = only ending;
+  some_front = refl;
+  some_given = refl;
+}
+
+-- the same of bytes that are told and have come to their end
+pub told_end : (bytes : List ℕ) (ending e : Ending) → length bytes ≡ 0 → ending ≡ e
+    → Answers (λ t. t ≡ record { items = map OneByte bytes; ending = ending }) (λ t. t ≡ record { items = map OneByte bytes; ending = ending }) (Ends e)
+told_end bytes ending e empty is_e = rw (nil_from_length bytes empty, is_e) (told_ending e)
+
+-- a byte that was read
+pub read_byte : (old new : Option (List ℕ)) (b : ℕ) → Consumes old new (b ∷ []) → Answers (IsRead old) (IsRead new) (Gives (OneByte b))
+read_byte old new b taken = record {
+  before = λ t is given. record {
+    bytes = b ∷ given.bytes;
+    rest = given.rest;
+    items = front_gives t (OneByte b) is ∙ ap (λ (items : List Item). OneByte b ∷ items) given.items;
+    front = Consumes-trans old new given.rest (b ∷ []) given.bytes taken given.front;
+    whole = λ ends. given.whole (behind_ending t.items t.ending ∙ ends);
+  };
+  some = record { items = OneByte b ∷ []; ending = Failed };
+  some_front = refl;
+  some_given = record { bytes = []; rest = new; items = refl; front = Consumes-nil new; whole = λ ends. cc };
+}
+
+-- the end of what is read
+pub read_end : (old new : Option (List ℕ)) → Consumes old new [] → IsAtEnd new → Answers (IsRead old) (λ t. t ≡ only Ended) (Ends Ended)
+read_end old new none at_end = record {
+  before = λ t is given. record { bytes = []; rest = new; items = ap (λ (t : Tape). t.items) (front_ends t Ended is); front = none; whole = λ ends. at_end };
+  some = only Ended;
+  some_front = refl;
+  some_given = refl;
+}
+
+-- a fault
+pub read_fault : (old : Option (List ℕ)) → Answers (IsRead old) (λ t. t ≡ only Failed) (Ends Failed)
+read_fault old = record {
+  before = λ t is given. record {
+    bytes = [];
+    rest = old;
+    items = ap (λ (t : Tape). t.items) (front_ends t Failed is);
+    front = Consumes-nil old;
+    whole = λ ends. let failed = ap (λ (t : Tape). t.ending) (front_ends t Failed is) in cc;
+  };
+  some = only Failed;
+  some_front = refl;
+  some_given = refl;
+}
+
+-- the first of the bytes of a block is taken
+pub first_taken : (bytes rest : List ℕ) (known : Option (List ℕ)) (b : ℕ) → bytes ≡ b ∷ rest → Consumes (prepend_known bytes known) (prepend_known rest known) (b ∷ [])
+first_taken bytes rest None b split = tt
+first_taken bytes rest (Some more) b split = rw split refl
+
+-- the first of the bytes that were read into a block is taken
+pub first_read : (bytes rest : List ℕ) (old new : Option (List ℕ)) (b : ℕ) → Consumes old new bytes → bytes ≡ b ∷ rest
+    → Consumes old (prepend_known rest new) (b ∷ [])
+first_read bytes rest None new b consumed split = tt
+first_read bytes rest (Some xs) None b consumed split = absurd consumed
+first_read bytes rest (Some xs) (Some ys) b consumed split = rw (consumed, split) refl
+
+-- the first of what is left of a block, from one place on
+block_split : (block : List ℕ) (next len : ℕ) → next < len → len ≤ length block
+    → drop next (take len block) ≡ get_or block next 0 ∷ drop (next + 1) (take len block)
+block_split block next len lt le =
+    let inside : next < length (take len block) = rw length-take (omega (arith, lt, le)) in
+    rw (← get_or-take len block next 0 lt) (drop_more (take len block) next 0 inside)
+
+-- a byte of the block is taken
+pub block_byte : (block : List ℕ) (next len : ℕ) (known : Option (List ℕ)) → next < len → len ≤ length block
+    → Consumes (prepend_known (drop next (take len block)) known) (prepend_known (drop (next + 1) (take len block)) known) (get_or block next 0 ∷ [])
+block_byte block next len known lt le = first_taken _ _ known _ (block_split block next len lt le)
+
+-- nothing in front of known bytes
+prepended_nothing : (known : Option (List ℕ)) → prepend_known [] known ≡ known
+prepended_nothing None = refl
+prepended_nothing (Some xs) = refl
+
+-- a block that was read whole leaves what the reader has
+pub block_over : (block : List ℕ) (next len : ℕ) (known : Option (List ℕ)) → len ≤ next → prepend_known (drop next (take len block)) known ≡ known
+block_over block next len known over =
+    let empty : drop next (take len block) ≡ [] = drop_all next (take len block) (rw length-take (omega (arith, over))) in
+    rw empty (prepended_nothing known)
+
+-- a block is read, and its first byte is taken
+pub block_read : (old_block block : List ℕ) (next old_len len : ℕ) (old new : Option (List ℕ)) → old_len ≤ next → 0 < len → len ≤ length block
+    → Consumes old new (take len block)
+    → Consumes (prepend_known (drop next (take old_len old_block)) old) (prepend_known (drop 1 (take len block)) new) (get_or block 0 0 ∷ [])
+block_read old_block block next old_len len old new over more within consumed =
+    rw (block_over old_block next old_len old over) (first_read (take len block) (drop 1 (take len block)) old new (get_or block 0 0) consumed (block_split block 0 len more within))
+
+-- a block that was written whole
+pub block_written : (n : ℕ) (ws old : List ℕ) → length ws ≡ n → take n (ws ++ drop (length ws) old) ≡ ws
+block_written n ws old whole = rw (← whole) (take-append_seam ws _)

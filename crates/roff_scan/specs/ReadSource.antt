@@ -1,0 +1,2 @@
+-- A source over a reader.
+pub mod Reach

@@ -1,0 +1,34 @@
+-- How far a source over a reader has come.
+use Rattle.std.specs.Prelude.{◌≡◌, ℕ, List, [], map, take, drop, Option, Some, None}
+use Rattle.std.specs.Io.KnownBytes.{Consumes, IsAtEnd, prepend_known}
+use Rattle.roff_scan.specs.declared.source.Reach.{Reach}
+use Rattle.roff_scan.specs.declared.source.ReadSource.{ReadSource}
+use Rattle.roff_scan.specs.declared.source.Reach.TheVariants.{Open, Ended as AtEnd, Failed as AtFault}
+use Rattle.roff_scan.specs.Tape.{Tape, OneByte, Ending, Ended, Failed}
+
+-- its final answer, once it was given
+abbrev pub reach_ending : Reach → Option Ending
+reach_ending Open = None
+reach_ending AtEnd = Some Ended
+reach_ending AtFault = Some Failed
+
+-- the same of the source
+abbrev pub ending_given : {R : Type 0} → ReadSource R → Option Ending
+ending_given s = reach_ending s.reach
+
+-- the bytes to come, where the reader tells its own: those of the block that weren't taken, and then those
+abbrev pub unread : {R : Type 0} → (R → Option (List ℕ)) → ReadSource R → Option (List ℕ)
+unread remaining s = prepend_known (drop s.next (take s.len s.block.items)) (remaining s.reader)
+
+-- bytes of the reader's to come, from the front on: all of them where they end by the input's end
+pub record IsRead (known : Option (List ℕ)) (t : Tape) : Type 0 where
+  pub bytes : List ℕ
+  pub rest : Option (List ℕ)
+  pub items : t.items ≡ map OneByte bytes
+  pub front : Consumes known rest bytes
+  pub whole : t.ending ≡ Ended → IsAtEnd rest
+
+-- what the source may give: any number of its bytes before a fault, or all; an ending alone once it was given
+abbrev pub MayGive : Option (List ℕ) → Option Ending → Tape → Type 0
+MayGive known None t = IsRead known t
+MayGive known (Some ending) t = t ≡ record { items = []; ending = ending }

@@ -1,0 +1,62 @@
+-- What a source gives: its tape, the items to come and how they end.
+use Rattle.std.specs.Prelude.{◌≡◌, ℕ, ◌-◌, ◌^◌, ◌+◌, ◌≤◌, List, [], ◌∷◌, min}
+use Rattle.roff_num.specs.declared.limit.Limit.{Limit}
+use Rattle.roff_scan.specs.declared.source.Taken.{Taken}
+use Rattle.roff_scan.specs.declared.source.Taken.TheVariants.{Byte, Note, End, Fault, Stop}
+
+-- one item: a byte, or a message of the source's own
+pub data Item : Type 0 where
+  OneByte : (b : ℕ) → Item
+  OneNote : (message : List ℕ) → Item
+
+-- how the items end: by the end of the input, a fault of the device, or a limit of the source's own
+pub data Ending : Type 0 where
+  Ended Failed : Ending
+  Stopped : (limit : Limit) → Ending
+
+-- the items to come, and how they end
+pub record Tape : Type 0 where
+  pub items : List Item
+  pub ending : Ending
+
+-- what a source answers: an item, or for good how the items end
+pub data Answer : Type 0 where
+  Gives : (item : Item) → Answer
+  Ends : (ending : Ending) → Answer
+
+-- the answer that was taken
+abbrev pub answer_of : Taken → Answer
+answer_of (Byte b) = Gives (OneByte b)
+answer_of (Note message) = Gives (OneNote message.items)
+answer_of End = Ends Ended
+answer_of Fault = Ends Failed
+answer_of (Stop limit) = Ends (Stopped limit)
+
+-- what a tape answers first
+abbrev pub front : Tape → Answer
+front t = elim t.items [ [] ↦ Ends t.ending | item ∷ items ↦ Gives item ]
+
+-- the tape behind its first answer: an ending stays
+abbrev pub behind_front : Tape → Tape
+behind_front t = elim t.items [ [] ↦ t | item ∷ items ↦ record t { items = items } ]
+
+-- the answer is an item
+abbrev pub IsItem : Answer → Type 0
+IsItem (Gives item) = Unit {0}
+IsItem (Ends ending) = ⊥
+
+-- What a source might give changes by an answer so: what it might give behind the answer, it might have
+-- given with the answer in front. And there is such a tape.
+pub record Answers (old new : Tape → Type 0) (a : Answer) : Type 0 where
+  pub before : (t : Tape) → front t ≡ a → new (behind_front t) → old t
+  pub some : Tape
+  pub some_front : front some ≡ a
+  pub some_given : new (behind_front some)
+
+-- the last value of a count of failures, at which it stays
+abbrev pub last_count : ℕ
+last_count = 2 ^ 64 - 1
+
+-- the count of failures rose, or stood at its last value
+abbrev pub Rises : ℕ → ℕ → Type 0
+Rises old new = min (old + 1) last_count ≤ new

@@ -1,0 +1,159 @@
+//! Sources: what a run reads from.
+
+ghost use Rattle.std.specs.Prelude.{◌≡◌, ℕ, ◌<◌, ◌≤◌, ◌^◌, Option, Some, None, vec_len, IfOk};
+ghost use Rattle.roff_scan.specs.Tape.{Tape, Answers, Ending, Failed, Gives, Ends, OneNote, answer_of, Rises};
+
+use arrayvec::ArrayVec;
+use roff_num::Limit;
+use std::alloc::{AllocError, Global};
+use std::io::Read;
+
+/// A message of a source's own, with its newline.
+pub type Note = ArrayVec<u8, 96>;
+
+/// What a source answers.
+#[derive(Drop)]
+pub enum Taken {
+    /// The next byte.
+    Byte(u8),
+    /// A message for the message sink, in its place among the bytes.
+    Note(Note),
+    /// The end of the input, for good.
+    End,
+    /// A fault of the device, for good.
+    Fault,
+    /// A limit of the source's own, for good. Its message came as a note.
+    Stop(Limit),
+}
+
+/// A source of bytes, one at a time.
+pub trait ByteSource {
+    /// The tapes that the source may give from here on: one alone where it is known what comes.
+    ghost gives: { Self → Tape → Type 0 };
+
+    /// The final answer, once it was given.
+    ghost ended: { Self → Option Ending };
+
+    /// More than the notes to come.
+    ghost notes: { Self → ℕ };
+
+    /// How many faults were answered; the count stays at its last value, that of a `u64`.
+    ghost failures: { Self → ℕ };
+
+    /// The next item, or how the items end.
+    fn next_byte(&mut self) -> Taken
+        // The answer is the front of a tape that the source may give, and what comes is the rest of it.
+        ensures gives { Answers (gives self.old) (gives self.new) (answer_of result) }
+        // An ending is final.
+        ensures ends { (e : Ending) → answer_of result ≡ Ends e → ended self.new ≡ Some e }
+        ensures stays { (e : Ending) → ended self.old ≡ Some e →
+            (answer_of result ≡ Ends e) × (ended self.new ≡ Some e) }
+        // Notes run out.
+        ensures notes { notes self.new ≤ notes self.old }
+        ensures note { (m : _) → answer_of result ≡ Gives (OneNote m) → notes self.new < notes self.old }
+        // A fault is counted.
+        ensures failures { failures self.old ≤ failures self.new }
+        ensures fault { answer_of result ≡ Ends Failed → Rises (failures self.old) (failures self.new) };
+}
+
+/// How many bytes a [`ReadSource`] asks its reader for.
+const BLOCK: usize = 4_096;
+
+/// Whether a reader may still be read.
+#[derive(Clone, Copy, Debug, PartialEq, Eq)]
+enum Reach {
+    Open,
+    Ended,
+    Failed,
+}
+
+/// A source over a reader, read a block of 4,096 bytes at a time.
+#[derive(Drop)]
+pub struct ReadSource<R> {
+    reader: R,
+    block: Vec<u8>,
+    next: usize,
+    len: usize,
+    reach: Reach,
+    failures: u64,
+    ghost within: { len ≤ vec_len block },
+    ghost room: { 0 < vec_len block },
+}
+
+impl<R: Read + Drop> ReadSource<R> {
+    ghost use Rattle.roff_scan.specs.ReadSource.Reach.{MayGive, ending_given, unread};
+
+    /// A source over a reader, of which nothing is read yet.
+    pub fn new(alloc: Global, reader: R) -> Result<Self, AllocError>
+        ensures ending { IfOk result (λ s. ending_given s ≡ None) }
+        ensures unread { IfOk result (λ s. unread R.remaining s ≡ R.remaining reader) }
+    {
+        Ok(ReadSource {
+            reader,
+            block: vec![in alloc; 0; BLOCK]?,
+            next: 0,
+            len: 0,
+            reach: Reach::Open,
+            failures: 0,
+        })
+    }
+
+    /// Reads the next block, by one read, and answers its first byte. Every error is a fault.
+    fn next_block(&mut self) -> Taken
+        requires open { ending_given self.old ≡ None }
+        requires taken { self.old.len ≤ self.old.next }
+        ensures gives { Answers (MayGive (unread R.remaining self.old) (ending_given self.old)) (MayGive (unread R.remaining self.new) (ending_given self.new)) (answer_of result) }
+        ensures ends { (e : Ending) → answer_of result ≡ Ends e → ending_given self.new ≡ Some e }
+        ensures failures { self.old.failures ≤ self.new.failures }
+        ensures fault { answer_of result ≡ Ends Failed → Rises self.old.failures self.new.failures }
+        ensures note { (m : _) → answer_of result ≡ Gives (OneNote m) → ⊥ }
+    {
+        match self.reader.read(&mut self.block) {
+            Ok(0) => {
+                self.reach = Reach::Ended;
+                Taken::End
+            }
+            Ok(len) => {
+                self.len = len;
+                self.next = 1;
+                Taken::Byte(self.block[0])
+            }
+            Err(_) => {
+                self.reach = Reach::Failed;
+                self.failures = self.failures.saturating_add(1);
+                Taken::Fault
+            }
+        }
+    }
+}
+
+impl<R: Read + Drop> ByteSource for ReadSource<R> {
+    ghost use Rattle.roff_scan.specs.ReadSource.Reach.{MayGive, ending_given, unread};
+
+    ghost gives = { λ s. MayGive (unread R.remaining s) (ending_given s) };
+
+    ghost ended = { ending_given };
+
+    ghost notes = { λ _. 0 };
+
+    ghost failures = { λ s. s.failures };
+
+    fn next_byte(&mut self) -> Taken {
+        match self.reach {
+            Reach::Open => {
+                if self.next < self.len {
+                    let byte = self.block[self.next];
+                    self.next += 1;
+                    Taken::Byte(byte)
+                } else {
+                    self.next_block()
+                }
+            }
+            Reach::Ended => Taken::End,
+            Reach::Failed => {
+                self.failures = self.failures.saturating_add(1);
+                Taken::Fault
+            }
+        }
+    }
+}

@@ -1,8 +1,0 @@
-use Rattle.roff_tools.proofs.laws.cut.Goals as goal
-use Rattle.roff_tools.proofs.RunsOnlyCut.{failing_only_cuts, same_until_the_fault}
-
-pub returns-clause-beginning : goal.returns-clause-beginning
-returns-clause-beginning c = failing_only_cuts
-
-pub returns-clause-same_until_the_fault : goal.returns-clause-same_until_the_fault
-returns-clause-same_until_the_fault c = same_until_the_fault
