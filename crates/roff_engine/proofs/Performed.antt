@@ -2,7 +2,7 @@
 use Rattle.std.proofs.Common.{◌≡◌, ◌≢◌, ℕ, ◌<◌, false, List, [], ◌∷◌, ◌++◌, Option, Result, Ok, Err, OnOk, OnErr, IsOkUnless, append_assoc, append-nil, refl, sym}
 use Rattle.std.specs.Io.KnownBytes.{Appends}
 use Rattle.std.proofs.lemmas.Bool.{le-ltb, lt-ltb}
-use Rattle.roff_lines.specs.Events.{Event}
+use Rattle.roff_lines.specs.declared.event.Event.{Event}
 use Rattle.roff_lines.specs.Lines.{Finished, finished, pending_length}
 use Rattle.roff_lines.specs.Env.Stands.{Stands}
 use Rattle.roff_lines.specs.declared.env.Env.{Env}

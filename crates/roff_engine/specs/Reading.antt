@@ -1,6 +1,6 @@
 -- What is being read, and what each byte means there (manual, sections 1.1 and 4.1).
 use Rattle.std.specs.Prelude.{ℕ, ◌+◌, Bool, true, false, ◌||◌, List, [], ◌∷◌, ◌++◌, Some, None, if◌then◌else◌, ◌==◌}
-use Rattle.roff_lines.specs.Events.{Print, WordEnd, Gap, LineEnd, Break}
+use Rattle.roff_lines.specs.declared.event.Event.TheVariants.{Print, WordEnd, Gap, LineEnd, Break}
 use Rattle.roff_lines.specs.declared.glyph.Glyph.TheVariants.{Printed, Blanks}
 use Rattle.roff_lines.specs.declared.settings.Settings.{Settings}
 use Rattle.roff_engine.specs.declared.request.Request.{Request}

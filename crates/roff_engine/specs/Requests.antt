@@ -1,6 +1,8 @@
 -- The requests: their names, and what each does (manual, sections 4 to 6).
 use Rattle.std.specs.Prelude.{ℕ, Bool, true, false, List, [], ◌∷◌, bytes_eq, codes, Option, Some, None, if◌then◌else◌, ◌==◌}
-use Rattle.roff_lines.specs.Events.{Event, WordEnd, Break, Set}
+use Rattle.roff_lines.specs.declared.event.Event.TheVariants.{WordEnd, Break, Set}
+pub use Rattle.roff_engine.specs.declared.event.PageEvent.{PageEvent}
+pub use Rattle.roff_engine.specs.declared.event.PageEvent.TheVariants.{Text, Space}
 use Rattle.roff_lines.specs.declared.settings.Settings.{Settings}
 use Rattle.roff_lines.specs.declared.settings.AdjustMode.{AdjustMode}
 use Rattle.roff_lines.specs.declared.settings.AdjustMode.TheVariants.{Left, Right, Centre, Both}
@@ -11,11 +13,6 @@ use Rattle.roff_engine.specs.declared.message.Message.{Message}
 use Rattle.roff_engine.specs.declared.message.Message.TheVariants.{BadNumber, BackwardMotion}
 use Rattle.roff_engine.specs.declared.number.Number.{Number}
 use Rattle.roff_engine.specs.Numbers.{number_of, is_column_scale, is_line_scale, length_set, is_below_zero}
-
--- what happens to the page: something to the text, or so many blank lines
-pub data PageEvent : Type 0 where
-  Text : (e : Event) → PageEvent
-  Space : (lines : ℕ) → PageEvent
 
 -- what a byte or a request means: messages, and then events
 pub record Effect : Type 0 where

@@ -14,7 +14,7 @@ use Rattle.roff_num.specs.LimitValues.{value_of}
 use Rattle.roff_engine.specs.Messages.{message_line, message_lines}
 use Rattle.roff_engine.specs.Output.{PageHistory, text_of, written}
 use Rattle.roff_engine.specs.Reading.{Reading, LineStart, Taking, taking, end_effect}
-use Rattle.roff_lines.specs.Events.{WordEnd, Break}
+use Rattle.roff_lines.specs.declared.event.Event.TheVariants.{WordEnd, Break}
 use Rattle.roff_engine.specs.Requests.{PageEvent, Text, Space, Effect}
 use Rattle.roff_scan.specs.Tape.{Tape, Answer, OneByte, OneNote, Ended, Failed, Stopped, Gives, Ends, front, behind_front}
 

@@ -3,12 +3,12 @@
 ghost use Rattle.std.specs.Prelude.{◌≡◌, ◌≢◌, ℕ, ◌+◌, ◌<◌, ◌≤◌, ◌^◌, [], ◌∷◌, List, Option, Err, IfOk, OnOk, IsOkUnless, option_map};
 ghost use Rattle.std.specs.Option.{option_to_list};
 ghost use Rattle.roff_lines.specs.Columns.{finished_of};
-ghost use Rattle.roff_lines.specs.Events.{Print, WordEnd, LineEnd, Break, settings_after};
+ghost use Rattle.roff_lines.specs.Events.{settings_after};
+ghost use Rattle.roff_lines.specs.declared.event.Event.TheVariants.{Print, WordEnd, LineEnd, Break};
 ghost use Rattle.roff_lines.specs.Env.Stands.{Stands};
 ghost use Rattle.roff_lines.specs.declared.settings.Settings.{Settings};
 ghost use Rattle.roff_engine.specs.Arguments.{Arguments, arguments_read};
 ghost use Rattle.roff_engine.specs.FirstArgument.Keeping.{KeepsFirst};
-ghost use Rattle.roff_engine.specs.Formatter.Happening.{event_of, events_of};
 ghost use Rattle.roff_engine.specs.Messages.{message_lines};
 ghost use Rattle.roff_engine.specs.Output.{PageHistory, text_of, finished_bytes};
 ghost use Rattle.roff_engine.specs.Formatter.Performing.{CountsFaults, Does, Performs, PerformsOnly, closing_events, with_events};
@@ -27,9 +27,15 @@ use crate::message::{Message, report};
 use crate::reading::{LinePart, Reading};
 use crate::request::Request;
 use crate::sink::ByteSink;
-use roff_lines::{Env, Glyph, Line};
+use roff_lines::{Env, Event, Glyph, Line};
 use roff_scan::is_dropped;
 use std::alloc::{AllocError, Global};
+
+/// What finishes the last line.
+const CLOSING: [PageEvent; 2] = [
+    PageEvent::Text(Event::WordEnd),
+    PageEvent::Text(Event::Break),
+];
 
 /// What is being read, the environment, and the block through which lines are written.
 #[derive(Drop)]
@@ -102,7 +108,7 @@ impl Formatter {
         ensures faults { CountsFaults O.failures E.failures out.old out.new err.old err.new result }
     {
         match self.end_unfinished(line, out, err) {
-            Ok(()) => self.perform_all(&[PageEvent::WordEnd, PageEvent::Break], out),
+            Ok(()) => self.perform_all(&CLOSING, out),
             Err(halt) => Err(halt),
         }
     }
@@ -196,7 +202,7 @@ impl Formatter {
 
     /// Performs events, one after another.
     fn perform_all<O: ByteSink>(&mut self, events: &[PageEvent], out: &mut O) -> Result<(), Halt>
-        ensures { PerformsOnly O.contents O.failures out.old out.new (events_of events.now) self.old self.new result }
+        ensures { PerformsOnly O.contents O.failures out.old out.new events.now self.old self.new result }
     {
         let mut rest = events;
         while let Some((event, others)) = rest.split_first() {
@@ -210,22 +216,31 @@ impl Formatter {
 
     /// Performs an event.
     fn perform<O: ByteSink>(&mut self, event: PageEvent, out: &mut O) -> Result<(), Halt>
-        ensures { PerformsOnly O.contents O.failures out.old out.new (event_of event ∷ []) self.old self.new result }
+        ensures { PerformsOnly O.contents O.failures out.old out.new (event ∷ []) self.old self.new result }
     {
         match event {
-            PageEvent::Glyph(glyph) => self.glyph(glyph),
-            PageEvent::WordEnd => self.end_word(out),
-            PageEvent::Gap(blanks) => {
+            PageEvent::Text(event) => self.perform_text(event, out),
+            PageEvent::Space(lines) => self.space(lines, out),
+        }
+    }
+
+    /// Performs an event of the text.
+    fn perform_text<O: ByteSink>(&mut self, event: Event, out: &mut O) -> Result<(), Halt>
+        ensures { PerformsOnly O.contents O.failures out.old out.new (Text event ∷ []) self.old self.new result }
+    {
+        match event {
+            Event::Print(glyph) => self.glyph(glyph),
+            Event::WordEnd => self.end_word(out),
+            Event::Gap(blanks) => {
                 self.env.gap(blanks);
                 Ok(())
             }
-            PageEvent::LineEnd => self.end_line(out),
-            PageEvent::Break => self.brk(out),
-            PageEvent::Set(param) => {
+            Event::LineEnd => self.end_line(out),
+            Event::Break => self.brk(out),
+            Event::Set(param) => {
                 self.env.set(param);
                 Ok(())
             }
-            PageEvent::Space(lines) => self.space(lines, out),
         }
     }
 

@@ -1,17 +1,16 @@
 //! What is being read, and what each byte means there.
 
 ghost use Rattle.std.specs.Prelude.{◌≡◌, ◌+◌, ◌<◌, ◌≤◌, ◌^◌, [], ◌∷◌, ◌++◌, length, true, false};
-ghost use Rattle.roff_lines.specs.Events.{Print};
+ghost use Rattle.roff_lines.specs.declared.event.Event.TheVariants.{Print};
 ghost use Rattle.roff_lines.specs.declared.glyph.Glyph.TheVariants.{Printed};
 ghost use Rattle.roff_lines.specs.declared.settings.Settings.{Settings};
-ghost use Rattle.roff_engine.specs.Formatter.Happening.{events_of};
 ghost use Rattle.roff_engine.specs.Reading.{LineStart, BehindControl, InName, dropped_taking, end_effect, ends_name, kept_taking, leading_blank_events, leading_glyph, taking, text_line_end, text_taking};
 ghost use Rattle.roff_engine.specs.Requests.{Text, doing};
 ghost use Rattle.roff_engine.specs.Formatter.ReadsAs.{leading_behind, leading_of, part_of, printing, taking_of};
 
 use crate::event::{Events, PageEvent};
 use crate::request::Request;
-use roff_lines::Glyph;
+use roff_lines::{Event, Glyph};
 use roff_scan::is_silent;
 
 /// What is being read.
@@ -70,12 +69,19 @@ impl TextLine {
 
     /// The events of the line's end: a line of blanks alone is a break and a blank line.
     fn end(self) -> Events
-        ensures { events_of result.items ≡ text_line_end self.has_glyph self.has_silent }
+        ensures { result.items ≡ text_line_end self.has_glyph self.has_silent }
     {
         if self.has_glyph || self.has_silent {
-            events(&[PageEvent::WordEnd, PageEvent::LineEnd])
+            events(&[
+                PageEvent::Text(Event::WordEnd),
+                PageEvent::Text(Event::LineEnd),
+            ])
         } else {
-            events(&[PageEvent::WordEnd, PageEvent::Break, PageEvent::Space(1)])
+            events(&[
+                PageEvent::Text(Event::WordEnd),
+                PageEvent::Text(Event::Break),
+                PageEvent::Space(1),
+            ])
         }
     }
 }
@@ -110,7 +116,7 @@ impl LinePart {
 
     /// The events of the input's end there: an unfinished text line ends.
     pub(crate) fn end(self) -> Events
-        ensures { (s : Settings) → doing (events_of result.items) ≡ end_effect s (part_of self) }
+        ensures { (s : Settings) → doing result.items ≡ end_effect s (part_of self) }
     {
         match self {
             LinePart::Text(line) => line.end(),
@@ -153,7 +159,10 @@ impl Taking {
             behind.leading = 0;
             printed(line.leading, byte)
         } else if line.has_glyph {
-            events(&[PageEvent::WordEnd, PageEvent::Gap(1)])
+            events(&[
+                PageEvent::Text(Event::WordEnd),
+                PageEvent::Text(Event::Gap(1)),
+            ])
         } else {
             behind.leading += 1;
             leading_blank(line.leading)
@@ -221,22 +230,25 @@ impl Taking {
 
 /// The events of a glyph behind so many leading blanks.
 fn printed(leading: u32, byte: u8) -> Events
-    ensures { events_of result.items ≡ leading_glyph leading ++ Text (Print (Printed byte)) ∷ [] }
+    ensures { result.items ≡ leading_glyph leading ++ Text (Print (Printed byte)) ∷ [] }
 {
-    let glyph = PageEvent::Glyph(Glyph::Printed(byte));
+    let glyph = PageEvent::Text(Event::Print(Glyph::Printed(byte)));
     if leading == 0 {
         events(&[glyph])
     } else {
-        events(&[PageEvent::Glyph(Glyph::Blanks(leading)), glyph])
+        events(&[PageEvent::Text(Event::Print(Glyph::Blanks(leading))), glyph])
     }
 }
 
 /// The events of a blank behind so many others at a line's beginning.
 fn leading_blank(before: u32) -> Events
-    ensures { events_of result.items ≡ leading_blank_events before }
+    ensures { result.items ≡ leading_blank_events before }
 {
     if before == 0 {
-        events(&[PageEvent::WordEnd, PageEvent::Break])
+        events(&[
+            PageEvent::Text(Event::WordEnd),
+            PageEvent::Text(Event::Break),
+        ])
     } else {
         Events::new()
     }

@@ -3,13 +3,13 @@
 ghost use Rattle.std.specs.Prelude.{◌≡◌, ℕ, Bool, List, [], ◌∷◌};
 ghost use Rattle.std.specs.Option.{option_copied};
 ghost use Rattle.roff_engine.specs.FirstArgument.Keeping.{first_kept};
-ghost use Rattle.roff_engine.specs.Formatter.Happening.{action_events, effect_of, events_of};
+ghost use Rattle.roff_engine.specs.Formatter.Happening.{action_events, effect_of};
 ghost use Rattle.roff_engine.specs.Requests.{breaking, doing, length_wanted, mode_named, mode_wanted, request_effect, request_named, saying, space_down};
 
 use crate::event::{Events, PageEvent};
 use crate::message::Message;
 use crate::number::{Number, Scale};
-use roff_lines::{AdjustMode, Param, Settings};
+use roff_lines::{AdjustMode, Event, Param, Settings};
 
 /// A request.
 #[derive(Clone, Copy, Debug, PartialEq, Eq)]
@@ -109,21 +109,23 @@ impl Request {
 impl Effect {
     /// Its events; behind an apostrophe a request doesn't break.
     pub(crate) fn events(self, breaks: bool) -> Events
-        ensures { events_of result.items ≡ (effect_of breaks self).events }
+        ensures { result.items ≡ (effect_of breaks self).events }
     {
         let mut events = Events::new();
         if breaks && self.breaks {
-            events.push(PageEvent::WordEnd);
-            events.push(PageEvent::Break);
+            events.push(PageEvent::Text(Event::WordEnd));
+            events.push(PageEvent::Text(Event::Break));
         }
         match self.action {
             Action::None => {}
-            Action::Set(param) => events.push(PageEvent::Set(param)),
+            Action::Set(param) => events.push(PageEvent::Text(Event::Set(param))),
             Action::Adjust(Some(mode)) => {
-                events.push(PageEvent::Set(Param::Mode(mode)));
-                events.push(PageEvent::Set(Param::Adjusting(true)));
+                events.push(PageEvent::Text(Event::Set(Param::Mode(mode))));
+                events.push(PageEvent::Text(Event::Set(Param::Adjusting(true))));
             }
-            Action::Adjust(None) => events.push(PageEvent::Set(Param::Adjusting(true))),
+            Action::Adjust(None) => events.push(PageEvent::Text(Event::Set(Param::Adjusting(
+                true,
+            )))),
             Action::Space(lines) => events.push(PageEvent::Space(lines)),
         }
         events

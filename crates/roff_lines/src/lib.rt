@@ -5,6 +5,7 @@
 #![tactic(auto)]
 
 mod env;
+mod event;
 mod glyph;
 pub mod laws;
 mod line;
@@ -14,6 +15,7 @@ mod shape;
 mod stretch;
 
 pub use env::Env;
+pub use event::Event;
 pub use glyph::Glyph;
 pub use line::{FURTHER_BLANK, GAP, Line, UNPADDABLE};
 pub use line_bytes::LineBytes;

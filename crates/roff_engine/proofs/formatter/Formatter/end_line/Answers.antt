@@ -1,5 +1,5 @@
 use Rattle.std.proofs.Common.{rules}
-use Rattle.roff_lines.specs.Events.{LineEnd}
+use Rattle.roff_lines.specs.declared.event.Event.TheVariants.{LineEnd}
 use Rattle.roff_engine.specs.Output.{text_of}
 use Rattle.roff_engine.proofs.Performed.{text_performs_only}
 use Rattle.roff_engine.proofs.formatter.Formatter.end_line.Goals as goal

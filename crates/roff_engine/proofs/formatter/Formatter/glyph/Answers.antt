@@ -1,5 +1,5 @@
 use Rattle.std.proofs.Common.{refl}
-use Rattle.roff_lines.specs.Events.{Print}
+use Rattle.roff_lines.specs.declared.event.Event.TheVariants.{Print}
 use Rattle.roff_engine.specs.Output.{text_of}
 use Rattle.roff_engine.proofs.Performed.{text_performed, text_stopped}
 use Rattle.roff_engine.proofs.Appending.{Appends-nothing}

@@ -1,6 +1,5 @@
 use Rattle.std.proofs.Common.{◌≡◌, ◌++◌, [], ◌∷◌, List, Ok, Err, rules, append_assoc, append-nil, arith, sym, subst, ◌∙◌}
 use Rattle.std.proofs.lemmas.List.{nil_from_length}
-use Rattle.roff_engine.specs.Formatter.Happening.{event_of, events_of}
 use Rattle.roff_engine.specs.Formatter.Performing.{behind, Performs}
 use Rattle.roff_engine.specs.Requests.{PageEvent}
 use Rattle.roff_engine.proofs.Performed.{performed_then, halted_then}
@@ -9,7 +8,7 @@ use Rattle.roff_engine.proofs.formatter.Formatter.perform_all.Goals as goal
 pub loop-event-preserved : goal.loop-event-preserved
 loop-event-preserved g c =
     let so_far = c.loop-event.invariant in
-    let event = event_of c.in-Some.event.now in
+    let event = c.in-Some.event.now in
     let opened : c.loop-event.rest.now ≡ c.in-Some.event.now ∷ c.in-Some.others.now = search rules in record {
       done = so_far.done ++ event ∷ [];
       split = rw append_assoc (rw opened at so_far.split);
@@ -23,15 +22,15 @@ loop-event-preserved g c =
 pub returns-in-Err : goal.returns-in-Err
 returns-in-Err g c =
     let so_far = c.loop-event.invariant in
-    let event = event_of c.in-Some.event.now in
+    let event = c.in-Some.event.now in
     let opened : c.loop-event.rest.now ≡ c.in-Some.event.now ∷ c.in-Some.others.now = search rules in
-    let split : events_of c.args.events.now ≡ (so_far.done ++ event ∷ []) ++ events_of c.in-Some.others.now =
+    let split : c.args.events.now ≡ (so_far.done ++ event ∷ []) ++ c.in-Some.others.now =
     rw append_assoc (rw opened at so_far.split) in
     record {
       performs = λ l h s.
           let P : List PageEvent → Type 0 = λ es. Performs l h es (Err c.in-Err.halt) c.perform.new.self.env
           (g.O.ByteSink.contents c.args.out.now) (g.O.ByteSink.contents c.perform.new.out) in
-          subst P (sym split) (halted_then l h (so_far.done ++ event ∷ []) (events_of c.in-Some.others.now) c.in-Err.halt _ _ _
+          subst P (sym split) (halted_then l h (so_far.done ++ event ∷ []) c.in-Some.others.now c.in-Err.halt _ _ _
           (performed_then l h so_far.done (event ∷ []) (Err c.in-Err.halt) _ _ _ _ _ (so_far.performed l h s)
           (c.in-Err.ensures.performs l (behind so_far.done h) (so_far.performed l h s).stands)));
       reading = c.perform.ensures.reading ∙ so_far.reading;
@@ -45,7 +44,7 @@ pub returns : goal.returns
 returns g c =
     let so_far = c.loop-event.invariant in
     let closed = nil_from_length c.loop-event.rest.now c.in_default.ensures.cases in
-    let split : events_of c.args.events.now ≡ so_far.done = rw (closed, append-nil) at so_far.split in
+    let split : c.args.events.now ≡ so_far.done = rw (closed, append-nil) at so_far.split in
     record {
       performs = λ l h s. rw split (so_far.performed l h s);
       reading = so_far.reading;

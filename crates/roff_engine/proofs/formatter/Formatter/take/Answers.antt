@@ -1,5 +1,6 @@
 use Rattle.std.proofs.Common.{◌≡◌, Result, Ok, Err, OnOk, [], ◌∷◌, rules, false, ap, sym, subst, refl}
-use Rattle.roff_lines.specs.Events.{Print, settings_after}
+use Rattle.roff_lines.specs.Events.{settings_after}
+use Rattle.roff_lines.specs.declared.event.Event.TheVariants.{Print}
 use Rattle.roff_lines.specs.declared.glyph.Glyph.TheVariants.{Printed}
 use Rattle.roff_scan.specs.Bytes.{is_dropped}
 use Rattle.roff_engine.specs.Output.{text_of}

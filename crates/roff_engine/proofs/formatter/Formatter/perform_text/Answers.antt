@@ -1,9 +1,9 @@
 use Rattle.std.proofs.Common.{rules}
-use Rattle.roff_lines.specs.Events.{Set}
+use Rattle.roff_lines.specs.declared.event.Event.TheVariants.{Set}
 use Rattle.roff_engine.specs.Output.{text_of}
 use Rattle.roff_engine.proofs.Appending.{Appends-nothing}
 use Rattle.roff_engine.proofs.Performed.{text_performed}
-use Rattle.roff_engine.proofs.formatter.Formatter.perform.Goals as goal
+use Rattle.roff_engine.proofs.formatter.Formatter.perform_text.Goals as goal
 
 pub returns-in-Set : goal.returns-in-Set
 returns-in-Set g c = record {
