@@ -7,4 +7,6 @@ pub mod LineEnd
 pub mod Telling
 pub mod Printing
 pub mod Filling
+pub mod ToldWords
+pub mod Paragraphs
 pub mod Columns

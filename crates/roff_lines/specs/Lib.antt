@@ -10,3 +10,4 @@ pub mod Env
 pub mod Shape
 pub mod LineBytes
 pub mod Filling
+pub mod Paragraphs

@@ -1,12 +1,13 @@
 //! Facts about the definitions alone, as contracts of functions that do nothing.
 
-ghost use Rattle.std.specs.Prelude.{◌≡◌, ℕ, ◌<◌, List, [], ◌∷◌, ◌++◌, length, map, All, Some};
+ghost use Rattle.std.specs.Prelude.{◌≡◌, ℕ, ◌<◌, List, [], ◌∷◌, ◌++◌, length, map, All, Some, true, false};
 ghost use Rattle.roff_lines.specs.Columns.{StandsInColumns, written_by_break};
-ghost use Rattle.roff_lines.specs.Filling.{FillsLines};
+ghost use Rattle.roff_lines.specs.Filling.{FillsLines, lines_of};
 ghost use Rattle.roff_lines.specs.Lines.{Finished};
-ghost use Rattle.roff_lines.specs.Words.{Word};
-ghost use Rattle.roff_lines.specs.Events.{Print, WordEnd};
-ghost use Rattle.roff_lines.specs.Telling.{glyphs_told};
+ghost use Rattle.roff_lines.specs.Words.{Word, is_empty, has_open_word, words};
+ghost use Rattle.roff_lines.specs.Events.{Event, Print, WordEnd, LineEnd, Break, History, settings_after};
+ghost use Rattle.roff_lines.specs.Telling.{glyphs_told, words_told, IsOfText, IsWordUnder, IsClear};
+ghost use Rattle.roff_lines.specs.Paragraphs.{finished_lines, until_break, full_lines, broken_lines, paragraph_lines};
 ghost use Rattle.roff_lines.specs.declared.glyph.Glyph.TheVariants.{Printed};
 
 /// Filling takes the longest fronts: the lines of a paragraph have its words in order; each word of a
@@ -28,4 +29,30 @@ pub fn printed_bytes()
         → written_by_break (WordEnd ∷ glyphs_told (map Printed bytes) []) ≡ Some (bytes ++ 10 ∷ []) }
     ensures byte { (b : ℕ) → 32 < b
         → written_by_break (WordEnd ∷ Print (Printed b) ∷ []) ≡ Some (b ∷ 10 ∷ []) }
+{}
+
+/// What a paragraph writes is its lines, laid out one after another.
+///
+/// A history has finished the lines of its words since the last break, but for the last of these lines,
+/// which is pending. A break finishes that one too, and so does a line's end behind words where nothing
+/// is filled. So a text in filling, and then a break, finish the lines of the text's words; words that
+/// are told one after another are such a text. All lines but the last are adjusted.
+pub fn paragraphs()
+    ensures pending { (h : History)
+        → finished_lines h ≡ full_lines (lines_of (words h)) ++ finished_lines (until_break h) }
+    ensures broken { (h : History) → finished_lines (Break ∷ h)
+        ≡ broken_lines (settings_after h) (lines_of (words h)) ++ finished_lines (until_break h) }
+    ensures unfilled { (h : History) → (settings_after h).filling ≡ false → is_empty (words h) ≡ false
+        → finished_lines (LineEnd ∷ h)
+        ≡ broken_lines (settings_after h) (lines_of (words h)) ++ finished_lines (until_break h) }
+    ensures text { (text : List Event) (h : History)
+        → IsClear h → (settings_after h).filling ≡ true → All IsOfText text
+        → finished_lines (Break ∷ text ++ h)
+        ≡ paragraph_lines (settings_after h) (lines_of (words (text ++ h))) ++ finished_lines h }
+    ensures told { (ws : List Word) (h : History)
+        → IsClear h → All (IsWordUnder (settings_after h)) ws
+        → finished_lines (Break ∷ words_told ws h)
+        ≡ paragraph_lines (settings_after h) (lines_of ws) ++ finished_lines h }
+    ensures clear_at_first { IsClear [] }
+    ensures clear_at_break { (h : History) → has_open_word h ≡ false → IsClear (Break ∷ h) }
 {}
