@@ -11,3 +11,4 @@ pub mod Shape
 pub mod LineBytes
 pub mod Filling
 pub mod Paragraphs
+pub mod Clauses

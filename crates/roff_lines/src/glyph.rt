@@ -1,8 +1,7 @@
 //! Glyphs: what a line prints in one piece.
 
 ghost use Rattle.std.specs.Prelude.{◌≡◌, length, if◌then◌else◌};
-ghost use Rattle.roff_lines.specs.Glyphs.{byte_width, glyph_text, text_byte};
-ghost use Rattle.roff_lines.specs.Words.{is_closer, is_sentence_mark};
+ghost use Rattle.roff_lines.specs.Clauses.{byte_width, glyph_text, text_byte, is_closer, is_sentence_mark};
 
 use crate::line::UNPADDABLE;
 

@@ -1,7 +1,7 @@
 //! The values of the formatter's limits.
 
 ghost use Rattle.std.specs.Prelude.{◌≡◌, decimal};
-ghost use Rattle.roff_num.specs.LimitValues.{default_limits, limits_with, value_of};
+ghost use Rattle.roff_num.specs.Clauses.{default_limits, limits_with, value_of};
 
 use crate::limit::Limit;
 
