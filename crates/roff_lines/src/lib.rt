@@ -1,7 +1,8 @@
 //! Lines: what one environment keeps of a text, and the lines that it finishes.
 //!
 //! An environment is told glyphs, gaps, word ends, line ends, breaks and changes of its parameters.
-//! It fills and adjusts lines as the manual's section 4 says, and hands out each line once it is finished.
+//! It fills and adjusts lines as the manual's section 4 says, and hands out each line once it is
+//! finished.
 #![tactic(auto)]
 
 mod env;

@@ -3,8 +3,8 @@
 use crate::{Limits, Name, Num, NumFault, Scale, eval, round_h, round_v};
 use std::test::Fail;
 
-/// A text, the scale of its numbers, the present place, and what it gives: its value in basic units and
-/// its length in bytes, or why it gives none.
+/// A text, the scale of its numbers, the present place, and what it gives: its value in basic units
+/// and its length in bytes, or why it gives none.
 type Row = (
     &'static [u8],
     Scale,
