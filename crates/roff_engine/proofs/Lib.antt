@@ -11,3 +11,5 @@ pub mod FirstArguments
 pub mod ItemSteps
 pub mod Halting
 pub mod Items
+pub mod PerformedOrStopped
+pub mod Endings

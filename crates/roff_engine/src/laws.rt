@@ -4,6 +4,7 @@ ghost use Rattle.std.specs.Prelude.{◌≡◌, codes};
 ghost use Rattle.roff_num.specs.declared.limit.Limit.TheVariants.{Bytes, Line};
 ghost use Rattle.roff_engine.specs.declared.status.Status.TheVariants.{Done, Device, Limit as Limited};
 ghost use Rattle.roff_engine.specs.Laws.{LimitsOnlyCut, SameUntilALimit, FailingOnlyCuts, SameUntilTheFault, NoLimitIsPassed};
+ghost use Rattle.roff_engine.specs.ResultLaws.{EveryRunEnds, StepsLeadToTheLastState, NoOtherStateIsLast};
 ghost use Rattle.roff_engine.specs.Rows.{gives, formatted, formatted_within, formatted_failing};
 
 /// What the definitions give on the worked rows of filled text.
@@ -41,6 +42,13 @@ pub fn limit_rows()
         ≡ gives (codes "") (codes "nroff: line 2: limit line (5) reached\n") (Limited Line) }
     ensures source_fails { formatted_failing 8 (codes ".nf\nab\ncd\n")
         ≡ gives (codes "ab\n") (codes "nroff: line 3: read failed\n") Device }
+{}
+
+/// Every run ends, in one state alone.
+pub fn ends()
+    ensures ends { EveryRunEnds }
+    ensures reached { StepsLeadToTheLastState }
+    ensures alone { NoOtherStateIsLast }
 {}
 
 /// Limits only cut: a run with smaller ones writes and reports a beginning, and comes to the same
