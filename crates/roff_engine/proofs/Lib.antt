@@ -13,3 +13,4 @@ pub mod Halting
 pub mod Items
 pub mod PerformedOrStopped
 pub mod Endings
+pub mod ResultsOnlyCut

@@ -4,7 +4,7 @@ ghost use Rattle.std.specs.Prelude.{◌≡◌, codes};
 ghost use Rattle.roff_num.specs.declared.limit.Limit.TheVariants.{Bytes, Line};
 ghost use Rattle.roff_engine.specs.declared.status.Status.TheVariants.{Done, Device, Limit as Limited};
 ghost use Rattle.roff_engine.specs.Laws.{LimitsOnlyCut, SameUntilALimit, FailingOnlyCuts, SameUntilTheFault, NoLimitIsPassed};
-ghost use Rattle.roff_engine.specs.ResultLaws.{EveryRunEnds, StepsLeadToTheLastState, NoOtherStateIsLast};
+ghost use Rattle.roff_engine.specs.ResultLaws.{EveryRunEnds, StepsLeadToTheLastState, NoOtherStateIsLast, LimitsCutResults, SameResultWithoutALimit, FailingCutsResults, SameResultBeforeTheFault};
 ghost use Rattle.roff_engine.specs.Rows.{gives, formatted, formatted_within, formatted_failing};
 
 /// What the definitions give on the worked rows of filled text.
@@ -56,6 +56,10 @@ pub fn ends()
 pub fn limits()
     ensures beginning { LimitsOnlyCut }
     ensures same_until_a_limit { SameUntilALimit }
+
+    // What whole runs give.
+    ensures result { LimitsCutResults }
+    ensures same_result { SameResultWithoutALimit }
 {}
 
 /// A source that fails only cuts: where it went on, the run would write and report what it does, and
@@ -63,6 +67,10 @@ pub fn limits()
 pub fn cut()
     ensures beginning { FailingOnlyCuts }
     ensures same_until_the_fault { SameUntilTheFault }
+
+    // What whole runs give.
+    ensures result { FailingCutsResults }
+    ensures same_result { SameResultBeforeTheFault }
 {}
 
 /// No run takes more bytes, or has a longer pending line, than its limits say.
