@@ -159,6 +159,12 @@ Leads-turns l (suc n) s =
 pub steps_lead_to_the_last_state : StepsLeadToTheLastState
 steps_lead_to_the_last_state l tape = Leads-turns l (length tape.items + 2) (initial tape)
 
+-- what holds behind each number of steps holds of the last state
+pub at_last_state : (P : State → Type 0) (l : Limits) (tape : Tape) → ((n : ℕ) → P (after l n (initial tape))) → P (last_state l tape)
+at_last_state P l tape holds =
+    let leads = steps_lead_to_the_last_state l tape in
+    subst P leads.there (holds leads.steps)
+
 -- of two states that have ended, to which steps lead, the second is the first
 same_end : (l : Limits) (s t u : State) → Leads l s t → Leads l s u → IsSome t.ended → IsSome u.ended → t ≡ u
 same_end l s t u to_t to_u t_ended u_ended =

@@ -14,3 +14,4 @@ pub mod Items
 pub mod PerformedOrStopped
 pub mod Endings
 pub mod ResultsOnlyCut
+pub mod Taking

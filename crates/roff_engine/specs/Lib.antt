@@ -12,6 +12,7 @@ pub mod Results
 pub mod Rows
 pub mod Laws
 pub mod ResultLaws
+pub mod Taken
 pub mod FirstArgument
 pub mod Formatter
 pub mod Engine

@@ -37,3 +37,7 @@ status_of l tape = (last_state l tape).ended
 -- the items that it doesn't take, and how they end
 abbrev pub rest_of : Limits → Tape → Tape
 rest_of l tape = (last_state l tape).tape
+
+-- how many bytes it takes
+abbrev pub charge_of : Limits → Tape → ℕ
+charge_of l tape = (last_state l tape).charge

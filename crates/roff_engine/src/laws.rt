@@ -5,6 +5,7 @@ ghost use Rattle.roff_num.specs.declared.limit.Limit.TheVariants.{Bytes, Line};
 ghost use Rattle.roff_engine.specs.declared.status.Status.TheVariants.{Done, Device, Limit as Limited};
 ghost use Rattle.roff_engine.specs.Laws.{LimitsOnlyCut, SameUntilALimit, FailingOnlyCuts, SameUntilTheFault, NoLimitIsPassed};
 ghost use Rattle.roff_engine.specs.ResultLaws.{EveryRunEnds, StepsLeadToTheLastState, NoOtherStateIsLast, LimitsCutResults, SameResultWithoutALimit, FailingCutsResults, SameResultBeforeTheFault};
+ghost use Rattle.roff_engine.specs.Taken.{EachItemIsTakenOnce, AllButTheRestIsTaken, ChargeIsWithin};
 ghost use Rattle.roff_engine.specs.Rows.{gives, formatted, formatted_within, formatted_failing};
 
 /// What the definitions give on the worked rows of filled text.
@@ -76,4 +77,12 @@ pub fn cut()
 /// No run takes more bytes, or has a longer pending line, than its limits say.
 pub fn bounds()
     ensures { NoLimitIsPassed }
+{}
+
+/// A run takes the items of its source in order, each once, and charges each byte; what it doesn't
+/// take is its rest.
+pub fn rest()
+    ensures each_step { EachItemIsTakenOnce }
+    ensures whole_run { AllButTheRestIsTaken }
+    ensures charge { ChargeIsWithin }
 {}
