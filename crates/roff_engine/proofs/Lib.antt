@@ -15,3 +15,4 @@ pub mod PerformedOrStopped
 pub mod Endings
 pub mod ResultsOnlyCut
 pub mod Taking
+pub mod QuotedArguments

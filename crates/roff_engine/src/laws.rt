@@ -1,11 +1,12 @@
 //! Facts about the definitions alone, as contracts of functions that do nothing.
 
-ghost use Rattle.std.specs.Prelude.{◌≡◌, codes};
+ghost use Rattle.std.specs.Prelude.{◌≡◌, [], ◌∷◌, codes};
 ghost use Rattle.roff_num.specs.declared.limit.Limit.TheVariants.{Bytes, Line};
 ghost use Rattle.roff_engine.specs.declared.status.Status.TheVariants.{Done, Device, Limit as Limited};
 ghost use Rattle.roff_engine.specs.Laws.{LimitsOnlyCut, SameUntilALimit, FailingOnlyCuts, SameUntilTheFault, NoLimitIsPassed};
 ghost use Rattle.roff_engine.specs.ResultLaws.{EveryRunEnds, StepsLeadToTheLastState, NoOtherStateIsLast, LimitsCutResults, SameResultWithoutALimit, FailingCutsResults, SameResultBeforeTheFault};
 ghost use Rattle.roff_engine.specs.Taken.{EachItemIsTakenOnce, AllButTheRestIsTaken, ChargeIsWithin};
+ghost use Rattle.roff_engine.specs.Quoting.{quoted_line, QuotedArgumentsReadBack, RequestsGetQuotedArguments};
 ghost use Rattle.roff_engine.specs.Rows.{gives, formatted, formatted_within, formatted_failing};
 
 /// What the definitions give on the worked rows of filled text.
@@ -85,4 +86,12 @@ pub fn rest()
     ensures each_step { EachItemIsTakenOnce }
     ensures whole_run { AllButTheRestIsTaken }
     ensures charge { ChargeIsWithin }
+{}
+
+/// Arguments written in quotes, with each quote in them twice, are read as they were.
+pub fn quoted_arguments()
+    ensures read_back { QuotedArgumentsReadBack }
+    ensures by_requests { RequestsGetQuotedArguments }
+    ensures row { quoted_line (codes "a b" ∷ codes "c\"d" ∷ codes "" ∷ [])
+        ≡ codes "\"a b\" \"c\"\"d\" \"\"" }
 {}
