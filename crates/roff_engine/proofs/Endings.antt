@@ -12,7 +12,7 @@ use Rattle.roff_engine.proofs.Leads.{Leads-refl, Leads-trans, Leads-step, after-
 use Rattle.roff_engine.proofs.PerformedOrStopped.{PerformedOrStopped, Performed, StoppedAt, performed_or_stopped}
 
 -- a run has ended, or it hasn't
-ended_or_not : (o : Option Status) → IsSome o ⊎ (o ≡ None)
+pub ended_or_not : (o : Option Status) → IsSome o ⊎ (o ≡ None)
 ended_or_not None = inr refl
 ended_or_not (Some status) = inl refl
 
@@ -164,6 +164,12 @@ pub at_last_state : (P : State → Type 0) (l : Limits) (tape : Tape) → ((n : 
 at_last_state P l tape holds =
     let leads = steps_lead_to_the_last_state l tape in
     subst P leads.there (holds leads.steps)
+
+-- a run has ended behind more steps than it takes
+pub after-more : (l : Limits) (t : Tape) (more : ℕ) → after l ((steps_lead_to_the_last_state l t).steps + more) (initial t) ≡ last_state l t
+after-more l t more =
+    let leads = steps_lead_to_the_last_state l t in
+    after-add l leads.steps more (initial t) ∙ ap (after l more) leads.there ∙ after-ended l more (last_state l t) (every_run_ends l t)
 
 -- of two states that have ended, to which steps lead, the second is the first
 same_end : (l : Limits) (s t u : State) → Leads l s t → Leads l s u → IsSome t.ended → IsSome u.ended → t ≡ u

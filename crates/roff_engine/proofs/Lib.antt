@@ -15,4 +15,6 @@ pub mod PerformedOrStopped
 pub mod Endings
 pub mod ResultsOnlyCut
 pub mod Taking
+pub mod StatusesTell
+pub mod RunsAppend
 pub mod QuotedArguments

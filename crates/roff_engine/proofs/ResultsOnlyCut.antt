@@ -7,8 +7,7 @@ use Rattle.roff_engine.specs.Results.{last_state}
 use Rattle.roff_engine.specs.Run.{State, initial, after, output, reported}
 use Rattle.roff_scan.specs.Tape.{Tape}
 use Rattle.roff_engine.proofs.Beginnings.{IsBeginning-append, IsBeginning-trans}
-use Rattle.roff_engine.proofs.Endings.{every_run_ends, steps_lead_to_the_last_state, after-ended}
-use Rattle.roff_engine.proofs.Leads.{after-add}
+use Rattle.roff_engine.proofs.Endings.{steps_lead_to_the_last_state, after-more}
 use Rattle.roff_engine.proofs.RunsOnlyCut.{limits_only_cut, same_until_a_limit, failing_only_cuts, same_until_the_fault}
 
 -- a number of steps behind which two runs have ended
@@ -16,12 +15,6 @@ record BothEnd (l : Limits) (t : Tape) (k : Limits) (u : Tape) : Type 0 where
   steps : ℕ
   first : after l steps (initial t) ≡ last_state l t
   second : after k steps (initial u) ≡ last_state k u
-
--- a run has ended behind more steps than it takes
-after-more : (l : Limits) (t : Tape) (more : ℕ) → after l ((steps_lead_to_the_last_state l t).steps + more) (initial t) ≡ last_state l t
-after-more l t more =
-    let leads = steps_lead_to_the_last_state l t in
-    after-add l leads.steps more (initial t) ∙ ap (after l more) leads.there ∙ after-ended l more (last_state l t) (every_run_ends l t)
 
 -- as many as both take together
 both_end : (l : Limits) (t : Tape) (k : Limits) (u : Tape) → BothEnd l t k u

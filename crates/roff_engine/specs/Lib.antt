@@ -13,6 +13,7 @@ pub mod Rows
 pub mod Laws
 pub mod ResultLaws
 pub mod Taken
+pub mod Statuses
 pub mod Quoting
 pub mod FirstArgument
 pub mod Formatter

@@ -3,8 +3,9 @@
 ghost use Rattle.std.specs.Prelude.{◌≡◌, [], ◌∷◌, codes};
 ghost use Rattle.roff_num.specs.declared.limit.Limit.TheVariants.{Bytes, Line};
 ghost use Rattle.roff_engine.specs.declared.status.Status.TheVariants.{Done, Device, Limit as Limited};
-ghost use Rattle.roff_engine.specs.Laws.{LimitsOnlyCut, SameUntilALimit, FailingOnlyCuts, SameUntilTheFault, NoLimitIsPassed};
-ghost use Rattle.roff_engine.specs.ResultLaws.{EveryRunEnds, StepsLeadToTheLastState, NoOtherStateIsLast, LimitsCutResults, SameResultWithoutALimit, FailingCutsResults, SameResultBeforeTheFault};
+ghost use Rattle.roff_engine.specs.Laws.{LimitsOnlyCut, SameUntilALimit, FailingOnlyCuts, SameUntilTheFault, NoLimitIsPassed, StepsOnlyAppend};
+ghost use Rattle.roff_engine.specs.ResultLaws.{EveryRunEnds, StepsLeadToTheLastState, NoOtherStateIsLast, LimitsCutResults, SameResultWithoutALimit, FailingCutsResults, SameResultBeforeTheFault, EachStateIsABeginning};
+ghost use Rattle.roff_engine.specs.Statuses.{EachStatusTells};
 ghost use Rattle.roff_engine.specs.Taken.{EachItemIsTakenOnce, AllButTheRestIsTaken, ChargeIsWithin};
 ghost use Rattle.roff_engine.specs.Quoting.{quoted_line, QuotedArgumentsReadBack, RequestsGetQuotedArguments};
 ghost use Rattle.roff_engine.specs.Rows.{gives, formatted, formatted_within, formatted_failing};
@@ -51,6 +52,17 @@ pub fn ends()
     ensures ends { EveryRunEnds }
     ensures reached { StepsLeadToTheLastState }
     ensures alone { NoOtherStateIsLast }
+{}
+
+/// Nothing that a run wrote or reported is taken back.
+pub fn appends()
+    ensures steps { StepsOnlyAppend }
+    ensures whole_run { EachStateIsABeginning }
+{}
+
+/// Each status tells how the run ended, and what its last message says.
+pub fn statuses()
+    ensures { EachStatusTells }
 {}
 
 /// Limits only cut: a run with smaller ones writes and reports a beginning, and comes to the same
