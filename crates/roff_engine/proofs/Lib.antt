@@ -11,3 +11,10 @@ pub mod FirstArguments
 pub mod ItemSteps
 pub mod Halting
 pub mod Items
+pub mod PerformedOrStopped
+pub mod Endings
+pub mod ResultsOnlyCut
+pub mod Taking
+pub mod StatusesTell
+pub mod RunsAppend
+pub mod QuotedArguments

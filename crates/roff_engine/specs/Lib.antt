@@ -8,8 +8,13 @@ pub mod Requests
 pub mod Reading
 pub mod Output
 pub mod Run
+pub mod Results
 pub mod Rows
 pub mod Laws
+pub mod ResultLaws
+pub mod Taken
+pub mod Statuses
+pub mod Quoting
 pub mod FirstArgument
 pub mod Formatter
 pub mod Engine
