@@ -35,7 +35,8 @@ impl Block {
         line: Line<'_>,
         out: &mut O,
     ) -> Result<(), SinkFault>
-        ensures { Puts (O.sunk out.old) (O.sunk out.new) (line_bytes (finished_of line.entry)) result }
+        ensures { Puts (O.sunk out.old) (O.sunk out.new)
+            (line_bytes (finished_of line.entry)) result }
     {
         let bytes = &mut self.bytes;
         for byte in LineBytes::of(line) {
@@ -66,7 +67,8 @@ fn push<O: ByteSink>(bytes: &mut Vec<u8>, byte: u8, out: &mut O) -> Result<(), S
     requires { 8192 ≤ vec_capacity bytes.old }
     ensures capacity { vec_capacity bytes.old ≤ vec_capacity bytes.new }
     ensures ok { OnOk result
-        (HoldsBack (O.sunk out.old) (O.sunk out.new) (bytes.old.items ++ byte ∷ []) bytes.new.items) }
+        (HoldsBack (O.sunk out.old) (O.sunk out.new)
+        (bytes.old.items ++ byte ∷ []) bytes.new.items) }
     ensures err { OnErr result (Fails (O.sunk out.old) (O.sunk out.new) bytes.old.items) }
     ensures empty { OnErr result (bytes.new.items ≡ []) }
 {

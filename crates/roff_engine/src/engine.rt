@@ -33,7 +33,8 @@ impl Model for Engine {
 
     ghost view = { λ e. e.limits };
 
-    ghost invariant = { λ e. Stands e.limits.line [] e.formatter.env × (e.formatter.reading ≡ Line Start) };
+    ghost invariant = { λ e.
+        Stands e.limits.line [] e.formatter.env × (e.formatter.reading ≡ Line Start) };
 }
 
 impl Engine {

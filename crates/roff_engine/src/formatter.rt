@@ -68,7 +68,8 @@ impl Formatter {
         requires { leading_behind self.old.reading + 1 < 2 ^ 32 }
         ensures does { (r : Read) → ReadsAs r self.old.reading self.old.argument →
             DoesEffect line (λ s. (taking s r byte).effect) self.old self.new
-            (sinks (O.sunk out.old) (E.sunk err.old)) (sinks (O.sunk out.new) (E.sunk err.new)) result }
+            (sinks (O.sunk out.old) (E.sunk err.old))
+            (sinks (O.sunk out.new) (E.sunk err.new)) result }
         ensures reads { (s : Settings) (r : Read) → ReadsAs r self.old.reading self.old.argument →
             OnOk result (ReadsAs (taking s r byte).reading self.new.reading self.new.argument) }
         ensures leading { leading_behind self.new.reading ≤ leading_behind self.old.reading + 1 }
@@ -99,7 +100,8 @@ impl Formatter {
     ) -> Result<(), Halt>
         ensures does { (r : Read) → ReadsAs r self.old.reading self.old.argument →
             DoesEffect line (λ s. with_events (end_effect s r) closing_events) self.old self.new
-            (sinks (O.sunk out.old) (E.sunk err.old)) (sinks (O.sunk out.new) (E.sunk err.new)) result }
+            (sinks (O.sunk out.old) (E.sunk err.old))
+            (sinks (O.sunk out.new) (E.sunk err.new)) result }
         ensures reading { self.new.reading ≡ self.old.reading }
     {
         match self.end_unfinished(line, out, err) {
@@ -117,7 +119,8 @@ impl Formatter {
     ) -> Result<(), Halt>
         ensures does { (r : Read) → ReadsAs r self.old.reading self.old.argument →
             DoesEffect line (λ s. end_effect s r) self.old self.new
-            (sinks (O.sunk out.old) (E.sunk err.old)) (sinks (O.sunk out.new) (E.sunk err.new)) result }
+            (sinks (O.sunk out.old) (E.sunk err.old))
+            (sinks (O.sunk out.new) (E.sunk err.new)) result }
         ensures reading { self.new.reading ≡ self.old.reading }
     {
         match self.reading {
@@ -130,10 +133,13 @@ impl Formatter {
     fn take_part<O: ByteSink>(&mut self, part: LinePart, byte: u8, out: &mut O) -> Result<(), Halt>
         requires { leading_of part + 1 < 2 ^ 32 }
         ensures performs { (s : Settings) →
-            PerformsEvents (kept_taking s (part_of part) byte).effect.events self.old.env self.new.env
+            PerformsEvents (kept_taking s (part_of part) byte).effect.events
+            self.old.env self.new.env
             (O.sunk out.old) (O.sunk out.new) result }
         ensures silent { (s : Settings) → (kept_taking s (part_of part) byte).effect.messages ≡ [] }
-        ensures reads { (s : Settings) → ReadsAs (kept_taking s (part_of part) byte).reading self.new.reading self.new.argument }
+        ensures reads { (s : Settings) →
+            ReadsAs (kept_taking s (part_of part) byte).reading
+            self.new.reading self.new.argument }
         ensures leading { leading_behind self.new.reading ≤ leading_of part + 1 }
     {
         let taking = part.taking(byte);
@@ -154,10 +160,13 @@ impl Formatter {
     ) -> Result<(), Halt>
         requires { self.old.reading ≡ Reading.Arguments breaks request }
         ensures does { (a : Arguments) → KeepsFirst a self.old.argument →
-            DoesEffect line (λ s. (argument_taking s breaks request a byte).effect) self.old self.new
-            (sinks (O.sunk out.old) (E.sunk err.old)) (sinks (O.sunk out.new) (E.sunk err.new)) result }
+            DoesEffect line (λ s. (argument_taking s breaks request a byte).effect)
+            self.old self.new
+            (sinks (O.sunk out.old) (E.sunk err.old))
+            (sinks (O.sunk out.new) (E.sunk err.new)) result }
         ensures reads { (s : Settings) (a : Arguments) → KeepsFirst a self.old.argument →
-            ReadsAs (argument_taking s breaks request a byte).reading self.new.reading self.new.argument }
+            ReadsAs (argument_taking s breaks request a byte).reading
+            self.new.reading self.new.argument }
         ensures leading { leading_behind self.new.reading ≡ 0 }
     {
         if byte != b'\n' {
@@ -178,8 +187,10 @@ impl Formatter {
         err: &mut E,
     ) -> Result<(), Halt>
         ensures does { (a : Arguments) → KeepsFirst a self.old.argument →
-            DoesEffect line (λ s. request_effect s breaks request (arguments_read a)) self.old self.new
-            (sinks (O.sunk out.old) (E.sunk err.old)) (sinks (O.sunk out.new) (E.sunk err.new)) result }
+            DoesEffect line (λ s. request_effect s breaks request (arguments_read a))
+            self.old self.new
+            (sinks (O.sunk out.old) (E.sunk err.old))
+            (sinks (O.sunk out.new) (E.sunk err.new)) result }
         ensures reading { self.new.reading ≡ self.old.reading }
         ensures argument { self.new.argument ≡ self.old.argument }
     {
@@ -192,7 +203,8 @@ impl Formatter {
 
     /// Performs events, one after another.
     fn perform_all<O: ByteSink>(&mut self, events: &[PageEvent], out: &mut O) -> Result<(), Halt>
-        ensures { PerformsOnly events.now self.old self.new (O.sunk out.old) (O.sunk out.new) result }
+        ensures { PerformsOnly events.now self.old self.new
+            (O.sunk out.old) (O.sunk out.new) result }
     {
         let mut rest = events;
         while let Some((event, others)) = rest.split_first() {
@@ -206,7 +218,8 @@ impl Formatter {
 
     /// Performs an event.
     fn perform<O: ByteSink>(&mut self, event: PageEvent, out: &mut O) -> Result<(), Halt>
-        ensures { PerformsOnly (event ∷ []) self.old self.new (O.sunk out.old) (O.sunk out.new) result }
+        ensures { PerformsOnly (event ∷ []) self.old self.new
+            (O.sunk out.old) (O.sunk out.new) result }
     {
         match event {
             PageEvent::Text(event) => self.perform_text(event, out),
@@ -216,7 +229,8 @@ impl Formatter {
 
     /// Performs an event of the text.
     fn perform_text<O: ByteSink>(&mut self, event: Event, out: &mut O) -> Result<(), Halt>
-        ensures { PerformsOnly (Text event ∷ []) self.old self.new (O.sunk out.old) (O.sunk out.new) result }
+        ensures { PerformsOnly (Text event ∷ []) self.old self.new
+            (O.sunk out.old) (O.sunk out.new) result }
     {
         match event {
             Event::Print(glyph) => self.glyph(glyph),
@@ -237,7 +251,8 @@ impl Formatter {
     /// Prints a glyph.
     #[inline(always)]
     fn glyph(&mut self, glyph: Glyph) -> Result<(), Halt>
-        ensures { (told : Sunk) → PerformsOnly (Text (Print glyph) ∷ []) self.old self.new told told result }
+        ensures { (told : Sunk) →
+            PerformsOnly (Text (Print glyph) ∷ []) self.old self.new told told result }
     {
         match self.env.glyph(glyph) {
             Ok(()) => Ok(()),
@@ -247,7 +262,8 @@ impl Formatter {
 
     /// Ends the open word, and writes the line that it finishes.
     fn end_word<O: ByteSink>(&mut self, out: &mut O) -> Result<(), Halt>
-        ensures { PerformsOnly (Text WordEnd ∷ []) self.old self.new (O.sunk out.old) (O.sunk out.new) result }
+        ensures { PerformsOnly (Text WordEnd ∷ []) self.old self.new
+            (O.sunk out.old) (O.sunk out.new) result }
     {
         let line = self.env.end_word();
         put_finished(&mut self.block, line, out)
@@ -255,7 +271,8 @@ impl Formatter {
 
     /// Ends a line of the input, and writes the line that it finishes.
     fn end_line<O: ByteSink>(&mut self, out: &mut O) -> Result<(), Halt>
-        ensures { PerformsOnly (Text LineEnd ∷ []) self.old self.new (O.sunk out.old) (O.sunk out.new) result }
+        ensures { PerformsOnly (Text LineEnd ∷ []) self.old self.new
+            (O.sunk out.old) (O.sunk out.new) result }
     {
         let line = self.env.end_line();
         put_finished(&mut self.block, line, out)
@@ -263,7 +280,8 @@ impl Formatter {
 
     /// Finishes the pending line, and writes it.
     fn brk<O: ByteSink>(&mut self, out: &mut O) -> Result<(), Halt>
-        ensures { PerformsOnly (Text Break ∷ []) self.old self.new (O.sunk out.old) (O.sunk out.new) result }
+        ensures { PerformsOnly (Text Break ∷ []) self.old self.new
+            (O.sunk out.old) (O.sunk out.new) result }
     {
         let line = self.env.brk();
         put_finished(&mut self.block, line, out)
@@ -271,7 +289,8 @@ impl Formatter {
 
     /// Writes blank lines.
     fn space<O: ByteSink>(&mut self, lines: u32, out: &mut O) -> Result<(), Halt>
-        ensures { PerformsOnly (Space lines ∷ []) self.old self.new (O.sunk out.old) (O.sunk out.new) result }
+        ensures { PerformsOnly (Space lines ∷ []) self.old self.new
+            (O.sunk out.old) (O.sunk out.new) result }
     {
         match self.block.put_blank_lines(lines, out) {
             Ok(()) => Ok(()),

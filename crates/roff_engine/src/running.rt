@@ -35,7 +35,8 @@ impl Running {
     ) -> Result<(), Status>
         // It goes on, or ends, as the run of the definition over every tape that begins with the answer.
         ensures turns { (a : Answer) × Answers (S.gives source.old) (S.gives source.new) a
-            × Turns a self.old self.new (seen (S.failures source.old) (O.sunk out.old) (E.sunk err.old))
+            × Turns a self.old self.new
+            (seen (S.failures source.old) (O.sunk out.old) (E.sunk err.old))
             (seen (S.failures source.new) (O.sunk out.new) (E.sunk err.new)) result }
         ensures progress { OnOk result (bytes_to_come self.new.meter + S.notes source.new
             < bytes_to_come self.old.meter + S.notes source.old) }
@@ -65,7 +66,8 @@ impl Running {
         ensures turns { (failures : ℕ) → Turns (Gives (OneByte byte)) self.old self.new
             (seen failures (O.sunk out.old) (E.sunk err.old))
             (seen failures (O.sunk out.new) (E.sunk err.new)) result }
-        ensures progress { OnOk result (bytes_to_come self.new.meter < bytes_to_come self.old.meter) }
+        ensures progress { OnOk result
+            (bytes_to_come self.new.meter < bytes_to_come self.old.meter) }
     {
         match self.meter.count(byte) {
             Err(limit) => Err(Halt::Limit(limit).status(self.limits, self.meter.line(), err)),

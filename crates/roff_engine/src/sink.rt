@@ -86,7 +86,8 @@ impl<W: Write + Drop> WriteSink<W> {
     /// fault, which is counted.
     fn write_some(&mut self, piece: &[u8]) -> Option<usize>
         ensures count { IfSome result (λ n. (0 < n) × (n ≤ length piece.now)) }
-        ensures some { IfSome result (λ n. Appends self.old.contents self.new.contents (take n piece.now)) }
+        ensures some { IfSome result
+            (λ n. Appends self.old.contents self.new.contents (take n piece.now)) }
         ensures none { IfNone result (Keeps self.old.contents self.new.contents) }
         ensures counts { OnSome result (self.new.failures ≡ self.old.failures) }
         ensures fault { IfNone result (self.new.failures ≡ min (self.old.failures + 1) last_count) }
