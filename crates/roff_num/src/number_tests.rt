@@ -1,6 +1,6 @@
 //! Worked numbers. The values were computed apart from the program, in exact fractions.
 
-use crate::{Limits, Name, Num, NumFault, Scale, eval, round_h, round_v};
+use crate::{Limit, Limits, Name, Num, NumFault, Scale, eval, round_h, round_v};
 use std::test::Fail;
 
 /// A text, the scale of its numbers, the present place, and what it gives: its value in basic units
@@ -330,4 +330,5 @@ fn names(rt: HostRuntime) -> Result<(), Fail> {
 fn limits(rt: HostRuntime) {
     let limits = Limits::default();
     assert!(rt; limits.bytes == 50_000_000 && limits.output == 200_000_000 && limits.line == 4_096);
+    assert_eq!(rt; Limits::default_text(Limit::Line), "4096");
 }
