@@ -9,8 +9,9 @@ use Rattle.roff_num.specs.declared.limits.Limits.{Limits}
 use Rattle.roff_engine.specs.Laws.{IsWithin, NoLimitIsPassed}
 use Rattle.roff_engine.specs.Output.{PageHistory, text_of}
 use Rattle.roff_engine.specs.Requests.{PageEvent, Text, Space}
-use Rattle.roff_engine.specs.Run.{State, initial, passes_line, passes_bytes, performing, answered, step_with, step, after}
+use Rattle.roff_engine.specs.Run.{State, initial, passes_line, passes_bytes, answered, step_with, step, after}
 use Rattle.roff_scan.specs.Tape.{Answer, Gives, Ends, OneByte, OneNote, Ended, Failed, Stopped, front}
+use Rattle.roff_engine.proofs.PerformedOrStopped.{PerformedOrStopped, Performed, StoppedAt, performed_or_stopped}
 
 -- what isn't above a limit is within it
 within : (limit size : ℕ) → nat_lt limit size ≡ false → size ≤ limit
@@ -30,11 +31,10 @@ line_within : (l : Limits) (h : PageHistory) (e : PageEvent) → pending_length 
 line_within l h (Text e) is goes = within l.line (pending_length (e ∷ text_of h)) goes
 line_within l h (Space lines) is goes = is
 
--- an event is performed
-IsWithin-performing : (l : Limits) (e : PageEvent) (rest : List PageEvent) (s : State) → IsWithin l s → IsWithin l (performing l e rest s)
-IsWithin-performing l e rest s is =
-    IsWithin-if l (passes_line l s.history e) _ _ (IsWithin-same l s _ refl refl is)
-    (λ goes. record { bytes = is.bytes; line = line_within l s.history e is.line goes })
+-- an event is performed, or the run ends at it
+IsWithin-event : (l : Limits) (e : PageEvent) (rest : List PageEvent) (s t : State) → PerformedOrStopped l e rest s t → IsWithin l s → IsWithin l t
+IsWithin-event l e rest s t (Performed goes) is = record { bytes = is.bytes; line = line_within l s.history e is.line goes }
+IsWithin-event l e rest s t (StoppedAt limit) is = IsWithin-same l s t refl refl is
 
 -- the source answered
 IsWithin-answered : (l : Limits) (a : Answer) (s : State) → IsWithin l s → IsWithin l (answered l a s)
@@ -48,7 +48,7 @@ IsWithin-answered l (Ends (Stopped limit)) s is = IsWithin-same l s _ refl refl 
 
 -- a step of a run that hasn't ended
 IsWithin-step_with : (l : Limits) (es : List PageEvent) (s : State) → IsWithin l s → IsWithin l (step_with l es s)
-IsWithin-step_with l (e ∷ rest) s is = IsWithin-performing l e rest s is
+IsWithin-step_with l (e ∷ rest) s is = IsWithin-event l e rest s _ (performed_or_stopped l e rest s) is
 IsWithin-step_with l [] s is =
     IsWithin-if l s.is_closing _ _ (IsWithin-same l s _ refl refl is) (λ goes_on. IsWithin-answered l (front s.tape) s is)
 
