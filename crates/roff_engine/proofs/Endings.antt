@@ -46,7 +46,7 @@ EndsOrIdles s t = IsSome t.ended ⊎ Idle s t
 -- an event is performed, or the run ends at it
 first_performed : (l : Limits) (e : PageEvent) (es : List PageEvent) (s t : State) → PerformedOrStopped l e es s t
     → ((u : State) → u.to_do ≡ es → EndsOrIdles u (after l (length es) u)) → EndsOrIdles s (after l (length es) t)
-first_performed l e es s t Performed others =
+first_performed l e es s t (Performed goes) others =
     elim (others t refl) [ inl ended ↦ inl ended | inr idle ↦ inr (record { to_do = idle.to_do; tape = idle.tape; is_closing = idle.is_closing }) ]
 first_performed l e es s t (StoppedAt limit) others = inl (rw (after-ended l (length es) t refl) refl)
 
@@ -136,12 +136,30 @@ EndsWithin-turn l n s (inr has) =
       | inr idle ↦ EndsWithin-step l n s (after l (length s.to_do) s) idle has
     ]
 
+-- turns of a run that has ended
+turns-ended : (l : Limits) (n : ℕ) (s : State) → IsSome s.ended → turns l n s ≡ s
+turns-ended l zero s ended = refl
+turns-ended l (suc n) s ended =
+    elim s.ended as (λ o. IsSome o → elim o [ None ↦ turns l n (turn l s) | Some status ↦ s ] ≡ s) [
+      | None ↦ λ none. absurd (cc)
+      | Some status ↦ λ some. refl
+    ] ended
+
+-- and of one that hasn't
+turns-going : (l : Limits) (n : ℕ) (s : State) → s.ended ≡ None → turns l (suc n) s ≡ turns l n (turn l s)
+turns-going l n s going = ap (λ (o : Option Status). elim o as (λ _. State) [ None ↦ turns l n (turn l s) | Some status ↦ s ]) going
+
 -- with none left the run has ended
 ended-turns : (l : Limits) (n : ℕ) (s : State) → EndsWithin n s → IsSome (turns l n s).ended
 ended-turns l zero s (inl ended) = ended
 ended-turns l zero s (inr (Closing closing one)) = absurd (omega arith)
 ended-turns l zero s (inr (Reading enough)) = absurd (omega arith)
-ended-turns l (suc n) s within = ended-turns l n (turn l s) (EndsWithin-turn l n s within)
+ended-turns l (suc n) s within =
+    let Goal : State → Type 0 = λ t. IsSome t.ended in
+    elim (ended_or_not s.ended) [
+      | inl ended ↦ subst Goal (sym (turns-ended l (suc n) s ended)) ended
+      | inr going ↦ subst Goal (sym (turns-going l n s going)) (ended-turns l n (turn l s) (EndsWithin-turn l n s within))
+    ]
 
 -- every run ends
 pub every_run_ends : EveryRunEnds
@@ -151,9 +169,12 @@ every_run_ends l tape = ended-turns l (length tape.items + 2) (initial tape) (in
 Leads-turns : (l : Limits) (n : ℕ) (s : State) → Leads l s (turns l n s)
 Leads-turns l zero s = Leads-refl l s
 Leads-turns l (suc n) s =
-    Leads-trans l s (turn l s) (turns l n (turn l s))
-    (Leads-step l s (after l (length s.to_do) s) (record { steps = length s.to_do; there = refl }))
-    (Leads-turns l n (turn l s))
+    let Goal : State → Type 0 = λ t. Leads l s t in
+    let to_turn : Leads l s (turn l s) = Leads-step l s (after l (length s.to_do) s) (record { steps = length s.to_do; there = refl }) in
+    elim (ended_or_not s.ended) [
+      | inl ended ↦ subst Goal (sym (turns-ended l (suc n) s ended)) (Leads-refl l s)
+      | inr going ↦ subst Goal (sym (turns-going l n s going)) (Leads-trans l s (turn l s) (turns l n (turn l s)) to_turn (Leads-turns l n (turn l s)))
+    ]
 
 -- steps lead to the last state
 pub steps_lead_to_the_last_state : StepsLeadToTheLastState

@@ -51,7 +51,8 @@ steps_only_append l tape n more =
 
 -- so each state has a beginning of what the last one has
 pub each_state_is_a_beginning : EachStateIsABeginning
-each_state_is_a_beginning l tape n =
+each_state_is_a_beginning l tape s leads =
     let enough : ℕ = (steps_lead_to_the_last_state l tape).steps in
-    let ends : after l (n + enough) (initial tape) ≡ last_state l tape = ap (λ (i : ℕ). after l i (initial tape)) (add_comm n enough) ∙ after-more l tape n in
-    subst (λ (t : State). GoesOnTo (after l n (initial tape)) t) ends (steps_only_append l tape n enough)
+    let ends : after l (leads.steps + enough) (initial tape) ≡ last_state l tape =
+    ap (λ (i : ℕ). after l i (initial tape)) (add_comm leads.steps enough) ∙ after-more l tape leads.steps in
+    rw (leads.there, ends) at (steps_only_append l tape leads.steps enough)

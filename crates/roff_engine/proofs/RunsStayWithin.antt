@@ -12,7 +12,8 @@ use Rattle.roff_num.specs.declared.limits.Limits.{Limits}
 use Rattle.roff_engine.specs.Laws.{IsWithin, NoLimitIsPassed}
 use Rattle.roff_engine.specs.Output.{PageHistory, text_of}
 use Rattle.roff_engine.specs.Requests.{PageEvent, Text, Space}
-use Rattle.roff_engine.specs.Run.{State, counts, first_passed, refusal, unless_refused, initial, passes_bytes, performing, answered, step_with, step, after}
+use Rattle.roff_engine.specs.Run.{State, counts, first_passed, refusal, initial, passes_bytes, answered, step_with, step, after}
+use Rattle.roff_engine.proofs.PerformedOrStopped.{PerformedOrStopped, Performed, StoppedAt, performed_or_stopped}
 use Rattle.roff_scan.specs.Tape.{Answer, Gives, Ends, OneByte, OneNote, Ended, Failed, Stopped, front}
 
 -- what isn't above a limit is within it
@@ -41,21 +42,15 @@ counts_within l (c ∷ cs) none = elim (cases_Bool (nat_lt (value_of l c.0) c.1)
   | inr goes ↦ (within (value_of l c.0) c.1 goes, counts_within l cs (rw goes at none))
 ]
 
--- a step that a limit may refuse
-IsWithin-unless_refused : (l : Limits) (r : Option Limit) (s t : State) → IsWithin l s → (r ≡ None → IsWithin l t) → IsWithin l (unless_refused l r s t)
-IsWithin-unless_refused l None s t is done = done refl
-IsWithin-unless_refused l (Some limit) s t is done = IsWithin-same l s _ refl refl is
-
 -- the pending line behind an event that no limit refuses
 line_within : (l : Limits) (h : PageHistory) (e : PageEvent) → pending_length (text_of h) ≤ l.line → refusal l h e ≡ None → pending_length (text_of (e ∷ h)) ≤ l.line
 line_within l h (Text e) is allowed = (counts_within l (counts h (Text e)) allowed).0
 line_within l h (Space lines) is allowed = is
 
--- an event is performed
-IsWithin-performing : (l : Limits) (e : PageEvent) (rest : List PageEvent) (s : State) → IsWithin l s → IsWithin l (performing l e rest s)
-IsWithin-performing l e rest s is =
-    IsWithin-unless_refused l (refusal l s.history e) s _ is
-    (λ allowed. record { bytes = is.bytes; line = line_within l s.history e is.line allowed })
+-- an event is performed, or the run ends at it
+IsWithin-event : (l : Limits) (e : PageEvent) (rest : List PageEvent) (s t : State) → PerformedOrStopped l e rest s t → IsWithin l s → IsWithin l t
+IsWithin-event l e rest s t (Performed allowed) is = record { bytes = is.bytes; line = line_within l s.history e is.line allowed }
+IsWithin-event l e rest s t (StoppedAt limit) is = IsWithin-same l s t refl refl is
 
 -- the source answered
 IsWithin-answered : (l : Limits) (a : Answer) (s : State) → IsWithin l s → IsWithin l (answered l a s)
@@ -69,7 +64,7 @@ IsWithin-answered l (Ends (Stopped limit)) s is = IsWithin-same l s _ refl refl 
 
 -- a step of a run that hasn't ended
 IsWithin-step_with : (l : Limits) (es : List PageEvent) (s : State) → IsWithin l s → IsWithin l (step_with l es s)
-IsWithin-step_with l (e ∷ rest) s is = IsWithin-performing l e rest s is
+IsWithin-step_with l (e ∷ rest) s is = IsWithin-event l e rest s _ (performed_or_stopped l e rest s) is
 IsWithin-step_with l [] s is =
     IsWithin-if l s.is_closing _ _ (IsWithin-same l s _ refl refl is) (λ goes_on. IsWithin-answered l (front s.tape) s is)
 

@@ -42,7 +42,7 @@ IsTold-if l false s t first second = second refl
 
 -- an event is performed, or the run ends at it
 IsTold-event : (l : Limits) (e : PageEvent) (es : List PageEvent) (s t : State) → s.ended ≡ None → GoesOn s → PerformedOrStopped l e es s t → IsTold l t
-IsTold-event l e es s t going goes Performed = IsTold-going l t going (record { quiet = goes.quiet; closing = goes.closing })
+IsTold-event l e es s t going goes (Performed performed) = IsTold-going l t going (record { quiet = goes.quiet; closing = goes.closing })
 IsTold-event l e es s t going goes (StoppedAt limit) = inr refl
 
 -- a tape that answers an ending has no item left

@@ -51,7 +51,7 @@ Takes-item tape rest item charge gives takes = record {
 
 -- an event is performed, or the run ends at it
 HasTaken-event : (tape : Tape) (l : Limits) (e : PageEvent) (es : List PageEvent) (s t : State) → PerformedOrStopped l e es s t → HasTaken tape s → HasTaken tape t
-HasTaken-event tape l e es s t Performed takes = takes
+HasTaken-event tape l e es s t (Performed goes) takes = takes
 HasTaken-event tape l e es s t (StoppedAt limit) takes = takes
 
 -- the source answered

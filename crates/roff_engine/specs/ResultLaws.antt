@@ -1,5 +1,5 @@
 -- Laws over what whole runs give.
-use Rattle.std.specs.Prelude.{◌≡◌, ◌≢◌, ℕ, List, Some, IsSome}
+use Rattle.std.specs.Prelude.{◌≡◌, ◌≢◌, List, Some, IsSome}
 use Rattle.roff_num.specs.Lists.{IsBeginning}
 use Rattle.roff_num.specs.declared.limit.Limit.{Limit}
 use Rattle.roff_engine.specs.declared.status.Status.TheVariants.{Device, Limit as Limited}
@@ -7,7 +7,7 @@ use Rattle.roff_num.specs.declared.limits.Limits.{Limits}
 use Rattle.roff_engine.specs.Laws.{failing_behind, going_on_behind, GoesOnTo}
 use Rattle.roff_engine.specs.Limits.{AreWithin}
 use Rattle.roff_engine.specs.Results.{last_state, output_of, messages_of, messages_on_the_way, status_of}
-use Rattle.roff_engine.specs.Run.{State, Leads, initial, after}
+use Rattle.roff_engine.specs.Run.{State, Leads, initial}
 use Rattle.roff_scan.specs.Tape.{Tape, Item, Ending}
 
 -- every run ends
@@ -58,6 +58,6 @@ SameResultBeforeTheFault =
     status_of l (failing_behind items) ≢ Some Device →
     GiveTheSame l (failing_behind items) l (going_on_behind items more ending)
 
--- what was written and reported behind some steps is a beginning of what the whole run gives
+-- what was written and reported in a state to which steps lead is a beginning of what the whole run gives
 abbrev pub EachStateIsABeginning : Type 0
-EachStateIsABeginning = (l : Limits) (tape : Tape) (n : ℕ) → GoesOnTo (after l n (initial tape)) (last_state l tape)
+EachStateIsABeginning = (l : Limits) (tape : Tape) (s : State) → Leads l (initial tape) s → GoesOnTo s (last_state l tape)

@@ -1,5 +1,5 @@
 -- What a whole run gives: where it ends, and what it wrote, reported, answered and left until then.
-use Rattle.std.specs.Prelude.{ℕ, zero, suc, ◌+◌, List, length, Option}
+use Rattle.std.specs.Prelude.{ℕ, zero, suc, ◌+◌, List, length, Option, Some, None}
 use Rattle.roff_num.specs.declared.limits.Limits.{Limits}
 use Rattle.roff_engine.specs.declared.status.Status.{Status}
 use Rattle.roff_engine.specs.Run.{State, initial, step, after, output, reported}
@@ -9,10 +9,10 @@ use Rattle.roff_scan.specs.Tape.{Tape}
 abbrev pub turn : Limits → State → State
 turn l s = step l (after l (length s.to_do) s)
 
--- so many turns
+-- so many turns, or fewer where the run has ended before
 abbrev pub turns : Limits → ℕ → State → State
 turns l zero s = s
-turns l (suc n) s = turns l n (turn l s)
+turns l (suc n) s = elim s.ended [ None ↦ turns l n (turn l s) | Some status ↦ s ]
 
 -- the state in which a run ends: each item takes a turn, the input's end takes one, and the run's end one
 abbrev pub last_state : Limits → Tape → State
