@@ -4,7 +4,8 @@ use Rattle.std.specs.Option.{option_and_then}
 use Rattle.roff_engine.specs.declared.number.Number.{Number}
 use Rattle.roff_engine.specs.FirstArgument.Keeping.{first_kept}
 use Rattle.roff_engine.specs.Numbers.{number_of, is_column_scale, is_line_scale, length_set}
-use Rattle.roff_engine.specs.Requests.{length_wanted, space_down, spaced}
+use Rattle.roff_engine.specs.Requests.Lengths.{length_wanted}
+use Rattle.roff_engine.specs.Requests.Spacing.{space_down, spaced}
 use Rattle.roff_engine.proofs.Digits.{number_of-take}
 
 -- the number that an argument is, read from its first nine bytes
@@ -22,9 +23,9 @@ length_wanted_by_first current previous number text (a ∷ as_given) read first 
     ap (option_and_then (length_set current)) (number_by_first is_column_scale number text a read (cc))
 
 -- a space, by the number that these bytes are
-pub space_down_by_first : (breaks : Bool) (number : Option Number) (text : List ℕ) (as_given : List (List ℕ))
+pub space_down_by_first : (number : Option Number) (text : List ℕ) (as_given : List (List ℕ))
     → number ≡ number_of is_line_scale text → Some text ≡ first_kept as_given
-    → space_down breaks as_given ≡ spaced breaks number
-space_down_by_first breaks number text [] read first = cc
-space_down_by_first breaks number text (a ∷ as_given) read first =
-    ap (spaced breaks) (number_by_first is_line_scale number text a read (cc))
+    → space_down as_given ≡ spaced number
+space_down_by_first number text [] read first = cc
+space_down_by_first number text (a ∷ as_given) read first =
+    ap spaced (number_by_first is_line_scale number text a read (cc))

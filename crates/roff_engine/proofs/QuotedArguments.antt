@@ -8,7 +8,7 @@ use Rattle.std.proofs.lemmas.List.Elements.{All-nil, All-cons, All-head, All-tai
 use Rattle.std.proofs.lemmas.List.Sums.{fold-append}
 use Rattle.roff_engine.specs.Arguments.{Arguments, no_arguments, with_argument_byte, arguments_read, Between, InQuotes, BehindQuote}
 use Rattle.roff_engine.specs.Quoting.{quoted_byte, quoted, quoted_line, QuotedArgumentsReadBack, taking_all, CanStandInALine, RequestsGetQuotedArguments}
-use Rattle.roff_engine.specs.Reading.{LineStart, InArguments, Taking, taking, going_on}
+use Rattle.roff_engine.specs.Reading.{LineStart, InArguments, Taking, knowing, taking, going_on}
 use Rattle.roff_engine.specs.Requests.{Effect, request_effect}
 use Rattle.roff_engine.specs.declared.request.Request.{Request}
 use Rattle.roff_lines.specs.declared.settings.Settings.{Settings}
@@ -96,9 +96,9 @@ joined t rest = record {
 -- bytes of the arguments, and a newline
 taking_all-arguments : (s : Settings) (breaks : Bool) (request : Request) (a : Arguments) (bytes : List ℕ) → All CanStandInALine bytes
     → taking_all s (InArguments breaks request a) (bytes ++ newline ∷ [])
-    ≡ record { reading = LineStart; effect = request_effect s breaks request (arguments_read (behind a bytes)) }
+    ≡ record { reading = LineStart; effect = request_effect (knowing s) breaks request (arguments_read (behind a bytes)) }
 taking_all-arguments s breaks request a [] can =
-    let e : Effect = request_effect s breaks request (arguments_read a) in
+    let e : Effect = request_effect (knowing s) breaks request (arguments_read a) in
     rw (append-nil e.messages, append-nil e.events) refl
 taking_all-arguments s breaks request a (b ∷ bytes) can =
     ap (λ (t : Taking). joined t (taking_all s t.reading (bytes ++ newline ∷ []))) (taking-argument s breaks request a b (All-head CanStandInALine b bytes can))
@@ -141,4 +141,4 @@ can-quoted_line (argument ∷ next ∷ arguments) can =
 pub requests_get_quoted_arguments : RequestsGetQuotedArguments
 requests_get_quoted_arguments s breaks request arguments can =
     taking_all-arguments s breaks request no_arguments (quoted_line arguments) (can-quoted_line arguments can)
-    ∙ ap (λ (as_given : List (List ℕ)). let t : Taking = record { reading = LineStart; effect = request_effect s breaks request as_given } in t) (quoted_arguments_read_back arguments)
+    ∙ ap (λ (as_given : List (List ℕ)). let t : Taking = record { reading = LineStart; effect = request_effect (knowing s) breaks request as_given } in t) (quoted_arguments_read_back arguments)

@@ -4,7 +4,7 @@ use Rattle.std.specs.List.{flat_map, join_with_byte}
 use Rattle.roff_lines.specs.declared.settings.Settings.{Settings}
 use Rattle.roff_engine.specs.declared.request.Request.{Request}
 use Rattle.roff_engine.specs.Arguments.{no_arguments, with_argument_byte, arguments_read}
-use Rattle.roff_engine.specs.Reading.{Reading, LineStart, InArguments, Taking, taking, going_on}
+use Rattle.roff_engine.specs.Reading.{Reading, LineStart, InArguments, Taking, knowing, taking, going_on}
 use Rattle.roff_engine.specs.Requests.{request_effect}
 use Rattle.roff_scan.specs.Bytes.{newline, blank, quote, is_dropped}
 
@@ -48,4 +48,4 @@ RequestsGetQuotedArguments =
     (s : Settings) (breaks : Bool) (request : Request) (arguments : List (List ℕ)) →
     All (All CanStandInALine) arguments →
     taking_all s (InArguments breaks request no_arguments) (quoted_line arguments ++ newline ∷ [])
-    ≡ record { reading = LineStart; effect = request_effect s breaks request arguments }
+    ≡ record { reading = LineStart; effect = request_effect (knowing s) breaks request arguments }

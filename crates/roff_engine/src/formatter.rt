@@ -11,7 +11,7 @@ ghost use Rattle.roff_engine.specs.FirstArgument.Keeping.{KeepsFirst};
 ghost use Rattle.roff_engine.specs.Messages.{message_lines};
 ghost use Rattle.roff_engine.specs.Output.{finished_bytes};
 ghost use Rattle.roff_engine.specs.Formatter.Performing.{DoesEffect, PerformsEvents, PerformsOnly, closing_events, sinks, with_events};
-ghost use Rattle.roff_engine.specs.Reading.{Reading as Read, argument_taking, end_effect, kept_taking, taking};
+ghost use Rattle.roff_engine.specs.Reading.{Reading as Read, argument_taking, end_effect, kept_taking, knowing, taking};
 ghost use Rattle.roff_engine.specs.Formatter.ReadsAs.{ReadsAs, leading_behind, leading_of, part_of};
 ghost use Rattle.roff_engine.specs.Requests.{Text, Space, request_effect};
 ghost use Rattle.roff_engine.specs.Sinks.{Puts, Sunk};
@@ -22,7 +22,7 @@ use crate::event::PageEvent;
 use crate::halt::Halt;
 use crate::message::{Message, report};
 use crate::reading::{LinePart, Reading};
-use crate::request::Request;
+use crate::request::{Known, Request};
 use crate::sink::ByteSink;
 use roff_lines::{Env, Event, Glyph, Line};
 use roff_scan::is_dropped;
@@ -187,16 +187,19 @@ impl Formatter {
         err: &mut E,
     ) -> Result<(), Halt>
         ensures does { (a : Arguments) → KeepsFirst a self.old.argument →
-            DoesEffect line (λ s. request_effect s breaks request (arguments_read a))
+            DoesEffect line (λ s. request_effect (knowing s) breaks request (arguments_read a))
             self.old self.new
             (sinks (O.sunk out.old) (E.sunk err.old))
             (sinks (O.sunk out.new) (E.sunk err.new)) result }
         ensures reading { self.new.reading ≡ self.old.reading }
         ensures argument { self.new.argument ≡ self.old.argument }
     {
-        let effect = request.effect(self.env.settings(), self.argument.read());
+        let known = Known {
+            settings: self.env.settings(),
+        };
+        let effect = request.effect(breaks, known, self.argument.read());
         match tell(effect.message, line, err) {
-            Ok(()) => self.perform_all(&effect.events(breaks), out),
+            Ok(()) => self.perform_all(&effect.events, out),
             Err(halt) => Err(halt),
         }
     }

@@ -79,8 +79,8 @@ impl Number {
         self.sign == Sign::Minus && self.size > 0
     }
 
-    /// The length that it sets, in columns: a sign adds to the one in force or takes from it, down to
-    /// 0. None if that is too great.
+    /// The length that it sets, in columns: a sign adds to the one in force or takes from it, down
+    /// to 0. None if that is too great.
     pub(crate) fn length_from(self, current: u32) -> Option<u32>
         ensures { result ≡ length_set current self }
     {

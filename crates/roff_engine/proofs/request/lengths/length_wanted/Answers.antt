@@ -1,6 +1,6 @@
 use Rattle.std.proofs.Common.{◌∙◌, sym, Some, None}
 use Rattle.roff_engine.proofs.FirstArguments.{length_wanted_by_first}
-use Rattle.roff_engine.proofs.request.length_wanted.Goals as goal
+use Rattle.roff_engine.proofs.request.lengths.length_wanted.Goals as goal
 
 pub returns-in_err-read-in-Some : goal.returns-in_err-read-in-Some
 returns-in_err-read-in-Some c as_given same =
