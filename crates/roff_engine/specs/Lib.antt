@@ -20,3 +20,4 @@ pub mod FirstArgument
 pub mod Formatter
 pub mod Engine
 pub mod Running
+pub mod Clauses

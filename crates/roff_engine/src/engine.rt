@@ -1,11 +1,7 @@
 //! The engine: a whole run, from a source to its sinks.
 
 ghost use Rattle.std.specs.Prelude.{◌≡◌, [], IfOk};
-ghost use Rattle.roff_lines.specs.Env.Stands.{Stands};
-ghost use Rattle.roff_num.specs.declared.limits.Limits.{Limits};
-ghost use Rattle.roff_engine.specs.declared.reading.LinePart.TheVariants.{Start};
-ghost use Rattle.roff_engine.specs.declared.reading.Reading.TheVariants.{Line};
-ghost use Rattle.roff_engine.specs.Engine.Outcome.{Runs, seen};
+ghost use Rattle.roff_engine.specs.Clauses.{Stands, Limits, Start, Line, Runs, seen};
 
 use crate::formatter::Formatter;
 use crate::meter::Meter;

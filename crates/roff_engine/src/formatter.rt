@@ -1,20 +1,7 @@
 //! The formatter: what each byte of the input does.
 
 ghost use Rattle.std.specs.Prelude.{◌≡◌, ℕ, ◌+◌, ◌<◌, ◌≤◌, ◌^◌, [], ◌∷◌, IfOk, OnOk, IsOkUnless, option_map};
-ghost use Rattle.std.specs.Option.{option_to_list};
-ghost use Rattle.roff_lines.specs.Columns.{finished_of};
-ghost use Rattle.roff_lines.specs.Env.Stands.{Stands};
-ghost use Rattle.roff_lines.specs.declared.event.Event.TheVariants.{Print, WordEnd, LineEnd, Break};
-ghost use Rattle.roff_lines.specs.declared.settings.Settings.{Settings};
-ghost use Rattle.roff_engine.specs.Arguments.{Arguments, arguments_read};
-ghost use Rattle.roff_engine.specs.FirstArgument.Keeping.{KeepsFirst};
-ghost use Rattle.roff_engine.specs.Messages.{message_lines};
-ghost use Rattle.roff_engine.specs.Output.{finished_bytes};
-ghost use Rattle.roff_engine.specs.Formatter.Performing.{DoesEffect, PerformsEvents, PerformsOnly, closing_events, sinks, with_events};
-ghost use Rattle.roff_engine.specs.Reading.{Reading as Read, argument_taking, end_effect, kept_taking, knowing, taking};
-ghost use Rattle.roff_engine.specs.Formatter.ReadsAs.{ReadsAs, leading_behind, leading_of, part_of};
-ghost use Rattle.roff_engine.specs.Requests.{Text, Space, request_effect};
-ghost use Rattle.roff_engine.specs.Sinks.{Puts, Sunk};
+ghost use Rattle.roff_engine.specs.Clauses.{option_to_list, finished_of, Stands, Print, WordEnd, LineEnd, Break, Settings, Arguments, arguments_read, KeepsFirst, message_lines, finished_bytes, DoesEffect, PerformsEvents, PerformsOnly, closing_events, sinks, with_events, Read, argument_taking, end_effect, kept_taking, knowing, taking, ReadsAs, leading_behind, leading_of, part_of, Text, Space, request_effect, Puts, Sunk};
 
 use crate::arguments::FirstArgument;
 use crate::block::Block;

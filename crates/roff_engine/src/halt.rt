@@ -1,10 +1,7 @@
 //! What ends a run early, and how that is told.
 
 ghost use Rattle.std.specs.Prelude.{ℕ};
-ghost use Rattle.roff_scan.specs.Tape.{Tape};
-ghost use Rattle.roff_engine.specs.Engine.Outcome.{Outcome, Seen, seen};
-ghost use Rattle.roff_engine.specs.Running.Turning.{Halts};
-ghost use Rattle.roff_engine.specs.Sinks.{Sunk};
+ghost use Rattle.roff_engine.specs.Clauses.{Tape, Outcome, Seen, seen, Halts, Sunk};
 
 use crate::message::{Message, report};
 use crate::sink::ByteSink;
