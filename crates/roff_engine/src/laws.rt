@@ -92,8 +92,8 @@ pub fn bounds()
     ensures { NoLimitIsPassed }
 {}
 
-/// A run takes the items of its source in order, each once, and charges each byte; what it doesn't
-/// take is its rest.
+/// A run takes the items of its source in order, each once, charges each byte and knows its line;
+/// what it doesn't take is its rest.
 pub fn rest()
     ensures each_step { EachItemIsTakenOnce }
     ensures whole_run { AllButTheRestIsTaken }
