@@ -9,8 +9,9 @@ use Rattle.std.proofs.Math.Seq.{take-append_seam}
 use Rattle.roff_num.specs.declared.limits.Limits.{Limits}
 use Rattle.roff_engine.specs.Laws.{IsWithin}
 use Rattle.roff_engine.specs.Requests.{PageEvent}
+use Rattle.roff_engine.specs.Results.{last_state}
 use Rattle.roff_engine.specs.Run.{State, initial, byte_taken, passes_bytes, answered, step_with, step, after}
-use Rattle.roff_engine.specs.Taken.{bytes_of, newlines_in, line_of_last, Takes, EachItemIsTakenOnce, AllButTheRestIsTaken, ChargeIsWithin}
+use Rattle.roff_engine.specs.Taken.{bytes_of, newlines_in, line_of_last, Takes, EachItemIsTakenOnce, EachRunLeavesItsRest}
 use Rattle.roff_scan.specs.Bytes.{newline}
 use Rattle.roff_scan.specs.Tape.{Tape, Item, Ending, OneByte, OneNote, Answer, Gives, Ends, Ended, Failed, Stopped, front, behind_front}
 use Rattle.roff_engine.proofs.Endings.{at_last_state}
@@ -135,10 +136,14 @@ pub each_item_is_taken_once : EachItemIsTakenOnce
 each_item_is_taken_once l tape n =
     Takes-after tape l n (initial tape) (record { taken = []; items = refl; ending = refl; charge = refl; newlines = refl; line = refl })
 
--- nor does a whole run
-pub all_but_the_rest_is_taken : AllButTheRestIsTaken
-all_but_the_rest_is_taken l tape = at_last_state (Takes tape) l tape (each_item_is_taken_once l tape)
-
--- and its limit isn't passed
-pub charge_is_within : ChargeIsWithin
-charge_is_within l tape = (at_last_state (IsWithin l) l tape (no_limit_is_passed l tape)).bytes
+-- what a whole run takes, and its rest
+pub each_run_leaves_its_rest : EachRunLeavesItsRest
+each_run_leaves_its_rest l tape =
+    let takes : Takes tape (last_state l tape) = at_last_state (Takes tape) l tape (each_item_is_taken_once l tape) in
+    let is : IsWithin l (last_state l tape) = at_last_state (IsWithin l) l tape (no_limit_is_passed l tape) in record {
+      taken = takes.taken;
+      items = takes.items;
+      ending = takes.ending;
+      charge = takes.charge;
+      within = is.bytes;
+    }

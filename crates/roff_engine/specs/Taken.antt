@@ -1,7 +1,7 @@
 -- What a run takes of its tape, and what it leaves.
 use Rattle.std.specs.Prelude.{◌≡◌, ℕ, ◌+◌, ◌-◌, ◌≤◌, List, [], ◌∷◌, ◌++◌, length, take, count_by, ◌==◌}
 use Rattle.roff_num.specs.declared.limits.Limits.{Limits}
-use Rattle.roff_engine.specs.Results.{last_state, charge_of}
+use Rattle.roff_engine.specs.Results.{rest_of, charge_of}
 use Rattle.roff_engine.specs.Run.{State, initial, after}
 use Rattle.roff_scan.specs.Bytes.{newline}
 use Rattle.roff_scan.specs.Tape.{Tape, Item, OneByte, OneNote}
@@ -34,10 +34,15 @@ pub record Takes (tape : Tape) (s : State) : Type 0 where
 abbrev pub EachItemIsTakenOnce : Type 0
 EachItemIsTakenOnce = (l : Limits) (tape : Tape) (n : ℕ) → Takes tape (after l n (initial tape))
 
--- nor does a whole run, and what it doesn't take is its rest
-abbrev pub AllButTheRestIsTaken : Type 0
-AllButTheRestIsTaken = (l : Limits) (tape : Tape) → Takes tape (last_state l tape)
+-- the items that a whole run takes and its rest are together the tape's; the bytes taken are charged, and no more
+-- than the limit says
+pub record LeavesItsRest (l : Limits) (tape : Tape) : Type 0 where
+  pub taken : List Item
+  pub items : tape.items ≡ taken ++ (rest_of l tape).items
+  pub ending : (rest_of l tape).ending ≡ tape.ending
+  pub charge : charge_of l tape ≡ length (bytes_of taken)
+  pub within : charge_of l tape ≤ l.bytes
 
--- and no more bytes than its limit says
-abbrev pub ChargeIsWithin : Type 0
-ChargeIsWithin = (l : Limits) (tape : Tape) → charge_of l tape ≤ l.bytes
+-- so it is with each run
+abbrev pub EachRunLeavesItsRest : Type 0
+EachRunLeavesItsRest = (l : Limits) (tape : Tape) → LeavesItsRest l tape

@@ -6,7 +6,7 @@ ghost use Rattle.roff_engine.specs.declared.status.Status.TheVariants.{Done, Dev
 ghost use Rattle.roff_engine.specs.Laws.{LimitsOnlyCut, SameUntilALimit, FailingOnlyCuts, SameUntilTheFault, NoLimitIsPassed, StepsOnlyAppend};
 ghost use Rattle.roff_engine.specs.ResultLaws.{EveryRunEnds, StepsLeadToTheLastState, NoOtherStateIsLast, LimitsCutResults, SameResultWithoutALimit, FailingCutsResults, SameResultBeforeTheFault, EachStateIsABeginning};
 ghost use Rattle.roff_engine.specs.Statuses.{EachStatusTells};
-ghost use Rattle.roff_engine.specs.Taken.{EachItemIsTakenOnce, AllButTheRestIsTaken, ChargeIsWithin};
+ghost use Rattle.roff_engine.specs.Taken.{EachItemIsTakenOnce, EachRunLeavesItsRest};
 ghost use Rattle.roff_engine.specs.Quoting.{quoted_line, QuotedArgumentsReadBack, RequestsGetQuotedArguments};
 ghost use Rattle.roff_engine.specs.Rows.{gives, formatted, formatted_within, formatted_failing};
 
@@ -96,8 +96,7 @@ pub fn bounds()
 /// what it doesn't take is its rest.
 pub fn rest()
     ensures each_step { EachItemIsTakenOnce }
-    ensures whole_run { AllButTheRestIsTaken }
-    ensures charge { ChargeIsWithin }
+    ensures whole_run { EachRunLeavesItsRest }
 {}
 
 /// Arguments written in quotes, with each quote in them twice, are read as they were.
