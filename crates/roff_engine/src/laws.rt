@@ -6,7 +6,7 @@ ghost use Rattle.roff_engine.specs.declared.status.Status.TheVariants.{Done, Dev
 ghost use Rattle.roff_engine.specs.Laws.{LimitsOnlyCut, SameUntilALimit, FailingOnlyCuts, SameUntilTheFault, NoLimitIsPassed, StepsOnlyAppend};
 ghost use Rattle.roff_engine.specs.ResultLaws.{EveryRunEnds, StepsLeadToTheLastState, NoOtherStateIsLast, LimitsCutResults, SameResultWithoutALimit, FailingCutsResults, SameResultBeforeTheFault, EachStateIsABeginning};
 ghost use Rattle.roff_engine.specs.Statuses.{EachStatusTells};
-ghost use Rattle.roff_engine.specs.Taken.{EachItemIsTakenOnce, AllButTheRestIsTaken, ChargeIsWithin};
+ghost use Rattle.roff_engine.specs.Taken.{EachItemIsTakenOnce, EachRunLeavesItsRest};
 ghost use Rattle.roff_engine.specs.Quoting.{quoted_line, QuotedArgumentsReadBack, RequestsGetQuotedArguments};
 ghost use Rattle.roff_engine.specs.Rows.{gives, formatted, formatted_within, formatted_failing};
 
@@ -92,12 +92,11 @@ pub fn bounds()
     ensures { NoLimitIsPassed }
 {}
 
-/// A run takes the items of its source in order, each once, and charges each byte; what it doesn't
-/// take is its rest.
+/// A run takes the items of its source in order, each once, charges each byte and knows its line;
+/// what it doesn't take is its rest.
 pub fn rest()
     ensures each_step { EachItemIsTakenOnce }
-    ensures whole_run { AllButTheRestIsTaken }
-    ensures charge { ChargeIsWithin }
+    ensures whole_run { EachRunLeavesItsRest }
 {}
 
 /// Arguments written in quotes, with each quote in them twice, are read as they were.
