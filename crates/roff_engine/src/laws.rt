@@ -8,6 +8,7 @@ ghost use Rattle.roff_engine.specs.ResultLaws.{EveryRunEnds, StepsLeadToTheLastS
 ghost use Rattle.roff_engine.specs.Statuses.{EachStatusTells};
 ghost use Rattle.roff_engine.specs.Taken.{EachItemIsTakenOnce, EachRunLeavesItsRest};
 ghost use Rattle.roff_engine.specs.Quoting.{quoted_line, QuotedArgumentsReadBack, RequestsGetQuotedArguments};
+ghost use Rattle.roff_engine.specs.RequestLaws.{EachIsListedOnce, EachIsNamed, EachNameHasTwoBytes};
 ghost use Rattle.roff_engine.specs.Rows.{gives, formatted, formatted_within, formatted_failing};
 
 /// What the definitions give on the worked rows of filled text.
@@ -105,4 +106,11 @@ pub fn quoted_arguments()
     ensures by_requests { RequestsGetQuotedArguments }
     ensures row { quoted_line (codes "a b" ∷ codes "c\"d" ∷ codes "" ∷ [])
         ≡ codes "\"a b\" \"c\"\"d\" \"\"" }
+{}
+
+/// Each request is listed once, and no two have the same name.
+pub fn request_names()
+    ensures named { EachIsNamed }
+    ensures listed_once { EachIsListedOnce }
+    ensures two_bytes { EachNameHasTwoBytes }
 {}
