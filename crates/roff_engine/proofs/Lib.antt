@@ -8,6 +8,7 @@ pub mod StepsOnlyCut
 pub mod RunsOnlyCut
 pub mod RunsStayWithin
 pub mod FirstArguments
+pub mod RequestTable
 pub mod ItemSteps
 pub mod Halting
 pub mod Items

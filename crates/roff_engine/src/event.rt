@@ -20,3 +20,6 @@ impl Default for PageEvent {
 
 /// The events of one byte or request, of which there are at most four.
 pub(crate) type Events = ArrayVec<PageEvent, 4>;
+
+/// The events of a request behind its break, of which there are at most two.
+pub(crate) type RequestEvents = ArrayVec<PageEvent, 2>;

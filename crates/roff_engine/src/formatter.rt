@@ -12,7 +12,7 @@ ghost use Rattle.roff_engine.specs.FirstArgument.Keeping.{KeepsFirst};
 ghost use Rattle.roff_engine.specs.Messages.{message_lines};
 ghost use Rattle.roff_engine.specs.Output.{PageHistory, text_of, finished_bytes};
 ghost use Rattle.roff_engine.specs.Formatter.Performing.{CountsFaults, Does, Performs, PerformsOnly, closing_events, with_events};
-ghost use Rattle.roff_engine.specs.Reading.{Reading as Read, argument_taking, end_effect, kept_taking, taking};
+ghost use Rattle.roff_engine.specs.Reading.{Reading as Read, argument_taking, end_effect, kept_taking, knowing, taking};
 ghost use Rattle.roff_engine.specs.Formatter.ReadsAs.{ReadsAs, leading_behind, leading_of, part_of};
 ghost use Rattle.roff_engine.specs.Requests.{Text, Space, request_effect};
 ghost use Rattle.roff_engine.specs.Sinks.{Puts};
@@ -25,7 +25,7 @@ use crate::event::PageEvent;
 use crate::halt::Halt;
 use crate::message::{Message, report};
 use crate::reading::{LinePart, Reading};
-use crate::request::Request;
+use crate::request::{Known, Request};
 use crate::sink::ByteSink;
 use roff_lines::{Env, Event, Glyph, Line};
 use roff_scan::is_dropped;
@@ -187,15 +187,18 @@ impl Formatter {
         err: &mut E,
     ) -> Result<(), Halt>
         ensures does { (l : Limits) (h : PageHistory) (a : Arguments) → Stands l.line (text_of h) self.old.env → KeepsFirst a self.old.argument →
-            Does l h line (request_effect (settings_after (text_of h)) breaks request (arguments_read a)) result self.new.env
+            Does l h line (request_effect (knowing (settings_after (text_of h))) breaks request (arguments_read a)) result self.new.env
             (O.contents out.old) (O.contents out.new) (E.contents err.old) (E.contents err.new) }
         ensures reading { self.new.reading ≡ self.old.reading }
         ensures argument { self.new.argument ≡ self.old.argument }
         ensures faults { CountsFaults O.failures E.failures out.old out.new err.old err.new result }
     {
-        let effect = request.effect(self.env.settings(), self.argument.read());
+        let known = Known {
+            settings: self.env.settings(),
+        };
+        let effect = request.effect(breaks, known, self.argument.read());
         match tell(effect.message, line, err) {
-            Ok(()) => self.perform_all(&effect.events(breaks), out),
+            Ok(()) => self.perform_all(&effect.events, out),
             Err(halt) => Err(halt),
         }
     }
