@@ -5,6 +5,7 @@ pub mod Messages
 pub mod Numbers
 pub mod Arguments
 pub mod Requests
+pub mod RequestLaws
 pub mod Request
 pub mod Reading
 pub mod Output

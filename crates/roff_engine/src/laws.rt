@@ -4,6 +4,7 @@ ghost use Rattle.std.specs.Prelude.{◌≡◌, codes};
 ghost use Rattle.roff_num.specs.declared.limit.Limit.TheVariants.{Bytes, Line};
 ghost use Rattle.roff_engine.specs.declared.status.Status.TheVariants.{Done, Device, Limit as Limited};
 ghost use Rattle.roff_engine.specs.Laws.{LimitsOnlyCut, SameUntilALimit, FailingOnlyCuts, SameUntilTheFault, NoLimitIsPassed};
+ghost use Rattle.roff_engine.specs.RequestLaws.{EachIsListedOnce, EachIsNamed, EachNameHasTwoBytes};
 ghost use Rattle.roff_engine.specs.Rows.{gives, formatted, formatted_within, formatted_failing};
 
 /// What the definitions give on the worked rows of filled text.
@@ -60,4 +61,11 @@ pub fn cut()
 /// No run takes more bytes, or has a longer pending line, than its limits say.
 pub fn bounds()
     ensures { NoLimitIsPassed }
+{}
+
+/// Each request is listed once, and no two have the same name.
+pub fn request_names()
+    ensures named { EachIsNamed }
+    ensures listed_once { EachIsListedOnce }
+    ensures two_bytes { EachNameHasTwoBytes }
 {}
