@@ -19,3 +19,4 @@ pub mod Taking
 pub mod StatusesTell
 pub mod RunsAppend
 pub mod QuotedArguments
+pub mod Outcomes

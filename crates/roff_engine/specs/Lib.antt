@@ -20,5 +20,6 @@ pub mod Quoting
 pub mod FirstArgument
 pub mod Formatter
 pub mod Engine
+pub mod Outcomes
 pub mod Running
 pub mod Clauses
