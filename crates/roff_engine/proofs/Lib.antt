@@ -20,3 +20,4 @@ pub mod StatusesTell
 pub mod RunsAppend
 pub mod QuotedArguments
 pub mod Outcomes
+pub mod TwoRuns

@@ -21,5 +21,6 @@ pub mod FirstArgument
 pub mod Formatter
 pub mod Engine
 pub mod Outcomes
+pub mod TwoRuns
 pub mod Running
 pub mod Clauses
