@@ -2,6 +2,7 @@
 #![tactic(auto)]
 
 mod command;
+mod exit;
 mod inputs;
 mod job;
 mod memory;
