@@ -9,6 +9,7 @@ mod memory;
 mod program;
 #[cfg(test)]
 mod tests;
+mod texts;
 
 pub use job::{Job, run};
 pub use memory::{MemSink, MemSource};
