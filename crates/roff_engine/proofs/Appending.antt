@@ -1,7 +1,7 @@
--- What is appended to known bytes.
-use Rattle.std.proofs.Common.{ℕ, Option, Some, None, List, [], ◌∷◌, ◌++◌, refl, append_assoc, append-nil, sym}
+-- What is written to sinks, piece by piece.
+use Rattle.std.proofs.Common.{ℕ, Option, Some, None, List, [], ◌∷◌, ◌++◌, refl, append_assoc, append-nil, arith, sym}
 use Rattle.std.specs.Io.KnownBytes.{Appends}
-use Rattle.roff_engine.specs.Sinks.{AppendsAllBut, AppendsFront}
+use Rattle.roff_engine.specs.Sinks.{Sunk, Writes, HoldsBack, AppendsFront, Fails}
 
 -- two pieces one after the other are one
 pub Appends-append : (old mid new : Option (List ℕ)) (front back : List ℕ) → Appends old mid front → Appends mid new back → Appends old new (front ++ back)
@@ -10,32 +10,47 @@ Appends-append (Some xs) None new front back first second = absurd first
 Appends-append (Some xs) (Some ys) None front back first second = second
 Appends-append (Some xs) (Some ys) (Some zs) front back first second = simp (second, first, append_assoc)
 
--- one byte more of a piece
-pub AppendsAllBut-push : {old mid new : Option (List ℕ)} {piece held held_then : List ℕ} (b : ℕ)
-    → AppendsAllBut old mid piece held → AppendsAllBut mid new (held ++ b ∷ []) held_then
-    → AppendsAllBut old new (piece ++ b ∷ []) held_then
-AppendsAllBut-push b all more = record {
-  front = all.front ++ more.front;
-  split = rw (all.split, append_assoc all.front _ (b ∷ []), more.split, append_assoc) refl;
-  written = Appends-append _ _ _ _ _ all.written more.written;
-}
-
--- a beginning of what was held back is one of the piece and of what follows it
-pub AppendsFront-held : {old mid new : Option (List ℕ)} {piece held : List ℕ} (rest : List ℕ)
-    → AppendsAllBut old mid piece held → AppendsFront mid new held → AppendsFront old new (piece ++ rest)
-AppendsFront-held rest all part = record {
-  front = all.front ++ part.front;
-  back = part.back ++ rest;
-  split = rw (all.split, part.split) (simp append_assoc);
-  written = Appends-append _ _ _ _ _ all.written part.written;
-}
-
--- all of a piece is written where what was held back is
-pub AppendsAllBut-put : {old mid : Option (List ℕ)} (new : Option (List ℕ)) {piece held : List ℕ}
-    → AppendsAllBut old mid piece held → Appends mid new held → Appends old new piece
-AppendsAllBut-put new all rest = rw all.split (Appends-append _ _ new _ _ all.written rest)
-
 -- nothing is appended to what stays
 pub Appends-nothing : (known : Option (List ℕ)) → Appends known known []
 Appends-nothing None = tt
 Appends-nothing (Some xs) = sym (append-nil xs)
+
+-- nothing is written to a sink that stays
+pub Writes-nothing : (s : Sunk) → Writes s s []
+Writes-nothing s = record { written = Appends-nothing s.contents; failures = omega arith }
+
+-- two pieces are written one after the other
+pub Writes-append : {old mid new : Sunk} (front back : List ℕ) → Writes old mid front → Writes mid new back → Writes old new (front ++ back)
+Writes-append front back first second = record {
+  written = Appends-append _ _ _ front back first.written second.written;
+  failures = omega (arith, first.failures, second.failures);
+}
+
+-- one byte more of a piece
+pub HoldsBack-push : {old mid new : Sunk} {piece held held_then : List ℕ} (b : ℕ)
+    → HoldsBack old mid piece held → HoldsBack mid new (held ++ b ∷ []) held_then
+    → HoldsBack old new (piece ++ b ∷ []) held_then
+HoldsBack-push b all more = record {
+  front = all.front ++ more.front;
+  split = rw (all.split, append_assoc all.front _ (b ∷ []), more.split, append_assoc) refl;
+  writes = Writes-append all.front more.front all.writes more.writes;
+}
+
+-- a beginning of what was held back is one of the piece and of what follows it
+pub Fails-held : {old mid new : Sunk} {piece held : List ℕ} (rest : List ℕ)
+    → HoldsBack old mid piece held → Fails mid new held → Fails old new (piece ++ rest)
+Fails-held rest all part = record {
+  written = record {
+    front = all.front ++ part.written.front;
+    back = part.written.back ++ rest;
+    split = rw (all.split, part.written.split) (simp append_assoc);
+    written = Appends-append _ _ _ _ _ all.writes.written part.written.written;
+  };
+  failures = omega (arith, all.writes.failures, part.failures);
+  fault = omega (arith, all.writes.failures, part.fault);
+}
+
+-- all of a piece is written where what was held back is
+pub HoldsBack-put : {old mid : Sunk} (new : Sunk) {piece held : List ℕ}
+    → HoldsBack old mid piece held → Writes mid new held → Writes old new piece
+HoldsBack-put new all rest = rw all.split (Writes-append all.front _ all.writes rest)

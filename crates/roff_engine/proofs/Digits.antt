@@ -1,36 +1,16 @@
 -- Digits, and numbers in their simple form.
-use Rattle.std.proofs.Common.{◌≡◌, ℕ, ◌+◌, ◌*◌, ◌<◌, ◌≤◌, Bool, true, false, cond, List, [], ◌∷◌, length, take, drop, get_or, refl, inl, inr, length-drop, length-take, arith, ap, Some, None, ◌&&◌, leb}
+use Rattle.std.proofs.Common.{◌≡◌, ℕ, ◌+◌, ◌*◌, ◌<◌, ◌≤◌, Bool, false, cond, List, [], ◌∷◌, length, take, drop, get_or, refl, inl, inr, length-drop, length-take, arith, ap, Some, None, ◌&&◌, leb}
 use Rattle.std.specs.Char.{is_ascii_digit}
 use Rattle.std.specs.List.{take_while}
 use Rattle.std.specs.Str.Parse.{AllDigits, digits_value}
 use Rattle.std.proofs.lemmas.Bool.Decides.{nat_tests}
-use Rattle.std.proofs.lemmas.List.Sums.{take_while-cons}
 use Rattle.std.proofs.lemmas.List.{take_all}
-use Rattle.std.proofs.lemmas.List.Folds.{length-prefix_len}
 use Rattle.std.proofs.lemmas.Bool.{cases_lt}
 use Rattle.std.proofs.lemmas.Str.Parse.{digit_at, digits_value_short, digits_value-take-le, numerals_by_value, tells_digits}
 use Rattle.std.proofs.lemmas.Str.{digit_value_digit}
 use Rattle.std.proofs.lemmas.Int.Digits.{digits_value_more}
-use Rattle.std.specs.Char.{digit_value}
+pub use Rattle.roff_num.proofs.Digits.{AllDigits-take}
 use Rattle.roff_engine.specs.Numbers.{is_scale_or_nothing, size_of, number_of}
-
--- a digit's value
-digit_value-lt : (c : ℕ) → is_ascii_digit c ≡ true → digit_value c < 10
-digit_value-lt c digit = grind (arith, nat_tests)
-
--- a byte in front of digits, if it is one
-AllDigits-cond : (b : Bool) (c : ℕ) (digits : List ℕ) → is_ascii_digit c ≡ b → AllDigits 10 digits → AllDigits 10 (cond b (c ∷ digits) [])
-AllDigits-cond true c digits e all = (digit_value-lt c e, all)
-AllDigits-cond false c digits e all = tt
-
--- the digits at the front of a text are digits
-AllDigits-take_while : (text : List ℕ) → AllDigits 10 (take_while is_ascii_digit text)
-AllDigits-take_while [] = tt
-AllDigits-take_while (c ∷ text) = rw take_while-cons (AllDigits-cond (is_ascii_digit c) c (take_while is_ascii_digit text) refl (AllDigits-take_while text))
-
--- so they are, as they are cut off by their number
-pub AllDigits-take : (text : List ℕ) → AllDigits 10 (take (length (take_while is_ascii_digit text)) text)
-AllDigits-take text = rw length-prefix_len (AllDigits-take_while text)
 
 -- the value of some of at most six digits is below a million
 pub digits_value-lt-million : (digits : List ℕ) (i : ℕ) → AllDigits 10 digits → length digits ≤ 6 → digits_value 10 (take i digits) < 1000000

@@ -1,10 +1,8 @@
--- What a request does depends on the first nine bytes of its first argument alone.
+-- The number that an argument is depends on its first nine bytes alone.
 use Rattle.std.proofs.Common.{◌≡◌, ℕ, Bool, List, [], ◌∷◌, take, Option, Some, ap, sym, ◌∙◌}
-use Rattle.std.specs.Option.{option_and_then}
 use Rattle.roff_engine.specs.declared.number.Number.{Number}
 use Rattle.roff_engine.specs.FirstArgument.Keeping.{first_kept}
-use Rattle.roff_engine.specs.Numbers.{number_of, is_column_scale, is_line_scale, length_set}
-use Rattle.roff_engine.specs.Requests.{length_wanted, space_down, spaced}
+use Rattle.roff_engine.specs.Numbers.{given_as, number_given, number_of}
 use Rattle.roff_engine.proofs.Digits.{number_of-take}
 
 -- the number that an argument is, read from its first nine bytes
@@ -13,18 +11,10 @@ number_by_first : (is_scale : ℕ → Bool) (number : Option Number) (text argum
 number_by_first is_scale number text argument read first =
     sym (number_of-take is_scale argument) ∙ ap (number_of is_scale) (sym first) ∙ sym read
 
--- a length, by the number that these bytes are
-pub length_wanted_by_first : (current previous : ℕ) (number : Option Number) (text : List ℕ) (as_given : List (List ℕ))
-    → number ≡ number_of is_column_scale text → Some text ≡ first_kept as_given
-    → length_wanted current previous as_given ≡ option_and_then (length_set current) number
-length_wanted_by_first current previous number text [] read first = cc
-length_wanted_by_first current previous number text (a ∷ as_given) read first =
-    ap (option_and_then (length_set current)) (number_by_first is_column_scale number text a read (cc))
-
--- a space, by the number that these bytes are
-pub space_down_by_first : (breaks : Bool) (number : Option Number) (text : List ℕ) (as_given : List (List ℕ))
-    → number ≡ number_of is_line_scale text → Some text ≡ first_kept as_given
-    → space_down breaks as_given ≡ spaced breaks number
-space_down_by_first breaks number text [] read first = cc
-space_down_by_first breaks number text (a ∷ as_given) read first =
-    ap (spaced breaks) (number_by_first is_line_scale number text a read (cc))
+-- the number given, by what these bytes are
+pub number_given_by_first : (is_scale : ℕ → Bool) (number : Option Number) (text : List ℕ) (as_given : List (List ℕ))
+    → number ≡ number_of is_scale text → Some text ≡ first_kept as_given
+    → number_given is_scale as_given ≡ given_as number
+number_given_by_first is_scale number text [] read first = cc
+number_given_by_first is_scale number text (a ∷ as_given) read first =
+    ap given_as (number_by_first is_scale number text a read (cc))

@@ -1,5 +1,5 @@
 -- A run of the code, as far as it has come, as a run of the definition.
-use Rattle.std.proofs.Common.{◌≡◌, ℕ, ◌+◌, true, false, List, [], ◌∷◌, ◌++◌, Some, None, append_assoc, append-nil, refl, sym, if◌then◌else◌, ◌==◌}
+use Rattle.std.proofs.Common.{◌≡◌, ℕ, ◌+◌, true, false, List, [], ◌∷◌, ◌++◌, Some, None, refl, if◌then◌else◌, ◌==◌}
 use Rattle.roff_lines.specs.Events.{settings_after}
 use Rattle.roff_num.specs.declared.limit.Limit.{Limit}
 use Rattle.roff_num.specs.declared.limit.Limit.TheVariants.{Bytes}
@@ -7,13 +7,12 @@ use Rattle.roff_engine.specs.declared.status.Status.TheVariants.{Device, Limit a
 use Rattle.roff_num.specs.declared.limits.Limits.{Limits}
 use Rattle.roff_engine.specs.declared.message.Message.TheVariants.{ReadFailed}
 use Rattle.roff_engine.specs.Messages.{message_line, message_lines}
-use Rattle.roff_engine.specs.Output.{PageHistory, text_of, written, written_by}
-use Rattle.roff_engine.specs.Formatter.Performing.{behind, newly_written, closing_events}
+use Rattle.roff_engine.specs.Output.{PageHistory, text_of}
+use Rattle.roff_engine.specs.Formatter.Performing.{acting, closing_events}
 use Rattle.roff_engine.specs.Reading.{Reading, Taking, taking, end_effect, LineStart}
-use Rattle.roff_engine.specs.Requests.{PageEvent, Effect}
+use Rattle.roff_engine.specs.Requests.{Effect}
 use Rattle.roff_engine.specs.Run.{State, step, stopped_by, passes_bytes}
 use Rattle.roff_scan.specs.Tape.{Tape, OneByte, OneNote, Ended, Failed, Stopped, Gives, Ends, front, behind_front}
-use Rattle.roff_engine.proofs.Leads.{busy}
 
 -- a run that reads on
 abbrev pub running : Tape → Reading → PageHistory → ℕ → ℕ → ℕ → List ℕ → State
@@ -31,16 +30,11 @@ running tape reading h charge newlines line messages = record {
   last_message = [];
 }
 
--- what a history writes behind some events
-pub written-behind : (es : List PageEvent) (h : PageHistory) → written (behind es h) ≡ written h ++ newly_written h es
-written-behind [] h = sym (append-nil (written h))
-written-behind (e ∷ es) h = rw (written-behind es (e ∷ h)) (append_assoc (written h) (written_by h e) (newly_written (e ∷ h) es))
-
 -- the state behind a byte, with its events to do
 abbrev pub behind_byte : Tape → Reading → PageHistory → ℕ → ℕ → List ℕ → ℕ → State
 behind_byte tape r h c n ms b =
     let t : Taking = taking (settings_after (text_of h)) r b in
-    busy (running (behind_front tape) t.reading h (c + 1) (if b == 10 then n + 1 else n) (n + 1) (ms ++ message_lines (n + 1) t.effect.messages))
+    acting (running (behind_front tape) t.reading h (c + 1) (if b == 10 then n + 1 else n) (n + 1) (ms ++ message_lines (n + 1) t.effect.messages))
     (t.effect.events ++ []) h
 
 -- a byte is taken
@@ -77,7 +71,7 @@ step-stop l tape r h c n ln ms limit ends = rw ends refl
 abbrev pub at_end : Tape → Reading → PageHistory → ℕ → ℕ → ℕ → List ℕ → State
 at_end tape r h c n ln ms =
     let e : Effect = end_effect (settings_after (text_of h)) r in
-    busy (record (running tape LineStart h c n ln (ms ++ message_lines ln e.messages)) { is_closing = true }) (e.events ++ closing_events) h
+    acting (record (running tape LineStart h c n ln (ms ++ message_lines ln e.messages)) { is_closing = true }) (e.events ++ closing_events) h
 
 -- the input's end is met
 pub step-end : (l : Limits) (tape : Tape) (r : Reading) (h : PageHistory) (c n ln : ℕ) (ms : List ℕ)

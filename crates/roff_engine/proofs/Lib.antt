@@ -8,6 +8,14 @@ pub mod StepsOnlyCut
 pub mod RunsOnlyCut
 pub mod RunsStayWithin
 pub mod FirstArguments
+pub mod RequestTable
 pub mod ItemSteps
 pub mod Halting
 pub mod Items
+pub mod PerformedOrStopped
+pub mod Endings
+pub mod ResultsOnlyCut
+pub mod Taking
+pub mod StatusesTell
+pub mod RunsAppend
+pub mod QuotedArguments

@@ -1,218 +1,237 @@
--- Lists of events that are performed.
-use Rattle.std.proofs.Common.{◌≡◌, ◌≢◌, ℕ, ◌<◌, false, List, [], ◌∷◌, ◌++◌, Option, Result, Ok, Err, OnOk, OnErr, IsOkUnless, append_assoc, append-nil, refl, sym}
+-- Events that are performed, one by one, over the states of the definition.
+use Rattle.std.proofs.Common.{◌≡◌, ◌<◌, ◌≤◌, ℕ, List, [], ◌∷◌, ◌++◌, Option, Some, None, Result, Ok, Err, OnOk, OnErr, IsOkUnless, append_assoc, ap, arith, refl, subst, sym}
 use Rattle.std.specs.Io.KnownBytes.{Appends}
 use Rattle.std.proofs.lemmas.Bool.{le-ltb, lt-ltb}
-use Rattle.roff_lines.specs.Events.{Event}
-use Rattle.roff_lines.specs.Lines.{Finished, finished, pending_length}
-use Rattle.roff_lines.specs.Env.Stands.{Stands}
-use Rattle.roff_lines.specs.declared.env.Env.{Env}
 use Rattle.roff_num.specs.declared.limit.Limit.{Limit}
 use Rattle.roff_num.specs.declared.limit.Limit.TheVariants.{Line}
+use Rattle.roff_num.specs.declared.limits.Limits.{Limits}
+use Rattle.roff_scan.specs.Tape.{Tape}
+use Rattle.roff_lines.specs.declared.env.Env.{Env}
+use Rattle.roff_lines.specs.declared.event.Event.{Event}
+use Rattle.roff_lines.specs.declared.settings.Settings.{Settings}
+use Rattle.roff_lines.specs.Env.Stands.{Stands}
+use Rattle.roff_lines.specs.Events.{settings_after}
+use Rattle.roff_lines.specs.Lines.{Finished, finished, pending_length}
 use Rattle.roff_engine.specs.declared.formatter.Formatter.{Formatter}
 use Rattle.roff_engine.specs.declared.halt.Halt.{Halt}
 use Rattle.roff_engine.specs.declared.halt.Halt.TheVariants.{Limit as Limited, Output, Messages}
-use Rattle.roff_num.specs.declared.limits.Limits.{Limits}
-use Rattle.roff_engine.specs.Output.{PageHistory, text_of, finished_bytes, written_by}
+use Rattle.roff_engine.specs.Engine.Outcome.{Seen, AppendsBetween, NoFewerFaults, Reaches, seen}
+use Rattle.roff_engine.specs.Formatter.Performing.{AllPerformed, StoppedAt, FailedAt, LostAt, Performs, PerformsEvents, PerformsOnly, Means, Does, DoesEffect, Sinks, acting, with_events}
 use Rattle.roff_engine.specs.Messages.{message_lines}
-use Rattle.roff_engine.specs.Requests.{PageEvent, Text, Space, Effect}
-use Rattle.roff_engine.specs.Run.{passes_line}
-use Rattle.roff_engine.specs.Sinks.{AppendsFront, Puts}
-use Rattle.roff_engine.specs.Formatter.Performing.{behind, newly_written, NonePasses, AllPerformed, StoppedAt, FailedAt, Performs, PerformsOnly, Does, with_events}
-use Rattle.roff_engine.proofs.Appending.{Appends-append, Appends-nothing}
+use Rattle.roff_engine.specs.Output.{PageHistory, text_of, finished_bytes, written_by}
+use Rattle.roff_engine.specs.Requests.{PageEvent, Text, Space, Effect, doing}
+use Rattle.roff_engine.specs.Run.{State, initial, step, stopped_by, refusal, unless_refused}
+use Rattle.roff_engine.specs.Sinks.{Sunk, Writes, AppendsFront, Fails, Puts}
+use Rattle.roff_engine.proofs.Appending.{Appends-append, Writes-nothing}
+use Rattle.roff_engine.proofs.Leads.{Leads-to}
 
--- a history behind two lists of events
-pub behind-append : (es fs : List PageEvent) (h : PageHistory) → behind (es ++ fs) h ≡ behind fs (behind es h)
-behind-append [] fs h = refl
-behind-append (e ∷ es) fs h = behind-append es fs (e ∷ h)
-
--- two lists of events write one after the other
-pub newly_written-append : (h : PageHistory) (es fs : List PageEvent) → newly_written h (es ++ fs) ≡ newly_written h es ++ newly_written (behind es h) fs
-newly_written-append h [] fs = refl
-newly_written-append h (e ∷ es) fs = rw (newly_written-append (e ∷ h) es fs) (sym (append_assoc (written_by h e) (newly_written (e ∷ h) es) (newly_written (behind es (e ∷ h)) fs)))
-
--- none of two lists passes if none of the first does, and behind it none of the second
-pub NonePasses-append : (l : Limits) (h : PageHistory) (es fs : List PageEvent) → NonePasses l h es → NonePasses l (behind es h) fs → NonePasses l h (es ++ fs)
-NonePasses-append l h [] fs first second = second
-NonePasses-append l h (e ∷ es) fs first second = (first.0, NonePasses-append l (e ∷ h) es fs first.1 second)
-
--- what is behind events that were performed
-pub performed_then : (l : Limits) (h : PageHistory) (es fs : List PageEvent) (r : Result (Unit {0}) Halt) (mid env : Env) (a b c : Option (List ℕ))
-    → AllPerformed l h es mid a b → Performs l (behind es h) fs r env b c → Performs l h (es ++ fs) r env a c
-performed_then l h es fs (Ok u) mid env a b c p q = record {
-  none_passes = NonePasses-append l h es fs p.none_passes q.none_passes;
-  stands = rw behind-append q.stands;
-  written = rw newly_written-append (Appends-append a b c _ _ p.written q.written);
-}
-performed_then l h es fs (Err (Limited limit)) mid env a b c p q = record {
-  limit_is = q.limit_is;
-  done = es ++ q.done;
-  next = q.next;
-  rest = q.rest;
-  split = rw q.split (sym (append_assoc es q.done (q.next ∷ q.rest)));
-  none_passes = NonePasses-append l h es q.done p.none_passes q.none_passes;
-  passes = rw behind-append q.passes;
-  written = rw newly_written-append (Appends-append a b c _ _ p.written q.written);
-}
-performed_then l h es fs (Err Output) mid env a b c p q = record {
-  done = es ++ q.done;
-  next = q.next;
-  rest = q.rest;
-  split = rw q.split (sym (append_assoc es q.done (q.next ∷ q.rest)));
-  none_passes = NonePasses-append l h es q.done p.none_passes q.none_passes;
-  does_not_pass = rw behind-append q.does_not_pass;
-  front = q.front;
-  back = q.back;
-  text = rw behind-append q.text;
-  written = rw (newly_written-append, append_assoc) (Appends-append a b c _ _ p.written q.written);
-}
-performed_then l h es fs (Err Messages) mid env a b c p q = q
-
--- events behind one that wasn't performed make no difference
-pub halted_then : (l : Limits) (h : PageHistory) (es fs : List PageEvent) (halt : Halt) (env : Env) (a b : Option (List ℕ))
-    → Performs l h es (Err halt) env a b → Performs l h (es ++ fs) (Err halt) env a b
-halted_then l h es fs (Limited limit) env a b p = record {
-  limit_is = p.limit_is;
-  done = p.done;
-  next = p.next;
-  rest = p.rest ++ fs;
-  split = rw p.split (append_assoc p.done (p.next ∷ p.rest) fs);
-  none_passes = p.none_passes;
-  passes = p.passes;
-  written = p.written;
-}
-halted_then l h es fs Output env a b p = record {
-  done = p.done;
-  next = p.next;
-  rest = p.rest ++ fs;
-  split = rw p.split (append_assoc p.done (p.next ∷ p.rest) fs);
-  none_passes = p.none_passes;
-  does_not_pass = p.does_not_pass;
-  front = p.front;
-  back = p.back;
-  text = p.text;
-  written = p.written;
-}
-halted_then l h es fs Messages env a b p = p
-
--- an event of the text behind which the environment stands doesn't pass the limit
-passes_not : (l : Limits) (h : PageHistory) (e : Event) (env : Env) → Stands l.line (e ∷ text_of h) env → passes_line l h (Text e) ≡ false
-passes_not l h e env s = le-ltb l.line (pending_length (e ∷ text_of h)) s.within
-
--- one event of the text, performed
-pub text_performed : (l : Limits) (h : PageHistory) (e : Event) (env : Env) (a b : Option (List ℕ))
-    → Stands l.line (e ∷ text_of h) env → Appends a b (written_by h (Text e)) → AllPerformed l h (Text e ∷ []) env a b
-text_performed l h e env a b s w = record {
-  none_passes = (passes_not l h e env s, tt);
-  stands = s;
-  written = rw append-nil w;
+-- a beginning of a piece was written behind a text
+pub between : (old mid new : Option (List ℕ)) (least piece : List ℕ)
+    → Appends old mid least → AppendsFront mid new piece → AppendsBetween old new least (least ++ piece)
+between old mid new least piece first part = record {
+  front = part.front;
+  back = part.back;
+  split = rw part.split refl;
+  written = Appends-append old mid new least part.front first part.written;
 }
 
--- one event of the text, at which the output failed
-pub text_failed : (l : Limits) (h : PageHistory) (e : Event) (env : Env) (a b : Option (List ℕ))
-    → Stands l.line (e ∷ text_of h) env → AppendsFront a b (written_by h (Text e)) → FailedAt l h (Text e ∷ []) a b
-text_failed l h e env a b s w = record {
-  done = [];
-  next = Text e;
-  rest = [];
-  split = refl;
-  none_passes = tt;
-  does_not_pass = passes_not l h e env s;
-  front = w.front;
-  back = w.back;
-  text = w.split;
-  written = w.written;
+-- faults of the output are counted on
+pub faults_of_out : (before : Seen) (failures : ℕ) (err old new : Sunk) → old.failures ≤ new.failures
+    → NoFewerFaults before (seen failures old err) → NoFewerFaults before (seen failures new err)
+faults_of_out before failures err old new more faults = record { source = faults.source; out = omega (arith, more, faults.out); err = faults.err }
+
+-- and those of the message sink
+pub faults_of_err : (before : Seen) (failures : ℕ) (out old new : Sunk) → old.failures ≤ new.failures
+    → NoFewerFaults before (seen failures out old) → NoFewerFaults before (seen failures out new)
+faults_of_err before failures out old new more faults = record { source = faults.source; out = faults.out; err = omega (arith, more, faults.err) }
+
+-- one event in front of others, at a state of a run
+module _ (l : Limits) (t : Tape) (before : Seen) (failures : ℕ) (err : Sunk) (s : State) (h : PageHistory) (e : PageEvent) (rest : List PageEvent) (old : Sunk)
+    (reached : Reaches l t before (seen failures old err) (acting s (e ∷ rest) h)) where
+  -- an event that no limit refuses is performed by one step
+  step-event : refusal l h e ≡ None → step l (acting s (e ∷ rest) h) ≡ acting s rest (e ∷ h)
+  step-event allowed = ap (λ r. unless_refused l r (acting s (e ∷ rest) h) (acting s rest (e ∷ h))) allowed
+
+  -- it is performed, and what it writes is written
+  pub event_performed : (new : Sunk) → refusal l h e ≡ None → Writes old new (written_by h e)
+      → Reaches l t before (seen failures new err) (acting s rest (e ∷ h))
+  event_performed new allowed writes = record {
+    comes = Leads-to l (initial t) _ _ reached.comes (step-event allowed);
+    text = Appends-append _ _ _ _ _ reached.text writes.written;
+    messages = reached.messages;
+    faults = faults_of_out before failures err old new writes.failures reached.faults;
+  }
+
+  -- or the output fails
+  pub event_failed : (new : Sunk) → refusal l h e ≡ None → Fails old new (written_by h e) → FailedAt l t before (seen failures new err) s
+  event_failed new allowed fails = record {
+    to_do = e ∷ rest;
+    history = h;
+    stops = record {
+      comes = reached.comes;
+      goes_on = refl;
+      text = rw (step-event allowed) (between _ _ _ _ _ reached.text fails.written);
+      fault = omega (arith, reached.faults.out, fails.fault);
+    };
+    messages = reached.messages;
+    faults = faults_of_out before failures err old new fails.failures reached.faults;
+  }
+
+  -- or a limit refuses it
+  pub event_stopped : (limit : Limit) → refusal l h e ≡ Some limit → StoppedAt l t before (seen failures old err) s limit
+  event_stopped limit refused = record {
+    to_do = e ∷ rest;
+    history = h;
+    reaches = reached;
+    stops = ap (λ r. unless_refused l r (acting s (e ∷ rest) h) (acting s rest (e ∷ h))) refused;
+  }
+
+-- an event of the text behind which the environment stands is refused by no limit
+text_allowed : (l : Limits) (h : PageHistory) (e : Event) (env : Env) → Stands l.line (e ∷ text_of h) env → refusal l h (Text e) ≡ None
+text_allowed l h e env stands = rw (le-ltb l.line (pending_length (e ∷ text_of h)) stands.within) refl
+
+-- one behind which the pending line would be too long is refused
+pub text_refused : (l : Limits) (h : PageHistory) (e : Event) → l.line < pending_length (e ∷ text_of h) → refusal l h (Text e) ≡ Some Line
+text_refused l h e longer = rw (lt-ltb l.line (pending_length (e ∷ text_of h)) longer) refl
+
+-- one event of the text, as what it writes was put
+text_performs : (l : Limits) (t : Tape) (before : Seen) (failures : ℕ) (err : Sunk) (s : State) (h : PageHistory) (e : Event) (rest : List PageEvent) (env : Env) (old new : Sunk) (r : Result (Unit {0}) Halt)
+    → Stands l.line (e ∷ text_of h) env → Puts old new (written_by h (Text e)) r → IsOkUnless r Output
+    → Reaches l t before (seen failures old err) (acting s (Text e ∷ rest) h)
+    → Performs l t before (seen failures new err) s rest r env
+text_performs l t before failures err s h e rest env old new (Ok u) stands puts halt reached = record {
+  history = Text e ∷ h;
+  reaches = event_performed l t before failures err s h (Text e) rest old reached new (text_allowed l h e env stands) puts.ok;
+  stands = stands;
 }
+text_performs l t before failures err s h e rest env old new (Err Output) stands puts halt reached =
+    event_failed l t before failures err s h (Text e) rest old reached new (text_allowed l h e env stands) puts.err
+text_performs l t before failures err s h e rest env old new (Err Messages) stands puts halt reached = cc
+text_performs l t before failures err s h e rest env old new (Err (Limited limit)) stands puts halt reached = cc
 
--- one event of the text that would pass the limit
-pub text_stopped : (l : Limits) (h : PageHistory) (e : Event) (limit : Limit) (a : Option (List ℕ))
-    → limit ≡ Line → l.line < pending_length (e ∷ text_of h) → StoppedAt l h (Text e ∷ []) limit a a
-text_stopped l h e limit a is_line more = record {
-  limit_is = is_line;
-  done = [];
-  next = Text e;
-  rest = [];
-  split = refl;
-  none_passes = tt;
-  passes = lt-ltb l.line (pending_length (e ∷ text_of h)) more;
-  written = Appends-nothing a;
-}
-
--- blank lines, performed
-pub space_performed : (l : Limits) (h : PageHistory) (lines : ℕ) (env : Env) (a b : Option (List ℕ))
-    → Stands l.line (text_of h) env → Appends a b (written_by h (Space lines)) → AllPerformed l h (Space lines ∷ []) env a b
-space_performed l h lines env a b s w = record {
-  none_passes = (refl, tt);
-  stands = s;
-  written = rw append-nil w;
-}
-
--- blank lines at which the output failed
-pub space_failed : (l : Limits) (h : PageHistory) (lines : ℕ) (a b : Option (List ℕ))
-    → AppendsFront a b (written_by h (Space lines)) → FailedAt l h (Space lines ∷ []) a b
-space_failed l h lines a b w = record {
-  done = [];
-  next = Space lines;
-  rest = [];
-  split = refl;
-  none_passes = tt;
-  does_not_pass = refl;
-  front = w.front;
-  back = w.back;
-  text = w.split;
-  written = w.written;
-}
-
--- one event of the text, as it was answered
-pub text_performs : (l : Limits) (h : PageHistory) (e : Event) (env : Env) (a b : Option (List ℕ)) (r : Result (Unit {0}) Halt)
-    → Stands l.line (e ∷ text_of h) env → OnOk r (Appends a b (written_by h (Text e))) → OnErr r (AppendsFront a b (written_by h (Text e)))
-    → IsOkUnless r Output → Performs l h (Text e ∷ []) r env a b
-text_performs l h e env a b (Ok u) s ok err halt = text_performed l h e env a b s ok
-text_performs l h e env a b (Err Output) s ok err halt = text_failed l h e env a b s err
-text_performs l h e env a b (Err Messages) s ok err halt = cc
-text_performs l h e env a b (Err (Limited limit)) s ok err halt = cc
-
--- what fails at the output alone loses no message
-no_message : (r : Result (Unit {0}) Halt) → IsOkUnless r Output → r ≢ Err Messages
-no_message (Ok u) halt e = cc
-no_message (Err Output) halt e = cc
-no_message (Err Messages) halt e = cc
-no_message (Err (Limited limit)) halt e = cc
-
--- one event of the text that changes the environment alone, as the line that it finished was put
-pub text_performs_only : {S : Type 0} (contents : S → Option (List ℕ)) (faults : S → ℕ) (a b : S) (e : Event) (line : Option Finished) (old new : Formatter) (r : Result (Unit {0}) Halt)
+-- an event of the text that changes the environment alone, as the line that it finished was put
+pub text_performs_only : (e : Event) (line : Option Finished) (old new : Formatter) (told_old told_new : Sunk) (r : Result (Unit {0}) Halt)
     → ((l : Limits) (h : PageHistory) → Stands l.line (text_of h) old.env → line ≡ finished (text_of h) e)
     → ((l : Limits) (h : PageHistory) → Stands l.line (text_of h) old.env → Stands l.line (e ∷ text_of h) new.env)
     → new.reading ≡ old.reading → new.argument ≡ old.argument
-    → Puts contents faults a b (finished_bytes line) r → IsOkUnless r Output
-    → PerformsOnly contents faults a b (Text e ∷ []) old new r
-text_performs_only contents faults a b e line old new r is_line stands reading argument puts halt = record {
-  performs = λ l h s. text_performs l h e new.env (contents a) (contents b) r (stands l h s)
-      (rw (← is_line l h s) puts.ok) (rw (← is_line l h s) puts.err) halt;
+    → Puts told_old told_new (finished_bytes line) r → IsOkUnless r Output
+    → PerformsOnly (Text e ∷ []) old new told_old told_new r
+text_performs_only e line old new told_old told_new r is_line stands reading argument puts halt = record {
+  events_performed = record {
+    performs = λ l t before failures err s h rest stood reached.
+        text_performs l t before failures err s h e rest new.env told_old told_new r (stands l h stood) (rw (← is_line l h stood) puts) halt reached;
+  };
   reading = reading;
   argument = argument;
-  failures = puts.failures;
-  halt = no_message r halt;
-  fault = λ is_output. rw is_output at puts.fault;
 }
 
--- an effect whose messages are written, as its events were answered
-pub does_events : (l : Limits) (h : PageHistory) (line : ℕ) (effect : Effect) (r : Result (Unit {0}) Halt) (env : Env) (a b c d : Option (List ℕ))
-    → Appends c d (message_lines line effect.messages) → Performs l h effect.events r env a b → Does l h line effect r env a b c d
-does_events l h line effect (Ok u) env a b c d told p = (told, p)
-does_events l h line effect (Err (Limited limit)) env a b c d told p = (told, p)
-does_events l h line effect (Err Output) env a b c d told p = (told, p)
-does_events l h line effect (Err Messages) env a b c d told p = absurd p
+-- an event of the text that finishes no line
+pub text_changes_only : (e : Event) (old new : Formatter) (told : Sunk)
+    → ((l : Limits) (h : PageHistory) → Stands l.line (text_of h) old.env → Stands l.line (e ∷ text_of h) new.env)
+    → ((h : PageHistory) → finished (text_of h) e ≡ None)
+    → new.reading ≡ old.reading → new.argument ≡ old.argument
+    → PerformsOnly (Text e ∷ []) old new told told (Ok tt)
+text_changes_only e old new told stands none reading argument =
+    text_performs_only e None old new told told (Ok tt) (λ l h stood. sym (none h)) stands reading argument
+    (record { ok = Writes-nothing told; err = tt }) (cc)
 
--- what follows an effect that was done
-pub does_then : (l : Limits) (h : PageHistory) (line : ℕ) (effect : Effect) (fs : List PageEvent) (r : Result (Unit {0}) Halt) (mid env : Env) (a m b c d : Option (List ℕ))
-    → Does l h line effect (Ok tt) mid a m c d → Performs l (behind effect.events h) fs r env m b
-    → Does l h line (with_events effect fs) r env a b c d
-does_then l h line effect fs r mid env a m b c d p q =
-    does_events l h line (with_events effect fs) r env a b c d p.0 (performed_then l h effect.events fs r mid env a m b p.1 q)
+-- blank lines, as they were put
+pub space_performs_only : (lines : ℕ) (old new : Formatter) (told_old told_new : Sunk) (r : Result (Unit {0}) Halt)
+    → ((l : Limits) (h : PageHistory) → Stands l.line (text_of h) old.env → Stands l.line (text_of h) new.env)
+    → new.reading ≡ old.reading → new.argument ≡ old.argument
+    → ((h : PageHistory) → Puts told_old told_new (written_by h (Space lines)) r) → IsOkUnless r Output
+    → PerformsOnly (Space lines ∷ []) old new told_old told_new r
+space_performs_only lines old new told_old told_new (Ok u) stands reading argument puts halt = record {
+  events_performed = record {
+    performs = λ l t before failures err s h rest stood reached. record {
+      history = Space lines ∷ h;
+      reaches = event_performed l t before failures err s h (Space lines) rest told_old reached told_new refl (puts h).ok;
+      stands = stands l h stood;
+    };
+  };
+  reading = reading;
+  argument = argument;
+}
+space_performs_only lines old new told_old told_new (Err Output) stands reading argument puts halt = record {
+  events_performed = record {
+    performs = λ l t before failures err s h rest stood reached.
+        event_failed l t before failures err s h (Space lines) rest told_old reached told_new refl (puts h).err;
+  };
+  reading = reading;
+  argument = argument;
+}
+space_performs_only lines old new told_old told_new (Err Messages) stands reading argument puts halt = cc
+space_performs_only lines old new told_old told_new (Err (Limited limit)) stands reading argument puts halt = cc
 
--- events behind an effect that was not done make no difference
-pub does_halted : (l : Limits) (h : PageHistory) (line : ℕ) (effect : Effect) (fs : List PageEvent) (halt : Halt) (env : Env) (a b c d : Option (List ℕ))
-    → Does l h line effect (Err halt) env a b c d → Does l h line (with_events effect fs) (Err halt) env a b c d
-does_halted l h line effect fs (Limited limit) env a b c d p = (p.0, halted_then l h effect.events fs (Limited limit) env a b p.1)
-does_halted l h line effect fs Output env a b c d p = (p.0, halted_then l h effect.events fs Output env a b p.1)
-does_halted l h line effect fs Messages env a b c d p = p
+-- one step from a state means an effect
+module _ (l : Limits) (t : Tape) (before : Seen) (failures : ℕ) (out old new : Sunk) (from s : State) (h : PageHistory) (line : ℕ) (effect : Effect) (rest : List PageEvent)
+    (reached : Reaches l t before (seen failures out old) from) (means : Means l from s h line effect rest) where
+  -- its messages are told, and its events are to be done
+  pub effect_told : Writes old new (message_lines line effect.messages) → Reaches l t before (seen failures out new) (acting s (effect.events ++ rest) h)
+  effect_told writes = record {
+    comes = Leads-to l (initial t) _ _ reached.comes means.opens;
+    text = rw (← means.wrote) reached.text;
+    messages = rw means.said (Appends-append _ _ _ _ _ reached.messages writes.written);
+    faults = faults_of_err before failures out old new writes.failures reached.faults;
+  }
+
+  -- or they can't be told
+  pub effect_lost : Fails old new (message_lines line effect.messages) → LostAt l t before (seen failures out new) from
+  effect_lost fails = record {
+    comes = reached.comes;
+    goes_on = means.goes_on;
+    text = reached.text;
+    messages = rw (means.opens, means.said) (between _ _ _ _ _ reached.messages fails.written);
+    fault = omega (arith, reached.faults.err, fails.fault);
+  }
+
+-- an effect without messages
+pub effect_quiet : (l : Limits) (t : Tape) (before : Seen) (failures : ℕ) (out err : Sunk) (from s : State) (h : PageHistory) (line : ℕ) (effect : Effect) (rest : List PageEvent)
+    → Reaches l t before (seen failures out err) from → Means l from s h line effect rest → effect.messages ≡ []
+    → Reaches l t before (seen failures out err) (acting s (effect.events ++ rest) h)
+effect_quiet l t before failures out err from s h line effect rest reached means quiet =
+    effect_told l t before failures out err err from s h line effect rest reached means (rw quiet (Writes-nothing err))
+
+-- what was performed of an effect was done of it
+pub does_events : (l : Limits) (t : Tape) (before now : Seen) (from s : State) (rest : List PageEvent) (r : Result (Unit {0}) Halt) (env : Env)
+    → Performs l t before now s rest r env → Does l t before now from s rest r env
+does_events l t before now from s rest (Ok u) env p = p
+does_events l t before now from s rest (Err (Limited limit)) env p = p
+does_events l t before now from s rest (Err Output) env p = p
+does_events l t before now from s rest (Err Messages) env p = absurd p
+
+-- where the code halted, what would have been left to do makes no difference
+pub performs_halted : (l : Limits) (t : Tape) (before now : Seen) (s : State) (rest left : List PageEvent) (halt : Halt) (env then : Env)
+    → Performs l t before now s rest (Err halt) env → Performs l t before now s left (Err halt) then
+performs_halted l t before now s rest left (Limited limit) env then p = p
+performs_halted l t before now s rest left Output env then p = p
+performs_halted l t before now s rest left Messages env then p = p
+
+-- nor does it for an effect
+pub does_halted : (l : Limits) (t : Tape) (before now : Seen) (from s : State) (rest left : List PageEvent) (halt : Halt) (env then : Env)
+    → Does l t before now from s rest (Err halt) env → Does l t before now from s left (Err halt) then
+does_halted l t before now from s rest left (Limited limit) env then p = p
+does_halted l t before now from s rest left Output env then p = p
+does_halted l t before now from s rest left Messages env then p = p
+
+-- an effect with some events more means the effect, and these in front of the rest
+pub means_less : (l : Limits) (from s : State) (h : PageHistory) (line : ℕ) (effect : Effect) (more rest : List PageEvent)
+    → Means l from s h line (with_events effect more) rest → Means l from s h line effect (more ++ rest)
+means_less l from s h line effect more rest means = record {
+  opens = rw (← append_assoc effect.events more rest) means.opens;
+  goes_on = means.goes_on;
+  wrote = means.wrote;
+  said = means.said;
+}
+
+-- what means nothing is done at once
+pub does_nothing : (line : ℕ) (effect : Settings → Effect) (old new : Formatter) (told : Sinks)
+    → ((s : Settings) → effect s ≡ doing []) → new.env ≡ old.env → DoesEffect line effect old new told told (Ok tt)
+does_nothing line effect old new told nothing same = record {
+  does = λ l t before failures from s h rest stood reached means.
+      let P : Effect → Type 0 = λ e. Means l from s h line e rest in record {
+        history = h;
+        reaches = effect_quiet l t before failures told.out told.err from s h line (doing []) rest reached (subst P (nothing (settings_after (text_of h))) means) refl;
+        stands = rw same stood;
+      };
+}

@@ -1,15 +1,19 @@
 -- No step passes a limit.
 --
 -- Each function f of the run has its lemma IsWithin-f here, with a line for each of its cases.
-use Rattle.std.proofs.Common.{◌≡◌, ◌≤◌, ◌+◌, ℕ, zero, suc, Bool, true, false, List, [], ◌∷◌, Some, None, refl, arith}
+use Rattle.std.proofs.Common.{◌≡◌, ◌≤◌, ◌+◌, ℕ, zero, suc, Bool, true, false, List, [], ◌∷◌, Option, Some, None, inl, inr, refl, arith}
 use Rattle.std.specs.Prelude.{nat_lt, if◌then◌else◌}
+use Rattle.std.proofs.lemmas.Bool.{cases_Bool}
 use Rattle.std.proofs.lemmas.Bool.Decides.{nat_tests}
+use Rattle.roff_num.specs.declared.limit.Limit.{Limit}
+use Rattle.roff_num.specs.LimitValues.{value_of}
 use Rattle.roff_lines.specs.Lines.{pending_length}
 use Rattle.roff_num.specs.declared.limits.Limits.{Limits}
 use Rattle.roff_engine.specs.Laws.{IsWithin, NoLimitIsPassed}
 use Rattle.roff_engine.specs.Output.{PageHistory, text_of}
 use Rattle.roff_engine.specs.Requests.{PageEvent, Text, Space}
-use Rattle.roff_engine.specs.Run.{State, initial, passes_line, passes_bytes, performing, answered, step_with, step, after}
+use Rattle.roff_engine.specs.Run.{State, counts, first_passed, refusal, initial, passes_bytes, answered, step_with, step, after}
+use Rattle.roff_engine.proofs.PerformedOrStopped.{PerformedOrStopped, Performed, StoppedAt, performed_or_stopped}
 use Rattle.roff_scan.specs.Tape.{Answer, Gives, Ends, OneByte, OneNote, Ended, Failed, Stopped, front}
 
 -- what isn't above a limit is within it
@@ -25,16 +29,28 @@ IsWithin-if : (l : Limits) (b : Bool) (s t : State) → IsWithin l s → (b ≡ 
 IsWithin-if l true s t first second = first
 IsWithin-if l false s t first second = second refl
 
--- the pending line behind an event that doesn't pass the limit
-line_within : (l : Limits) (h : PageHistory) (e : PageEvent) → pending_length (text_of h) ≤ l.line → passes_line l h e ≡ false → pending_length (text_of (e ∷ h)) ≤ l.line
-line_within l h (Text e) is goes = within l.line (pending_length (e ∷ text_of h)) goes
-line_within l h (Space lines) is goes = is
+-- each count is within its own limit
+abbrev AllWithin : Limits → List (Limit × ℕ) → Type 0
+AllWithin l [] = Unit {0}
+AllWithin l (c ∷ cs) = (c.1 ≤ value_of l c.0) × AllWithin l cs
 
--- an event is performed
-IsWithin-performing : (l : Limits) (e : PageEvent) (rest : List PageEvent) (s : State) → IsWithin l s → IsWithin l (performing l e rest s)
-IsWithin-performing l e rest s is =
-    IsWithin-if l (passes_line l s.history e) _ _ (IsWithin-same l s _ refl refl is)
-    (λ goes. record { bytes = is.bytes; line = line_within l s.history e is.line goes })
+-- so it is where no limit is passed
+counts_within : (l : Limits) (cs : List (Limit × ℕ)) → first_passed l cs ≡ None → AllWithin l cs
+counts_within l [] none = tt
+counts_within l (c ∷ cs) none = elim (cases_Bool (nat_lt (value_of l c.0) c.1)) [
+  | inl passes ↦ let wrong : Some c.0 ≡ None = rw passes at none in cc
+  | inr goes ↦ (within (value_of l c.0) c.1 goes, counts_within l cs (rw goes at none))
+]
+
+-- the pending line behind an event that no limit refuses
+line_within : (l : Limits) (h : PageHistory) (e : PageEvent) → pending_length (text_of h) ≤ l.line → refusal l h e ≡ None → pending_length (text_of (e ∷ h)) ≤ l.line
+line_within l h (Text e) is allowed = (counts_within l (counts h (Text e)) allowed).0
+line_within l h (Space lines) is allowed = is
+
+-- an event is performed, or the run ends at it
+IsWithin-event : (l : Limits) (e : PageEvent) (rest : List PageEvent) (s t : State) → PerformedOrStopped l e rest s t → IsWithin l s → IsWithin l t
+IsWithin-event l e rest s t (Performed allowed) is = record { bytes = is.bytes; line = line_within l s.history e is.line allowed }
+IsWithin-event l e rest s t (StoppedAt limit) is = IsWithin-same l s t refl refl is
 
 -- the source answered
 IsWithin-answered : (l : Limits) (a : Answer) (s : State) → IsWithin l s → IsWithin l (answered l a s)
@@ -48,7 +64,7 @@ IsWithin-answered l (Ends (Stopped limit)) s is = IsWithin-same l s _ refl refl 
 
 -- a step of a run that hasn't ended
 IsWithin-step_with : (l : Limits) (es : List PageEvent) (s : State) → IsWithin l s → IsWithin l (step_with l es s)
-IsWithin-step_with l (e ∷ rest) s is = IsWithin-performing l e rest s is
+IsWithin-step_with l (e ∷ rest) s is = IsWithin-event l e rest s _ (performed_or_stopped l e rest s) is
 IsWithin-step_with l [] s is =
     IsWithin-if l s.is_closing _ _ (IsWithin-same l s _ refl refl is) (λ goes_on. IsWithin-answered l (front s.tape) s is)
 

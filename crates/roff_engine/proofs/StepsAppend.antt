@@ -3,12 +3,13 @@
 -- Each function f of the run has its lemma OnlyCuts-f here, with a line for each of its cases. Where a case
 -- leaves the history and the messages as they are, the line is `OnlyCuts-same s _ refl refl`; where it appends
 -- messages alone, `OnlyCuts-message s _ _ refl refl`; and where it calls another function, that one's lemma.
-use Rattle.std.proofs.Common.{◌≡◌, ℕ, Bool, true, false, List, [], ◌∷◌, ◌++◌, Some, None, refl}
+use Rattle.std.proofs.Common.{◌≡◌, ℕ, Bool, true, false, List, [], ◌∷◌, ◌++◌, Option, Some, None, refl}
 use Rattle.std.specs.Prelude.{if◌then◌else◌}
+use Rattle.roff_num.specs.declared.limit.Limit.{Limit}
 use Rattle.roff_num.specs.declared.limits.Limits.{Limits}
 use Rattle.roff_engine.specs.Laws.{OnlyCuts}
 use Rattle.roff_engine.specs.Requests.{PageEvent}
-use Rattle.roff_engine.specs.Run.{State, passes_line, passes_bytes, performing, byte_taken, end_met, answered, step_with, step}
+use Rattle.roff_engine.specs.Run.{State, passes_bytes, performing, refusal, unless_refused, byte_taken, end_met, answered, step_with, step}
 use Rattle.roff_scan.specs.Tape.{Answer, Gives, Ends, OneByte, OneNote, Ended, Failed, Stopped, front}
 use Rattle.roff_engine.proofs.Beginnings.{IsBeginning-same, IsBeginning-append, IsBeginning-trans}
 
@@ -39,10 +40,14 @@ pub OnlyCuts-if : (b : Bool) {s t u : State} → OnlyCuts s t → OnlyCuts s u �
 OnlyCuts-if true first second = first
 OnlyCuts-if false first second = second
 
+-- a step that a limit may refuse
+pub OnlyCuts-unless_refused : (l : Limits) (r : Option Limit) (s : State) {t : State} → OnlyCuts s t → OnlyCuts s (unless_refused l r s t)
+OnlyCuts-unless_refused l None s done = done
+OnlyCuts-unless_refused l (Some limit) s done = OnlyCuts-same s _ refl refl
+
 -- an event is performed
 pub OnlyCuts-performing : (l : Limits) (e : PageEvent) (rest : List PageEvent) (s : State) → OnlyCuts s (performing l e rest s)
-OnlyCuts-performing l e rest s =
-    OnlyCuts-if (passes_line l s.history e) (OnlyCuts-same s _ refl refl) (OnlyCuts-event s _ e refl refl)
+OnlyCuts-performing l e rest s = OnlyCuts-unless_refused l (refusal l s.history e) s (OnlyCuts-event s _ e refl refl)
 
 -- a byte is taken
 pub OnlyCuts-byte_taken : (b : ℕ) (s : State) → OnlyCuts s (byte_taken b s)

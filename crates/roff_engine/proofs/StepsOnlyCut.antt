@@ -3,24 +3,22 @@
 -- Each function f of the run has its lemma Cut-f here, with a line for each of its cases. Where a case is stopped
 -- by no limit, the line is `Same tape beside refl`; where a limit may stop it, a call of `Cut-stopped`, with a
 -- lemma that what passes a larger limit passes a smaller one; and where it calls another function, that one's lemma.
-use Rattle.std.proofs.Common.{◌≡◌, ◌⊎◌, inl, inr, ℕ, ◌+◌, zero, suc, Bool, true, false, List, [], ◌∷◌, Some, None, refl, sym, subst, arith}
+use Rattle.std.proofs.Common.{◌≡◌, ◌⊎◌, inl, inr, ℕ, ◌+◌, zero, suc, Bool, true, false, List, [], ◌∷◌, Option, Some, None, refl, sym, subst, arith}
 use Rattle.std.specs.Prelude.{nat_lt, if◌then◌else◌}
 use Rattle.std.proofs.lemmas.Bool.{cases_Bool, both_ways, false_from_ne_true}
 use Rattle.std.proofs.lemmas.Bool.Decides.{nat_tests}
-use Rattle.roff_lines.specs.Lines.{pending_length}
 use Rattle.roff_num.specs.declared.limit.Limit.{Limit}
-use Rattle.roff_num.specs.declared.limit.Limit.TheVariants.{Bytes, Line}
+use Rattle.roff_num.specs.declared.limit.Limit.TheVariants.{Bytes}
 use Rattle.roff_engine.specs.declared.status.Status.{Status}
 use Rattle.roff_engine.specs.declared.status.Status.TheVariants.{Device, Limit as Limited}
 use Rattle.roff_num.specs.declared.limits.Limits.{Limits}
 use Rattle.roff_engine.specs.Laws.{OnlyCuts, over}
 use Rattle.roff_num.specs.LimitValues.{value_of}
 use Rattle.roff_engine.specs.Limits.{AreWithin}
-use Rattle.roff_engine.specs.Output.{PageHistory, text_of}
-use Rattle.roff_engine.specs.Requests.{PageEvent, Text, Space}
-use Rattle.roff_engine.specs.Run.{State, stopped_by, passes_line, passes_bytes, performing, answered, step_with, step, after}
+use Rattle.roff_engine.specs.Requests.{PageEvent}
+use Rattle.roff_engine.specs.Run.{State, counts, first_passed, unless_refused, stopped_by, passes_bytes, performing, answered, step_with, step, after}
 use Rattle.roff_scan.specs.Tape.{Tape, Answer, Gives, Ends, OneByte, OneNote, Ended, Failed, Stopped, front, behind_front}
-use Rattle.roff_engine.proofs.StepsAppend.{OnlyCuts-same, OnlyCuts-event, OnlyCuts-trans, OnlyCuts-if, OnlyCuts-byte_taken, OnlyCuts-answered, OnlyCuts-step}
+use Rattle.roff_engine.proofs.StepsAppend.{OnlyCuts-same, OnlyCuts-event, OnlyCuts-trans, OnlyCuts-if, OnlyCuts-unless_refused, OnlyCuts-byte_taken, OnlyCuts-answered, OnlyCuts-step}
 
 -- what passes a larger limit passes a smaller one
 abbrev pub IsMonotone : (Limits → Bool) → Type 0
@@ -34,10 +32,11 @@ above_monotone limit size small large within passes = let least = within.each li
 pub passes_bytes_monotone : (charge : ℕ) → IsMonotone (λ l. passes_bytes l charge)
 passes_bytes_monotone charge = above_monotone Bytes (charge + 1)
 
--- and an event
-pub passes_line_monotone : (h : PageHistory) (e : PageEvent) → IsMonotone (λ l. passes_line l h e)
-passes_line_monotone h (Text e) = above_monotone Line (pending_length (e ∷ text_of h))
-passes_line_monotone h (Space lines) = λ small large within passes. passes
+-- a step that a limit refuses, or else the limits behind it
+unless_refused-if : (l : Limits) (b : Bool) (limit : Limit) (r : Option Limit) (s t : State)
+    → (if b then stopped_by l limit s else unless_refused l r s t) ≡ unless_refused l (if b then Some limit else r) s t
+unless_refused-if l true limit r s t = refl
+unless_refused-if l false limit r s t = refl
 
 -- a run that has ended stays as it is
 pub step_ended : (l : Limits) (status : Status) (s : State) → s.ended ≡ Some status → step l s ≡ s
@@ -79,12 +78,26 @@ module _ (Beside : Tape → Tape → Type 0) (IsCause : Status → Type 0) where
           ]
         ]
 
+    -- a limit that a count is above stops both runs, or the first one alone, or neither
+    pub Cut-unless_refused : (cs : List (Limit × ℕ)) (s t u : State) (tape : Tape) → Beside s.tape tape → OnlyCuts (over tape s) u → Cut t u
+        → Cut (unless_refused small (first_passed small cs) s t) (unless_refused large (first_passed large cs) (over tape s) u)
+    Cut-unless_refused [] s t u tape beside appends goes_on = goes_on
+    Cut-unless_refused (c ∷ cs) s t u tape beside appends goes_on =
+        let passes : Limits → Bool = λ l. nat_lt (value_of l c.0) c.1 in
+        let cut : State = unless_refused small (first_passed small cs) s t in
+        let whole : State = unless_refused large (first_passed large cs) (over tape s) u in
+        let P : State → Type 0 = λ a. Cut a (if passes large then stopped_by large c.0 (over tape s) else whole) in
+        let Q : State → Type 0 = λ b. Cut (unless_refused small (first_passed small (c ∷ cs)) s t) b in
+        subst Q (unless_refused-if large (passes large) c.0 (first_passed large cs) (over tape s) u)
+        (subst P (unless_refused-if small (passes small) c.0 (first_passed small cs) s t)
+        (Cut-stopped c.0 passes s cut whole tape (above_monotone c.0 c.1) beside
+        (OnlyCuts-unless_refused large (first_passed large cs) (over tape s) appends)
+        (Cut-unless_refused cs s t u tape beside appends goes_on)))
+
     -- both perform an event
     pub Cut-performing : (e : PageEvent) (rest : List PageEvent) (s : State) (tape : Tape) → Beside s.tape tape → Cut (performing small e rest s) (performing large e rest (over tape s))
     Cut-performing e rest s tape beside =
-        Cut-stopped Line (λ l. passes_line l s.history e) s _ _ tape (passes_line_monotone s.history e) beside
-        (OnlyCuts-event (over tape s) _ e refl refl)
-        (Same tape beside refl)
+        Cut-unless_refused (counts s.history e) s _ _ tape beside (OnlyCuts-event (over tape s) _ e refl refl) (Same tape beside refl)
 
     -- both sources give the same answer
     pub Cut-answered : (a : Answer) (s : State) (tape : Tape) → Beside s.tape tape → Beside (behind_front s.tape) (behind_front tape) → Cut (answered small a s) (answered large a (over tape s))

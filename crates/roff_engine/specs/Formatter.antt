@@ -1,4 +1,3 @@
 -- What the code of the formatter does, as the definition has it.
 pub mod ReadsAs
-pub mod Happening
 pub mod Performing

@@ -1,5 +1,5 @@
 -- Laws over whole runs: what limits and failing sources leave as it is.
-use Rattle.std.specs.Prelude.{◌≡◌, ◌≢◌, ℕ, ◌≤◌, List, ◌++◌, Some}
+use Rattle.std.specs.Prelude.{◌≡◌, ◌≢◌, ℕ, ◌+◌, ◌≤◌, List, ◌++◌, Some}
 use Rattle.roff_lines.specs.Lines.{pending_length}
 use Rattle.roff_num.specs.Lists.{IsBeginning}
 use Rattle.roff_num.specs.declared.limit.Limit.{Limit}
@@ -7,7 +7,7 @@ use Rattle.roff_engine.specs.declared.status.Status.TheVariants.{Device, Limit a
 use Rattle.roff_num.specs.declared.limits.Limits.{Limits}
 use Rattle.roff_engine.specs.Limits.{AreWithin}
 use Rattle.roff_engine.specs.Output.{text_of}
-use Rattle.roff_engine.specs.Run.{State, initial, after, output}
+use Rattle.roff_engine.specs.Run.{State, initial, after, output, reported}
 use Rattle.roff_scan.specs.Tape.{Tape, Item, Ending, Failed}
 
 -- one run is only cut beside another: what it wrote is a beginning of what the other did, and so are its
@@ -63,3 +63,13 @@ pub record IsWithin (l : Limits) (s : State) : Type 0 where
 -- no run passes a limit
 abbrev pub NoLimitIsPassed : Type 0
 NoLimitIsPassed = (l : Limits) (tape : Tape) (n : ℕ) → IsWithin l (after l n (initial tape))
+
+-- a run has gone on from one state to another: nothing that it wrote or reported was taken back
+pub record GoesOnTo (s t : State) : Type 0 where
+  pub text : IsBeginning (output s) (output t)
+  pub messages : IsBeginning (reported s) (reported t)
+
+-- steps only append
+abbrev pub StepsOnlyAppend : Type 0
+StepsOnlyAppend =
+    (l : Limits) (tape : Tape) (n more : ℕ) → GoesOnTo (after l n (initial tape)) (after l (n + more) (initial tape))

@@ -3,6 +3,8 @@ use Rattle.std.specs.Prelude.{ℕ, ◌+◌, ◌-◌, Bool, true, false, ◌&&◌
 use Rattle.std.specs.Str.Parse.{digits_value}
 use Rattle.std.specs.Char.{is_ascii_digit}
 use Rattle.roff_engine.specs.declared.number.Number.{Number}
+use Rattle.roff_engine.specs.declared.number.NumberGiven.{NumberGiven}
+use Rattle.roff_engine.specs.declared.number.NumberGiven.TheVariants.{Missing, Bad, Number as Is}
 use Rattle.roff_engine.specs.declared.number.Scale.{Scale}
 use Rattle.roff_engine.specs.declared.number.Scale.TheVariants.{Columns, Lines}
 use Rattle.roff_engine.specs.declared.number.Sign.{Sign}
@@ -33,6 +35,16 @@ number_of is_scale (c ∷ text) =
     if c == 43 then option_map (signed Plus) (size_of is_scale text)
     else if c == 45 then option_map (signed Minus) (size_of is_scale text)
     else option_map (signed Unsigned) (size_of is_scale (c ∷ text))
+
+-- what a text is as a number
+abbrev pub given_as : Option Number → NumberGiven
+given_as None = Bad
+given_as (Some n) = Is n
+
+-- the number that the first argument is
+abbrev pub number_given : (ℕ → Bool) → List (List ℕ) → NumberGiven
+number_given is_scale [] = Missing
+number_given is_scale (a ∷ as_given) = given_as (number_of is_scale a)
 
 -- the scales of horizontal numbers: `m` and `n`, a column each
 abbrev pub is_column_scale : ℕ → Bool

@@ -1,12 +1,14 @@
 -- What is being read, and what each byte means there (manual, sections 1.1 and 4.1).
 use Rattle.std.specs.Prelude.{ℕ, ◌+◌, Bool, true, false, ◌||◌, List, [], ◌∷◌, ◌++◌, Some, None, if◌then◌else◌, ◌==◌}
-use Rattle.roff_lines.specs.Events.{Print, WordEnd, Gap, LineEnd, Break}
+use Rattle.roff_lines.specs.declared.event.Event.TheVariants.{Print, WordEnd, Gap, LineEnd, Break}
 use Rattle.roff_lines.specs.declared.glyph.Glyph.TheVariants.{Printed, Blanks}
 use Rattle.roff_lines.specs.declared.settings.Settings.{Settings}
 use Rattle.roff_engine.specs.declared.request.Request.{Request}
+use Rattle.roff_engine.specs.declared.request.LineReading.{LineReading}
+use Rattle.roff_engine.specs.declared.request.LineReading.TheVariants.{ByArguments}
 use Rattle.roff_scan.specs.Bytes.{newline, blank, apostrophe, dot, backslash, is_silent, is_dropped}
 use Rattle.roff_engine.specs.Arguments.{Arguments, no_arguments, with_argument_byte, with_dropped_byte, arguments_read}
-use Rattle.roff_engine.specs.Requests.{PageEvent, Text, Space, Effect, doing, request_named, request_effect}
+use Rattle.roff_engine.specs.Requests.{PageEvent, Text, Space, Effect, Known, doing, row_of, request_named, request_effect}
 
 -- what is being read
 pub data Reading : Type 0 where
@@ -74,29 +76,41 @@ text_taking has_glyph has_silent leading b =
 abbrev pub dropped_taking : ℕ → Taking
 dropped_taking b = going_on (if b == newline then LineStart else InDropped)
 
+-- what a request may ask of the run, where these settings are in force
+abbrev pub knowing : Settings → Known
+knowing s = record { settings = s }
+
 -- a byte behind a request's name
 abbrev pub argument_taking : Settings → Bool → Request → Arguments → ℕ → Taking
 argument_taking s breaks request a b =
     if b == newline
-    then record { reading = LineStart; effect = request_effect s breaks request (arguments_read a) }
+    then record { reading = LineStart; effect = request_effect (knowing s) breaks request (arguments_read a) }
     else going_on (InArguments breaks request (with_argument_byte a b))
 
 -- whether a byte ends a name, and doesn't belong to it
 abbrev pub ends_name : ℕ → Bool
 ends_name b = b == blank || (b == newline || b == backslash)
 
+-- the first byte behind a request's name, by how its line is read
+abbrev pub line_taking : Settings → Bool → Request → LineReading → ℕ → Taking
+line_taking s breaks request ByArguments b = argument_taking s breaks request no_arguments b
+
 -- a byte behind a name that it doesn't belong to: the line of an unknown name is dropped
 abbrev pub name_ended_taking : Settings → Bool → List ℕ → ℕ → Taking
 name_ended_taking s breaks name b = elim (request_named name) [
   | None ↦ dropped_taking b
-  | Some request ↦ argument_taking s breaks request no_arguments b
+  | Some request ↦ line_taking s breaks request (row_of request).line b
 ]
+
+-- what is read behind a request's name, by how its line is read
+abbrev pub behind_name : Bool → Request → LineReading → Reading
+behind_name breaks request ByArguments = InArguments breaks request no_arguments
 
 -- the last byte of a name of two bytes
 abbrev pub name_whole_taking : Bool → List ℕ → Taking
 name_whole_taking breaks name = elim (request_named name) [
   | None ↦ going_on InDropped
-  | Some request ↦ going_on (InArguments breaks request no_arguments)
+  | Some request ↦ going_on (behind_name breaks request (row_of request).line)
 ]
 
 -- a byte that isn't dropped

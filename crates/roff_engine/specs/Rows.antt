@@ -3,7 +3,8 @@ use Rattle.std.specs.Prelude.{ℕ, List, map, take, Option, Some}
 use Rattle.roff_engine.specs.declared.status.Status.{Status}
 use Rattle.roff_num.specs.LimitValues.{default_limits}
 use Rattle.roff_num.specs.declared.limits.Limits.{Limits}
-use Rattle.roff_engine.specs.Run.{State, initial, after, output, reported}
+use Rattle.roff_engine.specs.Results.{last_state}
+use Rattle.roff_engine.specs.Run.{State, output, reported}
 use Rattle.roff_scan.specs.Tape.{OneByte, Ending, Ended, Failed}
 
 -- what a run gave: the output, the messages, and the status that it ended with
@@ -16,10 +17,10 @@ pub record Result : Type 0 where
 abbrev pub gives : List ℕ → List ℕ → Status → Result
 gives text messages status = record { text = text; messages = messages; status = Some status }
 
--- what 200 steps over a text give, which are more than any row here takes
+-- what a run over a text gives
 abbrev pub result_of : Limits → List ℕ → Ending → Result
 result_of l text ending =
-    let s : State = after l 200 (initial (record { items = map OneByte text; ending = ending })) in
+    let s : State = last_state l (record { items = map OneByte text; ending = ending }) in
     record { text = output s; messages = reported s; status = s.ended }
 
 -- with the limits as they are without an option

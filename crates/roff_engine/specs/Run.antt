@@ -14,7 +14,7 @@ use Rattle.roff_num.specs.LimitValues.{value_of}
 use Rattle.roff_engine.specs.Messages.{message_line, message_lines}
 use Rattle.roff_engine.specs.Output.{PageHistory, text_of, written}
 use Rattle.roff_engine.specs.Reading.{Reading, LineStart, Taking, taking, end_effect}
-use Rattle.roff_lines.specs.Events.{WordEnd, Break}
+use Rattle.roff_lines.specs.declared.event.Event.TheVariants.{WordEnd, Break}
 use Rattle.roff_engine.specs.Requests.{PageEvent, Text, Space, Effect}
 use Rattle.roff_scan.specs.Tape.{Tape, Answer, OneByte, OneNote, Ended, Failed, Stopped, Gives, Ends, front, behind_front}
 
@@ -80,16 +80,28 @@ meaning effect s = record s {
 abbrev pub passes_bytes : Limits → ℕ → Bool
 passes_bytes l charge = nat_lt l.bytes (charge + 1)
 
--- the limit on the pending line stops an event behind which the line would be longer
-abbrev pub passes_line : Limits → PageHistory → PageEvent → Bool
-passes_line l h (Text e) = nat_lt l.line (pending_length (e ∷ text_of h))
-passes_line l h (Space lines) = false
+-- what an event makes grow, each count as it is behind the event, in the order in which they are looked at
+abbrev pub counts : PageHistory → PageEvent → List (Limit × ℕ)
+counts h (Text e) = (Line, pending_length (e ∷ text_of h)) ∷ []
+counts h (Space lines) = []
 
--- an event is performed
+-- the first limit that a count is above
+abbrev pub first_passed : Limits → List (Limit × ℕ) → Option Limit
+first_passed l [] = None
+first_passed l (c ∷ cs) = if nat_lt (value_of l c.0) c.1 then Some c.0 else first_passed l cs
+
+-- the limit that an event would pass behind a history, if it would pass one
+abbrev pub refusal : Limits → PageHistory → PageEvent → Option Limit
+refusal l h e = first_passed l (counts h e)
+
+-- what a step does, unless a limit refuses it
+abbrev pub unless_refused : Limits → Option Limit → State → State → State
+unless_refused l None s done = done
+unless_refused l (Some limit) s done = stopped_by l limit s
+
+-- an event is performed, or refused by a limit
 abbrev pub performing : Limits → PageEvent → List PageEvent → State → State
-performing l e rest s =
-    if passes_line l s.history e then stopped_by l Line s
-    else record s { to_do = rest; history = e ∷ s.history }
+performing l e rest s = unless_refused l (refusal l s.history e) s (record s { to_do = rest; history = e ∷ s.history })
 
 -- the source has moved on
 abbrev pub moved : State → State

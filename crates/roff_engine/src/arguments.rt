@@ -66,7 +66,8 @@ impl FirstArgument {
 
     /// The argument at the line's end, if there is one: its first nine bytes.
     pub(crate) fn read(&self) -> Option<&[u8]>
-        ensures { (a : Arguments) → KeepsFirst a self.now → option_copied result ≡ first_kept (arguments_read a) }
+        ensures { (a : Arguments) → KeepsFirst a self.now
+            → option_copied result ≡ first_kept (arguments_read a) }
     {
         match self.place {
             Place::Before => None,
@@ -76,7 +77,8 @@ impl FirstArgument {
 
     /// One byte more of the line.
     pub(crate) fn take(&mut self, byte: u8)
-        ensures { (a : Arguments) → KeepsFirst a self.old → KeepsFirst (with_argument_byte a byte) self.new }
+        ensures { (a : Arguments) → KeepsFirst a self.old
+            → KeepsFirst (with_argument_byte a byte) self.new }
     {
         let (place, belongs) = self.place.step(byte);
         if belongs {
@@ -87,7 +89,8 @@ impl FirstArgument {
 
     /// A byte of the line that is dropped: no quote follows the quote before it.
     pub(crate) fn take_dropped(&mut self)
-        ensures { (a : Arguments) → KeepsFirst a self.old → KeepsFirst (with_dropped_byte a) self.new }
+        ensures { (a : Arguments) → KeepsFirst a self.old
+            → KeepsFirst (with_dropped_byte a) self.new }
     {
         if self.place == Place::BehindQuote {
             self.place = Place::Behind;
@@ -97,7 +100,8 @@ impl FirstArgument {
     /// Keeps a byte of the argument.
     fn keep(&mut self, byte: u8)
         ensures place { self.new.place ≡ self.old.place }
-        ensures bytes { take self.new.len self.new.bytes ≡ take 9 (take self.old.len self.old.bytes ++ byte ∷ []) }
+        ensures bytes { take self.new.len self.new.bytes
+            ≡ take 9 (take self.old.len self.old.bytes ++ byte ∷ []) }
     {
         if self.len < KEPT {
             self.bytes[self.len] = byte;

@@ -2,8 +2,7 @@
 
 ghost use Rattle.std.specs.Prelude.{◌≡◌, ◌≤◌, [], ◌∷◌, ◌++◌, replicate, vec_capacity, OnOk, OnErr};
 ghost use Rattle.roff_lines.specs.Columns.{finished_of, line_bytes};
-ghost use Rattle.roff_engine.specs.Sinks.{AppendsAllBut, AppendsFront, Puts};
-ghost use Rattle.roff_scan.specs.Tape.{Rises};
+ghost use Rattle.roff_engine.specs.Sinks.{Fails, HoldsBack, Puts};
 
 use crate::sink::{ByteSink, SinkFault};
 use roff_lines::{Line, LineBytes};
@@ -36,7 +35,8 @@ impl Block {
         line: Line<'_>,
         out: &mut O,
     ) -> Result<(), SinkFault>
-        ensures { Puts O.contents O.failures out.old out.new (line_bytes (finished_of line.entry)) result }
+        ensures { Puts (O.sunk out.old) (O.sunk out.new)
+            (line_bytes (finished_of line.entry)) result }
     {
         let bytes = &mut self.bytes;
         for byte in LineBytes::of(line) {
@@ -51,7 +51,7 @@ impl Block {
         lines: u32,
         out: &mut O,
     ) -> Result<(), SinkFault>
-        ensures { Puts O.contents O.failures out.old out.new (replicate lines 10) result }
+        ensures { Puts (O.sunk out.old) (O.sunk out.new) (replicate lines 10) result }
     {
         let bytes = &mut self.bytes;
         for _ in 0..lines {
@@ -66,11 +66,11 @@ impl Block {
 fn push<O: ByteSink>(bytes: &mut Vec<u8>, byte: u8, out: &mut O) -> Result<(), SinkFault>
     requires { 8192 ≤ vec_capacity bytes.old }
     ensures capacity { vec_capacity bytes.old ≤ vec_capacity bytes.new }
-    ensures ok { OnOk result (AppendsAllBut (O.contents out.old) (O.contents out.new) (bytes.old.items ++ byte ∷ []) bytes.new.items) }
-    ensures err { OnErr result (AppendsFront (O.contents out.old) (O.contents out.new) bytes.old.items) }
+    ensures ok { OnOk result
+        (HoldsBack (O.sunk out.old) (O.sunk out.new)
+        (bytes.old.items ++ byte ∷ []) bytes.new.items) }
+    ensures err { OnErr result (Fails (O.sunk out.old) (O.sunk out.new) bytes.old.items) }
     ensures empty { OnErr result (bytes.new.items ≡ []) }
-    ensures failures { O.failures out.old ≤ O.failures out.new }
-    ensures fault { OnErr result (Rises (O.failures out.old) (O.failures out.new)) }
 {
     if bytes.len() >= BLOCK {
         put(bytes, out)?;
@@ -84,7 +84,7 @@ fn push<O: ByteSink>(bytes: &mut Vec<u8>, byte: u8, out: &mut O) -> Result<(), S
 fn put<O: ByteSink>(bytes: &mut Vec<u8>, out: &mut O) -> Result<(), SinkFault>
     ensures capacity { vec_capacity bytes.new ≡ vec_capacity bytes.old }
     ensures empty { bytes.new.items ≡ [] }
-    ensures puts { Puts O.contents O.failures out.old out.new bytes.old.items result }
+    ensures puts { Puts (O.sunk out.old) (O.sunk out.new) bytes.old.items result }
 {
     if bytes.is_empty() {
         return Ok(());

@@ -1,12 +1,7 @@
 //! The engine: a whole run, from a source to its sinks.
 
 ghost use Rattle.std.specs.Prelude.{◌≡◌, [], IfOk};
-ghost use Rattle.roff_lines.specs.Env.Stands.{Stands};
-ghost use Rattle.roff_num.specs.declared.limits.Limits.{Limits};
-ghost use Rattle.roff_engine.specs.declared.reading.LinePart.TheVariants.{Start};
-ghost use Rattle.roff_engine.specs.declared.reading.Reading.TheVariants.{Line};
-ghost use Rattle.roff_engine.specs.Engine.Outcome.{FaultIsOfADevice, Outcome, devices, faults};
-ghost use Rattle.roff_scan.specs.Tape.{Tape};
+ghost use Rattle.roff_engine.specs.Clauses.{Stands, Limits, Start, Line, Runs, seen};
 
 use crate::formatter::Formatter;
 use crate::meter::Meter;
@@ -34,7 +29,8 @@ impl Model for Engine {
 
     ghost view = { λ e. e.limits };
 
-    ghost invariant = { λ e. Stands e.limits.line [] e.formatter.env × (e.formatter.reading ≡ Line Start) };
+    ghost invariant = { λ e.
+        Stands e.limits.line [] e.formatter.env × (e.formatter.reading ≡ Line Start) };
 }
 
 impl Engine {
@@ -59,14 +55,11 @@ impl Engine {
         out: &mut O,
         err: &mut E,
     ) -> Status
-        // There is a tape that the source may give over which the run is that of the definition.
-        ensures runs { (t left : Tape) × S.gives source.old t × S.gives source.new left × Outcome self t result
-            (devices t (O.contents out.old) (E.contents err.old) (faults (S.failures source.old) (O.failures out.old) (E.failures err.old)))
-            (devices left (O.contents out.new) (E.contents err.new) (faults (S.failures source.new) (O.failures out.new) (E.failures err.new))) }
-        // A fault is answered only where there was one.
-        ensures fault { FaultIsOfADevice result
-            (faults (S.failures source.old) (O.failures out.old) (E.failures err.old))
-            (faults (S.failures source.new) (O.failures out.new) (E.failures err.new)) }
+        // The source gave items. Whatever it may still give, the run over these items and then that is
+        // the definition's: it ended so, or a sink failed in one of its steps.
+        ensures { Runs self result (S.gives source.old) (S.gives source.new)
+            (seen (S.failures source.old) (O.sunk out.old) (E.sunk err.old))
+            (seen (S.failures source.new) (O.sunk out.new) (E.sunk err.new)) }
     {
         let Engine { limits, formatter } = self;
         let mut running = Running {

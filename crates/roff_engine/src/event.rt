@@ -1,35 +1,25 @@
 //! The events that bytes and requests mean.
 
-ghost use Rattle.std.specs.Prelude.{◌≡◌, ◌++◌, ◌+◌, ◌<◌, ◌≤◌, [], ◌∷◌, length, map};
-ghost use Rattle.arrayvec.specs.ArrayVec.{array_vec_len};
-
 use arrayvec::ArrayVec;
-use roff_lines::{Glyph, Param};
+use roff_lines::Event;
 
 /// What happens to the page.
 #[derive(Clone, Copy, Debug, PartialEq, Eq)]
-pub(crate) enum PageEvent {
-    /// A glyph is printed.
-    Glyph(Glyph),
-    /// The open word ends.
-    WordEnd,
-    /// So many blanks stand between words.
-    Gap(u32),
-    /// A line of the input ends.
-    LineEnd,
-    /// The pending line is finished.
-    Break,
-    /// A parameter changes.
-    Set(Param),
+pub enum PageEvent {
+    /// Something happens to the text.
+    Text(Event),
     /// So many blank lines are written.
     Space(u32),
 }
 
 impl Default for PageEvent {
     fn default() -> Self {
-        PageEvent::WordEnd
+        PageEvent::Text(Event::WordEnd)
     }
 }
 
 /// The events of one byte or request, of which there are at most four.
 pub(crate) type Events = ArrayVec<PageEvent, 4>;
+
+/// The events of a request behind its break, of which there are at most two.
+pub(crate) type RequestEvents = ArrayVec<PageEvent, 2>;

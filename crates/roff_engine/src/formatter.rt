@@ -1,23 +1,7 @@
 //! The formatter: what each byte of the input does.
 
-ghost use Rattle.std.specs.Prelude.{◌≡◌, ◌≢◌, ℕ, ◌+◌, ◌<◌, ◌≤◌, ◌^◌, [], ◌∷◌, List, Option, Err, IfOk, OnOk, IsOkUnless, option_map};
-ghost use Rattle.std.specs.Option.{option_to_list};
-ghost use Rattle.roff_lines.specs.Columns.{finished_of};
-ghost use Rattle.roff_lines.specs.Events.{Print, WordEnd, LineEnd, Break, settings_after};
-ghost use Rattle.roff_lines.specs.Env.Stands.{Stands};
-ghost use Rattle.roff_lines.specs.declared.settings.Settings.{Settings};
-ghost use Rattle.roff_engine.specs.Arguments.{Arguments, arguments_read};
-ghost use Rattle.roff_engine.specs.FirstArgument.Keeping.{KeepsFirst};
-ghost use Rattle.roff_engine.specs.Formatter.Happening.{event_of, events_of};
-ghost use Rattle.roff_engine.specs.Messages.{message_lines};
-ghost use Rattle.roff_engine.specs.Output.{PageHistory, text_of, finished_bytes};
-ghost use Rattle.roff_engine.specs.Formatter.Performing.{CountsFaults, Does, Performs, PerformsOnly, closing_events, with_events};
-ghost use Rattle.roff_engine.specs.Reading.{Reading as Read, argument_taking, end_effect, kept_taking, taking};
-ghost use Rattle.roff_engine.specs.Formatter.ReadsAs.{ReadsAs, leading_behind, leading_of, part_of};
-ghost use Rattle.roff_engine.specs.Requests.{Text, Space, request_effect};
-ghost use Rattle.roff_engine.specs.Sinks.{Puts};
-ghost use Rattle.roff_scan.specs.Tape.{Rises};
-ghost use Rattle.roff_num.specs.declared.limits.Limits.{Limits};
+ghost use Rattle.std.specs.Prelude.{◌≡◌, ℕ, ◌+◌, ◌<◌, ◌≤◌, ◌^◌, [], ◌∷◌, IfOk, OnOk, IsOkUnless, option_map};
+ghost use Rattle.roff_engine.specs.Clauses.{option_to_list, finished_of, Stands, Print, WordEnd, LineEnd, Break, Settings, Arguments, arguments_read, KeepsFirst, message_lines, finished_bytes, DoesEffect, PerformsEvents, PerformsOnly, closing_events, sinks, with_events, Read, argument_taking, end_effect, kept_taking, knowing, taking, ReadsAs, leading_behind, leading_of, part_of, Text, Space, request_effect, Puts, Sunk};
 
 use crate::arguments::FirstArgument;
 use crate::block::Block;
@@ -25,11 +9,17 @@ use crate::event::PageEvent;
 use crate::halt::Halt;
 use crate::message::{Message, report};
 use crate::reading::{LinePart, Reading};
-use crate::request::Request;
+use crate::request::{Known, Request};
 use crate::sink::ByteSink;
-use roff_lines::{Env, Glyph, Line};
+use roff_lines::{Env, Event, Glyph, Line};
 use roff_scan::is_dropped;
 use std::alloc::{AllocError, Global};
+
+/// What finishes the last line.
+const CLOSING: [PageEvent; 2] = [
+    PageEvent::Text(Event::WordEnd),
+    PageEvent::Text(Event::Break),
+];
 
 /// What is being read, the environment, and the block through which lines are written.
 #[derive(Drop)]
@@ -63,13 +53,13 @@ impl Formatter {
         err: &mut E,
     ) -> Result<(), Halt>
         requires { leading_behind self.old.reading + 1 < 2 ^ 32 }
-        ensures does { (l : Limits) (h : PageHistory) (r : Read) → Stands l.line (text_of h) self.old.env → ReadsAs r self.old.reading self.old.argument →
-            Does l h line (taking (settings_after (text_of h)) r byte).effect result self.new.env
-            (O.contents out.old) (O.contents out.new) (E.contents err.old) (E.contents err.new) }
+        ensures does { (r : Read) → ReadsAs r self.old.reading self.old.argument →
+            DoesEffect line (λ s. (taking s r byte).effect) self.old self.new
+            (sinks (O.sunk out.old) (E.sunk err.old))
+            (sinks (O.sunk out.new) (E.sunk err.new)) result }
         ensures reads { (s : Settings) (r : Read) → ReadsAs r self.old.reading self.old.argument →
             OnOk result (ReadsAs (taking s r byte).reading self.new.reading self.new.argument) }
         ensures leading { leading_behind self.new.reading ≤ leading_behind self.old.reading + 1 }
-        ensures faults { CountsFaults O.failures E.failures out.old out.new err.old err.new result }
     {
         if let Reading::Line(part) = self.reading
             && part.goes_on_with(byte)
@@ -95,14 +85,14 @@ impl Formatter {
         out: &mut O,
         err: &mut E,
     ) -> Result<(), Halt>
-        ensures does { (l : Limits) (h : PageHistory) (r : Read) → Stands l.line (text_of h) self.old.env → ReadsAs r self.old.reading self.old.argument →
-            Does l h line (with_events (end_effect (settings_after (text_of h)) r) closing_events) result self.new.env
-            (O.contents out.old) (O.contents out.new) (E.contents err.old) (E.contents err.new) }
+        ensures does { (r : Read) → ReadsAs r self.old.reading self.old.argument →
+            DoesEffect line (λ s. with_events (end_effect s r) closing_events) self.old self.new
+            (sinks (O.sunk out.old) (E.sunk err.old))
+            (sinks (O.sunk out.new) (E.sunk err.new)) result }
         ensures reading { self.new.reading ≡ self.old.reading }
-        ensures faults { CountsFaults O.failures E.failures out.old out.new err.old err.new result }
     {
         match self.end_unfinished(line, out, err) {
-            Ok(()) => self.perform_all(&[PageEvent::WordEnd, PageEvent::Break], out),
+            Ok(()) => self.perform_all(&CLOSING, out),
             Err(halt) => Err(halt),
         }
     }
@@ -114,11 +104,11 @@ impl Formatter {
         out: &mut O,
         err: &mut E,
     ) -> Result<(), Halt>
-        ensures does { (l : Limits) (h : PageHistory) (r : Read) → Stands l.line (text_of h) self.old.env → ReadsAs r self.old.reading self.old.argument →
-            Does l h line (end_effect (settings_after (text_of h)) r) result self.new.env
-            (O.contents out.old) (O.contents out.new) (E.contents err.old) (E.contents err.new) }
+        ensures does { (r : Read) → ReadsAs r self.old.reading self.old.argument →
+            DoesEffect line (λ s. end_effect s r) self.old self.new
+            (sinks (O.sunk out.old) (E.sunk err.old))
+            (sinks (O.sunk out.new) (E.sunk err.new)) result }
         ensures reading { self.new.reading ≡ self.old.reading }
-        ensures faults { CountsFaults O.failures E.failures out.old out.new err.old err.new result }
     {
         match self.reading {
             Reading::Line(part) => self.perform_all(&part.end(), out),
@@ -129,14 +119,15 @@ impl Formatter {
     /// Takes a byte of a line without a request.
     fn take_part<O: ByteSink>(&mut self, part: LinePart, byte: u8, out: &mut O) -> Result<(), Halt>
         requires { leading_of part + 1 < 2 ^ 32 }
-        ensures performs { (l : Limits) (h : PageHistory) (s : Settings) → Stands l.line (text_of h) self.old.env →
-            Performs l h (kept_taking s (part_of part) byte).effect.events result self.new.env (O.contents out.old) (O.contents out.new) }
+        ensures performs { (s : Settings) →
+            PerformsEvents (kept_taking s (part_of part) byte).effect.events
+            self.old.env self.new.env
+            (O.sunk out.old) (O.sunk out.new) result }
         ensures silent { (s : Settings) → (kept_taking s (part_of part) byte).effect.messages ≡ [] }
-        ensures reads { (s : Settings) → ReadsAs (kept_taking s (part_of part) byte).reading self.new.reading self.new.argument }
+        ensures reads { (s : Settings) →
+            ReadsAs (kept_taking s (part_of part) byte).reading
+            self.new.reading self.new.argument }
         ensures leading { leading_behind self.new.reading ≤ leading_of part + 1 }
-        ensures failures { O.failures out.old ≤ O.failures out.new }
-        ensures halt { result ≢ Err Halt.Messages }
-        ensures fault { result ≡ Err Halt.Output → Rises (O.failures out.old) (O.failures out.new) }
     {
         let taking = part.taking(byte);
         self.argument = FirstArgument::new();
@@ -155,13 +146,15 @@ impl Formatter {
         err: &mut E,
     ) -> Result<(), Halt>
         requires { self.old.reading ≡ Reading.Arguments breaks request }
-        ensures does { (l : Limits) (h : PageHistory) (a : Arguments) → Stands l.line (text_of h) self.old.env → KeepsFirst a self.old.argument →
-            Does l h line (argument_taking (settings_after (text_of h)) breaks request a byte).effect result self.new.env
-            (O.contents out.old) (O.contents out.new) (E.contents err.old) (E.contents err.new) }
+        ensures does { (a : Arguments) → KeepsFirst a self.old.argument →
+            DoesEffect line (λ s. (argument_taking s breaks request a byte).effect)
+            self.old self.new
+            (sinks (O.sunk out.old) (E.sunk err.old))
+            (sinks (O.sunk out.new) (E.sunk err.new)) result }
         ensures reads { (s : Settings) (a : Arguments) → KeepsFirst a self.old.argument →
-            ReadsAs (argument_taking s breaks request a byte).reading self.new.reading self.new.argument }
+            ReadsAs (argument_taking s breaks request a byte).reading
+            self.new.reading self.new.argument }
         ensures leading { leading_behind self.new.reading ≡ 0 }
-        ensures faults { CountsFaults O.failures E.failures out.old out.new err.old err.new result }
     {
         if byte != b'\n' {
             self.argument.take(byte);
@@ -180,23 +173,28 @@ impl Formatter {
         out: &mut O,
         err: &mut E,
     ) -> Result<(), Halt>
-        ensures does { (l : Limits) (h : PageHistory) (a : Arguments) → Stands l.line (text_of h) self.old.env → KeepsFirst a self.old.argument →
-            Does l h line (request_effect (settings_after (text_of h)) breaks request (arguments_read a)) result self.new.env
-            (O.contents out.old) (O.contents out.new) (E.contents err.old) (E.contents err.new) }
+        ensures does { (a : Arguments) → KeepsFirst a self.old.argument →
+            DoesEffect line (λ s. request_effect (knowing s) breaks request (arguments_read a))
+            self.old self.new
+            (sinks (O.sunk out.old) (E.sunk err.old))
+            (sinks (O.sunk out.new) (E.sunk err.new)) result }
         ensures reading { self.new.reading ≡ self.old.reading }
         ensures argument { self.new.argument ≡ self.old.argument }
-        ensures faults { CountsFaults O.failures E.failures out.old out.new err.old err.new result }
     {
-        let effect = request.effect(self.env.settings(), self.argument.read());
+        let known = Known {
+            settings: self.env.settings(),
+        };
+        let effect = request.effect(breaks, known, self.argument.read());
         match tell(effect.message, line, err) {
-            Ok(()) => self.perform_all(&effect.events(breaks), out),
+            Ok(()) => self.perform_all(&effect.events, out),
             Err(halt) => Err(halt),
         }
     }
 
     /// Performs events, one after another.
     fn perform_all<O: ByteSink>(&mut self, events: &[PageEvent], out: &mut O) -> Result<(), Halt>
-        ensures { PerformsOnly O.contents O.failures out.old out.new (events_of events.now) self.old self.new result }
+        ensures { PerformsOnly events.now self.old self.new
+            (O.sunk out.old) (O.sunk out.new) result }
     {
         let mut rest = events;
         while let Some((event, others)) = rest.split_first() {
@@ -210,34 +208,41 @@ impl Formatter {
 
     /// Performs an event.
     fn perform<O: ByteSink>(&mut self, event: PageEvent, out: &mut O) -> Result<(), Halt>
-        ensures { PerformsOnly O.contents O.failures out.old out.new (event_of event ∷ []) self.old self.new result }
+        ensures { PerformsOnly (event ∷ []) self.old self.new
+            (O.sunk out.old) (O.sunk out.new) result }
     {
         match event {
-            PageEvent::Glyph(glyph) => self.glyph(glyph),
-            PageEvent::WordEnd => self.end_word(out),
-            PageEvent::Gap(blanks) => {
+            PageEvent::Text(event) => self.perform_text(event, out),
+            PageEvent::Space(lines) => self.space(lines, out),
+        }
+    }
+
+    /// Performs an event of the text.
+    fn perform_text<O: ByteSink>(&mut self, event: Event, out: &mut O) -> Result<(), Halt>
+        ensures { PerformsOnly (Text event ∷ []) self.old self.new
+            (O.sunk out.old) (O.sunk out.new) result }
+    {
+        match event {
+            Event::Print(glyph) => self.glyph(glyph),
+            Event::WordEnd => self.end_word(out),
+            Event::Gap(blanks) => {
                 self.env.gap(blanks);
                 Ok(())
             }
-            PageEvent::LineEnd => self.end_line(out),
-            PageEvent::Break => self.brk(out),
-            PageEvent::Set(param) => {
+            Event::LineEnd => self.end_line(out),
+            Event::Break => self.brk(out),
+            Event::Set(param) => {
                 self.env.set(param);
                 Ok(())
             }
-            PageEvent::Space(lines) => self.space(lines, out),
         }
     }
 
     /// Prints a glyph.
     #[inline(always)]
     fn glyph(&mut self, glyph: Glyph) -> Result<(), Halt>
-        ensures performs { (l : Limits) (h : PageHistory) (known : Option (List ℕ)) → Stands l.line (text_of h) self.old.env →
-            Performs l h (Text (Print glyph) ∷ []) result self.new.env known known }
-        ensures reading { self.new.reading ≡ self.old.reading }
-        ensures argument { self.new.argument ≡ self.old.argument }
-        ensures halt { result ≢ Err Halt.Messages }
-        ensures fault { result ≡ Err Halt.Output → ⊥ }
+        ensures { (told : Sunk) →
+            PerformsOnly (Text (Print glyph) ∷ []) self.old self.new told told result }
     {
         match self.env.glyph(glyph) {
             Ok(()) => Ok(()),
@@ -247,7 +252,8 @@ impl Formatter {
 
     /// Ends the open word, and writes the line that it finishes.
     fn end_word<O: ByteSink>(&mut self, out: &mut O) -> Result<(), Halt>
-        ensures { PerformsOnly O.contents O.failures out.old out.new (Text WordEnd ∷ []) self.old self.new result }
+        ensures { PerformsOnly (Text WordEnd ∷ []) self.old self.new
+            (O.sunk out.old) (O.sunk out.new) result }
     {
         let line = self.env.end_word();
         put_finished(&mut self.block, line, out)
@@ -255,7 +261,8 @@ impl Formatter {
 
     /// Ends a line of the input, and writes the line that it finishes.
     fn end_line<O: ByteSink>(&mut self, out: &mut O) -> Result<(), Halt>
-        ensures { PerformsOnly O.contents O.failures out.old out.new (Text LineEnd ∷ []) self.old self.new result }
+        ensures { PerformsOnly (Text LineEnd ∷ []) self.old self.new
+            (O.sunk out.old) (O.sunk out.new) result }
     {
         let line = self.env.end_line();
         put_finished(&mut self.block, line, out)
@@ -263,7 +270,8 @@ impl Formatter {
 
     /// Finishes the pending line, and writes it.
     fn brk<O: ByteSink>(&mut self, out: &mut O) -> Result<(), Halt>
-        ensures { PerformsOnly O.contents O.failures out.old out.new (Text Break ∷ []) self.old self.new result }
+        ensures { PerformsOnly (Text Break ∷ []) self.old self.new
+            (O.sunk out.old) (O.sunk out.new) result }
     {
         let line = self.env.brk();
         put_finished(&mut self.block, line, out)
@@ -271,7 +279,8 @@ impl Formatter {
 
     /// Writes blank lines.
     fn space<O: ByteSink>(&mut self, lines: u32, out: &mut O) -> Result<(), Halt>
-        ensures { PerformsOnly O.contents O.failures out.old out.new (Space lines ∷ []) self.old self.new result }
+        ensures { PerformsOnly (Space lines ∷ []) self.old self.new
+            (O.sunk out.old) (O.sunk out.new) result }
     {
         match self.block.put_blank_lines(lines, out) {
             Ok(()) => Ok(()),
@@ -287,7 +296,8 @@ fn put_finished<O: ByteSink>(
     line: Option<Line<'_>>,
     out: &mut O,
 ) -> Result<(), Halt>
-    ensures puts { Puts O.contents O.failures out.old out.new (finished_bytes (option_map finished_of line.entry)) result }
+    ensures puts { Puts (O.sunk out.old) (O.sunk out.new)
+        (finished_bytes (option_map finished_of line.entry)) result }
     ensures halt { IsOkUnless result Halt.Output }
 {
     match line {
@@ -301,7 +311,8 @@ fn put_finished<O: ByteSink>(
 
 /// Writes the message of an effect, if it has one.
 fn tell<E: ByteSink>(message: Option<Message>, line: u32, err: &mut E) -> Result<(), Halt>
-    ensures puts { Puts E.contents E.failures err.old err.new (message_lines line (option_to_list message)) result }
+    ensures puts { Puts (E.sunk err.old) (E.sunk err.new)
+        (message_lines line (option_to_list message)) result }
     ensures halt { IsOkUnless result Halt.Messages }
 {
     match message {

@@ -1,9 +1,7 @@
 //! What ends a run early, and how that is told.
 
-ghost use Rattle.std.specs.Prelude.{◌≡◌, ◌≤◌, ◌⊎◌};
-ghost use Rattle.roff_engine.specs.Engine.Outcome.{Devices, Outcome};
-ghost use Rattle.roff_engine.specs.Running.Turning.{Halts, with_messages};
-ghost use Rattle.roff_scan.specs.Tape.{Tape, Rises};
+ghost use Rattle.std.specs.Prelude.{ℕ};
+ghost use Rattle.roff_engine.specs.Clauses.{Tape, Outcome, Seen, seen, Halts, Sunk};
 
 use crate::message::{Message, report};
 use crate::sink::ByteSink;
@@ -24,10 +22,9 @@ pub(crate) enum Halt {
 impl Halt {
     /// How a run ends that was halted on this line. A limit and a fault of the output are reported.
     pub(crate) fn status<E: ByteSink>(self, limits: Limits, line: u32, err: &mut E) -> Status
-        ensures ends { (t : Tape) (before now : Devices) → Halts limits t line self before (with_messages now (E.contents err.old) (E.failures err.old))
-            → Outcome limits t result before (with_messages now (E.contents err.new) (E.failures err.new)) }
-        ensures failures { E.failures err.old ≤ E.failures err.new }
-        ensures fault { result ≡ Status.Device → (self ≡ Halt.Output) ⊎ (self ≡ Halt.Messages) ⊎ Rises (E.failures err.old) (E.failures err.new) }
+        ensures { (t left : Tape) (before : Seen) (failures : ℕ) (out : Sunk)
+            → Halts limits t left line self before (seen failures out (E.sunk err.old))
+            → Outcome limits t left result before (seen failures out (E.sunk err.new)) }
     {
         match self {
             Halt::Limit(limit) => {

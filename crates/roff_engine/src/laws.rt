@@ -1,9 +1,14 @@
 //! Facts about the definitions alone, as contracts of functions that do nothing.
 
-ghost use Rattle.std.specs.Prelude.{◌≡◌, codes};
+ghost use Rattle.std.specs.Prelude.{◌≡◌, [], ◌∷◌, codes};
 ghost use Rattle.roff_num.specs.declared.limit.Limit.TheVariants.{Bytes, Line};
 ghost use Rattle.roff_engine.specs.declared.status.Status.TheVariants.{Done, Device, Limit as Limited};
-ghost use Rattle.roff_engine.specs.Laws.{LimitsOnlyCut, SameUntilALimit, FailingOnlyCuts, SameUntilTheFault, NoLimitIsPassed};
+ghost use Rattle.roff_engine.specs.Laws.{LimitsOnlyCut, SameUntilALimit, FailingOnlyCuts, SameUntilTheFault, NoLimitIsPassed, StepsOnlyAppend};
+ghost use Rattle.roff_engine.specs.ResultLaws.{EveryRunEnds, StepsLeadToTheLastState, NoOtherStateIsLast, LimitsCutResults, SameResultWithoutALimit, FailingCutsResults, SameResultBeforeTheFault, EachStateIsABeginning};
+ghost use Rattle.roff_engine.specs.Statuses.{EachStatusTells};
+ghost use Rattle.roff_engine.specs.Taken.{EachItemIsTakenOnce, EachRunLeavesItsRest};
+ghost use Rattle.roff_engine.specs.Quoting.{quoted_line, QuotedArgumentsReadBack, RequestsGetQuotedArguments};
+ghost use Rattle.roff_engine.specs.RequestLaws.{EachIsListedOnce, EachIsNamed, EachNameHasTwoBytes};
 ghost use Rattle.roff_engine.specs.Rows.{gives, formatted, formatted_within, formatted_failing};
 
 /// What the definitions give on the worked rows of filled text.
@@ -43,11 +48,33 @@ pub fn limit_rows()
         ≡ gives (codes "ab\n") (codes "nroff: line 3: read failed\n") Device }
 {}
 
+/// Every run ends, in one state alone.
+pub fn ends()
+    ensures ends { EveryRunEnds }
+    ensures reached { StepsLeadToTheLastState }
+    ensures alone { NoOtherStateIsLast }
+{}
+
+/// Nothing that a run wrote or reported is taken back.
+pub fn appends()
+    ensures steps { StepsOnlyAppend }
+    ensures whole_run { EachStateIsABeginning }
+{}
+
+/// Each status tells how the run ended, and what its last message says.
+pub fn statuses()
+    ensures { EachStatusTells }
+{}
+
 /// Limits only cut: a run with smaller ones writes and reports a beginning, and comes to the same
 /// state until one of them stops it.
 pub fn limits()
     ensures beginning { LimitsOnlyCut }
     ensures same_until_a_limit { SameUntilALimit }
+
+    // What whole runs give.
+    ensures result { LimitsCutResults }
+    ensures same_result { SameResultWithoutALimit }
 {}
 
 /// A source that fails only cuts: where it went on, the run would write and report what it does, and
@@ -55,9 +82,35 @@ pub fn limits()
 pub fn cut()
     ensures beginning { FailingOnlyCuts }
     ensures same_until_the_fault { SameUntilTheFault }
+
+    // What whole runs give.
+    ensures result { FailingCutsResults }
+    ensures same_result { SameResultBeforeTheFault }
 {}
 
 /// No run takes more bytes, or has a longer pending line, than its limits say.
 pub fn bounds()
     ensures { NoLimitIsPassed }
+{}
+
+/// A run takes the items of its source in order, each once, charges each byte and knows its line;
+/// what it doesn't take is its rest.
+pub fn rest()
+    ensures each_step { EachItemIsTakenOnce }
+    ensures whole_run { EachRunLeavesItsRest }
+{}
+
+/// Arguments written in quotes, with each quote in them twice, are read as they were.
+pub fn quoted_arguments()
+    ensures read_back { QuotedArgumentsReadBack }
+    ensures by_requests { RequestsGetQuotedArguments }
+    ensures row { quoted_line (codes "a b" ∷ codes "c\"d" ∷ codes "" ∷ [])
+        ≡ codes "\"a b\" \"c\"\"d\" \"\"" }
+{}
+
+/// Each request is listed once, and no two have the same name.
+pub fn request_names()
+    ensures named { EachIsNamed }
+    ensures listed_once { EachIsListedOnce }
+    ensures two_bytes { EachNameHasTwoBytes }
 {}

@@ -66,7 +66,7 @@ impl Message {
 
 /// Writes a message of this line of the input, in one piece.
 pub(crate) fn report<E: ByteSink>(message: Message, line: u32, err: &mut E) -> Result<(), SinkFault>
-    ensures { Puts E.contents E.failures err.old err.new (message_line line message) result }
+    ensures { Puts (E.sunk err.old) (E.sunk err.new) (message_line line message) result }
 {
     err.put(&message.line(line))
 }

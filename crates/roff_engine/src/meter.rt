@@ -47,7 +47,8 @@ impl Meter {
         ensures within { IsOk result ↔ (self.old.charge < self.old.limit) }
         ensures charge { OnOk result (self.new.charge ≡ self.old.charge + 1) }
         ensures fits { OnOk result (self.new.charge < 2 ^ 32) }
-        ensures newlines { OnOk result (self.new.newlines ≡ (if byte == 10 then self.old.newlines + 1 else self.old.newlines)) }
+        ensures newlines { OnOk result (self.new.newlines
+            ≡ (if byte == 10 then self.old.newlines + 1 else self.old.newlines)) }
         ensures line { OnOk result (self.new.line ≡ self.old.newlines + 1) }
         ensures limit { self.new.limit ≡ self.old.limit }
         ensures err { OnErr result (self.new ≡ self.old) }

@@ -1,9 +1,11 @@
 //! Numbers in their simple form: a sign, one to six digits, a scale letter.
 
-ghost use Rattle.std.specs.Prelude.{◌≡◌, ◌<◌, ◌≤◌, length, take_while};
+ghost use Rattle.std.specs.Prelude.{◌≡◌, ℕ, ◌<◌, ◌≤◌, List, length, take_while};
 ghost use Rattle.std.specs.Char.{is_ascii_digit};
+ghost use Rattle.std.specs.Option.{option_copied};
 ghost use Rattle.std.specs.Str.Parse.{AllDigits, digits_value};
-ghost use Rattle.roff_engine.specs.Numbers.{is_below_zero, is_scale_or_nothing, length_set, number_of, scale_test, size_of};
+ghost use Rattle.roff_engine.specs.FirstArgument.Keeping.{first_kept};
+ghost use Rattle.roff_engine.specs.Numbers.{is_below_zero, is_scale_or_nothing, length_set, number_given, number_of, scale_test, size_of};
 
 /// The sign before a number.
 #[derive(Clone, Copy, Debug, PartialEq, Eq)]
@@ -27,6 +29,17 @@ pub(crate) enum Scale {
 pub(crate) struct Number {
     pub(crate) sign: Sign,
     pub(crate) size: u32,
+}
+
+/// The number that the first argument of a request is.
+#[derive(Clone, Copy, Debug, PartialEq, Eq)]
+pub(crate) enum NumberGiven {
+    /// There is no argument.
+    Missing,
+    /// It isn't a number.
+    Bad,
+    /// This one.
+    Number(Number),
 }
 
 /// The greatest length, in columns: as many as a length of 2147483647 basic units has.
@@ -79,8 +92,8 @@ impl Number {
         self.sign == Sign::Minus && self.size > 0
     }
 
-    /// The length that it sets, in columns: a sign adds to the one in force or takes from it, down to
-    /// 0. None if that is too great.
+    /// The length that it sets, in columns: a sign adds to the one in force or takes from it, down
+    /// to 0. None if that is too great.
     pub(crate) fn length_from(self, current: u32) -> Option<u32>
         ensures { result ≡ length_set current self }
     {
@@ -91,6 +104,22 @@ impl Number {
                 _ => None,
             },
             Sign::Minus => Some(current.saturating_sub(self.size)),
+        }
+    }
+}
+
+impl NumberGiven {
+    /// The number that an argument is, of which the first nine bytes are kept.
+    pub(crate) fn read(argument: Option<&[u8]>, scale: Scale) -> NumberGiven
+        ensures { (as_given : List (List ℕ)) → option_copied argument.entry ≡ first_kept as_given
+            → result ≡ number_given (scale_test scale) as_given }
+    {
+        match argument {
+            None => NumberGiven::Missing,
+            Some(text) => match Number::read(text, scale) {
+                None => NumberGiven::Bad,
+                Some(number) => NumberGiven::Number(number),
+            },
         }
     }
 }

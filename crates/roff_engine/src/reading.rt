@@ -1,17 +1,16 @@
 //! What is being read, and what each byte means there.
 
 ghost use Rattle.std.specs.Prelude.{◌≡◌, ◌+◌, ◌<◌, ◌≤◌, ◌^◌, [], ◌∷◌, ◌++◌, length, true, false};
-ghost use Rattle.roff_lines.specs.Events.{Print};
+ghost use Rattle.roff_lines.specs.declared.event.Event.TheVariants.{Print};
 ghost use Rattle.roff_lines.specs.declared.glyph.Glyph.TheVariants.{Printed};
 ghost use Rattle.roff_lines.specs.declared.settings.Settings.{Settings};
-ghost use Rattle.roff_engine.specs.Formatter.Happening.{events_of};
-ghost use Rattle.roff_engine.specs.Reading.{LineStart, BehindControl, InName, dropped_taking, end_effect, ends_name, kept_taking, leading_blank_events, leading_glyph, taking, text_line_end, text_taking};
-ghost use Rattle.roff_engine.specs.Requests.{Text, doing};
-ghost use Rattle.roff_engine.specs.Formatter.ReadsAs.{leading_behind, leading_of, part_of, printing, taking_of};
+ghost use Rattle.roff_engine.specs.Reading.{LineStart, BehindControl, InName, behind_name, dropped_taking, end_effect, ends_name, kept_taking, leading_blank_events, leading_glyph, taking, text_line_end, text_taking};
+ghost use Rattle.roff_engine.specs.Requests.{Text, doing, row_of};
+ghost use Rattle.roff_engine.specs.Formatter.ReadsAs.{leading_behind, leading_of, part_of, printing, reading_of, taking_of};
 
 use crate::event::{Events, PageEvent};
-use crate::request::Request;
-use roff_lines::Glyph;
+use crate::request::{LineReading, Request};
+use roff_lines::{Event, Glyph};
 use roff_scan::is_silent;
 
 /// What is being read.
@@ -56,6 +55,18 @@ pub(crate) struct Taking {
     pub(crate) events: Events,
 }
 
+impl Reading {
+    /// What is read behind a request's name.
+    fn behind_name(breaks: bool, request: Request) -> Reading
+        ensures reading { reading_of result ≡ behind_name breaks request (row_of request).line }
+        ensures leading { leading_behind result ≡ 0 }
+    {
+        match request.row().line {
+            LineReading::ByArguments => Reading::Arguments { breaks, request },
+        }
+    }
+}
+
 impl TextLine {
     /// Nothing yet.
     fn new() -> Self
@@ -70,20 +81,28 @@ impl TextLine {
 
     /// The events of the line's end: a line of blanks alone is a break and a blank line.
     fn end(self) -> Events
-        ensures { events_of result.items ≡ text_line_end self.has_glyph self.has_silent }
+        ensures { result.items ≡ text_line_end self.has_glyph self.has_silent }
     {
         if self.has_glyph || self.has_silent {
-            events(&[PageEvent::WordEnd, PageEvent::LineEnd])
+            events(&[
+                PageEvent::Text(Event::WordEnd),
+                PageEvent::Text(Event::LineEnd),
+            ])
         } else {
-            events(&[PageEvent::WordEnd, PageEvent::Break, PageEvent::Space(1)])
+            events(&[
+                PageEvent::Text(Event::WordEnd),
+                PageEvent::Text(Event::Break),
+                PageEvent::Space(1),
+            ])
         }
     }
 }
 
 impl LinePart {
-    /// Whether a byte is a glyph behind another on a text line, and does nothing else. Most bytes are.
+    /// Whether a byte is a glyph behind another on a text line, and does nothing else. Most are.
     pub(crate) fn goes_on_with(self, byte: u8) -> bool
-        ensures { result ≡ true → (s : Settings) → taking s (part_of self) byte ≡ printing self byte }
+        ensures { result ≡ true → (s : Settings)
+            → taking s (part_of self) byte ≡ printing self byte }
     {
         match self {
             LinePart::Text(line) => {
@@ -110,7 +129,7 @@ impl LinePart {
 
     /// The events of the input's end there: an unfinished text line ends.
     pub(crate) fn end(self) -> Events
-        ensures { (s : Settings) → doing (events_of result.items) ≡ end_effect s (part_of self) }
+        ensures { (s : Settings) → doing result.items ≡ end_effect s (part_of self) }
     {
         match self {
             LinePart::Text(line) => line.end(),
@@ -135,7 +154,8 @@ impl Taking {
     /// A byte of a text line.
     fn in_text(line: TextLine, byte: u8) -> Taking
         requires { line.leading + 1 < 2 ^ 32 }
-        ensures taking { taking_of result ≡ text_taking line.has_glyph line.has_silent line.leading byte }
+        ensures taking { taking_of result
+            ≡ text_taking line.has_glyph line.has_silent line.leading byte }
         ensures leading { leading_behind result.reading ≤ line.leading + 1 }
     {
         if byte == b'\n' {
@@ -153,7 +173,10 @@ impl Taking {
             behind.leading = 0;
             printed(line.leading, byte)
         } else if line.has_glyph {
-            events(&[PageEvent::WordEnd, PageEvent::Gap(1)])
+            events(&[
+                PageEvent::Text(Event::WordEnd),
+                PageEvent::Text(Event::Gap(1)),
+            ])
         } else {
             behind.leading += 1;
             leading_blank(line.leading)
@@ -166,7 +189,8 @@ impl Taking {
 
     /// A byte behind a control line's dot or apostrophe and the blanks there.
     fn behind_control(breaks: bool, byte: u8) -> Taking
-        ensures taking { (s : Settings) → taking_of result ≡ kept_taking s (BehindControl breaks) byte }
+        ensures taking { (s : Settings)
+            → taking_of result ≡ kept_taking s (BehindControl breaks) byte }
         ensures leading { leading_behind result.reading ≤ 1 }
     {
         if byte == b' ' {
@@ -183,14 +207,15 @@ impl Taking {
 
     /// The byte behind the first one of a name. No request has a name of one byte.
     fn in_name(breaks: bool, first: u8, byte: u8) -> Taking
-        ensures taking { (s : Settings) → taking_of result ≡ kept_taking s (InName breaks first) byte }
+        ensures taking { (s : Settings)
+            → taking_of result ≡ kept_taking s (InName breaks first) byte }
         ensures leading { leading_behind result.reading ≤ 1 }
     {
         if ends_name(byte) {
             return Taking::in_dropped(byte);
         }
         match Request::named(first, byte) {
-            Some(request) => Taking::going_on(Reading::Arguments { breaks, request }),
+            Some(request) => Taking::going_on(Reading::behind_name(breaks, request)),
             None => Taking::going_on(Reading::Line(LinePart::Dropped)),
         }
     }
@@ -221,22 +246,25 @@ impl Taking {
 
 /// The events of a glyph behind so many leading blanks.
 fn printed(leading: u32, byte: u8) -> Events
-    ensures { events_of result.items ≡ leading_glyph leading ++ Text (Print (Printed byte)) ∷ [] }
+    ensures { result.items ≡ leading_glyph leading ++ Text (Print (Printed byte)) ∷ [] }
 {
-    let glyph = PageEvent::Glyph(Glyph::Printed(byte));
+    let glyph = PageEvent::Text(Event::Print(Glyph::Printed(byte)));
     if leading == 0 {
         events(&[glyph])
     } else {
-        events(&[PageEvent::Glyph(Glyph::Blanks(leading)), glyph])
+        events(&[PageEvent::Text(Event::Print(Glyph::Blanks(leading))), glyph])
     }
 }
 
 /// The events of a blank behind so many others at a line's beginning.
 fn leading_blank(before: u32) -> Events
-    ensures { events_of result.items ≡ leading_blank_events before }
+    ensures { result.items ≡ leading_blank_events before }
 {
     if before == 0 {
-        events(&[PageEvent::WordEnd, PageEvent::Break])
+        events(&[
+            PageEvent::Text(Event::WordEnd),
+            PageEvent::Text(Event::Break),
+        ])
     } else {
         Events::new()
     }

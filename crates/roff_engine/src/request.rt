@@ -1,15 +1,19 @@
-//! The requests: their names, and what each does.
+//! The requests: a row for each, and what each does.
 
-ghost use Rattle.std.specs.Prelude.{◌≡◌, ℕ, Bool, List, [], ◌∷◌};
+ghost use Rattle.std.specs.Prelude.{◌≡◌, ℕ, List, [], ◌∷◌, bytes_eq, find};
 ghost use Rattle.std.specs.Option.{option_copied};
 ghost use Rattle.roff_engine.specs.FirstArgument.Keeping.{first_kept};
-ghost use Rattle.roff_engine.specs.Formatter.Happening.{action_events, effect_of, events_of};
-ghost use Rattle.roff_engine.specs.Requests.{breaking, doing, length_wanted, mode_named, mode_wanted, request_effect, request_named, saying, space_down};
+ghost use Rattle.roff_engine.specs.Request.Coded.{coded_row, done_of, effect_of};
+ghost use Rattle.roff_engine.specs.Requests.{request_effect, request_named, row_of};
 
-use crate::event::{Events, PageEvent};
-use crate::message::Message;
-use crate::number::{Number, Scale};
-use roff_lines::{AdjustMode, Param, Settings};
+mod adjustment;
+mod effects;
+mod lengths;
+mod spacing;
+
+use LineReading::ByArguments;
+pub(crate) use effects::{Done, Effect, Known};
+use roff_lines::Param;
 
 /// A request.
 #[derive(Clone, Copy, Debug, PartialEq, Eq)]
@@ -32,185 +36,85 @@ pub(crate) enum Request {
     Space,
 }
 
-/// What a request does behind its break.
+/// How the rest of a request's line is read.
 #[derive(Clone, Copy, Debug, PartialEq, Eq)]
-pub(crate) enum Action {
-    /// Nothing more.
-    None,
-    /// A parameter is set.
-    Set(Param),
-    /// Adjusting goes on, in this mode or in the one in force.
-    Adjust(Option<AdjustMode>),
-    /// So many blank lines.
-    Space(u32),
+pub(crate) enum LineReading {
+    /// As arguments, with blanks between them.
+    ByArguments,
 }
 
-/// What a request means, with its argument read.
-#[derive(Clone, Copy, Debug)]
-pub(crate) struct Effect {
-    /// What it reports.
-    pub(crate) message: Option<Message>,
-    /// Whether it breaks, if it was called by a dot.
+/// What is known of a request before it is called.
+#[derive(Clone, Copy, Debug, PartialEq, Eq)]
+pub(crate) struct Row {
+    /// Its name.
+    pub(crate) name: [u8; 2],
+    /// The request.
+    pub(crate) request: Request,
+    /// How its line is read.
+    pub(crate) line: LineReading,
+    /// Whether it breaks, if a dot called it.
     pub(crate) breaks: bool,
-    /// What it does then.
-    pub(crate) action: Action,
 }
+
+/// The table of requests, in the order of [`Request`], which is that of their names.
+#[rattlefmt::skip]
+static ROWS: [Row; 8] = [
+    Row { name: *b"ad", request: Request::Adjust, line: ByArguments, breaks: false },
+    Row { name: *b"br", request: Request::Break, line: ByArguments, breaks: true },
+    Row { name: *b"fi", request: Request::Fill, line: ByArguments, breaks: true },
+    Row { name: *b"in", request: Request::Indent, line: ByArguments, breaks: true },
+    Row { name: *b"ll", request: Request::LineLength, line: ByArguments, breaks: false },
+    Row { name: *b"na", request: Request::NoAdjust, line: ByArguments, breaks: false },
+    Row { name: *b"nf", request: Request::NoFill, line: ByArguments, breaks: true },
+    Row { name: *b"sp", request: Request::Space, line: ByArguments, breaks: true },
+];
 
 impl Request {
     /// The request of a name of two bytes, if there is one.
+    #[tactic(auto, using(crate::proofs::RequestTable::request_found))]
     pub(crate) fn named(first: u8, second: u8) -> Option<Request>
         ensures { result ≡ request_named (first ∷ second ∷ []) }
     {
-        match (first, second) {
-            (b'a', b'd') => Some(Request::Adjust),
-            (b'b', b'r') => Some(Request::Break),
-            (b'f', b'i') => Some(Request::Fill),
-            (b'i', b'n') => Some(Request::Indent),
-            (b'l', b'l') => Some(Request::LineLength),
-            (b'n', b'a') => Some(Request::NoAdjust),
-            (b'n', b'f') => Some(Request::NoFill),
-            (b's', b'p') => Some(Request::Space),
-            _ => None,
-        }
+        Some(row_named([first, second])?.request)
     }
 
-    /// What it means in these settings, with this first argument.
-    pub(crate) fn effect(self, settings: Settings, argument: Option<&[u8]>) -> Effect
-        ensures { (breaks : Bool) (as_given : List (List ℕ)) → option_copied argument.entry ≡ first_kept as_given
-            → effect_of breaks result ≡ request_effect settings breaks self as_given }
+    /// Its row.
+    pub(crate) fn row(self) -> Row
+        ensures { result ≡ coded_row self }
+    {
+        ROWS[self as usize]
+    }
+
+    /// What it means, called by a dot or not, as far as the run is known, with this first argument.
+    pub(crate) fn effect(self, by_dot: bool, known: Known, argument: Option<&[u8]>) -> Effect
+        ensures { (as_given : List (List ℕ)) → option_copied argument.entry ≡ first_kept as_given
+            → effect_of result ≡ request_effect known by_dot self as_given }
+    {
+        self.does(known, argument)
+            .meaning(by_dot && self.row().breaks)
+    }
+
+    /// What it does behind its break.
+    fn does(self, known: Known, argument: Option<&[u8]>) -> Done
+        ensures { (as_given : List (List ℕ)) → option_copied argument.entry ≡ first_kept as_given
+            → done_of result ≡ (row_of self).does known as_given }
     {
         match self {
-            Request::Adjust => Effect::acting(Action::Adjust(mode_wanted(argument))),
-            Request::Break => Effect::breaking(Action::None),
-            Request::Fill => Effect::breaking(Action::Set(Param::Filling(true))),
-            Request::Indent => {
-                match length_wanted(settings.indent, settings.previous_indent, argument) {
-                    Some(columns) => Effect::breaking(Action::Set(Param::Indent(columns))),
-                    None => Effect::saying(Message::BadNumber),
-                }
-            }
-            Request::LineLength => {
-                match length_wanted(
-                    settings.line_length,
-                    settings.previous_line_length,
-                    argument,
-                ) {
-                    Some(columns) => Effect::acting(Action::Set(Param::LineLength(columns))),
-                    None => Effect::saying(Message::BadNumber),
-                }
-            }
-            Request::NoAdjust => Effect::acting(Action::Set(Param::Adjusting(false))),
-            Request::NoFill => Effect::breaking(Action::Set(Param::Filling(false))),
-            Request::Space => space_down(argument),
+            Request::Adjust => adjustment::adjust(argument),
+            Request::Break => Done::nothing(),
+            Request::Fill => Done::setting(Param::Filling(true)),
+            Request::Indent => lengths::indent(known, argument),
+            Request::LineLength => lengths::line_length(known, argument),
+            Request::NoAdjust => Done::setting(Param::Adjusting(false)),
+            Request::NoFill => Done::setting(Param::Filling(false)),
+            Request::Space => spacing::space_down(argument),
         }
     }
 }
 
-impl Effect {
-    /// Its events; behind an apostrophe a request doesn't break.
-    pub(crate) fn events(self, breaks: bool) -> Events
-        ensures { events_of result.items ≡ (effect_of breaks self).events }
-    {
-        let mut events = Events::new();
-        if breaks && self.breaks {
-            events.push(PageEvent::WordEnd);
-            events.push(PageEvent::Break);
-        }
-        match self.action {
-            Action::None => {}
-            Action::Set(param) => events.push(PageEvent::Set(param)),
-            Action::Adjust(Some(mode)) => {
-                events.push(PageEvent::Set(Param::Mode(mode)));
-                events.push(PageEvent::Set(Param::Adjusting(true)));
-            }
-            Action::Adjust(None) => events.push(PageEvent::Set(Param::Adjusting(true))),
-            Action::Space(lines) => events.push(PageEvent::Space(lines)),
-        }
-        events
-    }
-
-    /// An action without a break.
-    fn acting(action: Action) -> Effect
-        ensures { (breaks : Bool) → effect_of breaks result ≡ doing (action_events action) }
-    {
-        Effect {
-            message: None,
-            breaks: false,
-            action,
-        }
-    }
-
-    /// A break and an action.
-    fn breaking(action: Action) -> Effect
-        ensures { (breaks : Bool) → effect_of breaks result ≡ doing (breaking breaks (action_events action)) }
-    {
-        Effect {
-            message: None,
-            breaks: true,
-            action,
-        }
-    }
-
-    /// A message, and nothing else.
-    fn saying(message: Message) -> Effect
-        ensures { (breaks : Bool) → effect_of breaks result ≡ saying message }
-    {
-        Effect {
-            message: Some(message),
-            breaks: false,
-            action: Action::None,
-        }
-    }
-}
-
-/// The blank lines of `sp`: one without an argument, none if the number is below 0.
-#[tactic(auto, using(crate::proofs::FirstArguments::space_down_by_first))]
-fn space_down(argument: Option<&[u8]>) -> Effect
-    ensures { (breaks : Bool) (as_given : List (List ℕ)) → option_copied argument.entry ≡ first_kept as_given
-        → effect_of breaks result ≡ space_down breaks as_given }
+/// The row of a name.
+fn row_named(name: [u8; 2]) -> Option<&'static Row>
+    ensures { option_copied result ≡ find (λ row. bytes_eq row.name name) ROWS }
 {
-    let Some(text) = argument else {
-        return Effect::breaking(Action::Space(1));
-    };
-    match Number::read(text, Scale::Lines) {
-        None => Effect::saying(Message::BadNumber),
-        Some(number) if number.is_below_zero() => Effect {
-            message: Some(Message::BackwardMotion),
-            breaks: true,
-            action: Action::Space(0),
-        },
-        Some(number) => Effect::breaking(Action::Space(number.size)),
-    }
-}
-
-/// The length that a request sets, in columns: the previous one without an argument.
-#[tactic(auto, using(crate::proofs::FirstArguments::length_wanted_by_first))]
-fn length_wanted(current: u32, previous: u32, argument: Option<&[u8]>) -> Option<u32>
-    ensures { (as_given : List (List ℕ)) → option_copied argument.entry ≡ first_kept as_given
-        → result ≡ length_wanted current previous as_given }
-{
-    match argument {
-        None => Some(previous),
-        Some(text) => Number::read(text, Scale::Columns)?.length_from(current),
-    }
-}
-
-/// The mode that the first letter of an argument stands for.
-fn mode_wanted(argument: Option<&[u8]>) -> Option<AdjustMode>
-    ensures { (as_given : List (List ℕ)) → option_copied argument.entry ≡ first_kept as_given → result ≡ mode_wanted as_given }
-{
-    mode_named(*argument?.first()?)
-}
-
-/// The mode of adjusting that a letter stands for.
-fn mode_named(letter: u8) -> Option<AdjustMode>
-    ensures { result ≡ mode_named letter }
-{
-    match letter {
-        b'l' => Some(AdjustMode::Left),
-        b'r' => Some(AdjustMode::Right),
-        b'c' => Some(AdjustMode::Centre),
-        b'b' | b'n' => Some(AdjustMode::Both),
-        _ => None,
-    }
+    ROWS.iter().find(|row| row.name == name)
 }

@@ -1,9 +1,9 @@
 //! A run under way: what each item of the source does.
 
-ghost use Rattle.std.specs.Prelude.{◌≡◌, ℕ, ◌+◌, ◌<◌, ◌≤◌, ◌⊎◌, Err, IfErr, OnOk};
-ghost use Rattle.roff_engine.specs.Engine.Outcome.{Devices, FaultIsOfADevice, Outcome, faults};
+ghost use Rattle.std.specs.Prelude.{◌≡◌, ℕ, ◌+◌, ◌<◌, ◌≤◌, Err, OnOk};
+ghost use Rattle.roff_scan.specs.Tape.{Answer, Answers, Ended, Gives, Ends, OneByte};
+ghost use Rattle.roff_engine.specs.Engine.Outcome.{seen};
 ghost use Rattle.roff_engine.specs.Formatter.ReadsAs.{leading_behind};
-ghost use Rattle.roff_scan.specs.Tape.{Tape, Answer, Answers, Ended, Gives, Ends, OneByte, Rises, behind_front, front};
 
 use crate::formatter::Formatter;
 use crate::halt::Halt;
@@ -24,7 +24,7 @@ pub(crate) struct Running {
 }
 
 impl Running {
-    ghost use Rattle.roff_engine.specs.Running.Turning.{Continues, IsAt, NoFewerFaults, Turns, bytes_to_come, with_sinks};
+    ghost use Rattle.roff_engine.specs.Running.Turning.{Turns, bytes_to_come};
 
     /// Takes an item of the source, or its ending. An `Err` is the status of a run that ended.
     pub(crate) fn turn<S: ByteSource, O: ByteSink, E: ByteSink>(
@@ -34,18 +34,12 @@ impl Running {
         err: &mut E,
     ) -> Result<(), Status>
         // It goes on, or ends, as the run of the definition over every tape that begins with the answer.
-        ensures turns { (a : Answer) × Answers (S.gives source.old) (S.gives source.new) a × Turns a self.old self.new result
-            (O.contents out.old) (O.contents out.new) (E.contents err.old) (E.contents err.new)
-            (faults (S.failures source.old) (O.failures out.old) (E.failures err.old))
-            (faults (S.failures source.new) (O.failures out.new) (E.failures err.new)) }
-        ensures faults { NoFewerFaults
-            (faults (S.failures source.old) (O.failures out.old) (E.failures err.old))
-            (faults (S.failures source.new) (O.failures out.new) (E.failures err.new)) }
-        ensures fault { IfErr result (λ status. FaultIsOfADevice status
-            (faults (S.failures source.old) (O.failures out.old) (E.failures err.old))
-            (faults (S.failures source.new) (O.failures out.new) (E.failures err.new))) }
-        ensures limits { self.new.limits ≡ self.old.limits }
-        ensures progress { OnOk result (bytes_to_come self.new.meter + S.notes source.new < bytes_to_come self.old.meter + S.notes source.old) }
+        ensures turns { (a : Answer) × Answers (S.gives source.old) (S.gives source.new) a
+            × Turns a self.old self.new
+            (seen (S.failures source.old) (O.sunk out.old) (E.sunk err.old))
+            (seen (S.failures source.new) (O.sunk out.new) (E.sunk err.new)) result }
+        ensures progress { OnOk result (bytes_to_come self.new.meter + S.notes source.new
+            < bytes_to_come self.old.meter + S.notes source.old) }
     {
         match source.next_byte() {
             Taken::Byte(byte) => self.take(byte, out, err),
@@ -69,13 +63,11 @@ impl Running {
         out: &mut O,
         err: &mut E,
     ) -> Result<(), Status>
-        ensures runs { (t tape : Tape) (before now : Devices) → now.left ≡ behind_front tape → front tape ≡ Gives (OneByte byte)
-            → IsAt t tape before (with_sinks now (O.contents out.old) (O.failures out.old) (E.contents err.old) (E.failures err.old)) self.old
-            → Continues t (behind_front tape) before (with_sinks now (O.contents out.new) (O.failures out.new) (E.contents err.new) (E.failures err.new)) result self.new }
-        ensures failures { (O.failures out.old ≤ O.failures out.new) × (E.failures err.old ≤ E.failures err.new) }
-        ensures fault { result ≡ Err Status.Device → Rises (O.failures out.old) (O.failures out.new) ⊎ Rises (E.failures err.old) (E.failures err.new) }
-        ensures limits { self.new.limits ≡ self.old.limits }
-        ensures progress { OnOk result (bytes_to_come self.new.meter < bytes_to_come self.old.meter) }
+        ensures turns { (failures : ℕ) → Turns (Gives (OneByte byte)) self.old self.new
+            (seen failures (O.sunk out.old) (E.sunk err.old))
+            (seen failures (O.sunk out.new) (E.sunk err.new)) result }
+        ensures progress { OnOk result
+            (bytes_to_come self.new.meter < bytes_to_come self.old.meter) }
     {
         match self.meter.count(byte) {
             Err(limit) => Err(Halt::Limit(limit).status(self.limits, self.meter.line(), err)),
@@ -91,12 +83,9 @@ impl Running {
 
     /// The end of the input: the status of the run.
     fn finish<O: ByteSink, E: ByteSink>(&mut self, out: &mut O, err: &mut E) -> Status
-        ensures runs { (t tape : Tape) (before now : Devices) → now.left ≡ behind_front tape → front tape ≡ Ends Ended
-            → IsAt t tape before (with_sinks now (O.contents out.old) (O.failures out.old) (E.contents err.old) (E.failures err.old)) self.old
-            → Outcome self.old.limits t result before (with_sinks now (O.contents out.new) (O.failures out.new) (E.contents err.new) (E.failures err.new)) }
-        ensures failures { (O.failures out.old ≤ O.failures out.new) × (E.failures err.old ≤ E.failures err.new) }
-        ensures fault { result ≡ Status.Device → Rises (O.failures out.old) (O.failures out.new) ⊎ Rises (E.failures err.old) (E.failures err.new) }
-        ensures limits { self.new.limits ≡ self.old.limits }
+        ensures { (failures : ℕ) → Turns (Ends Ended) self.old self.new
+            (seen failures (O.sunk out.old) (E.sunk err.old))
+            (seen failures (O.sunk out.new) (E.sunk err.new)) (Err result) }
     {
         let line = self.meter.line();
         match self.formatter.finish(line, out, err) {

@@ -1,9 +1,9 @@
 //! Sinks: what a run writes to.
 
-ghost use Rattle.std.specs.Prelude.{◌≡◌, ℕ, ◌+◌, ◌<◌, ◌≤◌, List, Option, OnOk, OnErr, IfSome, IfNone, OnSome, length, min, take};
+ghost use Rattle.std.specs.Prelude.{◌≡◌, ◌+◌, ◌<◌, ◌≤◌, OnOk, OnErr, IfSome, IfNone, OnSome, length, min, take};
 ghost use Rattle.std.specs.Io.KnownBytes.{Appends, Keeps};
-ghost use Rattle.roff_engine.specs.Sinks.{AppendsFront, Sunk};
-ghost use Rattle.roff_scan.specs.Tape.{Rises, last_count};
+ghost use Rattle.roff_engine.specs.Sinks.{Puts, Sunk};
+ghost use Rattle.roff_scan.specs.Tape.{last_count};
 
 use std::io::Write;
 use std::marker::Model;
@@ -14,22 +14,18 @@ pub struct SinkFault;
 
 /// A sink of bytes.
 pub trait ByteSink {
-    /// The bytes that were written, where the sink tells them.
-    ghost contents: { Self → Option (List ℕ) };
-
-    /// How many faults there were; the count stays at its last value, that of a `u64`.
-    ghost failures: { Self → ℕ };
+    /// What the sink tells: the bytes that were written, where it tells them, and how many faults it
+    /// had; the count stays at its last value, that of a `u64`.
+    ghost sunk: { Self → Sunk };
 
     /// Writes a piece.
     ///
     /// # Errors
     ///
-    /// [`SinkFault`] if not all of it was written. What was written is a beginning of it.
+    /// [`SinkFault`] if not all of it was written. What was written is a beginning of it, and the fault
+    /// is counted.
     fn put(&mut self, piece: &[u8]) -> Result<(), SinkFault>
-        ensures ok { OnOk result (Appends (contents self.old) (contents self.new) piece.now) }
-        ensures err { OnErr result (AppendsFront (contents self.old) (contents self.new) piece.now) }
-        ensures failures { failures self.old ≤ failures self.new }
-        ensures fault { OnErr result (Rises (failures self.old) (failures self.new)) };
+        ensures { Puts (sunk self.old) (sunk self.new) piece.now result };
 }
 
 /// A sink over a writer.
@@ -90,7 +86,8 @@ impl<W: Write + Drop> WriteSink<W> {
     /// fault, which is counted.
     fn write_some(&mut self, piece: &[u8]) -> Option<usize>
         ensures count { IfSome result (λ n. (0 < n) × (n ≤ length piece.now)) }
-        ensures some { IfSome result (λ n. Appends self.old.contents self.new.contents (take n piece.now)) }
+        ensures some { IfSome result
+            (λ n. Appends self.old.contents self.new.contents (take n piece.now)) }
         ensures none { IfNone result (Keeps self.old.contents self.new.contents) }
         ensures counts { OnSome result (self.new.failures ≡ self.old.failures) }
         ensures fault { IfNone result (self.new.failures ≡ min (self.old.failures + 1) last_count) }
@@ -107,9 +104,7 @@ impl<W: Write + Drop> WriteSink<W> {
 }
 
 impl<W: Write + Drop> ByteSink for WriteSink<W> {
-    ghost contents = { λ s. s.contents };
-
-    ghost failures = { λ s. s.failures };
+    ghost sunk = { λ s. s };
 
     fn put(&mut self, piece: &[u8]) -> Result<(), SinkFault> {
         let mut rest = piece;

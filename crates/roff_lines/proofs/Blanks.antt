@@ -2,7 +2,7 @@
 use Rattle.std.proofs.Common.{◌≡◌, ℕ, zero, suc, ◌+◌, ◌-◌, true, false, ◌||◌, inl, inr, List, [], ◌∷◌, ◌++◌, length, replicate, refl, ap, ◌∙◌, append_assoc, add-one, arith, ne_eqb}
 use Rattle.std.specs.Prelude.{if◌then◌else◌, ◌==◌}
 use Rattle.std.proofs.lemmas.Bool.{and_right, cases_Bool}
-use Rattle.roff_lines.specs.declared.line.TheConstants.{GAP, FURTHER_BLANK, UNPADDABLE}
+use Rattle.roff_lines.specs.Glyphs.{gap_blank, further_blank, glyph_blank}
 use Rattle.roff_lines.specs.Words.{is_empty}
 use Rattle.roff_lines.specs.Columns.{spaces, added_columns, spread, trimmed, is_blank_mark, without_blanks}
 
@@ -33,9 +33,9 @@ is_empty-spaces (suc n) b xs = refl
 is_empty-spread : (spare gaps i : ℕ) (text : List ℕ) → is_empty (spread spare gaps i text) ≡ is_empty text
 is_empty-spread spare gaps i [] = refl
 is_empty-spread spare gaps i (b ∷ text) =
-    elim (cases_Bool (b == GAP)) [
+    elim (cases_Bool (b == gap_blank)) [
       | inl e ↦ rw e
-      | inr e ↦ rw e (elim (cases_Bool (b == FURTHER_BLANK || b == UNPADDABLE)) [ inl f ↦ rw f | inr f ↦ rw f ])
+      | inr e ↦ rw e (elim (cases_Bool (b == further_blank || b == glyph_blank)) [ inl f ↦ rw f | inr f ↦ rw f ])
     ]
 
 -- blanks before what is left of a text: none where nothing is left
@@ -58,14 +58,14 @@ trimmed-spaces zero xs = indented-zero (trimmed xs)
 trimmed-spaces (suc n) xs = rw (trimmed-spaces n xs) (indented-suc n (trimmed xs))
 
 -- a gap before what is left of a text, as it is written
-spread-gap : (spare gaps i b : ℕ) (text : List ℕ) → b == GAP ≡ true →
+spread-gap : (spare gaps i b : ℕ) (text : List ℕ) → b == gap_blank ≡ true →
     indented (suc (added_columns spare gaps (i + 1) - added_columns spare gaps i)) (spread spare gaps (i + 1) text)
     ≡ spread spare gaps i (if is_empty text then [] else b ∷ text)
 spread-gap spare gaps i b [] e = refl
 spread-gap spare gaps i b (c ∷ text) e = rw (is_empty-spread spare gaps (i + 1) (c ∷ text), e)
 
 -- another blank before what is left of a text, as it is written
-spread-blank : (spare gaps i b : ℕ) (text : List ℕ) → b == GAP ≡ false → (b == FURTHER_BLANK || b == UNPADDABLE) ≡ true →
+spread-blank : (spare gaps i b : ℕ) (text : List ℕ) → b == gap_blank ≡ false → (b == further_blank || b == glyph_blank) ≡ true →
     indented 1 (spread spare gaps i text) ≡ spread spare gaps i (if is_empty text then [] else b ∷ text)
 spread-blank spare gaps i b [] e f = refl
 spread-blank spare gaps i b (c ∷ text) e f = rw (is_empty-spread spare gaps i (c ∷ text), e, f)
@@ -76,12 +76,12 @@ trimmed-spread : (spare gaps i : ℕ) (text : List ℕ) →
 trimmed-spread spare gaps i [] = refl
 trimmed-spread spare gaps i (b ∷ text) =
     let added = added_columns spare gaps (i + 1) - added_columns spare gaps i in
-    elim (cases_Bool (b == GAP)) [
+    elim (cases_Bool (b == gap_blank)) [
       | inl e ↦ rw e (
           trimmed-spaces (suc added) (spread spare gaps (i + 1) text)
           ∙ ap (indented (suc added)) (trimmed-spread spare gaps (i + 1) text)
           ∙ spread-gap spare gaps i b (without_blanks text) e)
-      | inr e ↦ rw e (elim (cases_Bool (b == FURTHER_BLANK || b == UNPADDABLE)) [
+      | inr e ↦ rw e (elim (cases_Bool (b == further_blank || b == glyph_blank)) [
         | inl f ↦ rw (f, trimmed-spread spare gaps i text) (spread-blank spare gaps i b (without_blanks text) e f)
         | inr f ↦ rw (f, trimmed-spread spare gaps i text, e, f)
       ])

@@ -6,8 +6,7 @@ use Rattle.std.proofs.lemmas.List.Folds.{sum_by-replicate}
 use Rattle.std.proofs.lemmas.List.Sums.{sum_by-cons, sum_by-append}
 use Rattle.std.proofs.lemmas.Nat.{le-div}
 use Rattle.std.proofs.Math.Nat.{div-le_self, div-mul-le_self}
-use Rattle.roff_lines.specs.declared.line.TheConstants.{GAP, FURTHER_BLANK, UNPADDABLE}
-use Rattle.roff_lines.specs.Glyphs.{byte_width, text_width, gaps_in}
+use Rattle.roff_lines.specs.Glyphs.{gap_blank, further_blank, glyph_blank, byte_width, text_width, gaps_in}
 use Rattle.roff_lines.specs.Lines.{Finished}
 use Rattle.roff_lines.specs.Columns.{added_columns, spaces, spread, StandsInColumns}
 
@@ -26,22 +25,22 @@ added_columns-le : (spare gaps i : ℕ) → added_columns spare gaps i ≤ added
 added_columns-le spare gaps i = added_by_test (gaps == 0) spare gaps i refl
 
 -- a byte that stands for a blank is one column wide
-mark_width : (further : Bool) (b : ℕ) → (b == FURTHER_BLANK) ≡ further → (further || b == UNPADDABLE) ≡ true → byte_width b ≡ 1
-mark_width true b is_further is_mark = rw (eqb-true b FURTHER_BLANK is_further) refl
-mark_width false b other is_mark = rw (eqb-true b UNPADDABLE is_mark) refl
+mark_width : (further : Bool) (b : ℕ) → (b == further_blank) ≡ further → (further || b == glyph_blank) ≡ true → byte_width b ≡ 1
+mark_width true b is_further is_mark = rw (eqb-true b further_blank is_further) refl
+mark_width false b other is_mark = rw (eqb-true b glyph_blank is_mark) refl
 
 -- a byte that is no gap is written as wide as it is
-written-width : (mark : Bool) (b : ℕ) (rest : List ℕ) → (b == FURTHER_BLANK || b == UNPADDABLE) ≡ mark
+written-width : (mark : Bool) (b : ℕ) (rest : List ℕ) → (b == further_blank || b == glyph_blank) ≡ mark
     → text_width (if mark then 32 ∷ rest else b ∷ rest) ≡ byte_width b + text_width rest
 written-width false b rest other = sum_by-cons byte_width b rest
-written-width true b rest is_mark = rw (mark_width (b == FURTHER_BLANK) b refl is_mark) (sum_by-cons byte_width 32 rest)
+written-width true b rest is_mark = rw (mark_width (b == further_blank) b refl is_mark) (sum_by-cons byte_width 32 rest)
 
 -- the gaps of a text with a byte more
-gaps_in-cons : (b : ℕ) (text : List ℕ) → gaps_in (b ∷ text) ≡ cond (b == GAP) 1 0 + gaps_in text
-gaps_in-cons b text = sum_by-cons (λ x. cond (x == GAP) 1 0) b text
+gaps_in-cons : (b : ℕ) (text : List ℕ) → gaps_in (b ∷ text) ≡ cond (b == gap_blank) 1 0 + gaps_in text
+gaps_in-cons b text = sum_by-cons (λ x. cond (x == gap_blank) 1 0) b text
 
 -- what is written of a gap: its blank, and what is added
-gap-width : (spare gaps i b : ℕ) (text : List ℕ) → (b == GAP) ≡ true
+gap-width : (spare gaps i b : ℕ) (text : List ℕ) → (b == gap_blank) ≡ true
     → text_width (spread spare gaps i (b ∷ text))
     ≡ 1 + ((added_columns spare gaps (i + 1) - added_columns spare gaps i) + text_width (spread spare gaps (i + 1) text))
 gap-width spare gaps i b text is_gap =
@@ -51,18 +50,18 @@ gap-width spare gaps i b text is_gap =
     ∙ ap (λ n. 1 + n) (sum_by-append byte_width (spaces more) rest ∙ ap (λ n. n + text_width rest) (text_width-spaces more)))
 
 -- what is written of a text behind i gaps, and what was added before it
-spread_by_test : (gap : Bool) (spare gaps i b : ℕ) (text : List ℕ) → (b == GAP) ≡ gap
+spread_by_test : (gap : Bool) (spare gaps i b : ℕ) (text : List ℕ) → (b == gap_blank) ≡ gap
     → ((j : ℕ) → added_columns spare gaps j + text_width (spread spare gaps j text) ≡ text_width text + added_columns spare gaps (j + gaps_in text))
     → added_columns spare gaps i + text_width (spread spare gaps i (b ∷ text)) ≡ text_width (b ∷ text) + added_columns spare gaps (i + gaps_in (b ∷ text))
 spread_by_test true spare gaps i b text is_gap before =
-    let wide : byte_width b ≡ 1 = rw (eqb-true b GAP is_gap) refl in
+    let wide : byte_width b ≡ 1 = rw (eqb-true b gap_blank is_gap) refl in
     let one_more : gaps_in (b ∷ text) ≡ 1 + gaps_in text = gaps_in-cons b text ∙ rw is_gap refl in
     let same : added_columns spare gaps (i + gaps_in (b ∷ text)) ≡ added_columns spare gaps (i + 1 + gaps_in text) =
     ap (added_columns spare gaps) (omega (arith, one_more)) in
     omega (arith, same, wide, before (i + 1), added_columns-le spare gaps i, gap-width spare gaps i b text is_gap, sum_by-cons byte_width b text)
 spread_by_test false spare gaps i b text other before =
     let written : text_width (spread spare gaps i (b ∷ text)) ≡ byte_width b + text_width (spread spare gaps i text) =
-    rw other (written-width (b == FURTHER_BLANK || b == UNPADDABLE) b (spread spare gaps i text) refl) in
+    rw other (written-width (b == further_blank || b == glyph_blank) b (spread spare gaps i text) refl) in
     let no_more : gaps_in (b ∷ text) ≡ gaps_in text =
     gaps_in-cons b text ∙ rw other (zero-add (gaps_in text)) in
     let same : added_columns spare gaps (i + gaps_in (b ∷ text)) ≡ added_columns spare gaps (i + gaps_in text) =
@@ -73,7 +72,7 @@ spread-width : (spare gaps i : ℕ) (text : List ℕ)
     → added_columns spare gaps i + text_width (spread spare gaps i text) ≡ text_width text + added_columns spare gaps (i + gaps_in text)
 spread-width spare gaps i [] =
     let same : added_columns spare gaps i ≡ added_columns spare gaps (i + 0) = ap (added_columns spare gaps) (sym (add-zero i)) in omega (arith, same)
-spread-width spare gaps i (b ∷ text) = spread_by_test (b == GAP) spare gaps i b text refl (λ j. spread-width spare gaps j text)
+spread-width spare gaps i (b ∷ text) = spread_by_test (b == gap_blank) spare gaps i b text refl (λ j. spread-width spare gaps j text)
 
 -- before the first gap nothing is added
 added_before_none : (none : Bool) (spare gaps : ℕ) → (gaps == 0) ≡ none → added_columns spare gaps 0 ≡ 0

@@ -4,5 +4,9 @@ pub mod PendingLine
 pub mod Stands
 pub mod WordEnd
 pub mod LineEnd
+pub mod Telling
+pub mod Printing
 pub mod Filling
+pub mod ToldWords
+pub mod Paragraphs
 pub mod Columns

@@ -3,7 +3,7 @@ use Rattle.std.proofs.Common.{◌≡◌, ℕ, ◌+◌, ◌-◌, ◌≤◌, true,
 use Rattle.std.specs.Prelude.{if◌then◌else◌}
 use Rattle.std.proofs.lemmas.Bool.{cond_both, cases_Bool, not-false, eqb-true, eqb-false}
 use Rattle.std.proofs.lemmas.List.{length-append, length-replicate}
-use Rattle.roff_lines.specs.declared.line.TheConstants.{GAP, FURTHER_BLANK}
+use Rattle.roff_lines.specs.Glyphs.{gap_blank, further_blank}
 use Rattle.roff_lines.specs.Events.{WordEnd, LineEnd, History, settings_after}
 use Rattle.roff_lines.specs.Words.{Word, word_text, is_empty, open_glyphs, has_open_word, open_word, words}
 use Rattle.roff_lines.specs.Lines.{gap_text, line_text, line_indent, fits, placed, last_line, pending_line, pending_length}
@@ -45,7 +45,7 @@ is_empty-last_line (w ∷ ws) = is_empty-placed (last_line ws) w
 -- a gap's text has a byte for each blank
 length-gap_text : (n : ℕ) → length (gap_text n) ≡ n
 length-gap_text n =
-    cond_both (eqb n 0) [] (GAP ∷ replicate (n - 1) FURTHER_BLANK) (λ text. length text ≡ n)
+    cond_both (eqb n 0) [] (gap_blank ∷ replicate (n - 1) further_blank) (λ text. length text ≡ n)
     (λ e. omega (arith, eqb-true n 0 e))
     (λ e. simp length-replicate (omega (arith, eqb-false n 0 e)))
 

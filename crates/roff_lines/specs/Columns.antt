@@ -1,10 +1,10 @@
 -- Where a finished line's text stands, and what it writes (manual, section 4.1).
-use Rattle.std.specs.Prelude.{◌≡◌, ℕ, ◌+◌, ◌-◌, ◌*◌, ◌/◌, Bool, ◌&&◌, ◌||◌, List, [], ◌∷◌, ◌++◌, take, replicate, if◌then◌else◌, ◌==◌}
+use Rattle.std.specs.Prelude.{◌≡◌, ℕ, ◌+◌, ◌-◌, ◌*◌, ◌/◌, Bool, ◌&&◌, ◌||◌, List, [], ◌∷◌, ◌++◌, take, replicate, Option, option_map, if◌then◌else◌, ◌==◌}
 use Rattle.roff_lines.specs.declared.line.Line.{Line}
-use Rattle.roff_lines.specs.declared.line.TheConstants.{GAP, FURTHER_BLANK, UNPADDABLE}
-use Rattle.roff_lines.specs.Glyphs.{text_width, gaps_in}
+use Rattle.roff_lines.specs.Glyphs.{gap_blank, further_blank, glyph_blank, text_width, gaps_in}
 use Rattle.roff_lines.specs.Words.{is_empty}
-use Rattle.roff_lines.specs.Lines.{Finished}
+use Rattle.roff_lines.specs.Events.{Break, History}
+use Rattle.roff_lines.specs.Lines.{Finished, finished}
 
 -- the line that was handed out
 abbrev pub finished_of : Line → Finished
@@ -30,9 +30,9 @@ spaces n = replicate n 32
 abbrev pub spread : ℕ → ℕ → ℕ → List ℕ → List ℕ
 spread spare gaps i [] = []
 spread spare gaps i (b ∷ text) =
-    if b == GAP
+    if b == gap_blank
     then 32 ∷ (spaces (added_columns spare gaps (i + 1) - added_columns spare gaps i) ++ spread spare gaps (i + 1) text)
-    else if b == FURTHER_BLANK || b == UNPADDABLE then 32 ∷ spread spare gaps i text
+    else if b == further_blank || b == glyph_blank then 32 ∷ spread spare gaps i text
     else b ∷ spread spare gaps i text
 
 -- a text without its trailing blanks
@@ -44,9 +44,13 @@ trimmed (b ∷ text) = let rest = trimmed text in if b == 32 && is_empty rest th
 abbrev pub line_bytes : Finished → List ℕ
 line_bytes l = trimmed (spaces l.lead ++ spread l.spare l.gaps 0 l.text) ++ 10 ∷ replicate l.after 10
 
+-- what a break writes, if it finishes a line
+abbrev pub written_by_break : History → Option (List ℕ)
+written_by_break h = option_map line_bytes (finished h Break)
+
 -- whether a byte of a text stands for a blank
 abbrev pub is_blank_mark : ℕ → Bool
-is_blank_mark b = b == GAP || (b == FURTHER_BLANK || b == UNPADDABLE)
+is_blank_mark b = b == gap_blank || (b == further_blank || b == glyph_blank)
 
 -- a line's text without its trailing blanks
 abbrev pub without_blanks : List ℕ → List ℕ

@@ -5,16 +5,27 @@
 use Rattle.std.specs.Prelude.{ℕ, ◌&&◌, List, [], ◌∷◌, nat_le, nat_lt, replicate, sum_by, count_by, if◌then◌else◌, ◌==◌}
 use Rattle.roff_lines.specs.declared.glyph.Glyph.{Glyph}
 use Rattle.roff_lines.specs.declared.glyph.Glyph.TheVariants.{Printed, Blanks}
-use Rattle.roff_lines.specs.declared.line.TheConstants.{GAP, UNPADDABLE}
+
+-- the byte for the first blank of a gap
+abbrev pub gap_blank : ℕ
+gap_blank = 0x20
+
+-- the byte for each further blank of a gap
+abbrev pub further_blank : ℕ
+further_blank = 0x01
+
+-- the byte for a blank of a glyph
+abbrev pub glyph_blank : ℕ
+glyph_blank = 0x00
 
 -- what stands for a printed byte: itself, or the blank of a glyph if it isn't above the blank
 abbrev pub text_byte : ℕ → ℕ
-text_byte b = if nat_le b GAP then UNPADDABLE else b
+text_byte b = if nat_le b 32 then glyph_blank else b
 
 -- a glyph's text
 abbrev pub glyph_text : Glyph → List ℕ
 glyph_text (Printed b) = text_byte b ∷ []
-glyph_text (Blanks n) = replicate n UNPADDABLE
+glyph_text (Blanks n) = replicate n glyph_blank
 
 -- the columns of one byte of a text: none where it goes on with a character of several bytes
 abbrev pub byte_width : ℕ → ℕ
@@ -26,4 +37,4 @@ text_width text = sum_by byte_width text
 
 -- the gaps of a text, each counted by its first blank
 abbrev pub gaps_in : List ℕ → ℕ
-gaps_in text = count_by (λ b. b == GAP) text
+gaps_in text = count_by (λ b. b == gap_blank) text

@@ -2,6 +2,7 @@ pub mod Glyphs
 pub mod Settings
 pub mod Events
 pub mod Words
+pub mod Telling
 pub mod Lines
 pub mod Columns
 pub mod Stretch
@@ -9,3 +10,5 @@ pub mod Env
 pub mod Shape
 pub mod LineBytes
 pub mod Filling
+pub mod Paragraphs
+pub mod Clauses

@@ -2,16 +2,15 @@
 --
 -- A line's words are kept as the history is, the newest first.
 use Rattle.std.specs.Prelude.{ℕ, ◌+◌, ◌-◌, ◌/◌, Bool, true, false, not, ◌&&◌, ◌||◌, List, [], ◌∷◌, ◌++◌, length, nat_le, replicate, Option, Some, None, if◌then◌else◌, ◌==◌}
-use Rattle.roff_lines.specs.declared.line.TheConstants.{GAP, FURTHER_BLANK}
 use Rattle.roff_lines.specs.declared.settings.Settings.{Settings}
 use Rattle.roff_lines.specs.declared.settings.AdjustMode.TheVariants.{Left, Right, Centre, Both}
-use Rattle.roff_lines.specs.Glyphs.{text_width, gaps_in}
+use Rattle.roff_lines.specs.Glyphs.{gap_blank, further_blank, text_width, gaps_in}
 use Rattle.roff_lines.specs.Events.{Event, WordEnd, LineEnd, Break, History, settings_after}
 use Rattle.roff_lines.specs.Words.{Word, word_text, is_empty, has_open_word, blanks, open_word, words}
 
 -- a gap's text: its first blank, and each further one
 abbrev pub gap_text : ℕ → List ℕ
-gap_text n = if n == 0 then [] else GAP ∷ replicate (n - 1) FURTHER_BLANK
+gap_text n = if n == 0 then [] else gap_blank ∷ replicate (n - 1) further_blank
 
 -- a line's text: the words, and the gaps between them
 abbrev pub line_text : List Word → List ℕ

@@ -2,11 +2,7 @@
 
 ghost use Rattle.std.specs.Prelude.{◌≡◌, ℕ, ◌+◌, ◌<◌, ◌≤◌, ◌^◌, ◌↔◌, [], ◌∷◌, ◌++◌, length, IfOk, OnOk, OnErr, IsErr, IsOkUnless, option_map};
 ghost use Rattle.std.specs.Borrow.{sem};
-ghost use Rattle.roff_lines.specs.Columns.{finished_of};
-ghost use Rattle.roff_lines.specs.Events.{Print, WordEnd, Gap, LineEnd, Break, Set, History, settings_after};
-ghost use Rattle.roff_lines.specs.Glyphs.{text_width};
-ghost use Rattle.roff_lines.specs.Lines.{finished, gap_text, may_be_wide, pending_length};
-ghost use Rattle.roff_lines.specs.Shape.Shaped.{shaped};
+ghost use Rattle.roff_lines.specs.Clauses.{finished_of, Print, WordEnd, Gap, LineEnd, Break, Set, History, settings_after, text_width, finished, gap_text, may_be_wide, pending_length, shaped};
 
 use crate::glyph::{Glyph, kept_byte};
 use crate::line::{FURTHER_BLANK, GAP, Line, UNPADDABLE};
@@ -53,7 +49,7 @@ impl Model for Env {
 
 impl Env {
     ghost use Rattle.roff_lines.specs.Env.Kept.{with_word_ended, finished_by_word, with_line_finished, finished_by_break, with_input_line_ended, finished_by_line_end};
-    ghost use Rattle.roff_lines.specs.Env.Stands.{Stands};
+    ghost use Rattle.roff_lines.specs.Env.Stands.{Stands, StandsBehind, Finishes};
     ghost use Rattle.roff_lines.specs.Env.Rests.{RestsBehind};
 
     /// An environment in which nothing has happened, whose pending line may have `line_cap` bytes.
@@ -79,7 +75,8 @@ impl Env {
     /// What is in force.
     pub fn settings(&self) -> Settings
         ensures kept { result ≡ self.now.settings }
-        ensures in_force { (line_cap : ℕ) (h : History) → Stands line_cap h self.now → result ≡ settings_after h }
+        ensures in_force { (line_cap : ℕ) (h : History)
+            → Stands line_cap h self.now → result ≡ settings_after h }
     {
         self.settings
     }
@@ -91,8 +88,9 @@ impl Env {
     /// [`Limit::Line`] if the pending line would pass its limit; the environment is then as it was.
     #[inline(always)]
     pub fn glyph(&mut self, glyph: Glyph) -> Result<(), Limit>
-        ensures stands { OnOk result ((line_cap : ℕ) (h : History) → Stands line_cap h self.old → Stands line_cap (Print glyph ∷ h) self.new) }
-        ensures limit { (line_cap : ℕ) (h : History) → Stands line_cap h self.old → (IsErr result ↔ (line_cap < pending_length (Print glyph ∷ h))) }
+        ensures stands { OnOk result (StandsBehind self.old (Print glyph) self.new) }
+        ensures limit { (line_cap : ℕ) (h : History) → Stands line_cap h self.old
+            → (IsErr result ↔ (line_cap < pending_length (Print glyph ∷ h))) }
         ensures error { IsOkUnless result Limit.Line }
         ensures unchanged { OnErr result (self.new ≡ self.old) }
     {
@@ -113,7 +111,7 @@ impl Env {
 
     /// Adds so many blanks to the gap between words.
     pub fn gap(&mut self, blanks: u32)
-        ensures { (line_cap : ℕ) (h : History) → Stands line_cap h self.old → Stands line_cap (Gap blanks ∷ h) self.new }
+        ensures { StandsBehind self.old (Gap blanks) self.new }
     {
         if !self.is_open {
             self.blanks = (self.blanks + u64::from(blanks)).min(MOST_BLANKS);
@@ -123,7 +121,7 @@ impl Env {
     /// Ends the open word, which finishes the pending line if the word doesn't fit there.
     pub fn end_word(&mut self) -> Option<Line<'_>>
         ensures* stands { sem 𝓛 (RestsBehind self.entry WordEnd) }
-        ensures line { (line_cap : ℕ) (h : History) → Stands line_cap h self.old → option_map finished_of result ≡ finished h WordEnd }
+        ensures line { Finishes self.old WordEnd (option_map finished_of result) }
     {
         let shape = self.place_word();
         self.lent(shape)
@@ -132,7 +130,7 @@ impl Env {
     /// Ends a line of the input, which finishes the pending line where nothing is filled.
     pub fn end_line(&mut self) -> Option<Line<'_>>
         ensures* stands { sem 𝓛 (RestsBehind self.entry LineEnd) }
-        ensures line { (line_cap : ℕ) (h : History) → Stands line_cap h self.old → option_map finished_of result ≡ finished h LineEnd }
+        ensures line { Finishes self.old LineEnd (option_map finished_of result) }
     {
         let shape = self.finish_input_line();
         self.lent(shape)
@@ -141,7 +139,7 @@ impl Env {
     /// Finishes the pending line.
     pub fn brk(&mut self) -> Option<Line<'_>>
         ensures* stands { sem 𝓛 (RestsBehind self.entry Break) }
-        ensures line { (line_cap : ℕ) (h : History) → Stands line_cap h self.old → option_map finished_of result ≡ finished h Break }
+        ensures line { Finishes self.old Break (option_map finished_of result) }
     {
         let shape = self.finish_pending();
         self.lent(shape)
@@ -149,14 +147,15 @@ impl Env {
 
     /// Changes a parameter.
     pub fn set(&mut self, param: Param)
-        ensures { (line_cap : ℕ) (h : History) → Stands line_cap h self.old → Stands line_cap (Set param ∷ h) self.new }
+        ensures { StandsBehind self.old (Set param) self.new }
     {
         self.settings = self.settings.with(param);
     }
 
     /// The finished line, in this shape.
     fn lent(&self, shape: Option<Shape>) -> Option<Line<'_>>
-        ensures { option_map finished_of result ≡ option_map (λ s. shaped s self.now.finished) shape }
+        ensures { option_map finished_of result
+            ≡ option_map (λ s. shaped s self.now.finished) shape }
     {
         match shape {
             Some(shape) => Some(shape.over(self.finished.as_slice())),
@@ -167,7 +166,8 @@ impl Env {
     /// Puts the open word into the pending line, or into a line of its own behind it.
     fn place_word(&mut self) -> Option<Shape>
         ensures kept { self.new ≡ with_word_ended self.old }
-        ensures line { option_map (λ s. shaped s self.new.finished) result ≡ finished_by_word self.old }
+        ensures line { option_map (λ s. shaped s self.new.finished) result
+            ≡ finished_by_word self.old }
     {
         if !self.is_open {
             return None;
@@ -202,7 +202,8 @@ impl Env {
     /// Finishes the pending line where nothing is filled, and else sets the gap of a line's end.
     fn finish_input_line(&mut self) -> Option<Shape>
         ensures kept { self.new ≡ with_input_line_ended self.old }
-        ensures line { option_map (λ s. shaped s self.new.finished) result ≡ finished_by_line_end self.old }
+        ensures line { option_map (λ s. shaped s self.new.finished) result
+            ≡ finished_by_line_end self.old }
     {
         let ends_gap = !self.is_open && self.has_glyph;
         let gap = if self.ends_sentence { 2 } else { 1 };
@@ -226,7 +227,8 @@ impl Env {
     /// Finishes the pending line, if there is one.
     fn finish_pending(&mut self) -> Option<Shape>
         ensures kept { self.new ≡ with_line_finished self.old }
-        ensures line { option_map (λ s. shaped s self.new.finished) result ≡ finished_by_break self.old }
+        ensures line { option_map (λ s. shaped s self.new.finished) result
+            ≡ finished_by_break self.old }
     {
         if !self.is_open {
             self.blanks = 0;
@@ -242,13 +244,14 @@ impl Env {
     }
 }
 
-/// Whether a word fits behind a line: with the indent within the line length, and always where nothing
-/// is filled.
+/// Whether a word fits behind a line: with the indent within the line length, and always where
+/// nothing is filled.
 fn fits(settings: Settings, indent: u32, line: &Stretch, blanks: u64, word: &Stretch) -> bool
     requires blanks { blanks ≤ 2 ^ 33 }
     requires line { line.now.room < 2 ^ 32 }
     requires word { word.now.room < 2 ^ 32 }
-    ensures { result ≡ may_be_wide settings indent (text_width line.now.text + blanks + text_width word.now.text) }
+    ensures { let width = text_width line.now.text + blanks + text_width word.now.text in
+        result ≡ may_be_wide settings indent width }
 {
     let width = line.width() + blanks + word.width();
     !settings.filling || u64::from(indent) + width <= u64::from(settings.line_length)

@@ -1,10 +1,9 @@
 //! Glyphs: what a line prints in one piece.
 
 ghost use Rattle.std.specs.Prelude.{◌≡◌, length, if◌then◌else◌};
-ghost use Rattle.roff_lines.specs.Glyphs.{byte_width, glyph_text, text_byte};
-ghost use Rattle.roff_lines.specs.Words.{is_closer, is_sentence_mark};
+ghost use Rattle.roff_lines.specs.Clauses.{byte_width, glyph_text, text_byte, is_closer, is_sentence_mark};
 
-use crate::line::{GAP, UNPADDABLE};
+use crate::line::UNPADDABLE;
 
 /// A printed text with a width in columns.
 #[derive(Clone, Copy, Debug, PartialEq, Eq)]
@@ -50,5 +49,5 @@ pub(crate) fn width_of_byte(byte: u8) -> u64
 pub(crate) fn kept_byte(byte: u8) -> u8
     ensures { result ≡ text_byte byte }
 {
-    if byte <= GAP { UNPADDABLE } else { byte }
+    if byte <= b' ' { UNPADDABLE } else { byte }
 }

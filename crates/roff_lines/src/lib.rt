@@ -1,10 +1,12 @@
 //! Lines: what one environment keeps of a text, and the lines that it finishes.
 //!
 //! An environment is told glyphs, gaps, word ends, line ends, breaks and changes of its parameters.
-//! It fills and adjusts lines as the manual's section 4 says, and hands out each line once it is finished.
+//! It fills and adjusts lines as the manual's section 4 says, and hands out each line once it is
+//! finished.
 #![tactic(auto)]
 
 mod env;
+mod event;
 mod glyph;
 pub mod laws;
 mod line;
@@ -14,6 +16,7 @@ mod shape;
 mod stretch;
 
 pub use env::Env;
+pub use event::Event;
 pub use glyph::Glyph;
 pub use line::{FURTHER_BLANK, GAP, Line, UNPADDABLE};
 pub use line_bytes::LineBytes;

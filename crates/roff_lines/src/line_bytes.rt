@@ -1,13 +1,13 @@
 //! What a finished line writes.
 
 ghost use Rattle.std.specs.Prelude.{◌≡◌, ◌+◌, ◌*◌, ◌/◌, ◌-◌};
-ghost use Rattle.roff_lines.specs.Columns.{finished_of, line_bytes, added_columns, is_blank_mark, without_blanks};
+ghost use Rattle.roff_lines.specs.Clauses.{finished_of, line_bytes, added_columns, is_blank_mark, without_blanks};
 
 use crate::line::{FURTHER_BLANK, GAP, Line, UNPADDABLE};
 use std::marker::Model;
 
-/// The bytes that a line writes: its lead, its text with the blanks spread, a newline, and its blank
-/// lines. Trailing blanks are left out.
+/// The bytes that a line writes: its lead, its text with the blanks spread, a newline, and its
+/// blank lines. Trailing blanks are left out.
 #[derive(Drop)]
 pub struct LineBytes<'a> {
     /// What is left of the text.

@@ -1,7 +1,7 @@
 //! The parameters of an environment (manual, sections 4 and 6).
 
 ghost use Rattle.std.specs.Prelude.{◌≡◌};
-ghost use Rattle.roff_lines.specs.Settings.{initial_settings, settings_with};
+ghost use Rattle.roff_lines.specs.Clauses.{initial_settings, settings_with};
 
 /// How lines are adjusted (manual, section 4.1, the request `ad`).
 #[derive(Clone, Copy, Debug, PartialEq, Eq)]
@@ -51,7 +51,8 @@ pub struct Settings {
 }
 
 impl Settings {
-    /// What is in force at first: filling, both edges even, a line of 65 columns (6.5 inches), no indent.
+    /// What is in force at first: filling, both edges even, a line of 65 columns (6.5 inches), no
+    /// indent.
     pub fn initial() -> Settings
         ensures { result ≡ initial_settings }
     {

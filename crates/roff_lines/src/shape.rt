@@ -1,9 +1,7 @@
 //! How a line is laid out as it is finished.
 
 ghost use Rattle.std.specs.Prelude.{◌≡◌, ◌<◌, ◌^◌, []};
-ghost use Rattle.roff_lines.specs.Columns.{finished_of};
-ghost use Rattle.roff_lines.specs.Lines.{empty_line, laid_out};
-ghost use Rattle.roff_lines.specs.Shape.Shaped.{shaped};
+ghost use Rattle.roff_lines.specs.Clauses.{finished_of, empty_line, laid_out, shaped};
 
 use crate::line::Line;
 use crate::settings::{AdjustMode, Settings};

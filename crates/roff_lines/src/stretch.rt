@@ -1,7 +1,7 @@
 //! A part of a line's text, in a buffer reserved from the start.
 
 ghost use Rattle.std.specs.Prelude.{◌≡◌, ℕ, ◌+◌, ◌<◌, ◌≤◌, [], ◌∷◌, ◌++◌, length, replicate, IfOk};
-ghost use Rattle.roff_lines.specs.Glyphs.{text_width, gaps_in};
+ghost use Rattle.roff_lines.specs.Clauses.{text_width, gaps_in};
 
 use crate::glyph::width_of_byte;
 use crate::line::GAP;

@@ -11,11 +11,11 @@ use Rattle.std.proofs.lemmas.List.Sums.{take_while-cons}
 use Rattle.std.proofs.lemmas.List.Folds.{length-prefix_len}
 
 -- a digit's value
-digit_value-lt : (c : ℕ) → is_ascii_digit c ≡ true → digit_value c < 10
+pub digit_value-lt : (c : ℕ) → is_ascii_digit c ≡ true → digit_value c < 10
 digit_value-lt c digit = grind (arith, nat_tests)
 
 -- a byte in front of digits, if it is one
-AllDigits-cond : (b : Bool) (c : ℕ) (digits : List ℕ) → is_ascii_digit c ≡ b → AllDigits 10 digits → AllDigits 10 (cond b (c ∷ digits) [])
+pub AllDigits-cond : (b : Bool) (c : ℕ) (digits : List ℕ) → is_ascii_digit c ≡ b → AllDigits 10 digits → AllDigits 10 (cond b (c ∷ digits) [])
 AllDigits-cond true c digits e all = (digit_value-lt c e, all)
 AllDigits-cond false c digits e all = tt
 

@@ -10,3 +10,4 @@ pub mod Folds
 pub mod Openings
 pub mod Comings
 pub mod LeftFold
+pub mod DefaultTexts

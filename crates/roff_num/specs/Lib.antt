@@ -14,3 +14,4 @@ pub mod Numerals
 pub mod Expressions
 pub mod Reading
 pub mod Laws
+pub mod Clauses

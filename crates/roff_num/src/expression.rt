@@ -1,13 +1,9 @@
-//! An expression that is being read, from the left, with a frame for each operand that holds another one.
+//! An expression that is being read, from the left, with a frame for each operand that holds
+//! another one.
 
 ghost use Rattle.std.specs.Prelude.{◌≡◌, ◌-◌, ◌<◌, ◌≤◌, ℕ, [], ◌∷◌, length, drop, reverse, nat_lt, ℤ, Option, IfOk, OnOk, FitsSigned, neg_ℤ, if◌then◌else◌};
-ghost use Rattle.std.specs.Int.{w64};
-ghost use Rattle.roff_num.specs.Expressions.{most_levels, sign_at};
+ghost use Rattle.roff_num.specs.Clauses.{w64, most_levels, sign_at, in_range, signed, followed, array_vec_len, Scale};
 ghost use Rattle.roff_num.specs.Reading.Frames.{combined};
-ghost use Rattle.roff_num.specs.Ranges.{in_range, signed};
-ghost use Rattle.roff_num.specs.Steps.{followed};
-ghost use Rattle.arrayvec.specs.ArrayVec.{array_vec_len};
-ghost use Rattle.roff_num.specs.declared.num.Scale.{Scale};
 
 use crate::num::{NumFault, Scale};
 use crate::numeral::{in_range, read_numeral};
@@ -97,7 +93,8 @@ impl Reading {
         place: Option<i32>,
         operand: Option<i32>,
     ) -> Result<Next, NumFault>
-        ensures goes_on { outcome_stepped text.now scale place self.new result ≡ outcome_now text.now scale place self.old operand }
+        ensures goes_on { outcome_stepped text.now scale place self.new result
+            ≡ outcome_now text.now scale place self.old operand }
         ensures less_left { IfOk result (LeavesLess text.now self.old self.new) }
     {
         match operand {
@@ -108,7 +105,8 @@ impl Reading {
 
     /// Reads an operand's sign, and a numeral or what opens an operand within.
     fn open(&mut self, text: &[u8], scale: Scale, place: Option<i32>) -> Result<Next, NumFault>
-        ensures goes_on { outcome_stepped text.now scale place self.new result ≡ outcome_opened text.now scale place self.old }
+        ensures goes_on { outcome_stepped text.now scale place self.new result
+            ≡ outcome_opened text.now scale place self.old }
         ensures less_left { IfOk result (LeavesLess text.now self.old self.new) }
     {
         prove!(self.frames.len() <= MOST_NESTED);
@@ -135,7 +133,9 @@ impl Reading {
 
     /// Goes on within an operand, which begins at a place.
     fn enter(&mut self, at: usize, negative: bool, opening: Opening) -> Result<Next, NumFault>
-        ensures answer { result ≡ (if nat_lt (array_vec_len self.old.frames) 32 then Ok Next.Opened else Err NumFault.Missing) }
+        ensures answer { result
+            ≡ (if nat_lt (array_vec_len self.old.frames) 32 then Ok Next.Opened
+            else Err NumFault.Missing) }
         ensures entered { OnOk result (self.new ≡ entered self.old at negative opening) }
     {
         let pending = self.pending;
@@ -153,10 +153,12 @@ impl Reading {
         }
     }
 
-    /// Goes on behind an operand of a value: to the next operand, out of the operand that holds it, or to
-    /// the expression's end.
+    /// Goes on behind an operand of a value: to the next operand, out of the operand that holds it,
+    /// or to the expression's end.
     fn close(&mut self, text: &[u8], value: i32) -> Result<Next, NumFault>
-        ensures goes_on { (scale : Scale) (place : Option ℤ) → outcome_stepped text.now scale place self.new result ≡ outcome_behind text.now scale place self.old value }
+        ensures goes_on { (scale : Scale) (place : Option ℤ)
+            → outcome_stepped text.now scale place self.new result
+            ≡ outcome_behind text.now scale place self.old value }
         ensures less_left { IfOk result (LeavesLess text.now self.old self.new) }
     {
         let value = match combined(self.pending, value) {
@@ -175,10 +177,12 @@ impl Reading {
         }
     }
 
-    /// Goes on behind a value that no operand holds: to the next operand, or to the expression's end.
+    /// Goes on behind a value that no operand holds: to the next operand, or to the expression's
+    /// end.
     fn end(&mut self, text: &[u8], value: i32) -> Result<Next, NumFault>
         requires { self.old.frames.items ≡ [] }
-        ensures goes_on { (scale : Scale) (place : Option ℤ) → outcome_stepped text.now scale place self.new result
+        ensures goes_on { (scale : Scale) (place : Option ℤ)
+            → outcome_stepped text.now scale place self.new result
             ≡ come_to text.now scale place most_levels [] value self.old.at }
         ensures less_left { IfOk result (LeavesLess text.now self.old self.new) }
     {
@@ -192,14 +196,17 @@ impl Reading {
         }
     }
 
-    /// Goes on behind a value that an operand in parentheses holds: to the next operand, or out of the
-    /// parentheses.
+    /// Goes on behind a value that an operand in parentheses holds: to the next operand, or out of
+    /// the parentheses.
     fn close_parenthesis(&mut self, text: &[u8], frame: Frame, value: i32) -> Result<Next, NumFault>
         requires parenthesis { frame.opening ≡ Opening.Parenthesis }
         requires room { array_vec_len self.old.frames < 32 }
-        ensures goes_on { (scale : Scale) (place : Option ℤ) → outcome_stepped text.now scale place self.new result
-            ≡ come_to text.now scale place (32 - array_vec_len self.old.frames) (frame ∷ reverse self.old.frames.items) value self.old.at }
-        ensures less_left { IfOk result (λ next. LeavesLess text.now (with_frame frame self.old) self.new next) }
+        ensures goes_on { (scale : Scale) (place : Option ℤ)
+            → outcome_stepped text.now scale place self.new result
+            ≡ come_to text.now scale place (32 - array_vec_len self.old.frames)
+            (frame ∷ reverse self.old.frames.items) value self.old.at }
+        ensures less_left { IfOk result
+            (λ next. LeavesLess text.now (with_frame frame self.old) self.new next) }
     {
         let rest = text_from(text, self.at);
         match Operator::read(rest) {
@@ -217,7 +224,8 @@ impl Reading {
     /// Leaves an operand of a value, without its sign, that ends at a place.
     fn leave(&mut self, frame: Frame, at: usize, value: i64) -> Result<Next, NumFault>
         requires { FitsSigned w64 (neg_ℤ value) }
-        ensures answer { result ≡ followed (in_range (signed frame.negative value)) (λ v. Ok (Next.Operand v)) }
+        ensures answer { result
+            ≡ followed (in_range (signed frame.negative value)) (λ v. Ok (Next.Operand v)) }
         ensures left { OnOk result (self.new ≡ left_behind frame at self.old) }
     {
         match signed_in_range(frame.negative, value) {

@@ -1,14 +1,7 @@
 //! The formats of registers: how a value is written.
 
 ghost use Rattle.std.specs.Prelude.{◌≡◌, ◌+◌, ◌^◌, ◌≤◌, ◌++◌, drop, length, min, replicate};
-ghost use Rattle.std.specs.Char.{is_ascii_digit};
-ghost use Rattle.std.specs.List.{list_all};
-ghost use Rattle.std.specs.Str.{str_to_ascii_uppercase};
-ghost use Rattle.arrayvec.specs.ArrayVec.{array_vec_len};
-ghost use Rattle.roff_num.specs.Formats.{format_of, is_field, letter_format};
-ghost use Rattle.roff_num.specs.RegisterText.{alphabetic_text, decimal_field, register_text, roman_text, size_text};
-ghost use Rattle.roff_num.specs.Roman.{digit_of, hundreds, ones, roman, tens, thousands};
-ghost use Rattle.roff_num.specs.Alphabetic.{word};
+ghost use Rattle.roff_num.specs.Clauses.{is_ascii_digit, list_all, str_to_ascii_uppercase, array_vec_len, format_of, is_field, letter_format, alphabetic_text, decimal_field, register_text, roman_text, size_text, digit_of, hundreds, ones, roman, tens, thousands, word};
 
 use crate::num::Num;
 use arrayvec::ArrayVec;
@@ -41,8 +34,8 @@ const GREATEST_ROMAN: u32 = 3999;
 /// The most letters of a number of at most 2147483648.
 const MOST_LETTERS: usize = 7;
 
-/// The format that a text names: one of the letters `i`, `I`, `a` and `A`, or 1 to 32 digits for a field
-/// of as many. None if it is no format.
+/// The format that a text names: one of the letters `i`, `I`, `a` and `A`, or 1 to 32 digits for a
+/// field of as many. None if it is no format.
 pub fn read_format(text: &[u8]) -> Option<Format>
     ensures { result ≡ format_of text.now }
 {
@@ -55,8 +48,8 @@ pub fn read_format(text: &[u8]) -> Option<Format>
     }
 }
 
-/// Writes a value in a format, in place of what the text held. A negative value is `-` and the text of
-/// its size.
+/// Writes a value in a format, in place of what the text held. A negative value is `-` and the text
+/// of its size.
 pub fn write_num(value: Num, format: Format, text: &mut NumText)
     ensures { text.new.items ≡ register_text format value.0 }
 {

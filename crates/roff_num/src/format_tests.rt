@@ -1,5 +1,5 @@
-//! Formats and texts that a program in another language made, to show that the definitions say what is
-//! meant: Roman numbers by taking away the greatest part, words by listing them.
+//! Formats and texts that a program in another language made, to show that the definitions say what
+//! is meant: Roman numbers by taking away the greatest part, words by listing them.
 
 use crate::{Format, Num, NumText, read_format, write_num};
 use std::test::Fail;

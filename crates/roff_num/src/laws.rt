@@ -1,17 +1,7 @@
 //! Facts about the definitions alone, as contracts of functions that do nothing.
 
 ghost use Rattle.std.specs.Prelude.{◌≡◌, ℕ, ◌+◌, ◌<◌, ◌≤◌, ◌^◌, length, decimal, List, Some, None, [], codes, pos, negsuc};
-ghost use Rattle.std.specs.Str.Parse.{AllDigits, digits_value};
-ghost use Rattle.roff_num.specs.declared.format.Format.{Format};
-ghost use Rattle.roff_num.specs.declared.format.Format.TheVariants.{Decimal, RomanLower, RomanUpper, AlphaLower, AlphaUpper};
-ghost use Rattle.roff_num.specs.RegisterText.{decimal_field, register_text};
-ghost use Rattle.roff_num.specs.Formats.{format_of, IsWritten};
-ghost use Rattle.roff_num.specs.Roman.{roman, roman_value};
-ghost use Rattle.roff_num.specs.Alphabetic.{ComesBefore, IsOverLetters, place, word};
-ghost use Rattle.roff_num.specs.Expressions.{value_at};
-ghost use Rattle.roff_num.specs.Laws.{IsLeftFold};
-ghost use Rattle.roff_num.specs.declared.num.NumFault.TheVariants.{Missing, Range, ZeroDivisor};
-ghost use Rattle.roff_num.specs.declared.num.Scale.TheVariants.{Units};
+ghost use Rattle.roff_num.specs.Clauses.{AllDigits, digits_value, Format, Decimal, RomanLower, RomanUpper, AlphaLower, AlphaUpper, decimal_field, register_text, format_of, IsWritten, roman, roman_value, ComesBefore, IsOverLetters, place, word, value_at, IsLeftFold, Missing, Range, ZeroDivisor, Units};
 
 /// What the definitions give for some values in letters.
 pub fn alphabetic_rows()
@@ -34,7 +24,8 @@ pub fn roman_rows()
     ensures last { register_text RomanLower (pos 3999) ≡ codes "mmmcmxcix" }
     ensures past_the_last { register_text RomanLower (pos 4000) ≡ codes "4000" }
     ensures negative { register_text RomanLower (negsuc 4) ≡ codes "-v" }
-    ensures negative_past_the_last { register_text RomanUpper (negsuc 2147483647) ≡ codes "-2147483648" }
+    ensures negative_past_the_last { register_text RomanUpper (negsuc 2147483647)
+        ≡ codes "-2147483648" }
 {}
 
 /// What the definitions give for some values in decimal fields.
@@ -44,7 +35,8 @@ pub fn decimal_rows()
     ensures negative { register_text (Decimal 3) (negsuc 4) ≡ codes "-005" }
     ensures longer_than_the_field { register_text (Decimal 2) (pos 1234) ≡ codes "1234" }
     ensures least { register_text (Decimal 1) (negsuc 2147483647) ≡ codes "-2147483648" }
-    ensures widest { register_text (Decimal 200) (pos 5) ≡ codes "00000000000000000000000000000005" }
+    ensures widest { register_text (Decimal 200) (pos 5)
+        ≡ codes "00000000000000000000000000000005" }
 {}
 
 /// What the definition gives for some texts of formats.
@@ -65,15 +57,16 @@ pub fn format_rows()
     ensures sign { format_of (codes "+1") ≡ None }
 {}
 
-/// What the format `a` means: the words over `a` to `z` are listed by length and then by alphabet. Each
-/// is there, at its place, an earlier one comes before a later one, and no word stands between two that
-/// follow one another.
+/// What the format `a` means: the words over `a` to `z` are listed by length and then by alphabet.
+/// Each is there, at its place, an earlier one comes before a later one, and no word stands between
+/// two that follow one another.
 pub fn alphabetic_listing()
     ensures empty_before_the_first { word 0 ≡ [] }
     ensures of_letters { (n : ℕ) → IsOverLetters (word n) }
     ensures in_order { (m n : ℕ) → m < n → ComesBefore (word m) (word n) }
     ensures each_is_listed { (w : List ℕ) → IsOverLetters w → word (place w) ≡ w }
-    ensures nothing_between { (n : ℕ) (w : List ℕ) → IsOverLetters w → ComesBefore (word n) w → ¬ ComesBefore w (word (n + 1)) }
+    ensures nothing_between { (n : ℕ) (w : List ℕ)
+        → IsOverLetters w → ComesBefore (word n) w → ¬ ComesBefore w (word (n + 1)) }
     ensures each_at_one_place { (n : ℕ) → place (word n) ≡ n }
 {}
 
@@ -82,19 +75,22 @@ pub fn roman_numbers()
     ensures { (n : ℕ) → n ≤ 3999 → roman_value (roman n) ≡ n }
 {}
 
-/// What a decimal field means: digits that count the number, as many as the field has, or more if the
-/// number has more.
+/// What a decimal field means: digits that count the number, as many as the field has, or more if
+/// the number has more.
 pub fn decimal_fields()
     ensures of_digits { (width n : ℕ) → n < 2 ^ 64 → AllDigits 10 (decimal_field width n) }
     ensures value { (width n : ℕ) → n < 2 ^ 64 → digits_value 10 (decimal_field width n) ≡ n }
     ensures wide_enough { (width n : ℕ) → width ≤ length (decimal_field width n) }
-    ensures no_wider { (width n : ℕ) → width < length (decimal_field width n) → decimal_field width n ≡ decimal n }
+    ensures no_wider { (width n : ℕ)
+        → width < length (decimal_field width n) → decimal_field width n ≡ decimal n }
 {}
 
 /// Which texts are formats, and which format each is.
 pub fn formats()
-    ensures read { (text : List ℕ) (format : Format) → format_of text ≡ Some format → IsWritten format text }
-    ensures written { (text : List ℕ) (format : Format) → IsWritten format text → format_of text ≡ Some format }
+    ensures read { (text : List ℕ) (format : Format)
+        → format_of text ≡ Some format → IsWritten format text }
+    ensures written { (text : List ℕ) (format : Format)
+        → IsWritten format text → format_of text ≡ Some format }
 {}
 
 /// The value of an expression is the left fold over its operands.
@@ -105,15 +101,20 @@ pub fn left_fold()
 /// What the definitions give on worked numbers.
 pub fn number_rows()
     ensures no_precedence { value_at (codes "3+4*2") 0 Units None ≡ Ok (record { 0 = pos 14 }, 5) }
-    ensures quotient_toward_zero { value_at (codes "(0-7)/2") 0 Units None ≡ Ok (record { 0 = negsuc 2 }, 7) }
-    ensures remainder_toward_zero { value_at (codes "(0-7)%2") 0 Units None ≡ Ok (record { 0 = negsuc 0 }, 7) }
+    ensures quotient_toward_zero { value_at (codes "(0-7)/2") 0 Units None
+        ≡ Ok (record { 0 = negsuc 2 }, 7) }
+    ensures remainder_toward_zero { value_at (codes "(0-7)%2") 0 Units None
+        ≡ Ok (record { 0 = negsuc 0 }, 7) }
     ensures inches { value_at (codes "1.5i") 0 Units None ≡ Ok (record { 0 = pos 360 }, 4) }
     ensures centimetres { value_at (codes "2c") 0 Units None ≡ Ok (record { 0 = pos 188 }, 2) }
-    ensures sign_of_operand { value_at (codes "-7+2") 0 Units None ≡ Ok (record { 0 = negsuc 4 }, 4) }
-    ensures distance { value_at (codes "1+|2*3 x") 0 Units (Some (pos 5)) ≡ Ok (record { 0 = negsuc 5 }, 6) }
+    ensures sign_of_operand { value_at (codes "-7+2") 0 Units None
+        ≡ Ok (record { 0 = negsuc 4 }, 4) }
+    ensures distance { value_at (codes "1+|2*3 x") 0 Units (Some (pos 5))
+        ≡ Ok (record { 0 = negsuc 5 }, 6) }
     ensures zero_divisor { value_at (codes "1/0+") 0 Units None ≡ Err ZeroDivisor }
     ensures operand_missing { value_at (codes "1+") 0 Units None ≡ Err Missing }
     ensures not_closed { value_at (codes "(1") 0 Units None ≡ Err Missing }
-    ensures least { value_at (codes "-2147483648") 0 Units None ≡ Ok (record { 0 = negsuc 2147483647 }, 11) }
+    ensures least { value_at (codes "-2147483648") 0 Units None
+        ≡ Ok (record { 0 = negsuc 2147483647 }, 11) }
     ensures too_great { value_at (codes "2147483648") 0 Units None ≡ Err Range }
 {}

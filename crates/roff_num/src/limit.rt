@@ -1,7 +1,7 @@
 //! The limits that stop a run.
 
 ghost use Rattle.std.specs.Prelude.{◌≡◌};
-ghost use Rattle.roff_num.specs.LimitNames.{limit_name};
+ghost use Rattle.roff_num.specs.Clauses.{limit_name};
 
 /// A limit that stopped a run.
 #[derive(Clone, Copy, Debug, PartialEq, Eq)]

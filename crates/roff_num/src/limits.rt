@@ -1,7 +1,7 @@
 //! The values of the formatter's limits.
 
-ghost use Rattle.std.specs.Prelude.{◌≡◌};
-ghost use Rattle.roff_num.specs.LimitValues.{default_limits, limits_with, value_of};
+ghost use Rattle.std.specs.Prelude.{◌≡◌, decimal};
+ghost use Rattle.roff_num.specs.Clauses.{default_limits, limits_with, value_of};
 
 use crate::limit::Limit;
 
@@ -36,23 +36,46 @@ impl Default for Limits {
     ghost is_default = { λ l. l ≡ default_limits };
 
     fn default() -> Self {
-        Limits {
-            bytes: 50_000_000,
-            store: 1_048_576,
-            stack: 262_144,
-            depth: 200,
-            names: 2_000,
-            line: 4_096,
-            traps: 64,
-            output: 200_000_000,
-            diversions: 16,
-            environments: 32,
-            conditions: 64,
-        }
+        Limits::DEFAULT
     }
 }
 
 impl Limits {
+    /// The values that hold where none is set.
+    pub const DEFAULT: Limits = Limits {
+        bytes: 50_000_000,
+        store: 1_048_576,
+        stack: 262_144,
+        depth: 200,
+        names: 2_000,
+        line: 4_096,
+        traps: 64,
+        output: 200_000_000,
+        diversions: 16,
+        environments: 32,
+        conditions: 64,
+    };
+
+    /// A limit's value where none is set, in decimal, as an option prints it.
+    #[tactic(auto, using(crate::proofs::DefaultTexts::decimal_default))]
+    pub fn default_text(limit: Limit) -> &'static str
+        ensures { result.now ≡ decimal (value_of default_limits limit) }
+    {
+        match limit {
+            Limit::Bytes => "50000000",
+            Limit::Store => "1048576",
+            Limit::Stack => "262144",
+            Limit::Depth => "200",
+            Limit::Names => "2000",
+            Limit::Line => "4096",
+            Limit::Traps | Limit::Conditions => "64",
+            Limit::Output => "200000000",
+            Limit::Diversions => "16",
+            Limit::Environments => "32",
+            Limit::Rows | Limit::Columns | Limit::Text | Limit::Width | Limit::TblBytes => "0",
+        }
+    }
+
     /// The value of a limit; 0 for those of tables, which never stop the formatter.
     pub fn value(self, limit: Limit) -> u32
         ensures { result ≡ value_of self limit }

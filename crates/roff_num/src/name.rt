@@ -1,7 +1,7 @@
 //! Names of requests, macros, strings, diversions and registers.
 
 ghost use Rattle.std.specs.Prelude.{◌≡◌, ◌≤◌, ◌==◌, ℕ, List, Option, IsTrue, ◌↔◌, length};
-ghost use Rattle.roff_num.specs.Names.{name_of};
+ghost use Rattle.roff_num.specs.Clauses.{name_of};
 
 use arrayvec::ArrayVec;
 use std::marker::Model;

@@ -1,8 +1,7 @@
 //! Numbers in basic units, 240 to the inch, and their rounding (manual, section 1.3).
 
 ghost use Rattle.std.specs.Prelude.{◌≡◌, FitsSigned};
-ghost use Rattle.std.specs.Int.{w32};
-ghost use Rattle.roff_num.specs.Rounding.{rounded};
+ghost use Rattle.roff_num.specs.Clauses.{w32, rounded};
 
 /// A number, in basic units where it is a length.
 #[derive(Clone, Copy, Debug, PartialEq, Eq)]
@@ -30,8 +29,8 @@ pub enum NumFault {
     ZeroDivisor,
 }
 
-/// A horizontal length, in basic units, as a whole number of columns of 24: the nearest one, and of two
-/// as near the greater.
+/// A horizontal length, in basic units, as a whole number of columns of 24: the nearest one, and of
+/// two as near the greater.
 pub fn round_h(length: i32) -> i32
     requires { FitsSigned w32 (rounded 24 length) }
     ensures { result ≡ rounded 24 length }
@@ -40,8 +39,8 @@ pub fn round_h(length: i32) -> i32
     (raised.div_euclid(24) * 24) as i32
 }
 
-/// A vertical length, in basic units, as a whole number of lines of 40: the nearest one, and of two as
-/// near the greater.
+/// A vertical length, in basic units, as a whole number of lines of 40: the nearest one, and of two
+/// as near the greater.
 pub fn round_v(length: i32) -> i32
     requires { FitsSigned w32 (rounded 40 length) }
     ensures { result ≡ rounded 40 length }

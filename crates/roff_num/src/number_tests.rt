@@ -1,10 +1,10 @@
 //! Worked numbers. The values were computed apart from the program, in exact fractions.
 
-use crate::{Limits, Name, Num, NumFault, Scale, eval, round_h, round_v};
+use crate::{Limit, Limits, Name, Num, NumFault, Scale, eval, round_h, round_v};
 use std::test::Fail;
 
-/// A text, the scale of its numbers, the present place, and what it gives: its value in basic units and
-/// its length in bytes, or why it gives none.
+/// A text, the scale of its numbers, the present place, and what it gives: its value in basic units
+/// and its length in bytes, or why it gives none.
 type Row = (
     &'static [u8],
     Scale,
@@ -330,4 +330,5 @@ fn names(rt: HostRuntime) -> Result<(), Fail> {
 fn limits(rt: HostRuntime) {
     let limits = Limits::default();
     assert!(rt; limits.bytes == 50_000_000 && limits.output == 200_000_000 && limits.line == 4_096);
+    assert_eq!(rt; Limits::default_text(Limit::Line), "4096");
 }

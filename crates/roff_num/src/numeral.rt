@@ -1,9 +1,7 @@
 //! Numerals: digits with at most one dot, and a scale letter.
 
 ghost use Rattle.std.specs.Prelude.{◌≡◌, ◌+◌, ◌*◌, ◌/◌, ◌-◌, ◌^◌, ◌<◌, ◌≤◌, ◌++◌, length, take, drop, min, pos, IfOk, IfSome};
-ghost use Rattle.std.specs.Str.Parse.{AllDigits, digits_value, digits_value_after};
-ghost use Rattle.roff_num.specs.Numerals.{decimals_at, digits_at, dot_at, letter_unit, numeral_at, scale_unit, size_of, unit_at};
-ghost use Rattle.roff_num.specs.Ranges.{in_range, signed};
+ghost use Rattle.roff_num.specs.Clauses.{AllDigits, digits_value, digits_value_after, decimals_at, digits_at, dot_at, letter_unit, numeral_at, scale_unit, size_of, unit_at, in_range, signed};
 
 use crate::num::{NumFault, Scale};
 
@@ -17,7 +15,8 @@ pub(crate) struct Ratio {
 /// The most decimals of a number that count.
 const MOST_DECIMALS: usize = 9;
 
-/// The value of the numeral at a text's front behind a sign, in basic units, and how many bytes it takes.
+/// The value of the numeral at a text's front behind a sign, in basic units, and how many bytes it
+/// takes.
 pub(crate) fn read_numeral(
     text: &[u8],
     scale: Scale,
@@ -50,8 +49,8 @@ fn value_of(negative: bool, whole: &[u8], decimals: &[u8], unit: Ratio) -> Resul
     with_sign(negative, capped_size(whole, decimals, unit))
 }
 
-/// The size of a numeral of these digits, truncated; one that is out of range may be less than it is,
-/// but is out of range.
+/// The size of a numeral of these digits, truncated; one that is out of range may be less than it
+/// is, but is out of range.
 fn capped_size(whole: &[u8], decimals: &[u8], unit: Ratio) -> u128
     requires whole { AllDigits 10 whole.now }
     requires decimals { AllDigits 10 decimals.now }
@@ -65,7 +64,8 @@ fn capped_size(whole: &[u8], decimals: &[u8], unit: Ratio) -> u128
     u128::from(number) * u128::from(unit.over) / (u128::from(part) * u128::from(unit.under))
 }
 
-/// The number that digits write when they follow those of another one, or 2^64 - 1 if it is greater.
+/// The number that digits write when they follow those of another one, or 2^64 - 1 if it is
+/// greater.
 fn digits_behind(before: u64, digits: &[u8]) -> u64
     requires { AllDigits 10 digits.now }
     ensures { result ≡ min (digits_value_after 10 before digits.now) (2 ^ 64 - 1) }

@@ -1,7 +1,7 @@
 //! The operators of expressions.
 
 ghost use Rattle.std.specs.Prelude.{◌≡◌, ◌<◌, length, IfSome, IsTrue};
-ghost use Rattle.roff_num.specs.Operators.{applied, begins_with, operator_at, truth};
+ghost use Rattle.roff_num.specs.Clauses.{applied, begins_with, operator_at, truth};
 
 use crate::num::NumFault;
 

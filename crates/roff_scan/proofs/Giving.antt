@@ -5,59 +5,28 @@ use Rattle.std.proofs.Math.Seq.{take-append_seam}
 use Rattle.std.proofs.lemmas.List.{nil_from_length, drop_all, drop_more, get_or-take}
 use Rattle.std.proofs.KnownBytes.{Consumes-nil, Consumes-trans}
 use Rattle.roff_scan.specs.ReadSource.Reach.{IsRead}
-use Rattle.roff_scan.specs.Tape.{Tape, Item, Answers, Ending, OneByte, Gives, Ends, Ended, Failed, front, behind_front}
+use Rattle.roff_scan.specs.Tape.{Item, Answers, Ending, OneByte, Gives, Ends, Ended, Failed, only}
 
--- a tape that ends so at once
-abbrev pub only : Ending → Tape
-only ending = record { items = []; ending = ending }
-
--- a tape that begins with an item, by its parts
-front_gives_parts : (items : List Item) (ending : Ending) (item : Item) → front (record { items = items; ending = ending }) ≡ Gives item
-    → items ≡ item ∷ (behind_front (record { items = items; ending = ending })).items
-front_gives_parts [] ending item is = cc
-front_gives_parts (i ∷ items) ending item is = cc
-
--- its ending stays
-behind_ending : (items : List Item) (ending : Ending) → (behind_front (record { items = items; ending = ending })).ending ≡ ending
-behind_ending [] ending = refl
-behind_ending (i ∷ items) ending = refl
-
--- a tape that ends at once, by its parts
-front_ends_parts : (items : List Item) (ending e : Ending) → front (record { items = items; ending = ending }) ≡ Ends e
-    → record { items = items; ending = ending } ≡ only e
-front_ends_parts [] ending e is = cc
-front_ends_parts (i ∷ items) ending e is = cc
-
--- a tape that begins with an item
-pub front_gives : (t : Tape) (item : Item) → front t ≡ Gives item → t.items ≡ item ∷ (behind_front t).items
-front_gives t item is = front_gives_parts t.items t.ending item is
-
--- a tape that ends at once
-pub front_ends : (t : Tape) (e : Ending) → front t ≡ Ends e → t ≡ only e
-front_ends t e is = front_ends_parts t.items t.ending e is
-
--- a tape by its parts
-by_parts : (t : Tape) (items : List Item) (ending : Ending) → t.items ≡ items → t.ending ≡ ending → t ≡ record { items = items; ending = ending }
-by_parts t items ending items_are ends = rw (← items_are, ← ends) refl
+-- the same answer, the same ending
+ends_same : (a b : Ending) → Ends a ≡ Ends b → a ≡ b
+ends_same a b same = cc
 
 -- bytes that are told, one after another
 pub told_byte : (bytes rest : List ℕ) (ending : Ending) (b : ℕ) → bytes ≡ b ∷ rest
     → Answers (λ t. t ≡ record { items = map OneByte bytes; ending = ending }) (λ t. t ≡ record { items = map OneByte rest; ending = ending }) (Gives (OneByte b))
 told_byte bytes rest ending b split = record {
-  before = λ t is given. by_parts t _ ending
-      (front_gives t (OneByte b) is ∙ (ap (λ (u : Tape). OneByte b ∷ u.items) given ∙ ap (λ (bs : List ℕ). map OneByte bs) (sym split)))
-      (sym (behind_ending t.items t.ending) ∙ ap (λ (u : Tape). u.ending) given);
-  some = record { items = map OneByte bytes; ending = ending };
-  some_front = rw split refl;
-  some_given = rw split refl;
+  before = λ t given. rw (split, given) refl;
+  final = λ e ends. cc;
+  some = record { items = map OneByte rest; ending = ending };
+  some_given = refl;
 }
 
 -- an ending that was given
 pub told_ending : (ending : Ending) → Answers (λ t. t ≡ only ending) (λ t. t ≡ only ending) (Ends ending)
 told_ending ending = record {
-  before = λ t is given. front_ends t ending is;
+  before = λ t given. refl;
+  final = λ e ends t given. given ∙ ap only (ends_same ending e ends);
   some = only ending;
-  some_front = refl;
   some_given = refl;
 }
 
@@ -69,39 +38,33 @@ told_end bytes ending e empty is_e = rw (nil_from_length bytes empty, is_e) (tol
 -- a byte that was read
 pub read_byte : (old new : Option (List ℕ)) (b : ℕ) → Consumes old new (b ∷ []) → Answers (IsRead old) (IsRead new) (Gives (OneByte b))
 read_byte old new b taken = record {
-  before = λ t is given. record {
+  before = λ t given. record {
     bytes = b ∷ given.bytes;
     rest = given.rest;
-    items = front_gives t (OneByte b) is ∙ ap (λ (items : List Item). OneByte b ∷ items) given.items;
+    items = ap (λ (items : List Item). OneByte b ∷ items) given.items;
     front = Consumes-trans old new given.rest (b ∷ []) given.bytes taken given.front;
-    whole = λ ends. given.whole (behind_ending t.items t.ending ∙ ends);
+    ends = given.ends;
   };
-  some = record { items = OneByte b ∷ []; ending = Failed };
-  some_front = refl;
-  some_given = record { bytes = []; rest = new; items = refl; front = Consumes-nil new; whole = λ ends. cc };
+  final = λ e ends. cc;
+  some = only Failed;
+  some_given = record { bytes = []; rest = new; items = refl; front = Consumes-nil new; ends = tt };
 }
 
 -- the end of what is read
 pub read_end : (old new : Option (List ℕ)) → Consumes old new [] → IsAtEnd new → Answers (IsRead old) (λ t. t ≡ only Ended) (Ends Ended)
 read_end old new none at_end = record {
-  before = λ t is given. record { bytes = []; rest = new; items = ap (λ (t : Tape). t.items) (front_ends t Ended is); front = none; whole = λ ends. at_end };
+  before = λ t given. record { bytes = []; rest = new; items = refl; front = none; ends = at_end };
+  final = λ e ends t given. given ∙ ap only (ends_same Ended e ends);
   some = only Ended;
-  some_front = refl;
   some_given = refl;
 }
 
 -- a fault
 pub read_fault : (old : Option (List ℕ)) → Answers (IsRead old) (λ t. t ≡ only Failed) (Ends Failed)
 read_fault old = record {
-  before = λ t is given. record {
-    bytes = [];
-    rest = old;
-    items = ap (λ (t : Tape). t.items) (front_ends t Failed is);
-    front = Consumes-nil old;
-    whole = λ ends. let failed = ap (λ (t : Tape). t.ending) (front_ends t Failed is) in cc;
-  };
+  before = λ t given. record { bytes = []; rest = old; items = refl; front = Consumes-nil old; ends = tt };
+  final = λ e ends t given. given ∙ ap only (ends_same Failed e ends);
   some = only Failed;
-  some_front = refl;
   some_given = refl;
 }
 

@@ -1,5 +1,5 @@
 -- What a source gives: its tape, the items to come and how they end.
-use Rattle.std.specs.Prelude.{◌≡◌, ℕ, ◌-◌, ◌^◌, ◌+◌, ◌≤◌, List, [], ◌∷◌, min}
+use Rattle.std.specs.Prelude.{◌≡◌, ℕ, ◌-◌, ◌^◌, ◌+◌, ◌≤◌, List, [], ◌∷◌, ◌++◌, min}
 use Rattle.roff_num.specs.declared.limit.Limit.{Limit}
 use Rattle.roff_scan.specs.declared.source.Taken.{Taken}
 use Rattle.roff_scan.specs.declared.source.Taken.TheVariants.{Byte, Note, End, Fault, Stop}
@@ -45,13 +45,33 @@ abbrev pub IsItem : Answer → Type 0
 IsItem (Gives item) = Unit {0}
 IsItem (Ends ending) = ⊥
 
--- What a source might give changes by an answer so: what it might give behind the answer, it might have
--- given with the answer in front. And there is such a tape.
+-- a tape that ends so at once
+abbrev pub only : Ending → Tape
+only ending = record { items = []; ending = ending }
+
+-- these items, and then a tape
+abbrev pub items_then : List Item → Tape → Tape
+items_then items t = record { items = items ++ t.items; ending = t.ending }
+
+-- an answer, and then a tape: behind an ending nothing comes
+abbrev pub answer_then : Answer → Tape → Tape
+answer_then (Gives item) t = record { items = item ∷ t.items; ending = t.ending }
+answer_then (Ends ending) t = only ending
+
+-- What a source may give changes by an answer so: what it may give behind the answer, it might have given
+-- with the answer in front; there is such a tape; and behind an ending that ending alone may be given.
 pub record Answers (old new : Tape → Type 0) (a : Answer) : Type 0 where
-  pub before : (t : Tape) → front t ≡ a → new (behind_front t) → old t
+  pub before : (t : Tape) → new t → old (answer_then a t)
+  pub final : (ending : Ending) → a ≡ Ends ending → (t : Tape) → new t → t ≡ only ending
   pub some : Tape
-  pub some_front : front some ≡ a
-  pub some_given : new (behind_front some)
+  pub some_given : new some
+
+-- A source gave these items, in this order: what it may give behind them, it might have given with them in
+-- front; and there is such a tape.
+pub record Took (old new : Tape → Type 0) (taken : List Item) : Type 0 where
+  pub before : (t : Tape) → new t → old (items_then taken t)
+  pub some : Tape
+  pub some_given : new some
 
 -- the last value of a count of failures, at which it stays
 abbrev pub last_count : ℕ

@@ -1,7 +1,7 @@
 //! Sources: what a run reads from.
 
-ghost use Rattle.std.specs.Prelude.{◌≡◌, ℕ, ◌<◌, ◌≤◌, ◌^◌, Option, Some, None, vec_len, IfOk};
-ghost use Rattle.roff_scan.specs.Tape.{Tape, Answers, Ending, Failed, Gives, Ends, OneNote, answer_of, Rises};
+ghost use Rattle.std.specs.Prelude.{◌≡◌, ℕ, ◌<◌, ◌≤◌, None, vec_len, IfOk};
+ghost use Rattle.roff_scan.specs.Tape.{Tape, Answers, Failed, Gives, Ends, OneNote, answer_of, Rises};
 
 use arrayvec::ArrayVec;
 use roff_num::Limit;
@@ -31,9 +31,6 @@ pub trait ByteSource {
     /// The tapes that the source may give from here on: one alone where it is known what comes.
     ghost gives: { Self → Tape → Type 0 };
 
-    /// The final answer, once it was given.
-    ghost ended: { Self → Option Ending };
-
     /// More than the notes to come.
     ghost notes: { Self → ℕ };
 
@@ -44,13 +41,10 @@ pub trait ByteSource {
     fn next_byte(&mut self) -> Taken
         // The answer is the front of a tape that the source may give, and what comes is the rest of it.
         ensures gives { Answers (gives self.old) (gives self.new) (answer_of result) }
-        // An ending is final.
-        ensures ends { (e : Ending) → answer_of result ≡ Ends e → ended self.new ≡ Some e }
-        ensures stays { (e : Ending) → ended self.old ≡ Some e →
-            (answer_of result ≡ Ends e) × (ended self.new ≡ Some e) }
         // Notes run out.
         ensures notes { notes self.new ≤ notes self.old }
-        ensures note { (m : _) → answer_of result ≡ Gives (OneNote m) → notes self.new < notes self.old }
+        ensures note { (m : _) →
+            answer_of result ≡ Gives (OneNote m) → notes self.new < notes self.old }
         // A fault is counted.
         ensures failures { failures self.old ≤ failures self.new }
         ensures fault { answer_of result ≡ Ends Failed → Rises (failures self.old) (failures self.new) };
@@ -81,7 +75,7 @@ pub struct ReadSource<R> {
 }
 
 impl<R: Read + Drop> ReadSource<R> {
-    ghost use Rattle.roff_scan.specs.ReadSource.Reach.{MayGive, ending_given, unread};
+    ghost use Rattle.roff_scan.specs.ReadSource.Reach.{ending_given, may_give, unread};
 
     /// A source over a reader, of which nothing is read yet.
     pub fn new(alloc: Global, reader: R) -> Result<Self, AllocError>
@@ -102,8 +96,8 @@ impl<R: Read + Drop> ReadSource<R> {
     fn next_block(&mut self) -> Taken
         requires open { ending_given self.old ≡ None }
         requires taken { self.old.len ≤ self.old.next }
-        ensures gives { Answers (MayGive (unread R.remaining self.old) (ending_given self.old)) (MayGive (unread R.remaining self.new) (ending_given self.new)) (answer_of result) }
-        ensures ends { (e : Ending) → answer_of result ≡ Ends e → ending_given self.new ≡ Some e }
+        ensures gives { Answers (may_give R.remaining self.old) (may_give R.remaining self.new)
+            (answer_of result) }
         ensures failures { self.old.failures ≤ self.new.failures }
         ensures fault { answer_of result ≡ Ends Failed → Rises self.old.failures self.new.failures }
         ensures note { (m : _) → answer_of result ≡ Gives (OneNote m) → ⊥ }
@@ -128,11 +122,9 @@ impl<R: Read + Drop> ReadSource<R> {
 }
 
 impl<R: Read + Drop> ByteSource for ReadSource<R> {
-    ghost use Rattle.roff_scan.specs.ReadSource.Reach.{MayGive, ending_given, unread};
+    ghost use Rattle.roff_scan.specs.ReadSource.Reach.{may_give};
 
-    ghost gives = { λ s. MayGive (unread R.remaining s) (ending_given s) };
-
-    ghost ended = { ending_given };
+    ghost gives = { may_give R.remaining };
 
     ghost notes = { λ _. 0 };
 

@@ -3,6 +3,7 @@ use Rattle.std.specs.Prelude.{◌≡◌, ℕ, ◌≤◌, ◌++◌, ◌↔◌, Is
 use Rattle.roff_tools.specs.declared.memory.MemSink.{MemSink}
 use Rattle.roff_tools.specs.declared.memory.MemSource.{MemSource}
 use Rattle.roff_engine.specs.declared.sink.SinkFault.{SinkFault}
+use Rattle.roff_engine.specs.Sinks.{Sunk}
 use Rattle.roff_scan.specs.Tape.{Tape, OneByte, Ending, Ended, Failed}
 
 -- how a source in memory ends
@@ -13,10 +14,6 @@ ending_of s = if s.fails then Failed else Ended
 abbrev pub tape_of : MemSource → Tape
 tape_of s = record { items = map OneByte s.rest.now; ending = ending_of s }
 
--- its final answer, once its bytes are taken
-abbrev pub memory_ending : MemSource → Option Ending
-memory_ending s = elim s.rest.now [ [] ↦ Some (ending_of s) | b ∷ bytes ↦ None ]
-
 -- the tape of these bytes, that fails behind so many of them if there are so many
 abbrev pub tape_of_bytes : List ℕ → Option ℕ → Tape
 tape_of_bytes bytes None = record { items = map OneByte bytes; ending = Ended }
@@ -25,10 +22,6 @@ tape_of_bytes bytes (Some count) =
     then record { items = map OneByte (take count bytes); ending = Failed }
     else record { items = map OneByte bytes; ending = Ended }
 
--- how many faults a sink in memory has had
-abbrev pub faults_of : MemSink → ℕ
-faults_of s = s.failures
-
 -- for how many bytes a sink in memory has room, in all
 abbrev pub room_of : MemSink → ℕ
 room_of s = s.cap
@@ -36,6 +29,10 @@ room_of s = s.cap
 -- what a sink in memory has kept
 abbrev pub kept_by : MemSink → List ℕ
 kept_by s = s.kept.items
+
+-- what a sink in memory tells: what it has kept, and how many faults it had
+abbrev pub sunk_of : MemSink → Sunk
+sunk_of s = record { contents = Some (kept_by s); failures = s.failures }
 
 -- a piece that a sink in memory was given: all of it is kept if there is room, and else as much of it as there is
 -- room for, and that is a fault

@@ -1,8 +1,7 @@
 //! A run of a command.
 
 ghost use Rattle.std.specs.Prelude.{◌≡◌, IfOk, OnErr};
-ghost use Rattle.roff_engine.specs.Engine.Outcome.{FaultIsOfADevice, Outcome, devices, faults};
-ghost use Rattle.roff_scan.specs.Tape.{Tape};
+ghost use Rattle.roff_engine.specs.Engine.Outcome.{Runs, seen};
 
 use roff_engine::{ByteSink, Engine, Start, Status};
 use roff_num::Limits;
@@ -28,15 +27,12 @@ pub fn run<S: ByteSource, O: ByteSink, E: ByteSink>(
     out: &mut O,
     err: &mut E,
 ) -> Result<Status, AllocError>
-    // There is a tape that the source may give over which the run is that of the definition.
-    ensures nroff { (limits : Limits) (start : Start) → job ≡ Job.Nroff limits start → IfOk result (λ status.
-        (t left : Tape) × S.gives source.old t × S.gives source.new left × Outcome limits t status
-        (devices t (O.contents out.old) (E.contents err.old) (faults (S.failures source.old) (O.failures out.old) (E.failures err.old)))
-        (devices left (O.contents out.new) (E.contents err.new) (faults (S.failures source.new) (O.failures out.new) (E.failures err.new)))) }
-    // A fault is answered only where there was one.
-    ensures fault { IfOk result (λ status. FaultIsOfADevice status
-        (faults (S.failures source.old) (O.failures out.old) (E.failures err.old))
-        (faults (S.failures source.new) (O.failures out.new) (E.failures err.new))) }
+    // The source gave items. Whatever it may still give, the run over these items and then that is the
+    // definition's: it ended so, or a sink failed in one of its steps.
+    ensures nroff { (limits : Limits) (start : Start) → job ≡ Job.Nroff limits start → IfOk result
+        (λ status. Runs limits status (S.gives source.old) (S.gives source.new)
+        (seen (S.failures source.old) (O.sunk out.old) (E.sunk err.old))
+        (seen (S.failures source.new) (O.sunk out.new) (E.sunk err.new))) }
     ensures unread { OnErr result (source.new ≡ source.old) }
     ensures unwritten { OnErr result ((out.new ≡ out.old) × (err.new ≡ err.old)) }
 {

@@ -1,6 +1,6 @@
 //! Devices in memory, that fail where they are told to.
 
-ghost use Rattle.std.specs.Prelude.{◌≡◌, Some, ◌≤◌, [], map, vec_len, vec_capacity, IfOk, OnOk, OnErr};
+ghost use Rattle.std.specs.Prelude.{◌≡◌, ◌≤◌, [], map, vec_len, vec_capacity, IfOk};
 
 use roff_engine::{ByteSink, SinkFault};
 use roff_scan::{ByteSource, Taken};
@@ -45,11 +45,9 @@ impl<'a> MemSource<'a> {
 }
 
 impl ByteSource for MemSource<'_> {
-    ghost use Rattle.roff_tools.specs.Memory.{tape_of, memory_ending};
+    ghost use Rattle.roff_tools.specs.Memory.{tape_of};
 
     ghost gives = { λ s t. t ≡ tape_of s };
-
-    ghost ended = { memory_ending };
 
     ghost notes = { λ _. 0 };
 
@@ -108,20 +106,13 @@ impl MemSink {
 }
 
 impl ByteSink for MemSink {
-    ghost use Rattle.std.specs.Io.KnownBytes.{Appends};
-    ghost use Rattle.roff_tools.specs.Memory.{KeepsWithin, faults_of, kept_by};
-    ghost use Rattle.roff_engine.specs.Sinks.{AppendsFront};
-    ghost use Rattle.roff_scan.specs.Tape.{Rises};
+    ghost use Rattle.roff_engine.specs.Sinks.{Puts};
+    ghost use Rattle.roff_tools.specs.Memory.{KeepsWithin, sunk_of};
 
-    ghost contents = { λ s. Some (kept_by s) };
-
-    ghost failures = { faults_of };
+    ghost sunk = { sunk_of };
 
     fn put(&mut self, piece: &[u8]) -> Result<(), SinkFault>
-        ensures ok { OnOk result (Appends (Some (kept_by self.old)) (Some (kept_by self.new)) piece.now) }
-        ensures err { OnErr result (AppendsFront (Some (kept_by self.old)) (Some (kept_by self.new)) piece.now) }
-        ensures failures { faults_of self.old ≤ faults_of self.new }
-        ensures fault { OnErr result (Rises (faults_of self.old) (faults_of self.new)) }
+        ensures puts { Puts (sunk_of self.old) (sunk_of self.new) piece.now result }
         ensures keeps { KeepsWithin self.old self.new result piece.now }
     {
         let room = self.cap - self.kept.len();

@@ -1,98 +1,106 @@
--- What the code's answers say of a list of events that it performs.
-use Rattle.std.specs.Prelude.{◌≡◌, ◌≢◌, ℕ, ◌≤◌, true, false, List, [], ◌∷◌, ◌++◌, Option, Result, Ok, Err}
+-- How far the code performs events, over the states of the definition.
+use Rattle.std.specs.Prelude.{◌≡◌, ℕ, List, [], ◌∷◌, ◌++◌, None, Result, Ok, Err}
 use Rattle.std.specs.Io.KnownBytes.{Appends}
-use Rattle.roff_lines.specs.Events.{WordEnd, Break}
-use Rattle.roff_lines.specs.Env.Stands.{Stands}
-use Rattle.roff_lines.specs.declared.env.Env.{Env}
 use Rattle.roff_num.specs.declared.limit.Limit.{Limit}
-use Rattle.roff_num.specs.declared.limit.Limit.TheVariants.{Line}
+use Rattle.roff_num.specs.declared.limits.Limits.{Limits}
+use Rattle.roff_scan.specs.Tape.{Tape, Rises}
+use Rattle.roff_lines.specs.declared.env.Env.{Env}
+use Rattle.roff_lines.specs.declared.event.Event.TheVariants.{WordEnd, Break}
+use Rattle.roff_lines.specs.declared.settings.Settings.{Settings}
+use Rattle.roff_lines.specs.Env.Stands.{Stands}
+use Rattle.roff_lines.specs.Events.{settings_after}
 use Rattle.roff_engine.specs.declared.formatter.Formatter.{Formatter}
 use Rattle.roff_engine.specs.declared.halt.Halt.{Halt}
 use Rattle.roff_engine.specs.declared.halt.Halt.TheVariants.{Limit as Limited, Output, Messages}
-use Rattle.roff_num.specs.declared.limits.Limits.{Limits}
+use Rattle.roff_engine.specs.Engine.Outcome.{Seen, AppendsBetween, NoFewerFaults, OutputStops, Reaches, seen}
 use Rattle.roff_engine.specs.Messages.{message_lines}
-use Rattle.roff_engine.specs.Output.{PageHistory, text_of, written_by}
+use Rattle.roff_engine.specs.Output.{PageHistory, text_of, written}
 use Rattle.roff_engine.specs.Requests.{PageEvent, Text, Effect}
-use Rattle.roff_engine.specs.Run.{passes_line}
-use Rattle.roff_engine.specs.Sinks.{AppendsFront}
-use Rattle.roff_scan.specs.Tape.{Rises}
+use Rattle.roff_engine.specs.Run.{State, Leads, initial, step, stopped_by, output, reported}
+use Rattle.roff_engine.specs.Sinks.{Sunk}
 
--- a history behind some events more
-abbrev pub behind : List PageEvent → PageHistory → PageHistory
-behind [] h = h
-behind (e ∷ es) h = behind es (e ∷ h)
+-- the same state going on, with these events to do behind this history
+abbrev pub acting : State → List PageEvent → PageHistory → State
+acting s to_do history = record s { to_do = to_do; history = history; ended = None }
 
--- what some events write behind a history
-abbrev pub newly_written : PageHistory → List PageEvent → List ℕ
-newly_written h [] = []
-newly_written h (e ∷ es) = written_by h e ++ newly_written (e ∷ h) es
+-- the events were performed: the definition comes to the state behind them, for which the environment stands
+pub record AllPerformed (l : Limits) (t : Tape) (before now : Seen) (s : State) (rest : List PageEvent) (env : Env) : Type 0 where
+  pub history : PageHistory
+  pub reaches : Reaches l t before now (acting s rest history)
+  pub stands : Stands l.line (text_of history) env
 
--- none of some events passes the limit on the pending line
-abbrev pub NonePasses : Limits → PageHistory → List PageEvent → Type 0
-NonePasses l h [] = Unit {0}
-NonePasses l h (e ∷ es) = (passes_line l h e ≡ false) × NonePasses l (e ∷ h) es
+-- the definition comes to a state whose next step a limit refuses
+pub record StoppedAt (l : Limits) (t : Tape) (before now : Seen) (s : State) (limit : Limit) : Type 0 where
+  pub to_do : List PageEvent
+  pub history : PageHistory
+  pub reaches : Reaches l t before now (acting s to_do history)
+  pub stops : step l (acting s to_do history) ≡ stopped_by l limit (acting s to_do history)
 
--- all events were performed, and what they write is written
-pub record AllPerformed (l : Limits) (h : PageHistory) (es : List PageEvent) (env : Env) (old new : Option (List ℕ)) : Type 0 where
-  pub none_passes : NonePasses l h es
-  pub stands : Stands l.line (text_of (behind es h)) env
-  pub written : Appends old new (newly_written h es)
+-- the definition comes to a state in whose next step the output failed
+pub record FailedAt (l : Limits) (t : Tape) (before now : Seen) (s : State) : Type 0 where
+  pub to_do : List PageEvent
+  pub history : PageHistory
+  pub stops : OutputStops l t before now (acting s to_do history)
+  pub messages : Appends before.err.contents now.err.contents (reported s)
+  pub faults : NoFewerFaults before now
 
--- the events before one were performed, and that one would pass the limit on the pending line
-pub record StoppedAt (l : Limits) (h : PageHistory) (es : List PageEvent) (limit : Limit) (old new : Option (List ℕ)) : Type 0 where
-  pub limit_is : limit ≡ Line
-  pub done : List PageEvent
-  pub next : PageEvent
-  pub rest : List PageEvent
-  pub split : es ≡ done ++ next ∷ rest
-  pub none_passes : NonePasses l h done
-  pub passes : passes_line l (behind done h) next ≡ true
-  pub written : Appends old new (newly_written h done)
+-- how far the code performed the events in front of `rest`, by its answer
+abbrev pub Performs : Limits → Tape → Seen → Seen → State → List PageEvent → Result (Unit {0}) Halt → Env → Type 0
+Performs l t before now s rest (Ok done) env = AllPerformed l t before now s rest env
+Performs l t before now s rest (Err (Limited limit)) env = StoppedAt l t before now s limit
+Performs l t before now s rest (Err Output) env = FailedAt l t before now s
+Performs l t before now s rest (Err Messages) env = ⊥
 
--- the events before one were performed, and of what that one writes a beginning was written
-pub record FailedAt (l : Limits) (h : PageHistory) (es : List PageEvent) (old new : Option (List ℕ)) : Type 0 where
-  pub done : List PageEvent
-  pub next : PageEvent
-  pub rest : List PageEvent
-  pub split : es ≡ done ++ next ∷ rest
-  pub none_passes : NonePasses l h done
-  pub does_not_pass : passes_line l (behind done h) next ≡ false
-  pub front : List ℕ
-  pub back : List ℕ
-  pub text : written_by (behind done h) next ≡ front ++ back
-  pub written : Appends old new (newly_written h done ++ front)
+-- An environment and a sink performed some events, as far as the answer says: for each state of a run that has
+-- these events in front of others to do.
+pub record PerformsEvents (events : List PageEvent) (old new : Env) (out_old out_new : Sunk) (result : Result (Unit {0}) Halt) : Type 0 where
+  pub performs : (l : Limits) (t : Tape) (before : Seen) (failures : ℕ) (err : Sunk) (s : State) (h : PageHistory) (rest : List PageEvent)
+      → Stands l.line (text_of h) old → Reaches l t before (seen failures out_old err) (acting s (events ++ rest) h)
+      → Performs l t before (seen failures out_new err) s rest result new
 
--- how far some events were performed
-abbrev pub Performs : Limits → PageHistory → List PageEvent → Result (Unit {0}) Halt → Env → Option (List ℕ) → Option (List ℕ) → Type 0
-Performs l h es (Ok done) env old new = AllPerformed l h es env old new
-Performs l h es (Err (Limited limit)) env old new = StoppedAt l h es limit old new
-Performs l h es (Err Output) env old new = FailedAt l h es old new
-Performs l h es (Err Messages) env old new = ⊥
-
--- a formatter performed some events, as far as it answers, and changed nothing else: what is read stays as it was,
--- and what failed is the output, which counts its faults
-pub record PerformsOnly {S : Type 0} (contents : S → Option (List ℕ)) (faults : S → ℕ) (out_old out_new : S) (es : List PageEvent) (old new : Formatter) (result : Result (Unit {0}) Halt) : Type 0 where
-  pub performs : (l : Limits) (h : PageHistory) → Stands l.line (text_of h) old.env →
-      Performs l h es result new.env (contents out_old) (contents out_new)
+-- a formatter did that, and changed nothing else: what is read stays as it was
+pub record PerformsOnly (events : List PageEvent) (old new : Formatter) (out_old out_new : Sunk) (result : Result (Unit {0}) Halt) : Type 0 where
+  pub events_performed : PerformsEvents events old.env new.env out_old out_new result
   pub reading : new.reading ≡ old.reading
   pub argument : new.argument ≡ old.argument
-  pub failures : faults out_old ≤ faults out_new
-  pub halt : result ≢ Err Messages
-  pub fault : result ≡ Err Output → Rises (faults out_old) (faults out_new)
 
--- both sinks count their faults, and the one at which a halt lost something had one more
-pub record CountsFaults {S T : Type 0} (out_faults : S → ℕ) (err_faults : T → ℕ) (out_old out_new : S) (err_old err_new : T) (result : Result (Unit {0}) Halt) : Type 0 where
-  pub out : out_faults out_old ≤ out_faults out_new
-  pub err : err_faults err_old ≤ err_faults err_new
-  pub output_fault : result ≡ Err Output → Rises (out_faults out_old) (out_faults out_new)
-  pub message_fault : result ≡ Err Messages → Rises (err_faults err_old) (err_faults err_new)
+-- One step from a state takes an item that means this effect: its messages are told on this line, and its events
+-- stand in front of others to do, behind this history.
+pub record Means (l : Limits) (from s : State) (h : PageHistory) (line : ℕ) (effect : Effect) (rest : List PageEvent) : Type 0 where
+  pub opens : step l from ≡ acting s (effect.events ++ rest) h
+  pub goes_on : from.ended ≡ None
+  pub wrote : output from ≡ written h
+  pub said : reported s ≡ reported from ++ message_lines line effect.messages
 
--- how far an effect was done: its messages were written, or a beginning of them and no event performed
-abbrev pub Does : Limits → PageHistory → ℕ → Effect → Result (Unit {0}) Halt → Env → Option (List ℕ) → Option (List ℕ) → Option (List ℕ) → Option (List ℕ) → Type 0
-Does l h line effect (Err Messages) env old new told_old told_new =
-    AppendsFront told_old told_new (message_lines line effect.messages) × Appends old new []
-Does l h line effect result env old new told_old told_new =
-    Appends told_old told_new (message_lines line effect.messages) × Performs l h effect.events result env old new
+-- the message sink failed in the step from this state
+pub record LostAt (l : Limits) (t : Tape) (before now : Seen) (from : State) : Type 0 where
+  pub comes : Leads l (initial t) from
+  pub goes_on : from.ended ≡ None
+  pub text : Appends before.out.contents now.out.contents (output from)
+  pub messages : AppendsBetween before.err.contents now.err.contents (reported from) (reported (step l from))
+  pub fault : Rises before.err.failures now.err.failures
+
+-- how far the code did what an item means, by its answer
+abbrev pub Does : Limits → Tape → Seen → Seen → State → State → List PageEvent → Result (Unit {0}) Halt → Env → Type 0
+Does l t before now from s rest (Err Messages) env = LostAt l t before now from
+Does l t before now from s rest result env = Performs l t before now s rest result env
+
+-- what both sinks of a run tell
+pub record Sinks : Type 0 where
+  pub out : Sunk
+  pub err : Sunk
+
+-- sinks that tell this
+abbrev pub sinks : Sunk → Sunk → Sinks
+sinks out err = record { out = out; err = err }
+
+-- A formatter did an effect, which may depend on what is in force, as far as it answers: for each state of a run
+-- whose next step means the effect.
+pub record DoesEffect (line : ℕ) (effect : Settings → Effect) (old new : Formatter) (told_old told_new : Sinks) (result : Result (Unit {0}) Halt) : Type 0 where
+  pub does : (l : Limits) (t : Tape) (before : Seen) (failures : ℕ) (from s : State) (h : PageHistory) (rest : List PageEvent)
+      → Stands l.line (text_of h) old.env → Reaches l t before (seen failures told_old.out told_old.err) from
+      → Means l from s h line (effect (settings_after (text_of h))) rest
+      → Does l t before (seen failures told_new.out told_new.err) from s rest result new.env
 
 -- an effect with some events more
 abbrev pub with_events : Effect → List PageEvent → Effect

@@ -1,6 +1,6 @@
 -- What the code reads as what the definition reads.
 use Rattle.std.specs.Prelude.{◌≡◌, ℕ, [], ◌∷◌}
-use Rattle.roff_lines.specs.Events.{Print}
+use Rattle.roff_lines.specs.declared.event.Event.TheVariants.{Print}
 use Rattle.roff_lines.specs.declared.glyph.Glyph.TheVariants.{Printed}
 use Rattle.roff_engine.specs.declared.arguments.FirstArgument.{FirstArgument}
 use Rattle.roff_engine.specs.declared.reading.LinePart.{LinePart}
@@ -10,7 +10,6 @@ use Rattle.roff_engine.specs.declared.reading.Reading.TheVariants.{Line, Argumen
 use Rattle.roff_engine.specs.declared.reading.Taking.{Taking as CodedTaking}
 use Rattle.roff_engine.specs.Arguments.{Arguments, no_arguments}
 use Rattle.roff_engine.specs.FirstArgument.Keeping.{KeepsFirst}
-use Rattle.roff_engine.specs.Formatter.Happening.{events_of}
 use Rattle.roff_engine.specs.Reading.{Reading, LineStart, InText, BehindControl, InName, InArguments, InDropped, Taking}
 use Rattle.roff_engine.specs.Requests.{doing, Text as TextEvent}
 
@@ -47,7 +46,7 @@ leading_behind (BehindName breaks request) = 0
 
 -- what a byte does in the code
 abbrev pub taking_of : CodedTaking → Taking
-taking_of t = record { reading = reading_of t.reading; effect = doing (events_of t.events.items) }
+taking_of t = record { reading = reading_of t.reading; effect = doing t.events.items }
 
 -- a glyph more, where a line goes on as it is
 abbrev pub printing : LinePart → ℕ → Taking

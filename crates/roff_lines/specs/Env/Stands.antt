@@ -1,8 +1,8 @@
 -- When an environment stands for its history.
-use Rattle.std.specs.Prelude.{◌≡◌, ℕ, ◌<◌, ◌≤◌, ◌^◌, min, true, not}
-use Rattle.roff_lines.specs.Events.{History, settings_after}
+use Rattle.std.specs.Prelude.{◌≡◌, ℕ, ◌<◌, ◌≤◌, ◌^◌, min, true, not, ◌∷◌, Option}
+use Rattle.roff_lines.specs.Events.{Event, History, settings_after}
 use Rattle.roff_lines.specs.Words.{word_text, is_empty, has_open_word, line_glyphs, ends_sentence, blanks, open_word, words}
-use Rattle.roff_lines.specs.Lines.{line_text, line_indent, pending_line, pending_length}
+use Rattle.roff_lines.specs.Lines.{Finished, line_text, line_indent, pending_line, pending_length, finished}
 use Rattle.roff_lines.specs.Env.Kept.{Kept}
 
 -- an environment of this limit keeps k behind the history h
@@ -25,3 +25,11 @@ pub record Stands (line_cap : ℕ) (h : History) (k : Kept) : Type 0 where
   -- what the line of the input has so far
   pub has_glyph : k.has_glyph ≡ not (is_empty (line_glyphs h))
   pub ends_sentence : k.ends_sentence ≡ ends_sentence (line_glyphs h)
+
+-- whatever history the old environment stands for, the new one stands for it with one event more
+abbrev pub StandsBehind : Kept → Event → Kept → Type 0
+StandsBehind old e new = (line_cap : ℕ) (h : History) → Stands line_cap h old → Stands line_cap (e ∷ h) new
+
+-- whatever history the old environment stands for, the event finishes this line behind it
+abbrev pub Finishes : Kept → Event → Option Finished → Type 0
+Finishes old e line = (line_cap : ℕ) (h : History) → Stands line_cap h old → line ≡ finished h e

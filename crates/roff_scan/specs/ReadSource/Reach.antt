@@ -4,7 +4,7 @@ use Rattle.std.specs.Io.KnownBytes.{Consumes, IsAtEnd, prepend_known}
 use Rattle.roff_scan.specs.declared.source.Reach.{Reach}
 use Rattle.roff_scan.specs.declared.source.ReadSource.{ReadSource}
 use Rattle.roff_scan.specs.declared.source.Reach.TheVariants.{Open, Ended as AtEnd, Failed as AtFault}
-use Rattle.roff_scan.specs.Tape.{Tape, OneByte, Ending, Ended, Failed}
+use Rattle.roff_scan.specs.Tape.{Tape, OneByte, Ending, Ended, Failed, Stopped, only}
 
 -- its final answer, once it was given
 abbrev pub reach_ending : Reach → Option Ending
@@ -20,15 +20,25 @@ ending_given s = reach_ending s.reach
 abbrev pub unread : {R : Type 0} → (R → Option (List ℕ)) → ReadSource R → Option (List ℕ)
 unread remaining s = prepend_known (drop s.next (take s.len s.block.items)) (remaining s.reader)
 
--- bytes of the reader's to come, from the front on: all of them where they end by the input's end
+-- how the bytes of a reader may end: by a fault at any time, by the input's end where none is left, by no limit
+abbrev pub MayEnd : Option (List ℕ) → Ending → Type 0
+MayEnd rest Failed = Unit {0}
+MayEnd rest Ended = IsAtEnd rest
+MayEnd rest (Stopped limit) = ⊥
+
+-- bytes of the reader's to come, from the front on, and how they end there
 pub record IsRead (known : Option (List ℕ)) (t : Tape) : Type 0 where
   pub bytes : List ℕ
   pub rest : Option (List ℕ)
   pub items : t.items ≡ map OneByte bytes
   pub front : Consumes known rest bytes
-  pub whole : t.ending ≡ Ended → IsAtEnd rest
+  pub ends : MayEnd rest t.ending
 
 -- what the source may give: any number of its bytes before a fault, or all; an ending alone once it was given
 abbrev pub MayGive : Option (List ℕ) → Option Ending → Tape → Type 0
 MayGive known None t = IsRead known t
-MayGive known (Some ending) t = t ≡ record { items = []; ending = ending }
+MayGive known (Some ending) t = t ≡ only ending
+
+-- the same of the source
+abbrev pub may_give : {R : Type 0} → (R → Option (List ℕ)) → ReadSource R → Tape → Type 0
+may_give remaining s = MayGive (unread remaining s) (ending_given s)

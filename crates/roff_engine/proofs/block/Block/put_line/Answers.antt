@@ -1,7 +1,7 @@
 use Rattle.std.proofs.Common.{◌≡◌, ◌++◌, ◌∷◌, [], arith, append_assoc, append-nil}
 use Rattle.std.proofs.lemmas.Result.{err_from_is_err_and, on_ok_weaker, on_err_weaker}
 use Rattle.roff_lines.specs.Columns.{finished_of, line_bytes}
-use Rattle.roff_engine.proofs.Appending.{AppendsAllBut-push, AppendsAllBut-put, AppendsFront-held}
+use Rattle.roff_engine.proofs.Appending.{HoldsBack-push, HoldsBack-put, Fails-held}
 use Rattle.roff_engine.proofs.block.Block.put_line.Goals as goal
 
 pub loop-byte-preserved : goal.loop-byte-preserved
@@ -10,8 +10,7 @@ loop-byte-preserved g c = record {
   is_finite = tt;
   room = omega (arith, c.in_ok-push.ensures.capacity);
   to_come = rw append_assoc (rw (← c.in-Some.ensures.steps) c.loop-byte.invariant.to_come);
-  so_far = AppendsAllBut-push c.in-Some.byte c.loop-byte.invariant.so_far c.in_ok-push.ensures.ok;
-  failures = omega (arith, c.in_ok-push.ensures.failures);
+  so_far = HoldsBack-push c.in-Some.byte c.loop-byte.invariant.so_far c.in_ok-push.ensures.ok;
 }
 
 pub returns-in_err-push : goal.returns-in_err-push
@@ -20,17 +19,13 @@ returns-in_err-push g c =
     let whole : c.loop-byte.yielded ++ (c.in-Some.byte ∷ c.next.new.self) ≡ line_bytes (finished_of c.args.line) = rw (← c.in-Some.ensures.steps) c.loop-byte.invariant.to_come in
     rw failed.1 (record {
       ok = tt;
-      err = rw (← whole) (AppendsFront-held _ c.loop-byte.invariant.so_far c.in_err-push.ensures.err);
-      failures = omega (arith, c.loop-byte.invariant.failures, c.in_err-push.ensures.failures);
-      fault = omega (arith, c.loop-byte.invariant.failures, c.in_err-push.ensures.fault);
+      err = rw (← whole) (Fails-held _ c.loop-byte.invariant.so_far c.in_err-push.ensures.err);
     })
 
 pub returns : goal.returns
 returns g c =
     let whole = rw c.in-None.ensures.steps.0 at c.loop-byte.invariant.to_come in
     record {
-      ok = on_ok_weaker c.put.result (λ rest. rw (← whole, append-nil) (AppendsAllBut-put (g.O.ByteSink.contents c.put.new.out) c.loop-byte.invariant.so_far rest)) c.put.ensures.puts.ok;
-      err = on_err_weaker c.put.result (λ part. rw (← whole) (AppendsFront-held [] c.loop-byte.invariant.so_far part)) c.put.ensures.puts.err;
-      failures = omega (arith, c.loop-byte.invariant.failures, c.put.ensures.puts.failures);
-      fault = on_err_weaker c.put.result (λ rises. omega (arith, c.loop-byte.invariant.failures, rises)) c.put.ensures.puts.fault;
+      ok = on_ok_weaker c.put.result (λ rest. rw (← whole, append-nil) (HoldsBack-put (g.O.ByteSink.sunk c.put.new.out) c.loop-byte.invariant.so_far rest)) c.put.ensures.puts.ok;
+      err = on_err_weaker c.put.result (λ part. rw (← whole) (Fails-held [] c.loop-byte.invariant.so_far part)) c.put.ensures.puts.err;
     }

@@ -1,12 +1,23 @@
-use Rattle.std.proofs.Common.{refl}
-use Rattle.roff_lines.specs.Events.{Print}
+use Rattle.std.proofs.Common.{rules, refl, ◌≡◌}
+use Rattle.roff_num.specs.declared.limit.Limit.TheVariants.{Line}
+use Rattle.roff_lines.specs.declared.event.Event.TheVariants.{Print}
 use Rattle.roff_engine.specs.Output.{text_of}
-use Rattle.roff_engine.proofs.Performed.{text_performed, text_stopped}
-use Rattle.roff_engine.proofs.Appending.{Appends-nothing}
+use Rattle.roff_engine.specs.Requests.{Text}
+use Rattle.roff_engine.proofs.Performed.{event_stopped, text_changes_only, text_refused}
 use Rattle.roff_engine.proofs.formatter.Formatter.glyph.Goals as goal
 
-pub returns-in-Ok-clause-performs : goal.returns-in-Ok-clause-performs
-returns-in-Ok-clause-performs c = λ l h known s. text_performed l h (Print c.args.glyph) _ known known (c.in-Ok.ensures.stands l.line (text_of h) s) (Appends-nothing known)
+pub returns-in-Ok : goal.returns-in-Ok
+returns-in-Ok c = λ told. text_changes_only (Print c.args.glyph) _ _ told
+    (λ l h stood. c.in-Ok.ensures.stands l.line (text_of h) stood) (λ h. refl) (search rules) (search rules)
 
-pub returns-in-Err-clause-performs : goal.returns-in-Err-clause-performs
-returns-in-Err-clause-performs c = λ l h known s. text_stopped l h (Print c.args.glyph) c.in-Err.limit known c.in-Err.ensures.error ((c.in-Err.ensures.limit l.line (text_of h) s).0 refl)
+pub returns-in-Err : goal.returns-in-Err
+returns-in-Err c = λ told. record {
+  events_performed = record {
+    performs = λ l t before failures err s h rest stood reached.
+        let is_line : c.in-Err.limit ≡ Line = search rules in
+        rw is_line (event_stopped l t before failures err s h (Text (Print c.args.glyph)) rest told reached Line
+        (text_refused l h (Print c.args.glyph) ((c.in-Err.ensures.limit l.line (text_of h) stood).0 refl)));
+  };
+  reading = search rules;
+  argument = search rules;
+}

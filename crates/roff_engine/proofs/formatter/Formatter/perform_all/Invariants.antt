@@ -1,21 +1,23 @@
-use Rattle.std.proofs.Common.{◌≡◌, ◌≤◌, ◌++◌, List, length}
-use Rattle.roff_lines.specs.Env.Stands.{Stands}
+use Rattle.std.proofs.Common.{◌≡◌, ℕ, ◌++◌, List, length}
 use Rattle.roff_num.specs.declared.limits.Limits.{Limits}
-use Rattle.roff_engine.specs.Formatter.Happening.{events_of}
+use Rattle.roff_scan.specs.Tape.{Tape}
+use Rattle.roff_lines.specs.Env.Stands.{Stands}
+use Rattle.roff_engine.specs.Engine.Outcome.{Reaches, Seen, seen}
+use Rattle.roff_engine.specs.Formatter.Performing.{AllPerformed, acting}
 use Rattle.roff_engine.specs.Output.{PageHistory, text_of}
-use Rattle.roff_engine.specs.Formatter.Performing.{AllPerformed}
 use Rattle.roff_engine.specs.Requests.{PageEvent}
+use Rattle.roff_engine.specs.Run.{State}
+use Rattle.roff_engine.specs.Sinks.{Sunk}
 use Rattle.roff_engine.proofs.formatter.Formatter.perform_all.Given as goal
 
 abbrev pub invariant-loop-event : goal.invariant-loop-event
 invariant-loop-event g l = record {
-  done : List PageEvent;
-  split : events_of l.events ≡ done ++ events_of l.rest;
-  performed : (k : Limits) (h : PageHistory) → Stands k.line (text_of h) l.initial.self.env →
-      AllPerformed k h done l.self.env (g.O.ByteSink.contents l.initial.out) (g.O.ByteSink.contents l.out);
+  performed : (k : Limits) (t : Tape) (before : Seen) (failures : ℕ) (err : Sunk) (s : State) (h : PageHistory) (rest : List PageEvent)
+      → Stands k.line (text_of h) l.initial.self.env
+      → Reaches k t before (seen failures (g.O.ByteSink.sunk l.initial.out) err) (acting s (l.events ++ rest) h)
+      → AllPerformed k t before (seen failures (g.O.ByteSink.sunk l.out) err) s (l.rest ++ rest) l.self.env;
   reading : l.self.reading ≡ l.initial.self.reading;
   argument : l.self.argument ≡ l.initial.self.argument;
-  failures : g.O.ByteSink.failures l.initial.out ≤ g.O.ByteSink.failures l.out;
 }
 
 abbrev pub decreases-loop-event : goal.decreases-loop-event

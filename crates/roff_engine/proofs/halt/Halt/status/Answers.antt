@@ -1,22 +1,18 @@
-use Rattle.std.proofs.Common.{inl, inr, refl}
-use Rattle.std.proofs.lemmas.Result.{on_err_weaker}
-use Rattle.roff_engine.proofs.Halting.{Rises-behind, limit_told, limit_not_told, output_reported}
+use Rattle.std.proofs.Common.{inl, inr}
+use Rattle.roff_engine.proofs.Halting.{limit_told, limit_not_told, output_reported}
 use Rattle.roff_engine.proofs.halt.Halt.status.Goals as goal
 
-pub returns-in-Ok-clause-ends : goal.returns-in-Ok-clause-ends
-returns-in-Ok-clause-ends g c = λ t before now halts.
-    let stops = rw c.in-Limit.is at halts in
-    inl (limit_told _ t _ c.in-Limit.limit before _ _ stops.0 refl refl (rw (← c.value.ensures) c.in-Ok.ensures.ok))
+pub returns-in-Ok : goal.returns-in-Ok
+returns-in-Ok g c = λ t left before failures out halts.
+    inl (limit_told _ t left _ before failures out _ _ c.in-Limit.limit (rw c.in-Limit.is at halts) (rw (← c.value.ensures) c.in-Ok.ensures.ok))
 
-pub returns-in-Err-clause-ends : goal.returns-in-Err-clause-ends
-returns-in-Err-clause-ends g c = λ t before now halts.
-    let stops = rw c.in-Limit.is at halts in
-    inr (inr (limit_not_told _ t _ c.in-Limit.limit before _ _ stops.0 refl refl (rw (← c.value.ensures) c.in-Err.ensures.err)
-    (Rises-behind _ _ _ stops.1.err c.in-Err.ensures.fault)))
+pub returns-in-Err : goal.returns-in-Err
+returns-in-Err g c = λ t left before failures out halts.
+    inr (inr (limit_not_told _ t left _ before failures out _ _ c.in-Limit.limit (rw c.in-Limit.is at halts) (rw (← c.value.ensures) c.in-Err.ensures.err)))
 
-pub returns-in-Output-clause-ends : goal.returns-in-Output-clause-ends
-returns-in-Output-clause-ends g c = λ t before now halts.
-    let stops = rw c.in-Output.is at halts in
-    let report = c.report-in-Output in
-    inr (inl (output_reported _ t _ before _ _ report.result stops.0 refl refl refl report.ensures.ok report.ensures.err
-    (on_err_weaker report.result (λ rises. Rises-behind _ _ _ stops.1.err rises) report.ensures.fault)))
+pub returns-in-Output : goal.returns-in-Output
+returns-in-Output g c = λ t left before failures out halts.
+    inr (inl (output_reported _ t left _ before failures out _ _ c.report-in-Output.result (rw c.in-Output.is at halts) c.report-in-Output.ensures))
+
+pub returns-in-Messages : goal.returns-in-Messages
+returns-in-Messages g c = λ t left before failures out halts. inr (inr (rw c.in-Messages.is at halts))

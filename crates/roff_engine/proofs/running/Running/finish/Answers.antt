@@ -1,25 +1,30 @@
-use Rattle.std.proofs.Common.{Err, ap, inl, arith}
-use Rattle.roff_engine.specs.Engine.Outcome.{Devices}
-use Rattle.roff_engine.specs.Running.Turning.{NoFewerFaults, with_sinks}
-use Rattle.roff_engine.proofs.Halting.{Rises-behind}
-use Rattle.roff_engine.proofs.Items.{end_done, end_halted}
+use Rattle.std.proofs.Common.{refl, inl, inr}
+use Rattle.roff_engine.proofs.Items.{end_done, end_halted, end_means}
 use Rattle.roff_engine.proofs.running.Running.finish.Goals as goal
 
-pub returns-in-Ok-clause-runs : goal.returns-in-Ok-clause-runs
-returns-in-Ok-clause-runs g c = λ t tape before now left ends at.
-    let limits = c.args.self.now.limits in
-    let does = c.in-Ok.ensures.does limits at.history at.reading at.stands at.reads in
-    inl (end_done limits t tape before _ _ at.reading at.history at.messages c.args.self.now.meter at.reaches left ends _ _ c.line-line.ensures does)
+pub returns-in-Ok : goal.returns-in-Ok
+returns-in-Ok g c = λ failures. record {
+  goes_on = tt;
+  limits = refl;
+  turns = λ t tape before ends at.
+      let l = c.args.self.now.limits in
+      let h = at.history in
+      let m = c.args.self.now.meter in
+      let means = end_means l tape at.reading h at.messages m c.line-line.result ends c.line-line.ensures in
+      let does = (c.in-Ok.ensures.does at.reading at.reads).does l t before failures _ _ h _ at.stands at.reaches means in
+      inl (end_done l tape at.reading h at.messages m t _ before _ _ (inr refl) does);
+}
 
-pub returns-in-Err-clause-runs : goal.returns-in-Err-clause-runs
-returns-in-Err-clause-runs g c = λ t tape before now left ends at.
-    let limits = c.args.self.now.limits in
-    let devices : Devices = with_sinks now (g.O.ByteSink.contents c.finish.new.out) (g.O.ByteSink.failures c.finish.new.out) (g.E.ByteSink.contents c.finish.new.err) (g.E.ByteSink.failures c.finish.new.err) in
-    let does = c.in-Err.ensures.does limits at.history at.reading at.stands at.reads in
-    let failures = c.in-Err.ensures.faults in
-    let faults : NoFewerFaults before.faults devices.faults = record { source = at.faults.source; out = omega (arith, at.faults.out, failures.out); err = omega (arith, at.faults.err, failures.err) } in
-    c.status.ensures.ends t before devices
-    (end_halted limits t tape before _ devices at.reading at.history at.messages c.args.self.now.meter at.reaches left ends _ _ c.in-Err.halt c.line-line.ensures does
-    (λ is_output. Rises-behind _ _ _ at.faults.out (failures.output_fault (ap Err is_output)))
-    (λ is_messages. Rises-behind _ _ _ at.faults.err (failures.message_fault (ap Err is_messages)))
-    faults)
+pub returns-in-Err : goal.returns-in-Err
+returns-in-Err g c = λ failures. record {
+  goes_on = tt;
+  limits = refl;
+  turns = λ t tape before ends at.
+      let l = c.args.self.now.limits in
+      let h = at.history in
+      let m = c.args.self.now.meter in
+      let means = end_means l tape at.reading h at.messages m c.line-line.result ends c.line-line.ensures in
+      let does = (c.in-Err.ensures.does at.reading at.reads).does l t before failures _ _ h _ at.stands at.reaches means in
+      c.status.ensures t _ before failures _
+      (rw c.line-line.ensures (end_halted l tape at.reading h at.messages m t before _ c.in-Err.halt _ does));
+}

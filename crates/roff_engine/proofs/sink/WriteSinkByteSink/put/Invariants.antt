@@ -1,12 +1,13 @@
-use Rattle.std.proofs.Common.{◌≡◌, ℕ, ◌++◌, ◌≤◌, List, length}
-use Rattle.std.specs.Io.KnownBytes.{Appends}
+use Rattle.std.proofs.Common.{◌≡◌, ℕ, ◌++◌, List, length}
+use Rattle.roff_engine.specs.Sinks.{Writes}
 use Rattle.roff_engine.proofs.sink.WriteSinkByteSink.put.Given as goal
 
 abbrev pub invariant-loop-rest : goal.invariant-loop-rest
-invariant-loop-rest g l = (front : List ℕ)
-    × (l.piece ≡ front ++ l.rest)
-    × Appends l.initial.self.contents l.self.contents front
-    × (l.initial.self.failures ≤ l.self.failures)
+invariant-loop-rest g l = record {
+  front : List ℕ;
+  split : l.piece ≡ front ++ l.rest;
+  writes : Writes l.initial.self l.self front;
+}
 
 abbrev pub decreases-loop-rest : goal.decreases-loop-rest
 decreases-loop-rest g l = length l.rest

@@ -1,0 +1,57 @@
+-- What a history says behind glyphs that were told.
+use Rattle.std.proofs.Common.{◌≡◌, true, false, not, List, [], ◌∷◌, ◌++◌, map, reverse, refl, sym, ap, ◌∙◌, inl, inr}
+use Rattle.std.proofs.lemmas.Bool.{cases_Bool, true≢false}
+use Rattle.std.proofs.lemmas.List.{append-nil, reverse-reverse}
+use Rattle.roff_lines.specs.declared.glyph.Glyph.{Glyph}
+use Rattle.roff_lines.specs.Events.{Print, WordEnd, History, settings_after}
+use Rattle.roff_lines.specs.Words.{is_empty, open_glyphs, has_open_word, blanks, open_word, words}
+use Rattle.roff_lines.specs.Telling.{glyphs_told}
+use Rattle.roff_lines.proofs.PendingLine.{is_empty-true}
+
+-- they are open
+pub open_glyphs-told : (gs : List Glyph) (h : History) → open_glyphs (map Print gs ++ h) ≡ gs ++ open_glyphs h
+open_glyphs-told [] h = refl
+open_glyphs-told (g ∷ gs) h = ap (λ xs. g ∷ xs) (open_glyphs-told gs h)
+
+-- what is in force stays
+pub settings_after-told : (gs : List Glyph) (h : History) → settings_after (map Print gs ++ h) ≡ settings_after h
+settings_after-told [] h = refl
+settings_after-told (g ∷ gs) h = settings_after-told gs h
+
+-- so do the blanks before the word
+pub blanks-told : (gs : List Glyph) (h : History) → blanks (map Print gs ++ h) ≡ blanks h
+blanks-told [] h = refl
+blanks-told (g ∷ gs) h = blanks-told gs h
+
+-- and the words before it
+pub words-told : (gs : List Glyph) (h : History) → words (map Print gs ++ h) ≡ words h
+words-told [] h = refl
+words-told (g ∷ gs) h = words-told gs h
+
+-- a list is empty only where its reverse is
+is_empty-reverse : {A : Type 0} (xs : List A) → is_empty xs ≡ false → is_empty (reverse xs) ≡ false
+is_empty-reverse xs some =
+    elim (cases_Bool (is_empty (reverse xs))) [
+      | inl none ↦
+          let nothing : xs ≡ [] = sym (reverse-reverse xs) ∙ ap reverse (is_empty-true (reverse xs) none) in
+          absurd (true≢false (sym (ap is_empty nothing) ∙ some))
+      | inr e ↦ e
+    ]
+
+-- the word of glyphs that are told where none is open
+module _ (glyphs : List Glyph) (h : History) (some : is_empty glyphs ≡ false) (closed : open_glyphs h ≡ []) where
+  open_glyphs-word : open_glyphs (glyphs_told glyphs h) ≡ reverse glyphs
+  open_glyphs-word = open_glyphs-told (reverse glyphs) h ∙ ap (λ gs. reverse glyphs ++ gs) closed ∙ append-nil (reverse glyphs)
+
+  -- it is open
+  pub has_open_word-word : has_open_word (glyphs_told glyphs h) ≡ true
+  has_open_word-word = rw open_glyphs-word (ap not (is_empty-reverse glyphs some))
+
+  -- it has these glyphs, the gap before it, and what is in force
+  pub open_word-word : open_word (glyphs_told glyphs h) ≡ record { glyphs = glyphs; gap = blanks h; under = settings_after h }
+  open_word-word =
+      rw (open_glyphs-word, reverse-reverse glyphs, blanks-told (reverse glyphs) h, settings_after-told (reverse glyphs) h) refl
+
+  -- so it is one word more, as it ends
+  pub words-word : words (WordEnd ∷ glyphs_told glyphs h) ≡ record { glyphs = glyphs; gap = blanks h; under = settings_after h } ∷ words h
+  words-word = rw (has_open_word-word, open_word-word, words-told (reverse glyphs) h) refl

@@ -1,0 +1,100 @@
+-- What a history says behind words that were told one after another.
+use Rattle.std.proofs.Common.{◌≡◌, ℕ, true, List, [], ◌∷◌, ◌++◌, map, reverse, refl, sym, ap, ◌∙◌, inl, inr, zero-add}
+use Rattle.std.specs.Prelude.{All}
+use Rattle.std.proofs.lemmas.Bool.{cases_Bool, not-false}
+use Rattle.std.proofs.lemmas.List.Elements.{All-nil, All-cons, All-head, All-tail}
+use Rattle.roff_lines.specs.declared.glyph.Glyph.{Glyph}
+use Rattle.roff_lines.specs.declared.settings.Settings.{Settings}
+use Rattle.roff_lines.specs.Events.{Event, Print, WordEnd, Gap, LineEnd, Break, Set, History, settings_after}
+use Rattle.roff_lines.specs.Words.{Word, is_empty, open_glyphs, has_open_word, blanks, open_word, words}
+use Rattle.roff_lines.specs.Telling.{words_told, IsOfText, IsWordUnder, IsClear}
+use Rattle.roff_lines.specs.Paragraphs.{until_break}
+use Rattle.roff_lines.proofs.PendingLine.{is_empty-true}
+use Rattle.roff_lines.proofs.Telling.{settings_after-told, has_open_word-word, words-word}
+
+-- glyphs break nothing
+until_break-glyphs : (gs : List Glyph) (h : History) → until_break (map Print gs ++ h) ≡ until_break h
+until_break-glyphs [] h = refl
+until_break-glyphs (g ∷ gs) h = until_break-glyphs gs h
+
+-- what stands before the first word of a gap, where no word is open
+blanks-gap : (n : ℕ) (h : History) → open_glyphs h ≡ [] → blanks h ≡ 0 → blanks (Gap n ∷ h) ≡ n
+blanks-gap n h closed none = rw (closed, none) (zero-add n)
+
+module _ (h : History) (clear : IsClear h) where
+  -- no word is open behind words
+  open_glyphs-words : (ws : List Word) → open_glyphs (words_told ws h) ≡ []
+  open_glyphs-words [] = is_empty-true (open_glyphs h) (not-false (is_empty (open_glyphs h)) clear.no_open_word)
+  open_glyphs-words (w ∷ ws) = refl
+
+  -- what is in force stays
+  pub settings_after-words : (ws : List Word) → settings_after (words_told ws h) ≡ settings_after h
+  settings_after-words [] = refl
+  settings_after-words (w ∷ ws) =
+      settings_after-told (reverse w.glyphs) (Gap w.gap ∷ words_told ws h) ∙ settings_after-words ws
+
+  -- words break nothing
+  pub until_break-words : (ws : List Word) → until_break (words_told ws h) ≡ until_break h
+  until_break-words [] = refl
+  until_break-words (w ∷ ws) = until_break-glyphs (reverse w.glyphs) (Gap w.gap ∷ words_told ws h) ∙ until_break-words ws
+
+  -- no blanks stand behind words
+  blanks-words : (ws : List Word) → All (IsWordUnder (settings_after h)) ws → blanks (words_told ws h) ≡ 0
+  blanks-words [] each = clear.no_blanks
+  blanks-words (w ∷ ws) each =
+      let here = All-head (IsWordUnder (settings_after h)) w ws each in
+      rw (has_open_word-word w.glyphs (Gap w.gap ∷ words_told ws h) here.some (open_glyphs-words ws)) refl
+
+  -- they are the words
+  pub words-words : (ws : List Word) → All (IsWordUnder (settings_after h)) ws → words (words_told ws h) ≡ ws
+  words-words [] each = clear.no_words
+  words-words (w ∷ ws) each =
+      let here = All-head (IsWordUnder (settings_after h)) w ws each in
+      let others = All-tail (IsWordUnder (settings_after h)) w ws each in
+      let before = Gap w.gap ∷ words_told ws h in
+      let gap : blanks before ≡ w.gap = blanks-gap w.gap (words_told ws h) (open_glyphs-words ws) (blanks-words ws others) in
+      let under : settings_after before ≡ w.under = settings_after-words ws ∙ sym here.under in
+      let word : ℕ → Settings → Word = λ n s. record { glyphs = w.glyphs; gap = n; under = s } in
+      words-word w.glyphs before here.some (open_glyphs-words ws)
+      ∙ ap (λ n. word n (settings_after before) ∷ words before) gap
+      ∙ ap (λ s. word w.gap s ∷ words before) under
+      ∙ ap (λ vs. w ∷ vs) (words-words ws others)
+
+-- a word end where this is in force leaves words that end under it
+under-word_end : (s : Settings) (h : History) → settings_after h ≡ s → All (λ w. w.under ≡ s) (words h)
+    → All (λ w. w.under ≡ s) (words (WordEnd ∷ h))
+under-word_end s h same under =
+    elim (cases_Bool (has_open_word h)) [
+      | inl is_open ↦ rw is_open (All-cons (λ w. w.under ≡ s) (open_word h) (words h) same under)
+      | inr closed ↦ rw closed under
+    ]
+
+module _ (h : History) (fills : (settings_after h).filling ≡ true) where
+  -- a text changes nothing of what is in force
+  pub settings_after-text : (text : List Event) → All IsOfText text → settings_after (text ++ h) ≡ settings_after h
+  settings_after-text [] each = refl
+  settings_after-text (Set p ∷ text) each = absurd (All-head IsOfText (Set p) text each)
+  settings_after-text (e ∷ text) each = settings_after-text text (All-tail IsOfText e text each)
+
+  -- in filling it breaks nothing
+  pub until_break-text : (text : List Event) → All IsOfText text → until_break (text ++ h) ≡ until_break h
+  until_break-text [] each = refl
+  until_break-text (Break ∷ text) each = absurd (All-head IsOfText Break text each)
+  until_break-text (LineEnd ∷ text) each =
+      let others = All-tail IsOfText LineEnd text each in
+      let filling : (settings_after (text ++ h)).filling ≡ true = ap (λ s. s.filling) (settings_after-text text others) ∙ fills in
+      rw filling (until_break-text text others)
+  until_break-text (e ∷ text) each = until_break-text text (All-tail IsOfText e text each)
+
+  -- its words end under what is in force
+  pub under-text : (text : List Event) → All IsOfText text → words h ≡ [] → All (λ w. w.under ≡ settings_after h) (words (text ++ h))
+  under-text [] each none = rw none (All-nil (λ w. w.under ≡ settings_after h))
+  under-text (Break ∷ text) each none = absurd (All-head IsOfText Break text each)
+  under-text (LineEnd ∷ text) each none =
+      let others = All-tail IsOfText LineEnd text each in
+      let filling : (settings_after (text ++ h)).filling ≡ true = ap (λ s. s.filling) (settings_after-text text others) ∙ fills in
+      rw filling (under-text text others none)
+  under-text (WordEnd ∷ text) each none =
+      let others = All-tail IsOfText WordEnd text each in
+      under-word_end (settings_after h) (text ++ h) (settings_after-text text others) (under-text text others none)
+  under-text (e ∷ text) each none = under-text text (All-tail IsOfText e text each) none

@@ -1,0 +1,32 @@
+-- Text as it is told to an environment (manual, section 4.1).
+use Rattle.std.specs.Prelude.{◌≡◌, false, List, [], ◌∷◌, ◌++◌, map, reverse}
+use Rattle.roff_lines.specs.declared.glyph.Glyph.{Glyph}
+use Rattle.roff_lines.specs.declared.settings.Settings.{Settings}
+use Rattle.roff_lines.specs.Events.{Event, Print, WordEnd, Gap, Break, Set, History}
+use Rattle.roff_lines.specs.Words.{Word, is_empty, has_open_word, blanks, words}
+
+-- a history, and these glyphs behind it
+abbrev pub glyphs_told : List Glyph → History → History
+glyphs_told glyphs h = map Print (reverse glyphs) ++ h
+
+-- a history, and these words behind it: of each its gap, its glyphs and its end
+abbrev pub words_told : List Word → History → History
+words_told [] h = h
+words_told (w ∷ ws) h = WordEnd ∷ glyphs_told w.glyphs (Gap w.gap ∷ words_told ws h)
+
+-- an event of a text: neither a break nor a change
+abbrev pub IsOfText : Event → Type 0
+IsOfText Break = ⊥
+IsOfText (Set p) = ⊥
+IsOfText (_) = Unit {0}
+
+-- a word that can be told while this is in force: it has a glyph, and ends under these settings
+pub record IsWordUnder (s : Settings) (w : Word) : Type 0 where
+  pub some : is_empty w.glyphs ≡ false
+  pub under : w.under ≡ s
+
+-- a history of which nothing is left for a line: no word, no open word, no blanks before the next one
+pub record IsClear (h : History) : Type 0 where
+  pub no_words : words h ≡ []
+  pub no_open_word : has_open_word h ≡ false
+  pub no_blanks : blanks h ≡ 0
