@@ -3,4 +3,4 @@ pub use Rattle.roff_engine.specs.Engine
 pub mod Memory
 pub mod Inputs
 pub mod StartFault
-pub mod Status
+pub mod Exit

@@ -1,25 +1,17 @@
-//! The command line: its commands, options and texts, and what its words ask for.
+//! The command line: its commands and options, and what its words ask for.
 
 ghost use Rattle.std.specs.Prelude.{◌≡◌, List, ℕ, Some, IfOk, map, option_map};
 ghost use Rattle.clap.specs.Words.{found_of, matched_of, raw_values};
 
-use crate::{Job, Limit, Limits, Start};
+use crate::{Job, Limit, Limits, Start, texts};
 use clap::error::ErrorKind;
 use clap::{Arg, ArgAction, ArgMatches, Command, Error, value_parser};
 use std::alloc::{AllocError, Global};
 use std::convert::AsStr;
 
-const VERSION: &str = "0.1.0";
-
-const ABOUT: &str = "Format documents of the roff language as plain text";
-
 const NROFF: &str = "nroff";
 
-const NROFF_ABOUT: &str = "Format text for a terminal or a line printer";
-
 const FILE: &str = "FILE";
-
-const FILE_HELP: &str = "Files to be read; '-' is standard input";
 
 /// The name of standard input among the files.
 pub const STANDARD_INPUT: &str = "-";
@@ -27,10 +19,9 @@ pub const STANDARD_INPUT: &str = "-";
 /// The greatest value that an option of a limit takes.
 const GREATEST_LIMIT: i64 = 1_000_000_000;
 
-/// A limit's option, its default and its line of help.
+/// An option that sets a limit. It has the limit's name.
 struct LimitOption {
     limit: Limit,
-    name: &'static str,
     default: &'static str,
     help: &'static str,
 }
@@ -39,43 +30,15 @@ struct LimitOption {
 static LIMIT_OPTIONS: [LimitOption; 2] = [
     LimitOption {
         limit: Limit::Bytes,
-        name: "bytes",
         default: "50000000",
-        help: "Stop after N bytes of input",
+        help: texts::BYTES,
     },
     LimitOption {
         limit: Limit::Line,
-        name: "line",
         default: "4096",
-        help: "Longest pending output line, in bytes",
+        help: texts::LINE,
     },
 ];
-
-// Help ends in these lines, after what it says of the command itself.
-macro_rules! help_end {
-    ($notes:literal) => {
-        concat!(
-            $notes,
-            "Files are read one after another as one input; all are opened before the first\n",
-            "is read. '-', or no file at all, is standard input. Text is written on standard\n",
-            "output, and messages on standard error.\n\n",
-            "Exit status:\n",
-            "  0  done\n",
-            "  1  wrong command line, a file that cannot be opened, or no memory to start\n",
-            "  2  reading or writing failed\n",
-            "  3  a limit was reached"
-        )
-    };
-}
-
-const ROFF_NOTES: &str = help_end!("'roff help COMMAND' says more about a command.\n\n");
-
-const NROFF_NOTES: &str = help_end!(
-    "nroff fills lines with the words of its input, and obeys its control lines, which
-begin with a period or an apostrophe. Each N is a number from 0 to 1000000000.
-
-"
-);
 
 /// What a command line asks for.
 #[derive(Drop)]
@@ -100,9 +63,9 @@ pub fn parse_words<'a, S: AsStr>(alloc: Global, words: &'a [S]) -> Result<Reques
 
 fn roff_command<'a>(alloc: Global) -> Result<Command<'a>, AllocError> {
     Command::new(alloc, "roff")
-        .version(VERSION)
-        .about(ABOUT)
-        .after_help(ROFF_NOTES)
+        .version(texts::VERSION)
+        .about(texts::ROFF)
+        .after_help(texts::ROFF_NOTES)
         .subcommand_required(true)
         .subcommand(nroff_command(alloc)?)
 }
@@ -112,10 +75,10 @@ fn nroff_command<'a>(alloc: Global) -> Result<Command<'a>, AllocError> {
         .num_args(0..)
         .action(ArgAction::Append)
         .default_value(STANDARD_INPUT)
-        .help(FILE_HELP);
+        .help(texts::FILE);
     let mut command = Command::new(alloc, NROFF)
-        .about(NROFF_ABOUT)
-        .after_help(NROFF_NOTES)
+        .about(texts::NROFF)
+        .after_help(texts::NROFF_NOTES)
         .arg(file)?;
     for option in &LIMIT_OPTIONS {
         command = command.arg(limit_argument(alloc, option))?;
@@ -124,8 +87,8 @@ fn nroff_command<'a>(alloc: Global) -> Result<Command<'a>, AllocError> {
 }
 
 fn limit_argument<'a>(alloc: Global, option: &'static LimitOption) -> Arg<'a> {
-    Arg::new(alloc, option.name)
-        .long(option.name)
+    Arg::new(alloc, option.limit.name())
+        .long(option.limit.name())
         .value_name("N")
         .value_parser(value_parser!(u32).range(0..=GREATEST_LIMIT))
         .allow_negative_numbers(true)
@@ -152,7 +115,7 @@ fn nroff_request<'a>(alloc: Global, nroff: &ArgMatches<'a>) -> Result<Request<'a
 fn limits_of(matches: &ArgMatches<'_>) -> Limits {
     let mut limits = Limits::default();
     for option in &LIMIT_OPTIONS {
-        if let Some(value) = matches.get_one::<u32>(option.name) {
+        if let Some(value) = matches.get_one::<u32>(option.limit.name()) {
             limits.set(option.limit, value);
         }
     }
@@ -172,6 +135,7 @@ mod tests {
         few.line = 0;
         let mut most = usual;
         most.bytes = 1_000_000_000;
+        most.line = 1_000_000_000;
         let rows: [(&[&str], Limits, &[&str]); 5] = [
             (&["roff", "nroff"], usual, &["-"]),
             (&["roff", "nroff", "a", "-", "b"], usual, &["a", "-", "b"]),
@@ -180,7 +144,11 @@ mod tests {
                 few,
                 &["a", "b"],
             ),
-            (&["roff", "nroff", "--bytes=1000000000"], most, &["-"]),
+            (
+                &["roff", "nroff", "--bytes=1000000000", "--line=1000000000"],
+                most,
+                &["-"],
+            ),
             (&["roff", "nroff", "--", "--line"], usual, &["--line"]),
         ];
         for (words, limits, files) in rows {
@@ -196,37 +164,15 @@ mod tests {
     }
 
     #[test]
-    fn refuses_mistakes(rt: HostRuntime) -> Result<(), Fail> {
-        let rows: [(&[&str], ErrorKind); 8] = [
-            (&["roff"], ErrorKind::MissingSubcommand),
-            (&["roff", "troff"], ErrorKind::InvalidSubcommand),
-            (
-                &["roff", "nroff", "--page", "1"],
-                ErrorKind::UnknownArgument,
-            ),
-            (&["roff", "nroff", "--bytes"], ErrorKind::InvalidValue),
-            (
-                &["roff", "nroff", "--bytes", "-1"],
-                ErrorKind::ValueValidation,
-            ),
-            (
-                &["roff", "nroff", "--bytes", "1000000001"],
-                ErrorKind::ValueValidation,
-            ),
-            (
-                &["roff", "nroff", "--line", "x"],
-                ErrorKind::ValueValidation,
-            ),
-            (
-                &["roff", "nroff", "--line", "1", "--line", "2"],
-                ErrorKind::ArgumentConflict,
-            ),
-        ];
-        for (words, kind) in rows {
-            match parse_words(rt.alloc(), words) {
-                Ok(_) => assert!(rt; false, "at {words:?}"),
-                Err(error) => assert_eq!(rt; error.kind(), kind, "at {words:?}"),
-            }
+    fn defaults_are_those_of_the_limits(rt: HostRuntime) -> Result<(), Fail> {
+        for option in &LIMIT_OPTIONS {
+            let usual = Limits::default().value(option.limit);
+            assert_eq!(rt;
+                option.default.parse::<u32>()?,
+                usual,
+                "of {}",
+                option.limit.name()
+            );
         }
         Ok(())
     }

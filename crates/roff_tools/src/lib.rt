@@ -2,12 +2,14 @@
 #![tactic(auto)]
 
 mod command;
+mod exit;
 mod inputs;
 mod job;
 mod memory;
 mod program;
 #[cfg(test)]
 mod tests;
+mod texts;
 
 pub use job::{Job, run};
 pub use memory::{MemSink, MemSource};

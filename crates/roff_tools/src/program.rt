@@ -1,15 +1,16 @@
 //! The program: it reads its words, opens its files, runs the job and tells how it went.
 
-ghost use Rattle.std.specs.Prelude.{◌≡◌, ◌≢◌, ◌≤◌, ◌⊎◌, IfOk, IfErr, OnOk, OnErr, map, bytes_eq};
+ghost use Rattle.std.specs.Prelude.{◌≡◌, ◌≢◌, ◌≤◌, ◌⊎◌, IfOk, IfErr, OnOk, OnErr, map};
 ghost use Rattle.std.specs.Io.KnownBytes.{Keeps};
 ghost use Rattle.std.specs.Process.{exit_status};
 ghost use Rattle.clap.specs.Words.{kind_of};
+ghost use Rattle.roff_tools.specs.Inputs.Name.{names_standard_input};
 ghost use Rattle.roff_tools.specs.Inputs.Part.{is_standard};
 ghost use Rattle.roff_tools.specs.StartFault.{NamesFile, NamesOneOf};
-ghost use Rattle.roff_tools.specs.Status.{status_number};
 ghost use Rattle.roff_tools.specs.declared.program.StartFault.TheVariants.{OutOfMemory};
 
 use crate::command::{Request, STANDARD_INPUT, parse_words};
+use crate::exit::Exit;
 use crate::inputs::{Inputs, Part};
 use crate::{Job, ReadSource, SinkFault, Status, WriteSink, run};
 use clap::error::ErrorKind;
@@ -20,18 +21,6 @@ use std::process::ExitCode;
 use std::rt::{Env, Files};
 use std::{env, fs, io};
 use thiserror::Error;
-
-/// The status to exit with when all is done.
-const DONE: u8 = 0;
-
-/// That of a wrong command line, and of a run that could not start.
-const NOT_STARTED: u8 = 1;
-
-/// That of a failed read or write.
-const DEVICE_FAILED: u8 = 2;
-
-/// That of a run that a limit ended.
-const LIMIT_REACHED: u8 = 3;
 
 /// Why a run could not start.
 #[derive(Debug, Drop, Error)]
@@ -70,13 +59,13 @@ where
     R: Env + Files + Input + AllocGlobal,
     O: Write + Drop,
     E: Write + Drop,
-    ensures { exit_status result ≤ LIMIT_REACHED }
+    ensures { exit_status result ≤ 3 }
 {
-    let status = match words_of(rt) {
+    let exit = match words_of(rt) {
         Ok(words) => obey(rt, words.as_slice(), &mut stdout, &mut stderr),
         Err(fault) => report(&fault, &mut stderr),
     };
-    ExitCode::from(status)
+    ExitCode::from(exit.number())
 }
 
 fn words_of<R: Env + AllocGlobal>(rt: &R) -> Result<Vec<String>, StartFault> {
@@ -87,44 +76,42 @@ fn words_of<R: Env + AllocGlobal>(rt: &R) -> Result<Vec<String>, StartFault> {
     }
 }
 
-/// Writes a fault's message, and gives the status. Where the write fails, there is no one to tell.
-fn report<E: Write>(fault: &StartFault, stderr: &mut E) -> u8
-    ensures { result ≡ NOT_STARTED }
+/// Writes a fault's message. Where the write fails, there is no one to tell.
+fn report<E: Write>(fault: &StartFault, stderr: &mut E) -> Exit
+    ensures { result ≡ Exit.NotStarted }
 {
     let _ = writeln!(stderr, "roff: {fault}");
-    NOT_STARTED
+    Exit::NotStarted
 }
 
-/// Does what the words ask for, and gives the status.
-fn obey<R, S, O, E>(rt: &R, words: &[S], stdout: &mut O, stderr: &mut E) -> u8
+/// Does what the words ask for.
+fn obey<R, S, O, E>(rt: &R, words: &[S], stdout: &mut O, stderr: &mut E) -> Exit
 where
     R: Files + Input + AllocGlobal,
     S: AsStr,
     O: Write,
     E: Write,
-    ensures { result ≤ LIMIT_REACHED }
 {
     let outcome = match parse_words(rt.alloc(), words) {
         Ok(request) => perform(rt, &request, stdout, stderr),
         Err(shown) => show(&shown, stdout, stderr),
     };
     match outcome {
-        Ok(status) => status,
+        Ok(exit) => exit,
         Err(fault) => report(&fault, stderr),
     }
 }
 
-/// Writes what a parse of the words has to say in place of a request, and gives the status.
+/// Writes what a parse of the words has to say in place of a request.
 fn show<O: Write, E: Write>(
     shown: &clap::Error,
     stdout: &mut O,
     stderr: &mut E,
-) -> Result<u8, StartFault>
-    ensures status { IfOk result (λ n. n ≤ LIMIT_REACHED) }
+) -> Result<Exit, StartFault>
     ensures mistake { (kind_of shown.now ≢ ErrorKind.DisplayHelp) → (kind_of shown.now ≢ ErrorKind.DisplayVersion)
-        → IfOk result (λ n. n ≡ NOT_STARTED) × Keeps (O.contents stdout.old) (O.contents stdout.new) }
+        → IfOk result (λ exit. exit ≡ Exit.NotStarted) × Keeps (O.contents stdout.old) (O.contents stdout.new) }
     ensures asked { (kind_of shown.now ≡ ErrorKind.DisplayHelp) ⊎ (kind_of shown.now ≡ ErrorKind.DisplayVersion)
-        → IfOk result (λ n. n ≢ NOT_STARTED) × Keeps (E.contents stderr.old) (E.contents stderr.new) }
+        → IfOk result (λ exit. (exit ≡ Exit.Done) ⊎ (exit ≡ Exit.DeviceFailed)) × Keeps (E.contents stderr.old) (E.contents stderr.new) }
     ensures fault { IfErr result (λ fault. fault ≡ OutOfMemory) }
 {
     if shown.kind() == ErrorKind::OutOfMemory {
@@ -132,11 +119,11 @@ fn show<O: Write, E: Write>(
     }
     if shown.use_stderr() {
         let _ = write!(stderr, "{shown}");
-        return Ok(NOT_STARTED);
+        return Ok(Exit::NotStarted);
     }
     match write!(stdout, "{shown}") {
-        Ok(()) => Ok(DONE),
-        Err(_) => Ok(DEVICE_FAILED),
+        Ok(()) => Ok(Exit::Done),
+        Err(_) => Ok(Exit::DeviceFailed),
     }
 }
 
@@ -146,19 +133,18 @@ fn perform<R, O, E>(
     request: &Request<'_>,
     stdout: &mut O,
     stderr: &mut E,
-) -> Result<u8, StartFault>
+) -> Result<Exit, StartFault>
 where
     R: Files + Input + AllocGlobal,
     O: Write,
     E: Write,
-    ensures status { IfOk result (λ n. n ≤ LIMIT_REACHED) }
     ensures fault { IfErr result (NamesOneOf (map (λ name. name.now) request.now.files.items)) }
     ensures unopened { (name : _) → result ≡ Err (StartFault.CannotOpen name)
         → Keeps (O.contents stdout.old) (O.contents stdout.new) }
 {
     let inputs = open_all(rt, request.files.as_slice())?;
     let status = run_on(rt.alloc(), request.job, inputs, stdout, stderr)?;
-    Ok(number_of(status))
+    Ok(Exit::after(status))
 }
 
 /// Opens the files in their order.
@@ -167,7 +153,7 @@ fn open_all<R: Files + Input + AllocGlobal>(
     names: &[&str],
 ) -> Result<Inputs<R::File, R::Reader>, StartFault>
     ensures parts { IfOk result (λ parts. map is_standard parts
-        ≡ map (λ name. bytes_eq name.now STANDARD_INPUT.now) names.now) }
+        ≡ map (λ name. names_standard_input name.now) names.now) }
     ensures fault { IfErr result (NamesOneOf (map (λ name. name.now) names.now)) }
 {
     let mut parts = Vec::new(rt.alloc());
@@ -181,7 +167,7 @@ fn open_part<R: Files + Input + AllocGlobal>(
     rt: &R,
     name: &str,
 ) -> Result<Part<R::File, R::Reader>, StartFault>
-    ensures part { IfOk result (λ part. is_standard part ≡ bytes_eq name.now STANDARD_INPUT.now) }
+    ensures part { IfOk result (λ part. is_standard part ≡ names_standard_input name.now) }
     ensures fault { IfErr result (NamesFile name.now) }
 {
     if name == STANDARD_INPUT {
@@ -227,16 +213,6 @@ fn after_flush(status: Status, flushed: Result<(), SinkFault>) -> Status
     }
 }
 
-fn number_of(status: Status) -> u8
-    ensures { result ≡ status_number status }
-{
-    match status {
-        Status::Done => DONE,
-        Status::Device => DEVICE_FAILED,
-        Status::Limit(_) => LIMIT_REACHED,
-    }
-}
-
 #[cfg(test)]
 mod tests {
     use super::*;
@@ -257,160 +233,9 @@ mod tests {
         ];
         for (fault, text) in rows {
             let mut written = Vec::new(rt.alloc());
-            assert_eq!(rt; report(&fault, &mut written), 1);
+            assert_eq!(rt; report(&fault, &mut written), Exit::NotStarted);
             assert!(rt; written.as_slice() == text);
         }
         Ok(())
     }
-
-    #[test]
-    fn answers_without_a_run(rt: HostRuntime) -> Result<(), Fail> {
-        let rows: [(&[&str], u8, &str, &str); 14] = [
-            (&["roff", "--version"], 0, "roff 0.1.0\n", ""),
-            (&["roff", "--help"], 0, ROFF_HELP, ""),
-            (&["roff", "help"], 0, ROFF_HELP, ""),
-            (&["roff", "nroff", "--help"], 0, NROFF_HELP, ""),
-            (&["roff", "help", "nroff"], 0, NROFF_HELP, ""),
-            (&["roff"], 1, "", NO_COMMAND),
-            (&["roff", "troff"], 1, "", WRONG_COMMAND),
-            (&["roff", "nroff", "--page"], 1, "", WRONG_OPTION),
-            (&["roff", "nroff", "--bytes"], 1, "", NO_VALUE),
-            (&["roff", "nroff", "--line", "x"], 1, "", NO_NUMBER),
-            (&["roff", "nroff", "--bytes", "-1"], 1, "", BELOW_RANGE),
-            (&["roff", "nroff", "--bytes=1000000001"], 1, "", ABOVE_RANGE),
-            (&["roff", "nroff", "--line=1", "--line=2"], 1, "", TWICE),
-            (
-                &["roff", "nroff", "no/such"],
-                1,
-                "",
-                "roff: cannot open no/such\n",
-            ),
-        ];
-        for (words, status, out, err) in rows {
-            let mut stdout = Vec::new(rt.alloc());
-            let mut stderr = Vec::new(rt.alloc());
-            assert_eq!(rt;
-                obey(&rt, words, &mut stdout, &mut stderr),
-                status,
-                "at {words:?}"
-            );
-            assert_eq!(rt; str::from_utf8(&stdout), Ok(out), "at {words:?}");
-            assert_eq!(rt; str::from_utf8(&stderr), Ok(err), "at {words:?}");
-        }
-        Ok(())
-    }
-
-    const ROFF_HELP: &str = "\
-Format documents of the roff language as plain text
-
-Usage: roff <COMMAND>
-
-Commands:
-  nroff  Format text for a terminal or a line printer
-  help   Print this message or the help of the given subcommand(s)
-
-Options:
-  -h, --help     Print help
-  -V, --version  Print version
-
-'roff help COMMAND' says more about a command.
-
-Files are read one after another as one input; all are opened before the first
-is read. '-', or no file at all, is standard input. Text is written on standard
-output, and messages on standard error.
-
-Exit status:
-  0  done
-  1  wrong command line, a file that cannot be opened, or no memory to start
-  2  reading or writing failed
-  3  a limit was reached
-";
-
-    const NROFF_HELP: &str = "\
-Format text for a terminal or a line printer
-
-Usage: roff nroff [OPTIONS] [FILE]...
-
-Arguments:
-  [FILE]...  Files to be read; '-' is standard input [default: -]
-
-Options:
-      --bytes <N>  Stop after N bytes of input [default: 50000000]
-      --line <N>   Longest pending output line, in bytes [default: 4096]
-  -h, --help       Print help
-
-nroff fills lines with the words of its input, and obeys its control lines, which
-begin with a period or an apostrophe. Each N is a number from 0 to 1000000000.
-
-Files are read one after another as one input; all are opened before the first
-is read. '-', or no file at all, is standard input. Text is written on standard
-output, and messages on standard error.
-
-Exit status:
-  0  done
-  1  wrong command line, a file that cannot be opened, or no memory to start
-  2  reading or writing failed
-  3  a limit was reached
-";
-
-    const NO_COMMAND: &str = "\
-error: 'roff' requires a subcommand but one was not provided
-  [subcommands: nroff, help]
-
-Usage: roff <COMMAND>
-
-For more information, try '--help'.
-";
-
-    const WRONG_COMMAND: &str = "\
-error: unrecognized subcommand 'troff'
-
-  tip: a similar subcommand exists: 'nroff'
-
-Usage: roff <COMMAND>
-
-For more information, try '--help'.
-";
-
-    const WRONG_OPTION: &str = "\
-error: unexpected argument '--page' found
-
-  tip: to pass '--page' as a value, use '-- --page'
-
-Usage: roff nroff [OPTIONS] [FILE]...
-
-For more information, try '--help'.
-";
-
-    const NO_VALUE: &str = "\
-error: a value is required for '--bytes <N>' but none was supplied
-
-For more information, try '--help'.
-";
-
-    const NO_NUMBER: &str = "\
-error: invalid value 'x' for '--line <N>': invalid digit found in string
-
-For more information, try '--help'.
-";
-
-    const BELOW_RANGE: &str = "\
-error: invalid value '-1' for '--bytes <N>': -1 is not in 0..=1000000000
-
-For more information, try '--help'.
-";
-
-    const ABOVE_RANGE: &str = "\
-error: invalid value '1000000001' for '--bytes <N>': 1000000001 is not in 0..=1000000000
-
-For more information, try '--help'.
-";
-
-    const TWICE: &str = "\
-error: the argument '--line <N>' cannot be used multiple times
-
-Usage: roff nroff [OPTIONS] [FILE]...
-
-For more information, try '--help'.
-";
 }

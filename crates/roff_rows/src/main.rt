@@ -1,0 +1,66 @@
+//! Runs the worked rows, and prints the names of those that hold:
+//!
+//!     roff_rows [FOLDER]
+//!
+//! The folder, which is the current one at first, is this crate's `data`. Its `rows` and `examples` have for each row a document `NAME.roff`, and what the program
+//! makes of it: the output in `NAME.txt`, the messages in `NAME.messages` and the exit status in
+//! `NAME.status`. The command and its options are in `NAME.args`, a word on a line. A file that isn't
+//! there says what is usual: no output, no messages, status 0, and the command `nroff` without
+//! options. The document is standard input.
+#![tactic(auto)]
+
+mod machine;
+mod row;
+#[cfg(test)]
+mod tests;
+
+use anyhow::Result;
+use row::Row;
+use std::process::ExitCode;
+use std::rt::Files;
+use std::{env, fs};
+
+fn main(rt: HostRuntime) -> Result<ExitCode> {
+    let mut words = env::args(&rt)?;
+    let top = match words.nth(1) {
+        Some(folder) => folder,
+        None => String::from_str(rt.alloc(), ".")?,
+    };
+    let mut exit = ExitCode::SUCCESS;
+    for folder in ["rows", "examples"] {
+        let path = format!(in rt.alloc(); "{top}/{folder}")?;
+        if !run_rows(&rt, path.as_str())? {
+            exit = ExitCode::FAILURE;
+        }
+    }
+    Ok(exit)
+}
+
+/// Runs the rows of a folder and prints how each went. Answers whether all of them hold.
+fn run_rows<R: Files + Print + AllocGlobal + Clone + Drop>(rt: &R, folder: &str) -> Result<bool> {
+    let mut all_hold = true;
+    for name in &names_in(rt, folder)? {
+        let row = Row::read(rt, format!(in rt.alloc(); "{folder}/{name}")?.as_str())?;
+        match row.difference(rt.alloc())? {
+            None => println!(rt; "{name}")?,
+            Some(what) => {
+                println!(rt; "{name}: the {what} differs")?;
+                all_hold = false;
+            }
+        }
+    }
+    Ok(all_hold)
+}
+
+/// The names of the rows in a folder, sorted.
+fn names_in<R: Files + AllocGlobal + Clone + Drop>(rt: &R, folder: &str) -> Result<Vec<String>> {
+    let mut names = Vec::new(rt.alloc());
+    for entry in fs::read_dir(rt, folder)? {
+        let entry = entry?;
+        if let Some(name) = entry.file_name().strip_suffix(".roff") {
+            names.push(String::from_str(rt.alloc(), name)?)?;
+        }
+    }
+    names.sort()?;
+    Ok(names)
+}

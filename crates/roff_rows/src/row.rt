@@ -1,0 +1,76 @@
+//! A worked row.
+
+use crate::machine::{Given, Machine, Paper};
+use anyhow::Result;
+use roff_tools::main_with;
+use std::alloc::{AllocError, Global};
+use std::process::ExitCode;
+use std::rt::Files;
+use std::{fs, io};
+
+/// A worked row: a document, the words of the command line, and what the program must give.
+#[derive(Drop)]
+pub struct Row {
+    document: Vec<u8>,
+    words: Vec<String>,
+    output: Vec<u8>,
+    messages: Vec<u8>,
+    status: u8,
+}
+
+impl Row {
+    /// Reads a row. Its files have this path, with endings of their own.
+    pub fn read<R: Files + AllocGlobal>(rt: &R, path: &str) -> Result<Row> {
+        let alloc = rt.alloc();
+        let document = fs::read(rt, format!(in alloc; "{path}.roff")?)?;
+        let args = read_or(rt, format!(in alloc; "{path}.args")?, "nroff")?;
+        let mut words = vec![in alloc; String::from_str(alloc, "roff")?]?;
+        for word in str::from_utf8(&args)?.lines() {
+            words.push(String::from_str(alloc, word)?)?;
+        }
+        let output = read_or(rt, format!(in alloc; "{path}.txt")?, "")?;
+        let messages = read_or(rt, format!(in alloc; "{path}.messages")?, "")?;
+        let status = read_or(rt, format!(in alloc; "{path}.status")?, "0")?;
+        Ok(Row {
+            document,
+            words,
+            output,
+            messages,
+            status: str::from_utf8(&status)?.trim().parse::<u8>()?,
+        })
+    }
+
+    /// Runs the program on the document, and says what of its answer isn't the row's.
+    pub fn difference(&self, alloc: Global) -> Result<Option<&'static str>, AllocError> {
+        let machine = Machine {
+            alloc,
+            words: self.words.as_slice(),
+            files: &[],
+            standard_input: Given::new(self.document.as_slice()),
+            most: usize::MAX,
+        };
+        let mut stdout = Paper::new(alloc);
+        let mut stderr = Paper::new(alloc);
+        let exit = main_with(&machine, &mut stdout, &mut stderr);
+        Ok(if stdout.kept != self.output {
+            Some("output")
+        } else if stderr.kept != self.messages {
+            Some("messages")
+        } else if exit != ExitCode::from(self.status) {
+            Some("status")
+        } else {
+            None
+        })
+    }
+}
+
+/// What a file has, or a text where there is no file.
+fn read_or<R: Files + AllocGlobal>(rt: &R, path: String, usual: &str) -> Result<Vec<u8>> {
+    match fs::read(rt, path) {
+        Ok(bytes) => Ok(bytes),
+        Err(error) if error.kind() == io::ErrorKind::NotFound => {
+            Ok(Vec::from_slice(rt.alloc(), usual.as_bytes())?)
+        }
+        Err(error) => Err(error.into()),
+    }
+}

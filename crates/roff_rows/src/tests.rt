@@ -1,0 +1,94 @@
+//! Command lines, and what the program makes of them.
+
+mod command_lines;
+mod devices;
+mod long_documents;
+mod texts;
+
+use crate::machine::{Given, Machine, Paper};
+use roff_tools::main_with;
+use std::alloc::Global;
+use std::process::{Abort, ExitCode};
+use std::test::Fail;
+
+/// The files that a command line may name. Documents begin with a page of one line, and don't fill.
+static FILES: [(&str, &[u8]); 14] = [
+    ("one", b".pl 1\n.nf\none\n"),
+    ("two", b".pl 1\n.nf\ntwo\n"),
+    ("three", b".pl 1\n.nf\nthree\n"),
+    ("four", b".pl 1\n.nf\nfour\n"),
+    ("a file", b".pl 1\n.nf\na blank in its name\n"),
+    (" file ", b".pl 1\n.nf\nblanks around its name\n"),
+    ("file", b".pl 1\n.nf\nno blank in its name\n"),
+    ("--line", b".pl 1\n.nf\nnamed like an option\n"),
+    ("empty", b""),
+    ("begun", b".pl 1\n.nf\nbegun, and "),
+    ("ended", b"ended\n"),
+    ("filled", b".pl 1\nab cd\n"),
+    ("longer", b".pl 1\nabc de\n"),
+    ("mistaken", b".pl 1\n.nf\nab\n.ll x\ncd\n"),
+];
+
+static STANDARD_INPUT: &[u8] = b".pl 1\n.nf\nstandard input\n";
+
+/// A machine with these words, and the files and the standard input above.
+fn machine<'a>(alloc: Global, words: &'a [&'a str]) -> Machine<'a, &'a str> {
+    Machine {
+        alloc,
+        words,
+        files: &FILES,
+        standard_input: Given::new(STANDARD_INPUT),
+        most: usize::MAX,
+    }
+}
+
+/// What a run must give.
+#[derive(Clone, Copy)]
+struct Expected<'a> {
+    status: u8,
+    out: &'a [u8],
+    err: &'a [u8],
+}
+
+/// Runs the program on a machine, and compares what it wrote and its status.
+fn check(
+    rt: &impl Abort,
+    machine: &Machine<'_, &str>,
+    mut stdout: Paper,
+    mut stderr: Paper,
+    expected: Expected<'_>,
+) {
+    let words = machine.words;
+    let exit = main_with(machine, &mut stdout, &mut stderr);
+    let out = str::from_utf8(&stdout.kept);
+    let err = str::from_utf8(&stderr.kept);
+    assert_eq!(rt; out, str::from_utf8(expected.out), "output of {words:?}");
+    assert_eq!(rt; err, str::from_utf8(expected.err), "messages of {words:?}");
+    assert_eq!(rt;
+        exit,
+        ExitCode::from(expected.status),
+        "status of {words:?}"
+    );
+}
+
+#[test]
+fn words_that_are_no_text(rt: HostRuntime) -> Result<(), Fail> {
+    let words: [&[u8]; 3] = [b"roff", b"nroff", b"na\xefve"];
+    let machine = Machine {
+        alloc: rt.alloc(),
+        words: words.as_slice(),
+        files: &FILES,
+        standard_input: Given::new(STANDARD_INPUT),
+        most: usize::MAX,
+    };
+    let mut stdout = Paper::new(rt.alloc());
+    let mut stderr = Paper::new(rt.alloc());
+    let exit = main_with(&machine, &mut stdout, &mut stderr);
+    assert!(rt; stdout.kept.is_empty());
+    assert_eq!(rt;
+        str::from_utf8(&stderr.kept),
+        Ok("roff: an argument is not UTF-8 text\n")
+    );
+    assert_eq!(rt; exit, ExitCode::from(1));
+    Ok(())
+}

@@ -1,0 +1,348 @@
+//! Command lines and what they give.
+
+use super::{Expected, check, machine, texts};
+use crate::machine::Paper;
+use std::alloc::Global;
+use std::process::Abort;
+
+/// The words of a command line, the exit status, the output and the messages.
+type Row = (&'static [&'static str], u8, &'static str, &'static str);
+
+/// Which files are read.
+static FILE_ROWS: [Row; 23] = [
+    (&["roff", "nroff"], 0, "standard input\n", ""),
+    (&["roff", "nroff", "-"], 0, "standard input\n", ""),
+    (&["roff", "nroff", "one"], 0, "one\n", ""),
+    (
+        &["roff", "nroff", "one", "two", "three", "four"],
+        0,
+        "one\ntwo\nthree\nfour\n",
+        "",
+    ),
+    (
+        &["roff", "nroff", "four", "two", "three", "one"],
+        0,
+        "four\ntwo\nthree\none\n",
+        "",
+    ),
+    (&["roff", "nroff", "two", "two"], 0, "two\ntwo\n", ""),
+    (
+        &["roff", "nroff", "one", "-", "two"],
+        0,
+        "one\nstandard input\ntwo\n",
+        "",
+    ),
+    (
+        &["roff", "nroff", "-", "one"],
+        0,
+        "standard input\none\n",
+        "",
+    ),
+    (&["roff", "nroff", "a file"], 0, "a blank in its name\n", ""),
+    (
+        &["roff", "nroff", " file "],
+        0,
+        "blanks around its name\n",
+        "",
+    ),
+    (&["roff", "nroff", "file"], 0, "no blank in its name\n", ""),
+    (
+        &["roff", "nroff", "--", "--line"],
+        0,
+        "named like an option\n",
+        "",
+    ),
+    (
+        &["roff", "nroff", "one", "--", "-", "--line"],
+        0,
+        "one\nstandard input\nnamed like an option\n",
+        "",
+    ),
+    (&["roff", "nroff", "empty"], 0, "", ""),
+    (
+        &["roff", "nroff", "begun", "empty", "ended"],
+        0,
+        "begun, and ended\n",
+        "",
+    ),
+    (
+        &["roff", "nroff", "none"],
+        1,
+        "",
+        "roff: cannot open none\n",
+    ),
+    (
+        &["roff", "nroff", "one", "none"],
+        1,
+        "",
+        "roff: cannot open none\n",
+    ),
+    (
+        &["roff", "nroff", "-", "no such", "two", "none"],
+        1,
+        "",
+        "roff: cannot open no such\n",
+    ),
+    (&["roff", "nroff", ""], 1, "", "roff: cannot open \n"),
+    (
+        &["roff", "nroff", "one", "./-"],
+        1,
+        "",
+        "roff: cannot open ./-\n",
+    ),
+    (
+        &["roff", "nroff", " one"],
+        1,
+        "",
+        "roff: cannot open  one\n",
+    ),
+    (
+        &["roff", "nroff", "mistaken"],
+        0,
+        "ab\ncd\n",
+        "nroff: line 4: bad number\n",
+    ),
+    (
+        &["roff", "nroff", "one", "mistaken"],
+        0,
+        "one\nab\ncd\n",
+        "nroff: line 7: bad number\n",
+    ),
+];
+
+/// What the options of limits do.
+static LIMIT_ROWS: [Row; 23] = [
+    (
+        &["roff", "nroff", "filled", "--bytes", "0"],
+        3,
+        "",
+        "nroff: line 1: limit bytes (0) reached\n",
+    ),
+    (
+        &["roff", "nroff", "filled", "--bytes", "1"],
+        3,
+        "",
+        "nroff: line 1: limit bytes (1) reached\n",
+    ),
+    (
+        &["roff", "nroff", "filled", "--bytes", "11"],
+        3,
+        "",
+        "nroff: line 2: limit bytes (11) reached\n",
+    ),
+    (
+        &["roff", "nroff", "filled", "--bytes", "12"],
+        0,
+        "ab cd\n",
+        "",
+    ),
+    (
+        &["roff", "nroff", "filled", "--bytes", "10000"],
+        0,
+        "ab cd\n",
+        "",
+    ),
+    (
+        &["roff", "nroff", "filled", "--bytes", "50000000"],
+        0,
+        "ab cd\n",
+        "",
+    ),
+    (
+        &["roff", "nroff", "filled", "--bytes", "1000000000"],
+        0,
+        "ab cd\n",
+        "",
+    ),
+    (&["roff", "nroff", "--bytes=12", "filled"], 0, "ab cd\n", ""),
+    (
+        &["roff", "nroff", "--bytes=11", "filled"],
+        3,
+        "",
+        "nroff: line 2: limit bytes (11) reached\n",
+    ),
+    (
+        &["roff", "nroff", "one", "--bytes", "28", "two"],
+        0,
+        "one\ntwo\n",
+        "",
+    ),
+    (
+        &["roff", "nroff", "one", "--bytes", "27", "two"],
+        3,
+        "one\n",
+        "nroff: line 6: limit bytes (27) reached\n",
+    ),
+    (
+        &["roff", "nroff", "longer", "--line", "0"],
+        3,
+        "",
+        "nroff: line 2: limit line (0) reached\n",
+    ),
+    (
+        &["roff", "nroff", "longer", "--line", "1"],
+        3,
+        "",
+        "nroff: line 2: limit line (1) reached\n",
+    ),
+    (
+        &["roff", "nroff", "longer", "--line", "5"],
+        3,
+        "",
+        "nroff: line 2: limit line (5) reached\n",
+    ),
+    (
+        &["roff", "nroff", "longer", "--line", "6"],
+        0,
+        "abc de\n",
+        "",
+    ),
+    (
+        &["roff", "nroff", "longer", "--line", "4096"],
+        0,
+        "abc de\n",
+        "",
+    ),
+    (
+        &["roff", "nroff", "longer", "--line", "10000"],
+        0,
+        "abc de\n",
+        "",
+    ),
+    (
+        &["roff", "nroff", "longer", "--line", "1000000"],
+        0,
+        "abc de\n",
+        "",
+    ),
+    (
+        &["roff", "nroff", "--line=5", "longer"],
+        3,
+        "",
+        "nroff: line 2: limit line (5) reached\n",
+    ),
+    (&["roff", "nroff", "--line=6", "longer"], 0, "abc de\n", ""),
+    (
+        &["roff", "nroff", "--line", "5", "--bytes", "9", "longer"],
+        3,
+        "",
+        "nroff: line 2: limit bytes (9) reached\n",
+    ),
+    (
+        &["roff", "nroff", "--line", "5", "--bytes", "99", "longer"],
+        3,
+        "",
+        "nroff: line 2: limit line (5) reached\n",
+    ),
+    (
+        &["roff", "nroff", "one", "--line=4", "two", "three"],
+        3,
+        "one\ntwo\n",
+        "nroff: line 9: limit line (4) reached\n",
+    ),
+];
+
+/// Help and version.
+static HELP_ROWS: [Row; 9] = [
+    (&["roff", "--help"], 0, texts::ROFF_HELP, ""),
+    (&["roff", "-h"], 0, texts::ROFF_HELP, ""),
+    (&["roff", "help"], 0, texts::ROFF_HELP, ""),
+    (&["roff", "--version"], 0, "roff 0.1.0\n", ""),
+    (&["roff", "-V"], 0, "roff 0.1.0\n", ""),
+    (&["roff", "nroff", "--help"], 0, texts::NROFF_HELP, ""),
+    (&["roff", "nroff", "-h"], 0, texts::NROFF_HELP, ""),
+    (&["roff", "help", "nroff"], 0, texts::NROFF_HELP, ""),
+    (
+        &["roff", "nroff", "one", "--help"],
+        0,
+        texts::NROFF_HELP,
+        "",
+    ),
+];
+
+/// Mistakes on the command line.
+static MISTAKE_ROWS: [Row; 16] = [
+    (&["roff"], 1, "", texts::NO_COMMAND),
+    (&["roff", "troff"], 1, "", texts::WRONG_COMMAND),
+    (&["roff", "one"], 1, "", texts::NO_SUCH_COMMAND),
+    (
+        &["roff", "--bytes", "5", "nroff"],
+        1,
+        "",
+        texts::EARLY_OPTION,
+    ),
+    (&["roff", "nroff", "--version"], 1, "", texts::NO_VERSION),
+    (&["roff", "nroff", "--page"], 1, "", texts::WRONG_OPTION),
+    (
+        &["roff", "nroff", "one", "--page"],
+        1,
+        "",
+        texts::WRONG_OPTION_LATER,
+    ),
+    (&["roff", "nroff", "-x"], 1, "", texts::WRONG_LETTER),
+    (
+        &["roff", "nroff", "--byte", "5"],
+        1,
+        "",
+        texts::SHORTENED_OPTION,
+    ),
+    (&["roff", "nroff", "one", "--bytes"], 1, "", texts::NO_VALUE),
+    (&["roff", "nroff", "--line", "x"], 1, "", texts::NO_NUMBER),
+    (&["roff", "nroff", "--line", ""], 1, "", texts::EMPTY_NUMBER),
+    (
+        &["roff", "nroff", "--bytes", "-1"],
+        1,
+        "",
+        texts::BELOW_RANGE,
+    ),
+    (
+        &["roff", "nroff", "--bytes=1000000001"],
+        1,
+        "",
+        texts::ABOVE_RANGE,
+    ),
+    (
+        &["roff", "nroff", "--line", "1000000001"],
+        1,
+        "",
+        texts::LINE_ABOVE_RANGE,
+    ),
+    (
+        &["roff", "nroff", "--line=1", "--line=2"],
+        1,
+        "",
+        texts::TWICE,
+    ),
+];
+
+fn check_rows(rt: &impl Abort, alloc: Global, rows: &[Row]) {
+    for (words, status, out, err) in rows {
+        let expected = Expected {
+            status: *status,
+            out: out.as_bytes(),
+            err: err.as_bytes(),
+        };
+        let (stdout, stderr) = (Paper::new(alloc), Paper::new(alloc));
+        check(rt, &machine(alloc, words), stdout, stderr, expected);
+    }
+}
+
+#[test]
+fn files(rt: HostRuntime) {
+    check_rows(&rt, rt.alloc(), &FILE_ROWS);
+}
+
+#[test]
+fn limits(rt: HostRuntime) {
+    check_rows(&rt, rt.alloc(), &LIMIT_ROWS);
+}
+
+#[test]
+fn help_and_version(rt: HostRuntime) {
+    check_rows(&rt, rt.alloc(), &HELP_ROWS);
+}
+
+#[test]
+fn mistakes(rt: HostRuntime) {
+    check_rows(&rt, rt.alloc(), &MISTAKE_ROWS);
+}

@@ -1,0 +1,185 @@
+//! The texts of help and of mistakes on the command line.
+
+pub const ROFF_HELP: &str = "\
+Format documents of the roff language as plain text
+
+Usage: roff <COMMAND>
+
+Commands:
+  nroff  Format text for a terminal or a line printer
+  help   Print this message or the help of the given subcommand(s)
+
+Options:
+  -h, --help     Print help
+  -V, --version  Print version
+
+'roff help COMMAND' says more about a command.
+
+Files are read one after another as one input; all are opened before the first
+is read. '-', or no file at all, is standard input. Text is written on standard
+output, and messages on standard error.
+
+Exit status:
+  0  done
+  1  wrong command line, a file that cannot be opened, or no memory to start
+  2  reading or writing failed
+  3  a limit was reached
+";
+
+pub const NROFF_HELP: &str = "\
+Format text for a terminal or a line printer
+
+Usage: roff nroff [OPTIONS] [FILE]...
+
+Arguments:
+  [FILE]...  Files to be read; '-' is standard input [default: -]
+
+Options:
+      --bytes <N>  Stop after N bytes of input [default: 50000000]
+      --line <N>   Longest pending output line, in bytes [default: 4096]
+  -h, --help       Print help
+
+nroff fills lines with the words of its input, and obeys its control lines, which
+begin with a period or an apostrophe. Each N is a number from 0 to 1000000000.
+
+Files are read one after another as one input; all are opened before the first
+is read. '-', or no file at all, is standard input. Text is written on standard
+output, and messages on standard error.
+
+Exit status:
+  0  done
+  1  wrong command line, a file that cannot be opened, or no memory to start
+  2  reading or writing failed
+  3  a limit was reached
+";
+
+pub const NO_COMMAND: &str = "\
+error: 'roff' requires a subcommand but one was not provided
+  [subcommands: nroff, help]
+
+Usage: roff <COMMAND>
+
+For more information, try '--help'.
+";
+
+pub const WRONG_COMMAND: &str = "\
+error: unrecognized subcommand 'troff'
+
+  tip: a similar subcommand exists: 'nroff'
+
+Usage: roff <COMMAND>
+
+For more information, try '--help'.
+";
+
+pub const WRONG_OPTION: &str = "\
+error: unexpected argument '--page' found
+
+  tip: to pass '--page' as a value, use '-- --page'
+
+Usage: roff nroff [OPTIONS] [FILE]...
+
+For more information, try '--help'.
+";
+
+pub const NO_VALUE: &str = "\
+error: a value is required for '--bytes <N>' but none was supplied
+
+For more information, try '--help'.
+";
+
+pub const NO_NUMBER: &str = "\
+error: invalid value 'x' for '--line <N>': invalid digit found in string
+
+For more information, try '--help'.
+";
+
+pub const BELOW_RANGE: &str = "\
+error: invalid value '-1' for '--bytes <N>': -1 is not in 0..=1000000000
+
+For more information, try '--help'.
+";
+
+pub const ABOVE_RANGE: &str = "\
+error: invalid value '1000000001' for '--bytes <N>': 1000000001 is not in 0..=1000000000
+
+For more information, try '--help'.
+";
+
+pub const TWICE: &str = "\
+error: the argument '--line <N>' cannot be used multiple times
+
+Usage: roff nroff [OPTIONS] [FILE]...
+
+For more information, try '--help'.
+";
+
+pub const NO_SUCH_COMMAND: &str = "\
+error: unrecognized subcommand 'one'
+
+Usage: roff <COMMAND>
+
+For more information, try '--help'.
+";
+
+pub const EARLY_OPTION: &str = "\
+error: unexpected argument '--bytes' found
+
+  tip: 'nroff --bytes' exists
+
+Usage: roff <COMMAND>
+
+For more information, try '--help'.
+";
+
+pub const NO_VERSION: &str = "\
+error: unexpected argument '--version' found
+
+  tip: to pass '--version' as a value, use '-- --version'
+
+Usage: roff nroff [OPTIONS] [FILE]...
+
+For more information, try '--help'.
+";
+
+pub const WRONG_LETTER: &str = "\
+error: unexpected argument '-x' found
+
+  tip: to pass '-x' as a value, use '-- -x'
+
+Usage: roff nroff [OPTIONS] [FILE]...
+
+For more information, try '--help'.
+";
+
+pub const SHORTENED_OPTION: &str = "\
+error: unexpected argument '--byte' found
+
+  tip: a similar argument exists: '--bytes'
+
+Usage: roff nroff --bytes <N> [FILE]...
+
+For more information, try '--help'.
+";
+
+pub const EMPTY_NUMBER: &str = "\
+error: invalid value '' for '--line <N>': cannot parse integer from empty string
+
+For more information, try '--help'.
+";
+
+pub const LINE_ABOVE_RANGE: &str = "\
+error: invalid value '1000000001' for '--line <N>': 1000000001 is not in 0..=1000000000
+
+For more information, try '--help'.
+";
+
+pub const WRONG_OPTION_LATER: &str = "\
+error: unexpected argument '--page' found
+
+  tip: to pass '--page' as a value, use '-- --page'
+
+Usage: roff nroff [FILE]...
+
+For more information, try '--help'.
+";

@@ -1,0 +1,19 @@
+-- How the program ends.
+use Rattle.std.specs.Prelude.{ℕ}
+use Rattle.roff_engine.specs.declared.status.Status.{Status}
+use Rattle.roff_engine.specs.declared.status.Status.TheVariants as status
+use Rattle.roff_tools.specs.declared.exit.Exit.{Exit}
+use Rattle.roff_tools.specs.declared.exit.Exit.TheVariants.{Done, NotStarted, DeviceFailed, LimitReached}
+
+-- the status that the program exits with
+abbrev pub exit_number : Exit → ℕ
+exit_number Done = 0
+exit_number NotStarted = 1
+exit_number DeviceFailed = 2
+exit_number LimitReached = 3
+
+-- how the program ends after a run that ended so
+abbrev pub exit_after : Status → Exit
+exit_after status.Done = Done
+exit_after status.Device = DeviceFailed
+exit_after (status.Limit limit) = LimitReached
