@@ -1,11 +1,11 @@
 -- What the slots of a table keep, once one of them is written, added or swept.
-use Rattle.std.proofs.Common.{◌≡◌, ◌≢◌, ℕ, zero, suc, ◌+◌, ◌<◌, ◌≤◌, Bool, true, false, cond, List, [], ◌∷◌, ◌++◌, length, map, set, drop, get_or, Option, Some, None, refl, sym, ap, ◌∙◌, arith}
+use Rattle.std.proofs.Common.{◌≡◌, ◌≢◌, ℕ, zero, suc, ◌<◌, ◌≤◌, true, false, cond, List, [], ◌∷◌, ◌++◌, length, map, set, drop, get_or, Some, None, refl, ap, ◌∙◌, arith}
 use Rattle.std.specs.List.{filter, slice_get}
-use Rattle.std.specs.Str.{bytes_eq}
+use Rattle.std.specs.Prelude.{if◌then◌else◌}
 use Rattle.roff_store.specs.declared.name_table.Slot.{Slot}
 use Rattle.roff_store.specs.Buckets.{bucket_of}
-use Rattle.roff_store.specs.Named.{EachOnce, Named, entry_of, with_entry, without_entry}
-use Rattle.roff_store.specs.NameTable.Slots.{entries_in, buckets_of, StandsAt}
+use Rattle.roff_store.specs.Named.{EachOnce, entry_of, with_entry, without_entry}
+use Rattle.roff_store.specs.NameTable.Slots.{entries_in, buckets_of, slot_bucket}
 use Rattle.roff_store.proofs.Entries.{bytes_eq_tells, without_entry-absent}
 
 -- the entry of a name is that of its slot
@@ -91,6 +91,31 @@ map-set_same f [] i x y here same = cc
 map-set_same f (z ∷ zs) zero x y here same = cc
 map-set_same f (z ∷ zs) (suc i) x y here same = ap (λ rest. f z ∷ rest) (map-set_same f zs i x y here same)
 
+-- an element of a mapped list
+pub get_or-map_at : {A : Type 0} (f : A → ℕ) (xs : List A) (i : ℕ) (x : A) → slice_get xs i ≡ Some x → get_or (map f xs) i 0 ≡ f x
+get_or-map_at f [] i x here = cc
+get_or-map_at f (y ∷ ys) zero x here = cc
+get_or-map_at f (y ∷ ys) (suc i) x here = get_or-map_at f ys i x here
+
+-- the bucket of a slot
+pub slot_bucket-used : {E : Type 0} (slot : Slot E) → slot.is_used ≡ true → slot_bucket slot ≡ bucket_of slot.name
+slot_bucket-used slot used = rw used refl
+
+-- a slot that lies in a bucket is used
+pub used_in_bucket : {E : Type 0} (slot : Slot E) → slot_bucket slot < 65536 → slot.is_used ≡ true
+used_in_bucket slot small =
+    elim slot.is_used as (λ b. (if b then bucket_of slot.name else 65536) < 65536 → b ≡ true)
+    [ true ↦ (λ h. refl) | false ↦ (λ h. absurd (omega arith)) ] small
+
+-- where there are as many entries as slots, all slots are used
+pub all_used : {E : Type 0} (slots : List (Slot E)) (place : ℕ) (slot : Slot E) → length (entries_in slots) ≡ length slots
+    → slice_get slots place ≡ Some slot → slot.is_used ≡ true
+all_used [] place slot full here = cc
+all_used (s ∷ ss) zero slot full here = let few = length-entries_in ss in grind arith
+all_used (s ∷ ss) (suc place) slot full here =
+    let few = length-entries_in ss in
+    let others = all_used ss place slot in grind arith
+
 -- names of other buckets may be passed over
 pub entry_of-pass : {E : Type 0} (name : List ℕ) (slots : List (Slot E)) (front behind : ℕ)
     → front ≤ behind → behind ≤ length slots
@@ -103,8 +128,8 @@ entry_of-pass name (s ∷ ss) zero zero low high others absent = absent
 entry_of-pass name (s ∷ ss) zero (suc behind) low high others absent =
     let rest = entry_of-pass name ss zero behind (omega arith) (omega arith)
     (λ place a b. others (suc place) (omega arith) (omega arith)) absent in
-    let apart : bucket_of s.name ≢ bucket_of name = others zero (omega arith) (omega arith) in
-    let differs : s.name ≢ name = (λ same. apart (ap bucket_of same)) in
+    let apart : slot_bucket s ≢ bucket_of name = others zero (omega arith) (omega arith) in
+    let differs : s.is_used ≡ true → s.name ≢ name = (λ used same. apart (slot_bucket-used s used ∙ ap bucket_of same)) in
     grind (arith, bytes_eq_tells)
 entry_of-pass name (s ∷ ss) (suc front) zero low high others absent = absurd (omega arith)
 entry_of-pass name (s ∷ ss) (suc front) (suc behind) low high others absent =

@@ -1,16 +1,17 @@
 -- What a table keeps once a name is given an entry, or its entry is taken away.
-use Rattle.std.proofs.Common.{◌≡◌, ℕ, ◌+◌, ◌-◌, ◌≤◌, true, false, List, length, get_or, set, Some, None, Ok, refl, sym, ap, ◌∙◌, arith}
+use Rattle.std.proofs.Common.{◌≡◌, ℕ, ◌+◌, ◌<◌, ◌≤◌, true, false, List, length, get_or, set, Some, None, Ok, refl, sym, ap, ◌∙◌, arith}
 use Rattle.std.specs.List.{slice_get}
 use Rattle.std.specs.Vec.{with_item}
 use Rattle.std.proofs.lemmas.Option.{get_or_from_slice_get}
 use Rattle.roff_store.specs.declared.name_table.Slot.{Slot}
 use Rattle.roff_store.specs.declared.name_table.NameTable.TheInside.{Inside}
+use Rattle.roff_store.specs.Buckets.{bucket_of}
 use Rattle.roff_store.specs.Named.{EachOnce, Named, Table, entry_of, with_entry, without_entry, admitted, put_into}
-use Rattle.roff_store.specs.NameTable.Slots.{entries_in, StandsAt}
+use Rattle.roff_store.specs.NameTable.Slots.{entries_in, IsIndexed, LeadsTo, StandsAt}
 use Rattle.roff_store.specs.NameTable.Kept.{IsSound}
-use Rattle.roff_store.proofs.Entries.{EachOnce-with_entry, EachOnce-without_entry, length-with_entry, length-without_entry}
-use Rattle.roff_store.proofs.Slots.{entry_of-entries_in, entries_in-set_entry, entries_in-set_unused}
-use Rattle.roff_store.proofs.Linking.{IsIndexed-set}
+use Rattle.roff_store.proofs.Entries.{EachOnce-with_entry, length-with_entry, length-without_entry}
+use Rattle.roff_store.proofs.Slots.{entry_of-entries_in, entries_in-set_entry, entries_in-set_older, entries_in-set_unused}
+use Rattle.roff_store.proofs.Linking.{IsIndexed-set, IsIndexed-unlink_newer, slice_get-set_other}
 
 -- one name more once a new one is given an entry
 pub length-added : {E : Type 0} (name : List ℕ) (entry : E) (entries : Named E) → entry_of name entries ≡ None
@@ -45,6 +46,11 @@ module _ {E : Type 0} where
         named = ap (λ (s : Slot E). s.name) (sym same) ∙ stands.named;
       }
 
+  -- the slot that was found
+  pub IsFound-stands : {slots : List (Slot E)} {place : ℕ} {name : List ℕ} (stands : StandsAt slots place name)
+      → IsFound slots place name stands.slot
+  IsFound-stands stands = record { here = stands.here; used = stands.used; named = stands.named }
+
   -- the name has the entry of the slot
   pub entry_of-found : {slots : List (Slot E)} {place : ℕ} {name : List ℕ} {slot : Slot E}
       → IsFound slots place name slot → EachOnce (entries_in slots) → entry_of name (entries_in slots) ≡ Some slot.entry
@@ -65,6 +71,30 @@ module _ {E : Type 0} where
   entries_in-unused {slots} {place} {name} {slot} found once =
       rw (← found.named) (entries_in-set_unused slots place slot found.here found.used once)
 
+  -- the slots once one that is found isn't used and the one that led to it leads where it led
+  pub record IsUnlinked (slots : List (Slot E)) (heads : List ℕ) (place : ℕ) (name : List ℕ) (slot : Slot E) (newer : ℕ) (leader : Slot E) : Type 0 where
+    pub still : slice_get (set slots place (record slot { is_used = false })) newer ≡ Some leader
+    pub entries : entries_in (set (set slots place (record slot { is_used = false })) newer (record leader { older = slot.older }))
+        ≡ without_entry name (entries_in slots)
+    pub index : IsIndexed (set (set slots place (record slot { is_used = false })) newer (record leader { older = slot.older })) heads
+
+  -- what `unlink` leaves there
+  pub IsUnlinked-newer : {slots : List (Slot E)} {heads : List ℕ} {place : ℕ} {name : List ℕ} {slot : Slot E} {newer bucket : ℕ}
+      → IsIndexed slots heads → bucket_of name < 65536 → EachOnce (entries_in slots) → IsFound slots place name slot
+      → bucket ≡ bucket_of name → (leads : LeadsTo slots newer bucket (place + 1))
+      → IsUnlinked slots heads place name slot newer leads.slot
+  IsUnlinked-newer {slots} {heads} {place} {name} {slot} {newer} {bucket} index small once found lies leads =
+      let gone : Slot E = record slot { is_used = false } in
+      let linked = IsIndexed-unlink_newer slots heads place slot index found.here found.used (rw found.named small) newer leads.slot
+      leads.at (leads.lies ∙ lies ∙ ap bucket_of (sym found.named)) leads.leads in
+      let still : slice_get (set slots place gone) newer ≡ Some leads.slot =
+      slice_get-set_other slots place newer gone linked.0 ∙ leads.at in
+      record {
+        still = still;
+        entries = entries_in-set_older (set slots place gone) newer leads.slot slot.older still ∙ entries_in-unused found once;
+        index = linked.1;
+      }
+
   -- as many names once an entry is written
   length-written : {slots : List (Slot E)} {place : ℕ} {name : List ℕ} {slot : Slot E}
       → IsFound slots place name slot → EachOnce (entries_in slots) → (entry : E)
@@ -73,7 +103,7 @@ module _ {E : Type 0} where
       let had = entry_of-found found once in let n = length-with_entry name entry (entries_in slots) in grind arith
 
   -- one name fewer once its entry is taken away
-  length-unused : {slots : List (Slot E)} {place : ℕ} {name : List ℕ} {slot : Slot E}
+  pub length-unused : {slots : List (Slot E)} {place : ℕ} {name : List ℕ} {slot : Slot E}
       → IsFound slots place name slot → EachOnce (entries_in slots)
       → length (entries_in slots) ≡ length (without_entry name (entries_in slots)) + 1
   length-unused {slots} {place} {name} {slot} found once =
@@ -98,21 +128,4 @@ module _ {E : Type 0} where
         within = sound.within;
         once = rw written (EachOnce-with_entry name entry (entries_in a.slots.items) sound.once);
         index = IsIndexed-set a.slots.items a.heads.items place slot (record slot { entry = entry }) found.here refl refl sound.index;
-      }
-
-  -- and once one is taken away
-  pub IsSound-unused : {place : ℕ} {name : List ℕ} {slot : Slot E} (a : Inside E)
-      → IsSound a → IsFound a.slots.items place name slot
-      → IsSound (record a { count = a.count - 1; slots = with_item a.slots place (record slot { is_used = false }) })
-  IsSound-unused {place} {name} {slot} a sound found =
-      let n = length-unused found sound.once in
-      let unused = entries_in-unused found sound.once in
-      record {
-        cap = sound.cap;
-        reserved = sound.reserved;
-        taken = sound.taken;
-        count = rw unused (let m = sound.count in omega arith);
-        within = let m = sound.within in omega arith;
-        once = rw unused (EachOnce-without_entry name (entries_in a.slots.items) sound.once);
-        index = IsIndexed-set a.slots.items a.heads.items place slot (record slot { is_used = false }) found.here refl refl sound.index;
       }

@@ -1,5 +1,5 @@
 -- Number registers (manual, section 8).
-use Rattle.std.specs.Prelude.{ℕ, ◌&&◌, List, [], ◌∷◌, ℤ, pos, ◌+ℤ◌, ◌-ℤ◌, Option, Some, None, is_some, unwrap_or, Result, Ok, Err, if◌then◌else◌}
+use Rattle.std.specs.Prelude.{ℕ, ◌&&◌, List, [], ◌∷◌, ℤ, pos, ◌+ℤ◌, ◌-ℤ◌, is_some, unwrap_or, Result, Ok, Err, if◌then◌else◌}
 use Rattle.roff_num.specs.declared.format.Format.{Format}
 use Rattle.roff_num.specs.declared.format.Format.TheVariants.{Decimal}
 use Rattle.roff_num.specs.declared.num.Num.{Num}

@@ -1,9 +1,9 @@
 //! Entries by name, found through the first two bytes of the name.
 
 ghost use Rattle.std.specs.Prelude.{◌≡◌, ℕ, ◌<◌, ◌≤◌, ◌^◌, ◌+◌, [], length, slice_index, Option, IfOk, IfSome, IfNone, OnOk, OnErr, if◌then◌else◌, is_some, vec_len, vec_capacity};
-ghost use Rattle.roff_store.specs.Named.{entry_of, with_entry};
+ghost use Rattle.roff_store.specs.Named.{EachOnce, entry_of, with_entry, without_entry};
 ghost use Rattle.roff_store.specs.Buckets.{bucket_of};
-ghost use Rattle.roff_store.specs.NameTable.Slots.{entries_in, IsIndexed, StandsAt};
+ghost use Rattle.roff_store.specs.NameTable.Slots.{buckets_of, entries_in, IsIndexed, LeadsTo, StandsAt};
 
 use roff_num::{Limit, Name};
 use std::alloc::{AllocError, Global};
@@ -20,7 +20,7 @@ const SPARE_SLOTS: u32 = 1024;
 struct Slot<E> {
     name: Name,
     entry: E,
-    /// Whether the name still has the entry.
+    /// Whether the name still has the entry. If not, the slot lies in no bucket.
     is_used: bool,
     /// One more than the place of the next older slot in the bucket; 0 if there is none.
     older: u32,
@@ -115,7 +115,12 @@ impl<E: Copy> NameTable<E> {
         ensures { self.new ≡ removed_from name.now self.old }
     {
         if let Some(place) = find(self.slots.as_slice(), self.heads.as_slice(), name) {
-            self.slots[place].is_used = false;
+            unlink(
+                self.slots.as_mut_slice(),
+                self.heads.as_mut_slice(),
+                name,
+                place,
+            );
             self.count -= 1;
         }
     }
@@ -136,18 +141,58 @@ fn bucket_of(name: &Name) -> usize
 /// The place of the slot of a name.
 fn find<E>(slots: &[Slot<E>], heads: &[u32], name: &Name) -> Option<usize>
     requires { IsIndexed slots.now heads.now }
+    ensures inside { IfSome result (λ place. place < length slots.now) }
     ensures found { IfSome result (λ place. StandsAt slots.now place name.now) }
     ensures absent { IfNone result (entry_of name.now (entries_in slots.now) ≡ None) }
 {
     let mut last = heads[bucket_of(name)] as usize;
     while last > 0 {
         let slot = &slots[last - 1];
-        if slot.is_used && slot.name.is_same(name) {
+        if slot.name.is_same(name) {
             return Some(last - 1);
         }
         last = slot.older as usize;
     }
     None
+}
+
+/// The place of the slot that leads to this one, or none if the head of its bucket does.
+fn newer_slot<E>(slots: &[Slot<E>], heads: &[u32], bucket: usize, place: usize) -> Option<usize>
+    requires index { IsIndexed slots.now heads.now }
+    requires within { bucket < BUCKETS }
+    requires inside { place < length slots.now }
+    requires lies { slice_index (buckets_of slots.now) place ≡ bucket }
+    ensures inside { IfSome result (λ newer. newer < length slots.now) }
+    ensures slot { IfSome result (λ newer. LeadsTo slots.now newer bucket (place + 1)) }
+    ensures head { IfNone result (slice_index heads.now bucket ≡ place + 1) }
+{
+    let mut newer = None;
+    let mut last = heads[bucket] as usize;
+    while last != place + 1 {
+        newer = Some(last - 1);
+        last = slots[last - 1].older as usize;
+    }
+    newer
+}
+
+/// Takes the slot of a name out of its bucket. It is then used no more.
+fn unlink<E>(slots: &mut [Slot<E>], heads: &mut [u32], name: &Name, place: usize)
+    requires index { IsIndexed slots.old heads.old }
+    requires inside { place < length slots.old }
+    requires stands { StandsAt slots.old place name.now }
+    requires once { EachOnce (entries_in slots.old) }
+    ensures entries { entries_in slots.new ≡ without_entry name.now (entries_in slots.old) }
+    ensures index { IsIndexed slots.new heads.new }
+{
+    let bucket = bucket_of(name);
+    let newer = newer_slot(slots, heads, bucket, place);
+    let slot = &mut slots[place];
+    slot.is_used = false;
+    let older = slot.older;
+    match newer {
+        Some(newer) => slots[newer].older = older,
+        None => heads[bucket] = older,
+    }
 }
 
 /// Adds a slot behind the others, in front of its bucket.
@@ -204,6 +249,7 @@ fn link<E>(slots: &mut [Slot<E>], heads: &mut [u32])
     requires small { length slots.old < 2 ^ 32 }
     requires heads { length heads.old ≡ BUCKETS }
     requires clear { (bucket : ℕ) → bucket < BUCKETS → slice_index heads.old bucket ≡ 0 }
+    requires used { length (entries_in slots.old) ≡ length slots.old }
     ensures entries { entries_in slots.new ≡ entries_in slots.old }
     ensures index { IsIndexed slots.new heads.new }
 {

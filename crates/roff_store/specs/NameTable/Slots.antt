@@ -9,9 +9,13 @@ abbrev pub entries_in : {E : Type 0} → List (Slot E) → Named E
 entries_in [] = []
 entries_in (slot ∷ slots) = if slot.is_used then (slot.name, slot.entry) ∷ entries_in slots else entries_in slots
 
+-- the bucket that a slot lies in; one that isn't used lies in none, for which 65536 stands
+abbrev pub slot_bucket : {E : Type 0} → Slot E → ℕ
+slot_bucket slot = if slot.is_used then bucket_of slot.name else 65536
+
 -- the buckets of the slots
 abbrev pub buckets_of : {E : Type 0} → List (Slot E) → List ℕ
-buckets_of slots = map (λ slot. bucket_of slot.name) slots
+buckets_of slots = map slot_bucket slots
 
 -- where each slot leads
 abbrev pub links_of : {E : Type 0} → List (Slot E) → List ℕ
@@ -28,7 +32,8 @@ pub record AreLinked (buckets links heads : List ℕ) : Type 0 where
   pub lengths : length links ≡ length buckets
   pub head_count : length heads ≡ 65536
   pub head : (bucket : ℕ) → bucket < 65536 → IsLast buckets (length buckets) bucket (slice_index heads bucket)
-  pub link : (place : ℕ) → place < length buckets → IsLast buckets place (slice_index buckets place) (slice_index links place)
+  pub link : (place : ℕ) → place < length buckets → slice_index buckets place < 65536
+      → IsLast buckets place (slice_index buckets place) (slice_index links place)
 
 -- the slots can be found through the heads of their buckets
 abbrev pub IsIndexed : {E : Type 0} → List (Slot E) → List ℕ → Type 0
@@ -40,3 +45,10 @@ pub record StandsAt {E : Type 0} (slots : List (Slot E)) (place : ℕ) (name : L
   pub here : slice_get slots place ≡ Some slot
   pub used : slot.is_used ≡ true
   pub named : slot.name ≡ name
+
+-- at a place stands a slot of a bucket that leads here
+pub record LeadsTo {E : Type 0} (slots : List (Slot E)) (place bucket here : ℕ) : Type 0 where
+  pub slot : Slot E
+  pub at : slice_get slots place ≡ Some slot
+  pub lies : slot_bucket slot ≡ bucket
+  pub leads : slot.older ≡ here

@@ -1,6 +1,4 @@
-use Rattle.std.proofs.Common.{◌≡◌, ◌<◌, ◌∙◌, sym, ap, None, refl, List, ◌++◌, ◌∷◌, [], length, true, get_or, arith, rules}
-use Rattle.std.specs.Vec.{vec_len}
-use Rattle.roff_num.specs.Names.{name_of}
+use Rattle.std.proofs.Common.{◌≡◌, ◌∙◌, sym, ap, refl, length, true, get_or}
 use Rattle.roff_store.specs.declared.name_table.Slot.{Slot}
 use Rattle.roff_store.specs.Buckets.{bucket_of}
 use Rattle.roff_store.specs.NameTable.Slots.{entries_in}
@@ -37,7 +35,7 @@ returns-clause-index g c =
       older = get_or c.args.heads.now (bucket_of c.unwrap.result) 0;
     } in
     rw (pushed, bucket, long) (IsIndexed-push c.args.slots.now.items c.args.heads.now slot c.requires.index
-    (rw (← bucket) c.bucket_of.ensures.within) refl)
+    (rw (← bucket) c.bucket_of.ensures.within) refl refl)
 
 pub returns-clause-len : goal.returns-clause-len
 returns-clause-len g c = rw c.unwrap-2.ensures at c.push.ensures.len

@@ -1,7 +1,6 @@
-use Rattle.std.proofs.Common.{◌≡◌, ◌∙◌, sym, ap, length, rules}
+use Rattle.std.proofs.Common.{◌≡◌, ◌∙◌, ap, length, rules}
 use Rattle.std.specs.List.{filter}
 use Rattle.std.proofs.lemmas.List.Elements.{filter_from_retain}
-use Rattle.roff_store.specs.NameTable.Slots.{entries_in}
 use Rattle.roff_store.proofs.Slots.{entries_in-filter, length-filter_used}
 use Rattle.roff_store.proofs.name_table.drop_unused.Goals as goal
 

@@ -1,4 +1,4 @@
-use Rattle.std.proofs.Common.{◌≡◌, ◌<◌, length, Some, refl, arith, rules}
+use Rattle.std.proofs.Common.{◌≡◌, Some, refl, arith, rules}
 use Rattle.std.specs.List.{slice_get}
 use Rattle.std.proofs.lemmas.Option.{slice_get_read}
 use Rattle.roff_store.specs.Buckets.{bucket_of}

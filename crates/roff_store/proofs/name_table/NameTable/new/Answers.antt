@@ -1,4 +1,4 @@
-use Rattle.std.proofs.Common.{◌≡◌, ◌≤◌, ◌<◌, ℕ, refl, arith, rules}
+use Rattle.std.proofs.Common.{refl, arith}
 use Rattle.roff_store.proofs.Links.{AreLinked-none}
 use Rattle.roff_store.proofs.Linking.{clear_heads}
 use Rattle.roff_store.proofs.name_table.NameTable.new.Goals as goal
