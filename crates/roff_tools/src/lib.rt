@@ -2,13 +2,16 @@
 #![tactic(auto)]
 
 mod command;
+mod in_memory;
 mod inputs;
 mod job;
 mod memory;
 mod program;
 #[cfg(test)]
 mod tests;
+mod watched;
 
+pub use in_memory::{Formatted, Room, format_in_memory};
 pub use job::{Job, run};
 pub use memory::{MemSink, MemSource};
 pub use program::main_with;
