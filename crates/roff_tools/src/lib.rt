@@ -3,6 +3,7 @@
 
 mod command;
 mod exit;
+mod in_memory;
 mod inputs;
 mod job;
 mod memory;
@@ -10,7 +11,9 @@ mod program;
 #[cfg(test)]
 mod tests;
 mod texts;
+mod watched;
 
+pub use in_memory::{Formatted, Room, format_in_memory};
 pub use job::{Job, run};
 pub use memory::{MemSink, MemSource};
 pub use program::main_with;

@@ -106,6 +106,18 @@ impl MemSink {
         self.kept.as_slice()
     }
 
+    /// The bytes that were written, as a vector.
+    pub fn into_kept(self) -> Vec<u8>
+        ensures { result.items ≡ kept_by self }
+    {
+        let MemSink {
+            kept,
+            cap: _,
+            failures: _,
+        } = self;
+        kept
+    }
+
     /// For how many more bytes there is room.
     pub fn room_left(&self) -> usize
         ensures { length (kept_by self.now) + result ≡ room_of self.now }

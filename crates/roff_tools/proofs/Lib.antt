@@ -1,0 +1,2 @@
+pub mod Overflows
+pub mod InMemory
