@@ -25,9 +25,13 @@ no_registers cap = record { entries = []; cap = cap }
 abbrev pub sets : List ℕ → ℤ → ℤ → Call
 sets name value increment = Set name (number value) (number increment)
 
--- the registers after calls in turn, from none on, in a table for so many
+-- a table for so many after calls in turn, from no registers on
+abbrev pub table_after : ℕ → List Call → Table Register
+table_after cap calls = after_all calls (no_registers cap)
+
+-- and its registers
 abbrev pub after_calls : ℕ → List Call → Registers
-after_calls cap calls = (after_all calls (no_registers cap)).entries
+after_calls cap calls = (table_after cap calls).entries
 
 -- a register after a step, which isn't made if it leads out of range
 abbrev pub stepped_register : Direction → Register → Register

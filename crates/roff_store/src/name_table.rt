@@ -1,6 +1,6 @@
 //! Entries by name, found through the first two bytes of the name.
 
-ghost use Rattle.std.specs.Prelude.{◌≡◌, ℕ, ◌<◌, ◌≤◌, ◌^◌, ◌+◌, [], length, slice_index, Option, IfOk, IfSome, IfNone, OnOk, OnErr, if◌then◌else◌, is_some, vec_len, vec_capacity};
+ghost use Rattle.std.specs.Prelude.{◌≡◌, ℕ, ◌<◌, ◌≤◌, ◌^◌, ◌+◌, [], length, slice_index, Option, IfOk, IfSome, IfNone, vec_len, vec_capacity};
 ghost use Rattle.roff_store.specs.Named.{EachOnce, entry_of, with_entry, without_entry};
 ghost use Rattle.roff_store.specs.Buckets.{bucket_of};
 ghost use Rattle.roff_store.specs.NameTable.Slots.{buckets_of, entries_in, IsIndexed, LeadsTo, StandsAt};
@@ -12,7 +12,7 @@ use std::marker::Model;
 /// A bucket for each pair of bytes.
 const BUCKETS: usize = 1 << 16;
 
-/// At least so many slots more than names, so that the slots of names that are gone are seldom swept.
+/// At least so many slots more than names, so that unused slots are seldom swept.
 const SPARE_SLOTS: u32 = 1024;
 
 /// A place for a name and its entry.
@@ -201,7 +201,8 @@ fn add<E>(slots: &mut Vec<Slot<E>>, heads: &mut [u32], name: &Name, entry: E)
     requires small { vec_len slots.old + 1 < 2 ^ 32 }
     requires index { IsIndexed slots.old.items heads.old }
     requires absent { entry_of name.now (entries_in slots.old.items) ≡ None }
-    ensures entries { entries_in slots.new.items ≡ with_entry name.now entry (entries_in slots.old.items) }
+    ensures entries { entries_in slots.new.items
+        ≡ with_entry name.now entry (entries_in slots.old.items) }
     ensures len { vec_len slots.new ≡ vec_len slots.old + 1 }
     ensures index { IsIndexed slots.new.items heads.new }
     ensures capacity { vec_capacity slots.old ≤ vec_capacity slots.new }
@@ -218,7 +219,8 @@ fn add<E>(slots: &mut Vec<Slot<E>>, heads: &mut [u32], name: &Name, entry: E)
     slots.push(slot).unwrap();
 }
 
-/// Makes room for a slot: where so many are taken, those that aren't used go, and the others are linked anew.
+/// Makes room for a slot: where so many are taken, those that aren't used go, and the others are
+/// linked anew.
 fn make_room<E: Drop>(slots: &mut Vec<Slot<E>>, heads: &mut [u32], room: u32)
     requires few { length (entries_in slots.old.items) < room }
     requires index { IsIndexed slots.old.items heads.old }

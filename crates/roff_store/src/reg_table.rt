@@ -12,7 +12,8 @@ use std::marker::Model;
 
 /// The number registers, each under its name.
 ///
-/// All its memory is reserved as it is made. A look-up takes a few steps however many registers there are.
+/// All its memory is reserved as it is made. A look-up passes only registers whose names begin with
+/// the same two bytes, however many there are.
 #[derive(Drop)]
 pub struct RegTable {
     registers: NameTable<Register>,
@@ -58,7 +59,8 @@ impl RegTable {
         self.registers.get(name)
     }
 
-    /// Sets a register's value and its increment (`.nr`). Its format stays; a new register has plain decimal.
+    /// Sets a register's value and its increment (`.nr`). Its format stays; that of a new one is
+    /// plain decimal.
     ///
     /// # Errors
     ///
@@ -91,12 +93,13 @@ impl RegTable {
         self.registers.put(name, Register { format, ..register })
     }
 
-    /// Adds a register's increment to its value, or takes it away (`\n+x`, `\n-x`), and answers the new
-    /// value. A name without a register answers 0, and gets none.
+    /// Adds a register's increment to its value, or takes it away (`\n+x`, `\n-x`), and answers the
+    /// new value. A name without a register answers 0, and gets none.
     ///
     /// # Errors
     ///
-    /// [`NumFault::Range`] if the new value isn't in the range of numbers; the register is then as it was.
+    /// [`NumFault::Range`] if the new value isn't in the range of numbers; the register is then as
+    /// it was.
     pub fn step(&mut self, name: &Name, direction: Direction) -> Result<Num, NumFault>
         ensures answer { result ≡ stepped direction (register_of name.now self.old.entries) }
         ensures table { self.new ≡ after (Step name.now direction) self.old }
