@@ -3,4 +3,7 @@ pub use Rattle.roff_engine.specs.Engine
 pub mod Memory
 pub mod Inputs
 pub mod StartFault
+pub mod CommandLine
 pub mod Exit
+pub mod RunOver
+pub mod Program

@@ -1,5 +1,5 @@
 -- The devices in memory, and a source over a reader.
-use Rattle.std.specs.Prelude.{◌≡◌, ℕ, ◌≤◌, ◌++◌, ◌↔◌, IsOk, Result, List, [], ◌∷◌, length, map, nat_le, take, Option, Some, None, if◌then◌else◌}
+use Rattle.std.specs.Prelude.{◌≡◌, ℕ, ◌≤◌, ◌++◌, ◌↔◌, IsOk, Result, List, length, map, nat_le, take, Option, Some, None, if◌then◌else◌}
 use Rattle.roff_tools.specs.declared.memory.MemSink.{MemSink}
 use Rattle.roff_tools.specs.declared.memory.MemSource.{MemSource}
 use Rattle.roff_engine.specs.declared.sink.SinkFault.{SinkFault}

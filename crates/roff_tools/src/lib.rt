@@ -3,12 +3,14 @@
 
 mod command;
 mod exit;
+mod fault;
 mod inputs;
 mod job;
 mod memory;
 mod program;
 #[cfg(test)]
 mod tests;
+mod text_sink;
 mod texts;
 
 pub use job::{Job, run};

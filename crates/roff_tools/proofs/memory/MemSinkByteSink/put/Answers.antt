@@ -1,4 +1,4 @@
-use Rattle.std.proofs.Common.{arith, rules, sym}
+use Rattle.std.proofs.Common.{rules, sym}
 use Rattle.std.proofs.lemmas.List.{take-append-drop}
 use Rattle.roff_tools.proofs.memory.MemSinkByteSink.put.Goals as goal
 
