@@ -1,2 +1,5 @@
 pub mod Overflows
 pub mod InMemory
+pub mod CommandLine
+pub mod Named
+pub mod RunOver

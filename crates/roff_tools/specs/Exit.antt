@@ -1,5 +1,5 @@
 -- How the program ends.
-use Rattle.std.specs.Prelude.{ℕ}
+use Rattle.std.specs.Prelude.{ℕ, Bool, true, false}
 use Rattle.roff_engine.specs.declared.status.Status.{Status}
 use Rattle.roff_engine.specs.declared.status.Status.TheVariants as status
 use Rattle.roff_tools.specs.declared.exit.Exit.{Exit}
@@ -17,3 +17,11 @@ abbrev pub exit_after : Status → Exit
 exit_after status.Done = Done
 exit_after status.Device = DeviceFailed
 exit_after (status.Limit limit) = LimitReached
+
+-- how it ends once its output is flushed, or that failed: where nothing was written, nothing is lost
+abbrev pub exit_flushed : Exit → Bool → Exit
+exit_flushed exit true = exit
+exit_flushed NotStarted false = NotStarted
+exit_flushed Done false = DeviceFailed
+exit_flushed DeviceFailed false = DeviceFailed
+exit_flushed LimitReached false = DeviceFailed

@@ -5,4 +5,7 @@ pub mod InMemory
 pub mod WatchedSink
 pub mod Inputs
 pub mod StartFault
+pub mod CommandLine
 pub mod Exit
+pub mod RunOver
+pub mod Program

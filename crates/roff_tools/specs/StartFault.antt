@@ -1,7 +1,7 @@
 -- Which file a fault of the start names.
 use Rattle.std.specs.Prelude.{◌≡◌, ℕ, List, Contains, string_bytes}
-use Rattle.roff_tools.specs.declared.program.StartFault.{StartFault}
-use Rattle.roff_tools.specs.declared.program.StartFault.TheVariants.{CannotOpen, NotText, OutOfMemory}
+use Rattle.roff_tools.specs.declared.fault.StartFault.{StartFault}
+use Rattle.roff_tools.specs.declared.fault.StartFault.TheVariants.{CannotOpen, NotText, OutOfMemory}
 
 -- the file that cannot be opened is this one, or memory ran out
 abbrev pub NamesFile : List ℕ → StartFault → Type 0

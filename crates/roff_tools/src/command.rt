@@ -1,13 +1,18 @@
 //! The command line: its commands and options, and what its words ask for.
 
-ghost use Rattle.std.specs.Prelude.{◌≡◌, List, ℕ, Some, IfOk, map, option_map};
-ghost use Rattle.clap.specs.Words.{found_of, matched_of, raw_values};
+ghost use Rattle.std.specs.Prelude.{◌≡◌, ◌⊎◌, true, IfOk, IfErr, fold, map};
+ghost use Rattle.clap.specs.Words.{app_of, found_of, kind_of, rows_of, rule_of, subcommand_of, takes, with_rule};
+ghost use Rattle.roff_num.specs.Clauses.{default_limits};
+ghost use Rattle.roff_tools.specs.CommandLine.{Asks, AsksFor, file_operand, limit_option, limits_asked_by};
+ghost use Rattle.roff_tools.specs.CommandLine.{limits_set, nroff_app, roff_app};
 
 use crate::{Job, Limit, Limits, Start, texts};
 use clap::error::ErrorKind;
 use clap::{Arg, ArgAction, ArgMatches, Command, Error, value_parser};
 use std::alloc::{AllocError, Global};
 use std::convert::AsStr;
+
+const ROFF: &str = "roff";
 
 const NROFF: &str = "nroff";
 
@@ -22,7 +27,6 @@ const GREATEST_LIMIT: i64 = 1_000_000_000;
 /// An option that sets a limit. It has the limit's name.
 struct LimitOption {
     limit: Limit,
-    default: &'static str,
     help: &'static str,
 }
 
@@ -30,12 +34,10 @@ struct LimitOption {
 static LIMIT_OPTIONS: [LimitOption; 2] = [
     LimitOption {
         limit: Limit::Bytes,
-        default: "50000000",
         help: texts::BYTES,
     },
     LimitOption {
         limit: Limit::Line,
-        default: "4096",
         help: texts::LINE,
     },
 ];
@@ -51,7 +53,12 @@ pub struct Request<'a> {
 
 /// Reads the words of a command line, the first of which names the program. An `Err` holds the
 /// text to be shown: a mistake in the words, or what `--help` or `--version` asks for.
-pub fn parse_words<'a, S: AsStr>(alloc: Global, words: &'a [S]) -> Result<Request<'a>, Error> {
+pub fn parse_words<'a, S: AsStr>(alloc: Global, words: &'a [S]) -> Result<Request<'a>, Error>
+    ensures ok { IfOk result (AsksFor (subcommand_of roff_app (map S.text words.entry.now))) }
+    // Where the words are in order only memory can be missing.
+    ensures taken { IfErr result (λ e. takes roff_app (map S.text words.entry.now) ≡ true
+        → (kind_of e ≡ ErrorKind.OutOfMemory) ⊎ (kind_of e ≡ ErrorKind.MissingSubcommand)) }
+{
     let mut command = roff_command(alloc)?;
     let matches = command.try_get_matches_from_mut(words)?;
     match matches.subcommand() {
@@ -61,8 +68,10 @@ pub fn parse_words<'a, S: AsStr>(alloc: Global, words: &'a [S]) -> Result<Reques
     }
 }
 
-fn roff_command<'a>(alloc: Global) -> Result<Command<'a>, AllocError> {
-    Command::new(alloc, "roff")
+fn roff_command<'a>(alloc: Global) -> Result<Command<'a>, AllocError>
+    ensures { IfOk result (λ command. app_of command ≡ roff_app) }
+{
+    Command::new(alloc, ROFF)
         .version(texts::VERSION)
         .about(texts::ROFF)
         .after_help(texts::ROFF_NOTES)
@@ -70,56 +79,83 @@ fn roff_command<'a>(alloc: Global) -> Result<Command<'a>, AllocError> {
         .subcommand(nroff_command(alloc)?)
 }
 
-fn nroff_command<'a>(alloc: Global) -> Result<Command<'a>, AllocError> {
-    let file = Arg::new(alloc, FILE)
-        .num_args(0..)
-        .action(ArgAction::Append)
-        .default_value(STANDARD_INPUT)
-        .help(texts::FILE);
-    let mut command = Command::new(alloc, NROFF)
+fn nroff_command<'a>(alloc: Global) -> Result<Command<'a>, AllocError>
+    ensures { IfOk result (λ command. app_of command ≡ nroff_app) }
+{
+    let command = Command::new(alloc, NROFF)
         .about(texts::NROFF)
         .after_help(texts::NROFF_NOTES)
-        .arg(file)?;
-    for option in &LIMIT_OPTIONS {
+        .arg(file_argument(alloc))?;
+    with_options(alloc, command, &LIMIT_OPTIONS)
+}
+
+fn with_options<'a>(
+    alloc: Global,
+    command: Command<'a>,
+    options: &'static [LimitOption],
+) -> Result<Command<'a>, AllocError>
+    ensures { IfOk result (λ r. app_of r
+        ≡ fold with_rule (app_of command.entry) (map (λ option. limit_option option.limit) options.now)) }
+{
+    let mut command = command;
+    for option in options {
         command = command.arg(limit_argument(alloc, option))?;
     }
     Ok(command)
 }
 
-fn limit_argument<'a>(alloc: Global, option: &'static LimitOption) -> Arg<'a> {
+fn file_argument<'a>(alloc: Global) -> Arg<'a>
+    ensures { rule_of result ≡ file_operand }
+{
+    Arg::new(alloc, FILE)
+        .num_args(0..)
+        .action(ArgAction::Append)
+        .default_value(STANDARD_INPUT)
+        .help(texts::FILE)
+}
+
+fn limit_argument<'a>(alloc: Global, option: &'static LimitOption) -> Arg<'a>
+    ensures { rule_of result ≡ limit_option option.now.limit }
+{
     Arg::new(alloc, option.limit.name())
         .long(option.limit.name())
         .value_name("N")
         .value_parser(value_parser!(u32).range(0..=GREATEST_LIMIT))
-        .allow_negative_numbers(true)
-        .default_value(option.default)
+        .default_value(Limits::default_text(option.limit))
         .help(option.help)
 }
 
-/// The request of a command `nroff`, whose files are all the values of `FILE` in their order.
+/// The request of a command `nroff`.
 fn nroff_request<'a>(alloc: Global, nroff: &ArgMatches<'a>) -> Result<Request<'a>, AllocError>
-    ensures { IfOk result (λ request. (values : List (List ℕ))
-        → option_map raw_values (matched_of (found_of nroff.now) FILE.now) ≡ Some values
-        → map (λ file. file.now) request.files.items ≡ values) }
+    ensures { IfOk result (Asks (rows_of (found_of nroff.now))) }
 {
     let mut files = Vec::new(alloc);
-    if let Some(names) = nroff.get_strs(FILE) {
-        files.extend_from_slice(names)?;
-    }
+    files.extend_from_slice(nroff.get_strs(FILE).unwrap_or(&[]))?;
     Ok(Request {
-        job: Job::Nroff(limits_of(nroff), Start::default()),
+        job: Job::Nroff(read_limits(nroff, &LIMIT_OPTIONS), Start::default()),
         files,
     })
 }
 
-fn limits_of(matches: &ArgMatches<'_>) -> Limits {
+fn read_limits(matches: &ArgMatches<'_>, options: &[LimitOption]) -> Limits
+    ensures { result ≡ fold (limits_asked_by (rows_of (found_of matches.now))) default_limits
+        (map (λ option. option.limit) options.now) }
+{
     let mut limits = Limits::default();
-    for option in &LIMIT_OPTIONS {
-        if let Some(value) = matches.get_one::<u32>(option.limit.name()) {
-            limits.set(option.limit, value);
-        }
+    for option in options {
+        let number = matches.get_one::<u32>(option.limit.name());
+        set_limit(&mut limits, option.limit, number);
     }
     limits
+}
+
+/// Sets a limit, if there is a number for it.
+fn set_limit(limits: &mut Limits, limit: Limit, number: Option<u32>)
+    ensures { limits.new ≡ limits_set limits.old limit number }
+{
+    if let Some(number) = number {
+        limits.set(limit, number);
+    }
 }
 
 #[cfg(test)]
@@ -159,20 +195,6 @@ mod tests {
                 "at {words:?}"
             );
             assert!(rt; request.files.as_slice() == files, "at {words:?}");
-        }
-        Ok(())
-    }
-
-    #[test]
-    fn defaults_are_those_of_the_limits(rt: HostRuntime) -> Result<(), Fail> {
-        for option in &LIMIT_OPTIONS {
-            let usual = Limits::default().value(option.limit);
-            assert_eq!(rt;
-                option.default.parse::<u32>()?,
-                usual,
-                "of {}",
-                option.limit.name()
-            );
         }
         Ok(())
     }

@@ -2,14 +2,57 @@
 
 ghost use Rattle.std.specs.Io.{ReadsAtMost};
 ghost use Rattle.std.specs.Io.KnownBytes.{ReadConsumes};
-ghost use Rattle.std.specs.Prelude.{◌≡◌, ◌<◌, List, [], IfOk, length};
+ghost use Rattle.std.specs.Prelude.{◌≡◌, ◌<◌, ⊤, ℕ, List, [], IfOk, IfSome, length};
 ghost use Rattle.roff_tools.specs.declared.inputs.Part.{Part};
 ghost use Rattle.roff_tools.specs.Inputs.Part.{part_remaining};
 
 use std::collections::VecDeque;
-use std::io;
 use std::io::Read;
 use std::marker::Model;
+use std::rt::Files;
+use std::{fs, io};
+
+/// Where the input comes from: files by their names, and standard input.
+pub trait Readers {
+    /// A file that was opened.
+    type File: Read + Drop;
+
+    /// Standard input.
+    type Standard: Read + Drop;
+
+    /// What may be opened under a name.
+    ghost opens: { Self → List ℕ → Self.File → Type 0 };
+
+    /// What may be had as standard input.
+    ghost stands: { Self → Self.Standard → Type 0 };
+
+    /// The file of this name, if it can be opened.
+    fn open(&self, name: &str) -> Option<Self::File>
+        ensures { IfSome result (λ file. opens self.now name.now file) };
+
+    /// Standard input.
+    fn standard(&self) -> Self::Standard
+        ensures { stands self.now result };
+}
+
+// Of the system nothing is known: neither what a file of a name has, nor what is typed.
+impl<R: Files + Input> Readers for R {
+    type File = R::File;
+
+    type Standard = R::Reader;
+
+    ghost opens = { λ _ _ _. ⊤ };
+
+    ghost stands = { λ _ _. ⊤ };
+
+    fn open(&self, name: &str) -> Option<R::File> {
+        fs::open(self, name).ok()
+    }
+
+    fn standard(&self) -> R::Reader {
+        self.reader()
+    }
+}
 
 /// One part of the input.
 #[derive(Drop)]

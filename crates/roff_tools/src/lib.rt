@@ -3,6 +3,7 @@
 
 mod command;
 mod exit;
+mod fault;
 mod in_memory;
 mod inputs;
 mod job;
@@ -10,6 +11,7 @@ mod memory;
 mod program;
 #[cfg(test)]
 mod tests;
+mod text_sink;
 mod texts;
 mod watched;
 

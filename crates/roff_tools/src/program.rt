@@ -1,71 +1,61 @@
 //! The program: it reads its words, opens its files, runs the job and tells how it went.
 
-ghost use Rattle.std.specs.Prelude.{◌≡◌, ◌≢◌, ◌≤◌, ◌⊎◌, IfOk, IfErr, OnOk, OnErr, map};
-ghost use Rattle.std.specs.Io.KnownBytes.{Keeps};
+ghost use Rattle.std.specs.Prelude.{◌≡◌, ◌≢◌, ◌≤◌, ◌⊎◌, true, is_ok, IfOk, IfErr, OnErr, map};
 ghost use Rattle.std.specs.Process.{exit_status};
-ghost use Rattle.clap.specs.Words.{kind_of};
-ghost use Rattle.roff_tools.specs.Inputs.Name.{names_standard_input};
-ghost use Rattle.roff_tools.specs.Inputs.Part.{is_standard};
+ghost use Rattle.clap.specs.Words.{kind_of, subcommand_of, takes};
+ghost use Rattle.roff_tools.specs.CommandLine.{roff_app};
+ghost use Rattle.roff_tools.specs.Exit.{exit_flushed};
+ghost use Rattle.roff_tools.specs.Inputs.Part.{AreNamed, IsNamed};
+ghost use Rattle.roff_tools.specs.Program.{FormatsAsked};
+ghost use Rattle.roff_tools.specs.RunOver.{Formats, limits_of};
 ghost use Rattle.roff_tools.specs.StartFault.{NamesFile, NamesOneOf};
-ghost use Rattle.roff_tools.specs.declared.program.StartFault.TheVariants.{OutOfMemory};
 
 use crate::command::{Request, STANDARD_INPUT, parse_words};
 use crate::exit::Exit;
-use crate::inputs::{Inputs, Part};
-use crate::{Job, ReadSource, SinkFault, Status, WriteSink, run};
+use crate::fault::StartFault;
+use crate::inputs::{Inputs, Part, Readers};
+use crate::text_sink::TextSink;
+use crate::{ByteSink, ReadSource, SinkFault, WriteSink, run};
 use clap::error::ErrorKind;
-use std::alloc::{AllocError, AllocFailed, Global};
 use std::convert::AsStr;
-use std::io::{BufWriter, Read, Write};
+use std::fmt::Write as _;
+use std::io::{BufWriter, Write};
 use std::process::ExitCode;
 use std::rt::{Env, Files};
-use std::{env, fs, io};
-use thiserror::Error;
-
-/// Why a run could not start.
-#[derive(Debug, Drop, Error)]
-pub enum StartFault {
-    /// The file of this name, one of those on the command line, cannot be opened.
-    #[error("cannot open {0}")]
-    CannotOpen(String),
-    /// A word of the command line is not UTF-8 text.
-    #[error("an argument is not UTF-8 text")]
-    NotText,
-    /// There is no memory for what is reserved before the run.
-    #[error("out of memory")]
-    OutOfMemory,
-}
-
-impl From<AllocError> for StartFault {
-    ghost from_gives = { λ _ fault. fault ≡ OutOfMemory };
-
-    fn from(_error: AllocError) -> StartFault {
-        StartFault::OutOfMemory
-    }
-}
-
-impl<T: Drop> From<AllocFailed<T>> for StartFault {
-    ghost from_gives = { λ _ fault. fault ≡ OutOfMemory };
-
-    fn from(_refused: AllocFailed<T>) -> StartFault {
-        StartFault::OutOfMemory
-    }
-}
+use std::{env, io};
 
 /// Runs the program on the arguments, files and standard input of `rt`. What is written on
 /// `stdout` is buffered here, and what is written on `stderr` is not.
-pub fn main_with<R, O, E>(rt: &R, mut stdout: O, mut stderr: E) -> ExitCode
+pub fn main_with<R, O, E>(rt: &R, stdout: O, stderr: E) -> ExitCode
 where
     R: Env + Files + Input + AllocGlobal,
     O: Write + Drop,
     E: Write + Drop,
     ensures { exit_status result ≤ 3 }
 {
-    let exit = match words_of(rt) {
-        Ok(words) => obey(rt, words.as_slice(), &mut stdout, &mut stderr),
-        Err(fault) => report(&fault, &mut stderr),
+    let mut err = WriteSink::new(stderr);
+    let exit = match BufWriter::new(rt.alloc(), stdout) {
+        Ok(buffered) => {
+            let mut out = WriteSink::new(buffered);
+            let exit = start(rt, &mut out, &mut err);
+            after_flush(exit, out.flush())
+        }
+        Err(_) => report(&StartFault::OutOfMemory, &mut err),
     };
     ExitCode::from(exit.number())
+}
+
+/// Does what the words of the command line ask for.
+fn start<R, O, E>(rt: &R, out: &mut O, err: &mut E) -> Exit
+where
+    R: Env + Files + Input + AllocGlobal,
+    O: ByteSink,
+    E: ByteSink,
+{
+    match words_of(rt) {
+        Ok(words) => obey(rt, words.as_slice(), out, err),
+        Err(fault) => report(&fault, err),
+    }
 }
 
 fn words_of<R: Env + AllocGlobal>(rt: &R) -> Result<Vec<String>, StartFault> {
@@ -77,83 +67,95 @@ fn words_of<R: Env + AllocGlobal>(rt: &R) -> Result<Vec<String>, StartFault> {
 }
 
 /// Writes a fault's message. Where the write fails, there is no one to tell.
-fn report<E: Write>(fault: &StartFault, stderr: &mut E) -> Exit
+fn report<E: ByteSink>(fault: &StartFault, err: &mut E) -> Exit
     ensures { result ≡ Exit.NotStarted }
 {
-    let _ = writeln!(stderr, "roff: {fault}");
+    let _ = writeln!(TextSink { sink: err }, "roff: {fault}");
     Exit::NotStarted
 }
 
-/// Does what the words ask for.
-fn obey<R, S, O, E>(rt: &R, words: &[S], stdout: &mut O, stderr: &mut E) -> Exit
-where
-    R: Files + Input + AllocGlobal,
-    S: AsStr,
-    O: Write,
-    E: Write,
+/// How the program ends, once its output is flushed: a flush that fails is a failed write.
+fn after_flush(exit: Exit, flushed: Result<(), SinkFault>) -> Exit
+    ensures { result ≡ exit_flushed exit (is_ok flushed) }
 {
-    let outcome = match parse_words(rt.alloc(), words) {
-        Ok(request) => perform(rt, &request, stdout, stderr),
-        Err(shown) => show(&shown, stdout, stderr),
-    };
-    match outcome {
-        Ok(exit) => exit,
-        Err(fault) => report(&fault, stderr),
+    match flushed {
+        Err(_) if exit != Exit::NotStarted => Exit::DeviceFailed,
+        _ => exit,
+    }
+}
+
+/// Does what these words ask for.
+fn obey<R, S, O, E>(rt: &R, words: &[S], out: &mut O, err: &mut E) -> Exit
+where
+    R: Readers + AllocGlobal,
+    S: AsStr,
+    O: ByteSink,
+    E: ByteSink,
+    // Where the words are in order the formatter runs as they ask, or could not start.
+    ensures formats { takes roff_app (map S.text words.now) ≡ true → (result ≡ Exit.NotStarted) ⊎
+        FormatsAsked (R.opens rt.now) (R.stands rt.now) R.File.remaining R.Standard.remaining
+        (subcommand_of roff_app (map S.text words.now)) result
+        (O.sunk out.old) (O.sunk out.new) (E.sunk err.old) (E.sunk err.new) }
+    ensures unwritten { result ≡ Exit.NotStarted → out.new ≡ out.old }
+{
+    match parse_words(rt.alloc(), words) {
+        Ok(request) => match perform(rt, &request, out, err) {
+            Ok(exit) => exit,
+            Err(fault) => report(&fault, err),
+        },
+        Err(shown) => show(&shown, out, err),
     }
 }
 
 /// Writes what a parse of the words has to say in place of a request.
-fn show<O: Write, E: Write>(
-    shown: &clap::Error,
-    stdout: &mut O,
-    stderr: &mut E,
-) -> Result<Exit, StartFault>
+fn show<O: ByteSink, E: ByteSink>(shown: &clap::Error, out: &mut O, err: &mut E) -> Exit
     ensures mistake { (kind_of shown.now ≢ ErrorKind.DisplayHelp) → (kind_of shown.now ≢ ErrorKind.DisplayVersion)
-        → IfOk result (λ exit. exit ≡ Exit.NotStarted) × Keeps (O.contents stdout.old) (O.contents stdout.new) }
+        → (result ≡ Exit.NotStarted) × (out.new ≡ out.old) }
     ensures asked { (kind_of shown.now ≡ ErrorKind.DisplayHelp) ⊎ (kind_of shown.now ≡ ErrorKind.DisplayVersion)
-        → IfOk result (λ exit. (exit ≡ Exit.Done) ⊎ (exit ≡ Exit.DeviceFailed)) × Keeps (E.contents stderr.old) (E.contents stderr.new) }
-    ensures fault { IfErr result (λ fault. fault ≡ OutOfMemory) }
+        → ((result ≡ Exit.Done) ⊎ (result ≡ Exit.DeviceFailed)) × (err.new ≡ err.old) }
 {
     if shown.kind() == ErrorKind::OutOfMemory {
-        return Err(StartFault::OutOfMemory);
+        return report(&StartFault::OutOfMemory, err);
     }
     if shown.use_stderr() {
-        let _ = write!(stderr, "{shown}");
-        return Ok(Exit::NotStarted);
+        let _ = write!(TextSink { sink: err }, "{shown}");
+        return Exit::NotStarted;
     }
-    match write!(stdout, "{shown}") {
-        Ok(()) => Ok(Exit::Done),
-        Err(_) => Ok(Exit::DeviceFailed),
+    match write!(TextSink { sink: out }, "{shown}") {
+        Ok(()) => Exit::Done,
+        Err(_) => Exit::DeviceFailed,
     }
 }
 
-/// Opens all files and then runs the job.
+/// Opens all files and then runs the job over them.
 fn perform<R, O, E>(
     rt: &R,
     request: &Request<'_>,
-    stdout: &mut O,
-    stderr: &mut E,
+    out: &mut O,
+    err: &mut E,
 ) -> Result<Exit, StartFault>
 where
-    R: Files + Input + AllocGlobal,
-    O: Write,
-    E: Write,
+    R: Readers + AllocGlobal,
+    O: ByteSink,
+    E: ByteSink,
+    ensures formats { IfOk result (λ exit. Formats (R.opens rt.now) (R.stands rt.now) R.File.remaining
+        R.Standard.remaining (map (λ name. name.now) request.now.files.items) (limits_of request.now.job) exit
+        (O.sunk out.old) (O.sunk out.new) (E.sunk err.old) (E.sunk err.new)) }
     ensures fault { IfErr result (NamesOneOf (map (λ name. name.now) request.now.files.items)) }
-    ensures unopened { (name : _) → result ≡ Err (StartFault.CannotOpen name)
-        → Keeps (O.contents stdout.old) (O.contents stdout.new) }
+    ensures unwritten { OnErr result ((out.new ≡ out.old) × (err.new ≡ err.old)) }
 {
     let inputs = open_all(rt, request.files.as_slice())?;
-    let status = run_on(rt.alloc(), request.job, inputs, stdout, stderr)?;
+    let mut source = ReadSource::new(rt.alloc(), inputs)?;
+    let status = run(rt.alloc(), request.job, &mut source, out, err)?;
     Ok(Exit::after(status))
 }
 
 /// Opens the files in their order.
-fn open_all<R: Files + Input + AllocGlobal>(
+fn open_all<R: Readers + AllocGlobal>(
     rt: &R,
     names: &[&str],
-) -> Result<Inputs<R::File, R::Reader>, StartFault>
-    ensures parts { IfOk result (λ parts. map is_standard parts
-        ≡ map (λ name. names_standard_input name.now) names.now) }
+) -> Result<Inputs<R::File, R::Standard>, StartFault>
+    ensures parts { IfOk result (AreNamed (R.opens rt.now) (R.stands rt.now) (map (λ name. name.now) names.now)) }
     ensures fault { IfErr result (NamesOneOf (map (λ name. name.now) names.now)) }
 {
     let mut parts = Vec::new(rt.alloc());
@@ -163,59 +165,26 @@ fn open_all<R: Files + Input + AllocGlobal>(
     Ok(Inputs::new(parts))
 }
 
-fn open_part<R: Files + Input + AllocGlobal>(
+fn open_part<R: Readers + AllocGlobal>(
     rt: &R,
     name: &str,
-) -> Result<Part<R::File, R::Reader>, StartFault>
-    ensures part { IfOk result (λ part. is_standard part ≡ names_standard_input name.now) }
+) -> Result<Part<R::File, R::Standard>, StartFault>
+    ensures part { IfOk result (IsNamed (R.opens rt.now) (R.stands rt.now) name.now) }
     ensures fault { IfErr result (NamesFile name.now) }
 {
     if name == STANDARD_INPUT {
-        return Ok(Part::Standard(rt.reader()));
+        return Ok(Part::Standard(rt.standard()));
     }
-    match fs::open(rt, name) {
-        Ok(file) => Ok(Part::File(file)),
-        Err(_) => Err(StartFault::CannotOpen(String::from_str(rt.alloc(), name)?)),
-    }
-}
-
-/// Runs the job, and flushes what it wrote.
-fn run_on<I, O, E>(
-    alloc: Global,
-    job: Job,
-    inputs: I,
-    stdout: &mut O,
-    stderr: &mut E,
-) -> Result<Status, AllocError>
-where
-    I: Read + Drop,
-    O: Write,
-    E: Write,
-{
-    let mut source = ReadSource::new(alloc, inputs)?;
-    let Ok(buffered) = BufWriter::new(alloc, stdout) else {
-        return Err(AllocError);
-    };
-    let mut out = WriteSink::new(buffered);
-    let mut messages = WriteSink::new(stderr);
-    let status = run(alloc, job, &mut source, &mut out, &mut messages)?;
-    Ok(after_flush(status, out.flush()))
-}
-
-/// How a run ended, once its output is flushed: a flush that fails is a failed write.
-fn after_flush(status: Status, flushed: Result<(), SinkFault>) -> Status
-    ensures ok { OnOk flushed (result ≡ status) }
-    ensures err { OnErr flushed (result ≡ Status.Device) }
-{
-    match flushed {
-        Ok(()) => status,
-        Err(_) => Status::Device,
+    match rt.open(name) {
+        Some(file) => Ok(Part::File(file)),
+        None => Err(StartFault::CannotOpen(String::from_str(rt.alloc(), name)?)),
     }
 }
 
 #[cfg(test)]
 mod tests {
     use super::*;
+    use crate::MemSink;
     use std::test::Fail;
 
     #[test]
@@ -232,9 +201,9 @@ mod tests {
             (StartFault::OutOfMemory, b"roff: out of memory\n"),
         ];
         for (fault, text) in rows {
-            let mut written = Vec::new(rt.alloc());
-            assert_eq!(rt; report(&fault, &mut written), Exit::NotStarted);
-            assert!(rt; written.as_slice() == text);
+            let mut err = MemSink::new(rt.alloc(), 100)?;
+            assert_eq!(rt; report(&fault, &mut err), Exit::NotStarted);
+            assert!(rt; err.kept() == text);
         }
         Ok(())
     }

@@ -261,7 +261,7 @@ static HELP_ROWS: [Row; 9] = [
 ];
 
 /// Mistakes on the command line.
-static MISTAKE_ROWS: [Row; 16] = [
+static MISTAKE_ROWS: [Row; 17] = [
     (&["roff"], 1, "", texts::NO_COMMAND),
     (&["roff", "troff"], 1, "", texts::WRONG_COMMAND),
     (&["roff", "one"], 1, "", texts::NO_SUCH_COMMAND),
@@ -293,8 +293,9 @@ static MISTAKE_ROWS: [Row; 16] = [
         &["roff", "nroff", "--bytes", "-1"],
         1,
         "",
-        texts::BELOW_RANGE,
+        texts::NEGATIVE_WORD,
     ),
+    (&["roff", "nroff", "--bytes=-1"], 1, "", texts::BELOW_RANGE),
     (
         &["roff", "nroff", "--bytes=1000000001"],
         1,

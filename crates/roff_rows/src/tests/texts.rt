@@ -183,3 +183,13 @@ Usage: roff nroff [FILE]...
 
 For more information, try '--help'.
 ";
+
+pub const NEGATIVE_WORD: &str = "\
+error: unexpected argument '-1' found
+
+  tip: to pass '-1' as a value, use '-- -1'
+
+Usage: roff nroff [OPTIONS] [FILE]...
+
+For more information, try '--help'.
+";
