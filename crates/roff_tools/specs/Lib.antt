@@ -4,6 +4,7 @@ pub mod Memory
 pub mod Inputs
 pub mod StartFault
 pub mod CommandLine
+pub mod CommandRows
 pub mod Exit
 pub mod RunOver
 pub mod Program

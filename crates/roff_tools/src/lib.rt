@@ -6,6 +6,7 @@ mod exit;
 mod fault;
 mod inputs;
 mod job;
+pub mod laws;
 mod memory;
 mod program;
 #[cfg(test)]
