@@ -1,6 +1,6 @@
 -- The command line.
 use Rattle.std.proofs.Common.{◌≡◌, ◌∙◌, ◌<◌, ◌+◌, ◌^◌, ℕ, Bool, true, false, not, ◌&&◌, is_some, List, [], ◌∷◌, map, take, get_or, length, nat_lt, ap, refl, sym, subst, codes, Option, Some, None, option_map, lt-ltb, ltb-true}
-use Rattle.std.specs.Prelude.{Box, Ok, Err, Result, fold, option_and_then, unwrap_or}
+use Rattle.std.specs.Prelude.{Box, IsErrAnd, MatchResult, Ok, Err, Result, fold, option_and_then, unwrap_or}
 use Rattle.std.specs.Box.{box_value}
 use Rattle.std.specs.Char.{digit_value}
 use Rattle.std.specs.List.{list_all}
@@ -9,7 +9,7 @@ use Rattle.std.specs.Borrow.{Bor}
 use Rattle.std.proofs.lemmas.List.{map-append, take_more}
 use Rattle.std.proofs.lemmas.List.Sums.{fold-append}
 use Rattle.clap.specs.Walk.{is_empty}
-use Rattle.clap.specs.Words.{ReadsOne, Row, Text, found_of, is_simple, one_of, one_text, rows_of, rule_of, subcommand_name_of, subcommand_rows, subcommand_rows_of}
+use Rattle.clap.specs.Words.{ReadsOne, Row, Text, found_of, is_simple, is_simple_and_free, one_of, one_text, rows_of, rule_of, subcommand_name_of, subcommand_rows, subcommand_rows_of}
 use Rattle.clap.specs.declared.builder.Arg.{Arg}
 use Rattle.clap.specs.declared.parser.matches.ArgMatches.{ArgMatches}
 use Rattle.clap.specs.declared.parser.matches.ArgMatches.TheViews.{out-ArgMatches, out-SubCommand}
@@ -28,6 +28,16 @@ use Rattle.roff_tools.specs.declared.command.Request.{Request}
 pub roff_app-is_simple : is_simple roff_app ≡ true
 unfolding clap_on_literals roff_app nroff_app
 roff_app-is_simple = refl
+
+-- and no argument has a rule on another
+pub roff_app-is_free : is_simple_and_free roff_app ≡ true
+unfolding clap_on_literals roff_app nroff_app
+roff_app-is_free = refl
+
+-- `?` passes an error up as it is
+pub passed-MatchResult : {T E : Type 0} (r : Result T E) (e : E) (P : T → Type 0) (Q : E → Type 0) → IsErrAnd r (λ y. y ≡ e) → Q e → MatchResult r P Q
+passed-MatchResult (Ok x) e P Q is q = absurd is
+passed-MatchResult (Err y) e P Q is q = subst Q (sym is) q
 
 -- an argument whose rule is simple belongs to its command alone
 pub simple-global : (a : Arg) → (rule_of a).is_simple ≡ true → a.global ≡ false

@@ -1,10 +1,12 @@
 -- The command line: its commands, options and operands, and what its words ask for.
-use Rattle.std.specs.Prelude.{◌≡◌, ◌^◌, ◌-◌, ◌&&◌, ℕ, true, List, [], ◌∷◌, length, map, fold, nat_lt, Option, Some, None, if◌then◌else◌, option_and_then, unwrap_or, codes, decimal, pos}
+use Rattle.std.specs.Prelude.{◌≡◌, ◌≢◌, ◌⊎◌, ◌^◌, ◌-◌, ◌&&◌, ℕ, true, List, [], ◌∷◌, length, map, fold, nat_lt, Option, Some, None, if◌then◌else◌, option_and_then, unwrap_or, codes, decimal, pos}
 use Rattle.std.specs.Char.{digit_value}
 use Rattle.std.specs.List.{list_all}
 use Rattle.std.specs.Str.Parse.{digits_value, without_leading_plus}
-use Rattle.clap.specs.Words.{App, Row, Rule, Text, all_of, new_app, new_rule, one_of, with_rule, with_subcommand}
+use Rattle.clap.specs.Words.{App, IsAmong, Kinds, Row, Rule, Text, all_of, new_app, new_rule, one_of, with_rule, with_subcommand}
 use Rattle.clap.specs.declared.builder.ArgAction.TheVariants.{Append}
+use Rattle.clap.specs.declared.error.ErrorKind.{ErrorKind}
+use Rattle.clap.specs.declared.error.ErrorKind.TheVariants.{DisplayHelp, DisplayVersion}
 use Rattle.clap.specs.declared.builder.value_parser.ValueParser.TheVariants.{Signed}
 use Rattle.roff_num.specs.declared.limit.Limit.{Limit}
 use Rattle.roff_num.specs.declared.limit.Limit.TheVariants.{Bytes, Line}
@@ -78,3 +80,11 @@ pub record Asks (rows : List Row) (request : Request) : Type 0 where
 abbrev pub AsksFor : Option (Text × List Row) → Request → Type 0
 AsksFor None request = ⊥
 AsksFor (Some (name, rows)) request = (name ≡ codes "nroff") × Asks rows request
+
+-- the words ask for help or for the version
+abbrev pub AskForHelp : Kinds → Type 0
+AskForHelp kinds = (kinds ≢ []) × ((kind : ErrorKind) → IsAmong kind kinds → (kind ≡ DisplayHelp) ⊎ (kind ≡ DisplayVersion))
+
+-- the words have a mistake
+abbrev pub AreMistaken : Kinds → Type 0
+AreMistaken kinds = (kinds ≢ []) × ((kind : ErrorKind) → IsAmong kind kinds → (kind ≢ DisplayHelp) × (kind ≢ DisplayVersion))

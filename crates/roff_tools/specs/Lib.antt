@@ -6,6 +6,7 @@ pub mod WatchedSink
 pub mod Inputs
 pub mod StartFault
 pub mod CommandLine
+pub mod CommandRows
 pub mod Exit
 pub mod RunOver
 pub mod Program

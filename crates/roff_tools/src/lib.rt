@@ -7,6 +7,7 @@ mod fault;
 mod in_memory;
 mod inputs;
 mod job;
+pub mod laws;
 mod memory;
 mod program;
 #[cfg(test)]

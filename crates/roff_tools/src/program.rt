@@ -2,8 +2,8 @@
 
 ghost use Rattle.std.specs.Prelude.{◌≡◌, ◌≢◌, ◌≤◌, ◌⊎◌, true, is_ok, IfOk, IfErr, OnErr, map};
 ghost use Rattle.std.specs.Process.{exit_status};
-ghost use Rattle.clap.specs.Words.{kind_of, subcommand_of, takes};
-ghost use Rattle.roff_tools.specs.CommandLine.{roff_app};
+ghost use Rattle.clap.specs.Words.{fault_of, kind_of, subcommand_of, takes};
+ghost use Rattle.roff_tools.specs.CommandLine.{AreMistaken, AskForHelp, roff_app};
 ghost use Rattle.roff_tools.specs.Exit.{exit_flushed};
 ghost use Rattle.roff_tools.specs.Inputs.Part.{AreNamed, IsNamed};
 ghost use Rattle.roff_tools.specs.Program.{FormatsAsked};
@@ -96,6 +96,10 @@ where
         FormatsAsked (R.opens rt.now) (R.stands rt.now) R.File.remaining R.Standard.remaining
         (subcommand_of roff_app (map S.text words.now)) result
         (O.sunk out.old) (O.sunk out.new) (E.sunk err.old) (E.sunk err.new) }
+    // Help and the version go to the output alone, and mistakes don't.
+    ensures asked { AskForHelp (fault_of roff_app (map S.text words.now)) → (result ≡ Exit.NotStarted)
+        ⊎ (((result ≡ Exit.Done) ⊎ (result ≡ Exit.DeviceFailed)) × (err.new ≡ err.old)) }
+    ensures mistaken { AreMistaken (fault_of roff_app (map S.text words.now)) → result ≡ Exit.NotStarted }
     ensures unwritten { result ≡ Exit.NotStarted → out.new ≡ out.old }
 {
     match parse_words(rt.alloc(), words) {

@@ -1,8 +1,24 @@
-use Rattle.std.proofs.Common.{◌∙◌, ap, inl, map}
-use Rattle.clap.specs.Words.{App, is_simple, subcommand_of, takes}
+use Rattle.std.proofs.Common.{◌≡◌, ◌∙◌, ap, inl, inr, map, subst, sym}
+use Rattle.clap.specs.Words.{App, HasKind, fault_of, is_simple, is_simple_and_free, subcommand_of, takes}
 use Rattle.clap.proofs.TakesLemmas.{passed_up}
-use Rattle.roff_tools.proofs.CommandLine.{found-AsksFor, roff_app-is_simple}
+use Rattle.roff_tools.proofs.CommandLine.{found-AsksFor, passed-MatchResult, roff_app-is_free, roff_app-is_simple}
 use Rattle.roff_tools.proofs.command.parse_words.Goals as goal
+
+pub returns-in_err-matches-clause-fault : goal.returns-in_err-matches-clause-fault
+returns-in_err-matches-clause-fault g c =
+    passed-MatchResult _ c.in_err-matches.field-0.0 _ _ c.from_residual-in_err-matches.ensures.1
+    (inr (subst (λ (a : App). HasKind (fault_of a (map g.S.AsStr.text c.args.words.now)) c.in_err-matches.field-0.0) c.in_ok-command.ensures
+    (c.in_err-matches.ensures.kinds (ap is_simple_and_free c.in_ok-command.ensures ∙ roff_app-is_free))))
+
+pub returns-in-Some-nroff-default-clause-fault : goal.returns-in-Some-nroff-default-clause-fault
+returns-in-Some-nroff-default-clause-fault g c =
+    ap (λ (a : App). fault_of a (map g.S.AsStr.text c.args.words.now)) (sym c.in_ok-command.ensures)
+    ∙ c.in_ok-matches.ensures.kinds (ap is_simple_and_free c.in_ok-command.ensures ∙ roff_app-is_free)
+
+pub returns-clause-fault : goal.returns-clause-fault
+returns-clause-fault g c =
+    inl (ap (λ (a : App). fault_of a (map g.S.AsStr.text c.args.words.now)) (sym c.in_ok-command.ensures)
+    ∙ c.in_ok-matches.ensures.kinds (ap is_simple_and_free c.in_ok-command.ensures ∙ roff_app-is_free))
 
 pub returns-in_err-matches-clause-taken : goal.returns-in_err-matches-clause-taken
 returns-in_err-matches-clause-taken g c =
