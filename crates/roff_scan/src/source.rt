@@ -45,11 +45,12 @@ pub trait ByteSource {
         ensures gives { Answers (gives self.old) (gives self.new) (answer_of result) }
         // Notes run out.
         ensures notes { notes self.new ≤ notes self.old }
-        ensures note { (m : _) →
-            answer_of result ≡ Gives (OneNote m) → notes self.new < notes self.old }
+        ensures note { (m : _) → answer_of result ≡ Gives (OneNote m)
+            → notes self.new < notes self.old }
         // A fault is counted.
         ensures failures { failures self.old ≤ failures self.new }
-        ensures fault { answer_of result ≡ Ends Failed → Rises (failures self.old) (failures self.new) };
+        ensures fault { answer_of result ≡ Ends Failed
+            → Rises (failures self.old) (failures self.new) };
 }
 
 /// How many bytes a [`ReadSource`] asks its reader for.
