@@ -50,9 +50,13 @@ has_room name t = is_some (entry_of name t.entries) || nat_lt (length t.entries)
 abbrev pub admitted : {E : Type 0} → List ℕ → Table E → Result (Unit {0}) Limit
 admitted name t = if has_room name t then Ok tt else Err Names
 
--- the table once a name is given an entry; without room it stays
+-- the table with these entries, if there is room for the name; without room it stays
+abbrev pub with_entries_if_room : {E : Type 0} → List ℕ → Named E → Table E → Table E
+with_entries_if_room name entries t = if has_room name t then record t { entries = entries } else t
+
+-- the table once a name is given an entry, if there is room
 abbrev pub put_into : {E : Type 0} → List ℕ → E → Table E → Table E
-put_into name entry t = if has_room name t then record t { entries = with_entry name entry t.entries } else t
+put_into name entry t = with_entries_if_room name (with_entry name entry t.entries) t
 
 -- the table once a name's entry is taken away
 abbrev pub removed_from : {E : Type 0} → List ℕ → Table E → Table E

@@ -9,7 +9,7 @@ use Rattle.roff_num.specs.Ranges.{is_in_range}
 use Rattle.roff_store.specs.declared.register.Register.{Register}
 use Rattle.roff_store.specs.declared.register.Direction.{Direction}
 use Rattle.roff_store.specs.declared.register.Direction.TheVariants.{Up, Down}
-use Rattle.roff_store.specs.Named.{Named, Table, entry_of, with_entry, put_into, removed_from}
+use Rattle.roff_store.specs.Named.{Named, Table, entry_of, with_entry, with_entries_if_room, removed_from}
 
 -- the registers, under their names
 abbrev pub Registers : Type 0
@@ -22,6 +22,15 @@ unset_register = record { value = record { 0 = pos 0 }; format = Decimal 1; incr
 -- what a name reads as
 abbrev pub register_of : List ℕ → Registers → Register
 register_of name registers = unwrap_or (entry_of name registers) unset_register
+
+-- the registers once one is given a value and an increment; its format stays
+abbrev pub with_setting : List ℕ → Num → Num → Registers → Registers
+with_setting name value increment registers =
+    with_entry name (record (register_of name registers) { value = value; increment = increment }) registers
+
+-- the registers once one is given a format; its value and its increment stay
+abbrev pub with_format : List ℕ → Format → Registers → Registers
+with_format name format registers = with_entry name (record (register_of name registers) { format = format }) registers
 
 -- the value that a step leads to: `\n+x` adds the increment, `\n-x` takes it away
 abbrev pub next_value : Direction → Register → ℤ
@@ -54,9 +63,8 @@ pub data Call : Type 0 where
 
 -- the table after a call
 abbrev pub after : Call → Table Register → Table Register
-after (Set name value increment) t =
-    put_into name (record (register_of name t.entries) { value = value; increment = increment }) t
-after (SetFormat name format) t = put_into name (record (register_of name t.entries) { format = format }) t
+after (Set name value increment) t = with_entries_if_room name (with_setting name value increment t.entries) t
+after (SetFormat name format) t = with_entries_if_room name (with_format name format t.entries) t
 after (Step name direction) t = record t { entries = with_step direction name t.entries }
 after (Remove name) t = removed_from name t
 
