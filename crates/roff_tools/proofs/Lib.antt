@@ -1,3 +1,4 @@
 pub mod CommandLine
+pub mod Commands
 pub mod Named
 pub mod RunOver
