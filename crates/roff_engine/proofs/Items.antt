@@ -5,7 +5,7 @@ use Rattle.std.specs.Io.KnownBytes.{Appends}
 use Rattle.roff_num.specs.declared.limit.Limit.{Limit}
 use Rattle.roff_num.specs.declared.limit.Limit.TheVariants.{Bytes}
 use Rattle.roff_num.specs.declared.limits.Limits.{Limits}
-use Rattle.roff_scan.specs.Tape.{Tape, Answer, Answers, Item, IsItem, OneByte, OneNote, Gives, Ends, Ended, Failed, Stopped, Rises, answer_then, front, behind_front, items_then}
+use Rattle.roff_scan.specs.Tape.{Tape, Answer, Answers, Ending, Item, IsItem, OneByte, OneNote, Gives, Ends, Ended, Failed, Stopped, Rises, answer_then, front, behind_front, items_then}
 use Rattle.roff_lines.specs.declared.env.Env.{Env}
 use Rattle.roff_lines.specs.Env.Stands.{Stands}
 use Rattle.roff_lines.specs.Events.{settings_after}
@@ -18,7 +18,7 @@ use Rattle.roff_engine.specs.declared.running.Running.{Running as Coded}
 use Rattle.roff_engine.specs.declared.status.Status.{Status}
 use Rattle.roff_engine.specs.declared.status.Status.TheVariants.{Done, Device, Limit as Limited}
 use Rattle.roff_engine.specs.Messages.{message_line, message_lines}
-use Rattle.roff_engine.specs.Engine.Outcome.{Seen, NoFewerFaults, IsLeftOf, Reaches, Completes, MessagesFail, Outcome, Runs, seen}
+use Rattle.roff_engine.specs.Engine.Outcome.{Seen, NoFewerFaults, Reaches, Completes, MessagesFail, Outcome, Runs, seen}
 use Rattle.roff_engine.specs.Formatter.Performing.{AllPerformed, Does, Means, acting, closing_events, with_events}
 use Rattle.roff_engine.specs.Output.{PageHistory, text_of, written}
 use Rattle.roff_engine.specs.Reading.{Reading, Taking, LineStart, taking, end_effect}
@@ -31,6 +31,13 @@ use Rattle.roff_engine.proofs.Halting.{effect_halted}
 use Rattle.roff_engine.proofs.ItemSteps.{step-byte, step-bytes_reached, step-note, step-fault, step-stop, step-end}
 use Rattle.roff_engine.proofs.Leads.{Leads-refl, Leads-to}
 use Rattle.roff_engine.proofs.Performed.{between, faults_of_err}
+
+-- an ending stays
+behind-ends : (t : Tape) (e : Ending) → front t ≡ Ends e → behind_front t ≡ t
+behind-ends t e ends = elim t.items as (λ items. elim items [ [] ↦ Ends t.ending | item ∷ rest ↦ Gives item ] ≡ Ends e → elim items [ [] ↦ t | item ∷ rest ↦ record t { items = rest } ] ≡ t) [
+  | [] ↦ λ is. refl
+  | item ∷ rest ↦ λ is. cc
+] ends
 
 -- behind an item a run may go on
 pub goes_on_anyway : {E : Type 0} (r : Result (Unit {0}) E) → OnOk r (Unit {0})
@@ -71,7 +78,8 @@ module _ (l : Limits) (tape : Tape) (r : Reading) (h : PageHistory) (ms : List �
     reaches = reached;
     goes_on = refl;
     stops = step-bytes_reached l tape r h m.charge m.newlines m.line ms b gives (lt-ltb l.bytes (m.charge + 1) (omega (arith, cap, full)));
-    rest = inr refl;
+    rest = inr (refl, refl);
+    left_is = refl;
     quiet = refl;
     line_is = refl;
   }
@@ -100,7 +108,7 @@ module _ (l : Limits) (tape : Tape) (r : Reading) (h : PageHistory) (ms : List �
   pub byte_halted : (t : Tape) (before now : Seen) (n : Meter) (b : ℕ) (halt : Halt) (env : Env)
       → Does l t before now (reading_on tape r h m ms) (behind_byte n b) [] (Err halt) env → Halts l t (behind_front tape) n.line halt before now
   byte_halted t before now n b halt env does =
-      effect_halted l t (behind_front tape) before now (reading_on tape r h m ms) (behind_byte n b) [] halt env refl (inr refl) (inl refl) does
+      effect_halted l t (behind_front tape) before now (reading_on tape r h m ms) (behind_byte n b) [] halt env refl refl refl does
 
   -- the state at the input's end, before the events there
   abbrev pub closing : State
@@ -117,14 +125,15 @@ module _ (l : Limits) (tape : Tape) (r : Reading) (h : PageHistory) (ms : List �
   }
 
   -- the code could not do it
-  pub end_halted : (t : Tape) (before now : Seen) (halt : Halt) (env : Env)
+  pub end_halted : (t : Tape) (before now : Seen) (halt : Halt) (env : Env) → front tape ≡ Ends Ended
       → Does l t before now (reading_on tape r h m ms) closing [] (Err halt) env → Halts l t (behind_front tape) m.line halt before now
-  end_halted t before now halt env does =
-      effect_halted l t (behind_front tape) before now (reading_on tape r h m ms) closing [] halt env refl (inr refl) (inr refl) does
+  end_halted t before now halt env ends does =
+      effect_halted l t (behind_front tape) before now (reading_on tape r h m ms) closing [] halt env refl refl (behind-ends tape Ended ends) does
 
   -- all is done at the end
-  pub end_done : (t left : Tape) (before now : Seen) (env : Env) → IsLeftOf left closing → AllPerformed l t before now closing [] env → Completes l t left Done before now
-  end_done t left before now env left_of done = record {
+  pub end_done : (t : Tape) (before now : Seen) (env : Env) → front tape ≡ Ends Ended → AllPerformed l t before now closing [] env
+      → Completes l t (behind_front tape) Done before now
+  end_done t before now env ends done = record {
     state = ending_as Done (acting closing [] done.history);
     reaches = record {
       comes = Leads-to l (initial t) _ _ done.reaches.comes refl;
@@ -133,7 +142,7 @@ module _ (l : Limits) (tape : Tape) (r : Reading) (h : PageHistory) (ms : List �
       faults = done.reaches.faults;
     };
     ended = refl;
-    rest = left_of;
+    rest = inl (behind-ends tape Ended ends);
     fault = λ wrong. cc;
   }
 
@@ -160,7 +169,7 @@ module _ (l : Limits) (tape : Tape) (r : Reading) (h : PageHistory) (ms : List �
       text = reached.text;
       messages = rw (said, append-nil) (between _ _ _ _ _ (rw append-nil at reached.messages) part.written);
       fault = omega (arith, reached.faults.err, part.fault);
-      rest = inr refl;
+      rest = refl;
     }
 
     -- a note is written
@@ -183,7 +192,7 @@ module _ (l : Limits) (tape : Tape) (r : Reading) (h : PageHistory) (ms : List �
           state = s;
           reaches = one_more s (message_line m.line ReadFailed) (step-fault l tape r h m.charge m.newlines m.line ms ends) refl refl (rw line_is at puts.ok);
           ended = refl;
-          rest = inr refl;
+          rest = inl (behind-ends tape Failed ends);
           fault = λ is. rises;
         })
     source_failed line (Err e) line_is ends rises puts =
@@ -202,7 +211,7 @@ module _ (l : Limits) (tape : Tape) (r : Reading) (h : PageHistory) (ms : List �
             faults = reached.faults;
           });
           ended = refl;
-          rest = inr refl;
+          rest = inl (behind-ends tape (Stopped limit) ends);
           fault = λ wrong. cc;
         }
 

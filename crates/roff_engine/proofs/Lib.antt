@@ -19,3 +19,5 @@ pub mod Taking
 pub mod StatusesTell
 pub mod RunsAppend
 pub mod QuotedArguments
+pub mod Outcomes
+pub mod TwoRuns

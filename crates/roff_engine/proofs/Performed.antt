@@ -65,7 +65,8 @@ module _ (l : Limits) (t : Tape) (before : Seen) (failures : ℕ) (err : Sunk) (
   -- or the output fails
   pub event_failed : (new : Sunk) → refusal l h e ≡ None → Fails old new (written_by h e) → FailedAt l t before (seen failures new err) s
   event_failed new allowed fails = record {
-    to_do = e ∷ rest;
+    next = e;
+    to_do = rest;
     history = h;
     stops = record {
       comes = reached.comes;
@@ -80,7 +81,8 @@ module _ (l : Limits) (t : Tape) (before : Seen) (failures : ℕ) (err : Sunk) (
   -- or a limit refuses it
   pub event_stopped : (limit : Limit) → refusal l h e ≡ Some limit → StoppedAt l t before (seen failures old err) s limit
   event_stopped limit refused = record {
-    to_do = e ∷ rest;
+    next = e;
+    to_do = rest;
     history = h;
     reaches = reached;
     stops = ap (λ r. unless_refused l r (acting s (e ∷ rest) h) (acting s rest (e ∷ h))) refused;

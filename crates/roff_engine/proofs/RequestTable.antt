@@ -28,11 +28,14 @@ request_in-cond false request rest found same = same
 
 -- the request of a name is found among the rows
 request_in-row_in : (name : List ℕ) (all : List Request)
-    → request_in (row_in name (map coded_row all)) ≡ find (λ request. bytes_eq (row_of request).name name) all
+    → request_in (row_in name (map coded_row all))
+    ≡ find (λ request. bytes_eq (row_of request).name name) all
 request_in-row_in name [] = refl
 request_in-row_in name (request ∷ others) =
     request_in-cond (bytes_eq (row_of request).name name) request _ _ (request_in-row_in name others)
 
 -- so it is found in the code's table
-pub request_found : (name : List ℕ) → request_named name ≡ request_in (find (λ row. bytes_eq row.name name) ROWS)
-request_found name = sym (ap (λ (rows : List Row). request_in (row_in name rows)) table ∙ request_in-row_in name requests)
+pub request_found : (name : List ℕ)
+    → request_named name ≡ request_in (find (λ row. bytes_eq row.name name) ROWS)
+request_found name =
+    sym (ap (λ (rows : List Row). request_in (row_in name rows)) table ∙ request_in-row_in name requests)

@@ -20,5 +20,7 @@ pub mod Quoting
 pub mod FirstArgument
 pub mod Formatter
 pub mod Engine
+pub mod Outcomes
+pub mod TwoRuns
 pub mod Running
 pub mod Clauses

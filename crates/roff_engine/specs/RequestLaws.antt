@@ -13,7 +13,8 @@ EachIsNamed = (request : Request) → request_named (name_of request) ≡ Some r
 
 -- each name stands in the table once
 abbrev pub EachIsListedOnce : Type 0
-EachIsListedOnce = (request : Request) → count_by (λ other. bytes_eq (name_of other) (name_of request)) requests ≡ 1
+EachIsListedOnce =
+    (request : Request) → count_by (λ other. bytes_eq (name_of other) (name_of request)) requests ≡ 1
 
 -- each name has two bytes
 abbrev pub EachNameHasTwoBytes : Type 0

@@ -5,7 +5,9 @@ ghost use Rattle.roff_num.specs.declared.limit.Limit.TheVariants.{Bytes, Line};
 ghost use Rattle.roff_engine.specs.declared.status.Status.TheVariants.{Done, Device, Limit as Limited};
 ghost use Rattle.roff_engine.specs.Laws.{LimitsOnlyCut, SameUntilALimit, FailingOnlyCuts, SameUntilTheFault, NoLimitIsPassed, StepsOnlyAppend};
 ghost use Rattle.roff_engine.specs.ResultLaws.{EveryRunEnds, StepsLeadToTheLastState, NoOtherStateIsLast, LimitsCutResults, SameResultWithoutALimit, FailingCutsResults, SameResultBeforeTheFault, EachStateIsABeginning};
+ghost use Rattle.roff_engine.specs.Outcomes.{EachOutcomeGives};
 ghost use Rattle.roff_engine.specs.Statuses.{EachStatusTells};
+ghost use Rattle.roff_engine.specs.TwoRuns.{SmallerLimitsWriteABeginning, SameUnlessALimitStops, FailingSourcesWriteABeginning, SameUnlessTheSourceFails, RunsCanBeRepeated};
 ghost use Rattle.roff_engine.specs.Taken.{EachItemIsTakenOnce, EachRunLeavesItsRest};
 ghost use Rattle.roff_engine.specs.Quoting.{quoted_line, QuotedArgumentsReadBack, RequestsGetQuotedArguments};
 ghost use Rattle.roff_engine.specs.RequestLaws.{EachIsListedOnce, EachIsNamed, EachNameHasTwoBytes};
@@ -113,4 +115,20 @@ pub fn request_names()
     ensures named { EachIsNamed }
     ensures listed_once { EachIsListedOnce }
     ensures two_bytes { EachNameHasTwoBytes }
+{}
+
+/// Each outcome of a run of the code gives a beginning of the definition's text, and all that the
+/// definition gives if no sink had a fault.
+pub fn outcomes()
+    ensures { EachOutcomeGives }
+{}
+
+/// What one run of the code tells about another: with smaller limits, or over a source that fails, it
+/// writes a beginning, whatever failed in it, of what the other does; and the same unless that stops it.
+pub fn two_runs()
+    ensures smaller_limits { SmallerLimitsWriteABeginning }
+    ensures same_unless_a_limit { SameUnlessALimitStops }
+    ensures failing_sources { FailingSourcesWriteABeginning }
+    ensures same_unless_a_fault { SameUnlessTheSourceFails }
+    ensures repeated { RunsCanBeRepeated }
 {}

@@ -1,9 +1,13 @@
 -- What sources might have given, by what they may give behind an answer.
-use Rattle.std.proofs.Common.{◌≡◌, ◌<◌, ◌≤◌, ◌+◌, ℕ, List, [], ◌∷◌, ◌++◌, Option, Some, None, length, map, take, drop, get_or, refl, sym, ap, ◌∙◌, arith, length-take}
+use Rattle.std.proofs.lemmas.Bool.{cases_Bool}
+use Rattle.std.proofs.lemmas.Bool.Decides.{nat_tests}
+use Rattle.std.proofs.Common.{true, false, inl, inr, ◌==◌, Result, Ok, Err, ◌≡◌, ◌<◌, ◌≤◌, ◌+◌, ℕ, List, [], ◌∷◌, ◌++◌, Option, Some, None, length, map, take, drop, get_or, refl, sym, ap, ◌∙◌, arith, length-take}
 use Rattle.std.specs.Io.KnownBytes.{Consumes, IsAtEnd, prepend_known}
 use Rattle.std.proofs.Math.Seq.{take-append_seam}
 use Rattle.std.proofs.lemmas.List.{nil_from_length, drop_all, drop_more, get_or-take}
 use Rattle.std.proofs.KnownBytes.{Consumes-nil, Consumes-trans}
+use Rattle.roff_scan.specs.declared.source.Given.TheVariants.{Bytes, Nothing}
+use Rattle.roff_scan.specs.ReadSource.Given.{given_by}
 use Rattle.roff_scan.specs.ReadSource.Reach.{IsRead}
 use Rattle.roff_scan.specs.Tape.{Item, Answers, Ending, OneByte, Gives, Ends, Ended, Failed, only}
 
@@ -113,3 +117,29 @@ block_read old_block block next old_len len old new over more within consumed =
 -- a block that was written whole
 pub block_written : (n : ℕ) (ws old : List ℕ) → length ws ≡ n → take n (ws ++ drop (length ws) old) ≡ ws
 block_written n ws old whole = rw (← whole) (take-append_seam ws _)
+
+-- a count that is 0, or isn't
+more_than_none : (n : ℕ) → (n == 0) ≡ false → 0 < n
+more_than_none n not = grind (arith, nat_tests)
+
+none_at_all : (n : ℕ) → (n == 0) ≡ true → n ≡ 0
+none_at_all n is = grind (arith, nat_tests)
+
+-- a read that gave bytes answered their number, which isn't 0
+pub given_bytes : {E : Type 0} (answer : Result ℕ E) (len : ℕ) → given_by answer ≡ Bytes len → (answer ≡ Ok len) × (0 < len)
+given_bytes (Ok n) len given = elim (cases_Bool (n == 0)) [
+  | inl is ↦ let wrong : Nothing ≡ Bytes len = rw is at given in cc
+  | inr not ↦
+      let same : Bytes n ≡ Bytes len = rw not at given in
+      let equal : n ≡ len = cc in
+      (ap (λ k. Ok k) equal, rw (← equal) (more_than_none n not))
+]
+given_bytes (Err e) len given = cc
+
+-- one that gave none answered 0
+pub given_nothing : {E : Type 0} (answer : Result ℕ E) → given_by answer ≡ Nothing → answer ≡ Ok 0
+given_nothing (Ok n) given = elim (cases_Bool (n == 0)) [
+  | inl is ↦ ap (λ k. Ok k) (none_at_all n is)
+  | inr not ↦ let wrong : Bytes n ≡ Nothing = rw not at given in cc
+]
+given_nothing (Err e) given = cc

@@ -1,2 +1,3 @@
 -- A source over a reader.
 pub mod Reach
+pub mod Given

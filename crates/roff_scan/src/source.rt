@@ -1,11 +1,13 @@
 //! Sources: what a run reads from.
 
 ghost use Rattle.std.specs.Prelude.{◌≡◌, ℕ, ◌<◌, ◌≤◌, None, vec_len, IfOk};
+ghost use Rattle.roff_scan.specs.ReadSource.Given.{given_by};
 ghost use Rattle.roff_scan.specs.Tape.{Tape, Answers, Failed, Gives, Ends, OneNote, answer_of, Rises};
 
 use arrayvec::ArrayVec;
 use roff_num::Limit;
 use std::alloc::{AllocError, Global};
+use std::io;
 use std::io::Read;
 
 /// A message of a source's own, with its newline.
@@ -43,11 +45,12 @@ pub trait ByteSource {
         ensures gives { Answers (gives self.old) (gives self.new) (answer_of result) }
         // Notes run out.
         ensures notes { notes self.new ≤ notes self.old }
-        ensures note { (m : _) →
-            answer_of result ≡ Gives (OneNote m) → notes self.new < notes self.old }
+        ensures note { (m : _) → answer_of result ≡ Gives (OneNote m)
+            → notes self.new < notes self.old }
         // A fault is counted.
         ensures failures { failures self.old ≤ failures self.new }
-        ensures fault { answer_of result ≡ Ends Failed → Rises (failures self.old) (failures self.new) };
+        ensures fault { answer_of result ≡ Ends Failed
+            → Rises (failures self.old) (failures self.new) };
 }
 
 /// How many bytes a [`ReadSource`] asks its reader for.
@@ -59,6 +62,28 @@ enum Reach {
     Open,
     Ended,
     Failed,
+}
+
+/// What one read of a reader gave.
+#[derive(Clone, Copy, Debug, PartialEq, Eq)]
+enum Given {
+    /// So many bytes, one at least.
+    Bytes(usize),
+    /// No byte: the reader is at its end.
+    Nothing,
+    /// An error, of whatever kind.
+    Error,
+}
+
+/// What a read gave, by the reader's answer.
+fn given_by(answer: io::Result<usize>) -> Given
+    ensures { result ≡ given_by answer }
+{
+    match answer {
+        Ok(0) => Given::Nothing,
+        Ok(len) => Given::Bytes(len),
+        Err(_) => Given::Error,
+    }
 }
 
 /// A source over a reader, read a block of 4,096 bytes at a time.
@@ -75,12 +100,13 @@ pub struct ReadSource<R> {
 }
 
 impl<R: Read + Drop> ReadSource<R> {
-    ghost use Rattle.roff_scan.specs.ReadSource.Reach.{ending_given, may_give, unread};
+    ghost use Rattle.roff_scan.specs.ReadSource.Reach.{ending_given, faults_of, may_give, unread};
 
     /// A source over a reader, of which nothing is read yet.
     pub fn new(alloc: Global, reader: R) -> Result<Self, AllocError>
         ensures ending { IfOk result (λ s. ending_given s ≡ None) }
         ensures unread { IfOk result (λ s. unread R.remaining s ≡ R.remaining reader) }
+        ensures failures { IfOk result (λ s. faults_of s ≡ 0) }
     {
         Ok(ReadSource {
             reader,
@@ -102,17 +128,17 @@ impl<R: Read + Drop> ReadSource<R> {
         ensures fault { answer_of result ≡ Ends Failed → Rises self.old.failures self.new.failures }
         ensures note { (m : _) → answer_of result ≡ Gives (OneNote m) → ⊥ }
     {
-        match self.reader.read(&mut self.block) {
-            Ok(0) => {
+        match given_by(self.reader.read(&mut self.block)) {
+            Given::Nothing => {
                 self.reach = Reach::Ended;
                 Taken::End
             }
-            Ok(len) => {
+            Given::Bytes(len) => {
                 self.len = len;
                 self.next = 1;
                 Taken::Byte(self.block[0])
             }
-            Err(_) => {
+            Given::Error => {
                 self.reach = Reach::Failed;
                 self.failures = self.failures.saturating_add(1);
                 Taken::Fault

@@ -1,3 +1,5 @@
+pub mod Overflows
+pub mod InMemory
 pub mod CommandLine
 pub mod Commands
 pub mod Named

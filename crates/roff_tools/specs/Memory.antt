@@ -14,6 +14,10 @@ ending_of s = if s.fails then Failed else Ended
 abbrev pub tape_of : MemSource → Tape
 tape_of s = record { items = map OneByte s.rest.now; ending = ending_of s }
 
+-- how many faults a source in memory had
+abbrev pub faults_of_source : MemSource → ℕ
+faults_of_source s = s.failures
+
 -- the tape of these bytes, that fails behind so many of them if there are so many
 abbrev pub tape_of_bytes : List ℕ → Option ℕ → Tape
 tape_of_bytes bytes None = record { items = map OneByte bytes; ending = Ended }
@@ -30,9 +34,13 @@ room_of s = s.cap
 abbrev pub kept_by : MemSink → List ℕ
 kept_by s = s.kept.items
 
+-- how many faults it had
+abbrev pub faults_of : MemSink → ℕ
+faults_of s = s.failures
+
 -- what a sink in memory tells: what it has kept, and how many faults it had
 abbrev pub sunk_of : MemSink → Sunk
-sunk_of s = record { contents = Some (kept_by s); failures = s.failures }
+sunk_of s = record { contents = Some (kept_by s); failures = faults_of s }
 
 -- a piece that a sink in memory was given: all of it is kept if there is room, and else as much of it as there is
 -- room for, and that is a fault

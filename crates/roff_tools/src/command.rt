@@ -96,7 +96,8 @@ fn with_options<'a>(
     options: &'static [LimitOption],
 ) -> Result<Command<'a>, AllocError>
     ensures { IfOk result (λ r. app_of r
-        ≡ fold with_rule (app_of command.entry) (map (λ option. limit_option option.limit) options.now)) }
+        ≡ fold with_rule (app_of command.entry)
+        (map (λ option. limit_option option.limit) options.now)) }
 {
     let mut command = command;
     for option in options {

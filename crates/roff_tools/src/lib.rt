@@ -4,6 +4,7 @@
 mod command;
 mod exit;
 mod fault;
+mod in_memory;
 mod inputs;
 mod job;
 pub mod laws;
@@ -13,7 +14,9 @@ mod program;
 mod tests;
 mod text_sink;
 mod texts;
+mod watched;
 
+pub use in_memory::{Formatted, Room, format_in_memory};
 pub use job::{Job, run};
 pub use memory::{MemSink, MemSource};
 pub use program::main_with;

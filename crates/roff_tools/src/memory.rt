@@ -1,6 +1,6 @@
 //! Devices in memory, that fail where they are told to.
 
-ghost use Rattle.std.specs.Prelude.{◌≡◌, ◌≤◌, [], map, vec_len, vec_capacity, IfOk};
+ghost use Rattle.std.specs.Prelude.{◌≡◌, ◌+◌, ◌≤◌, [], length, map, vec_len, vec_capacity, IfOk};
 
 use roff_engine::{ByteSink, SinkFault};
 use roff_scan::{ByteSource, Taken};
@@ -15,12 +15,13 @@ pub struct MemSource<'a> {
 }
 
 impl<'a> MemSource<'a> {
-    ghost use Rattle.roff_tools.specs.Memory.{tape_of, tape_of_bytes};
+    ghost use Rattle.roff_tools.specs.Memory.{faults_of_source, tape_of, tape_of_bytes};
     ghost use Rattle.roff_scan.specs.Tape.{OneByte};
 
     /// A source of these bytes. It fails after `fail_at` of them, if there are so many.
     pub fn new(bytes: &'a [u8], fail_at: Option<usize>) -> Self
-        ensures { tape_of result ≡ tape_of_bytes bytes.now fail_at }
+        ensures tape { tape_of result ≡ tape_of_bytes bytes.now fail_at }
+        ensures faultless { faults_of_source result ≡ 0 }
     {
         match fail_at {
             Some(count) if count <= bytes.len() => MemSource {
@@ -45,13 +46,13 @@ impl<'a> MemSource<'a> {
 }
 
 impl ByteSource for MemSource<'_> {
-    ghost use Rattle.roff_tools.specs.Memory.{tape_of};
+    ghost use Rattle.roff_tools.specs.Memory.{faults_of_source, tape_of};
 
     ghost gives = { λ s t. t ≡ tape_of s };
 
     ghost notes = { λ _. 0 };
 
-    ghost failures = { λ s. s.failures };
+    ghost failures = { faults_of_source };
 
     fn next_byte(&mut self) -> Taken {
         match self.rest.split_first() {
@@ -79,7 +80,7 @@ pub struct MemSink {
 }
 
 impl MemSink {
-    ghost use Rattle.roff_tools.specs.Memory.{kept_by, room_of};
+    ghost use Rattle.roff_tools.specs.Memory.{faults_of, kept_by, room_of};
 
     /// A sink with room for so many bytes, reserved here.
     ///
@@ -89,6 +90,7 @@ impl MemSink {
     pub fn new(alloc: Global, cap: usize) -> Result<Self, AllocError>
         ensures empty { IfOk result (λ s. kept_by s ≡ []) }
         ensures room { IfOk result (λ s. room_of s ≡ cap) }
+        ensures faultless { IfOk result (λ s. faults_of s ≡ 0) }
     {
         Ok(MemSink {
             kept: Vec::with_capacity(alloc, cap)?,
@@ -103,6 +105,25 @@ impl MemSink {
     {
         self.kept.as_slice()
     }
+
+    /// The bytes that were written, as a vector.
+    pub fn into_kept(self) -> Vec<u8>
+        ensures { result.items ≡ kept_by self }
+    {
+        let MemSink {
+            kept,
+            cap: _,
+            failures: _,
+        } = self;
+        kept
+    }
+
+    /// For how many more bytes there is room.
+    pub fn room_left(&self) -> usize
+        ensures { length (kept_by self.now) + result ≡ room_of self.now }
+    {
+        self.cap - self.kept.len()
+    }
 }
 
 impl ByteSink for MemSink {
@@ -115,7 +136,7 @@ impl ByteSink for MemSink {
         ensures puts { Puts (sunk_of self.old) (sunk_of self.new) piece.now result }
         ensures keeps { KeepsWithin self.old self.new result piece.now }
     {
-        let room = self.cap - self.kept.len();
+        let room = self.room_left();
         if piece.len() <= room {
             self.kept.extend_from_slice(piece).unwrap();
             return Ok(());

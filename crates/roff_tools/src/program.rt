@@ -113,9 +113,11 @@ where
 
 /// Writes what a parse of the words has to say in place of a request.
 fn show<O: ByteSink, E: ByteSink>(shown: &clap::Error, out: &mut O, err: &mut E) -> Exit
-    ensures mistake { (kind_of shown.now ≢ ErrorKind.DisplayHelp) → (kind_of shown.now ≢ ErrorKind.DisplayVersion)
+    ensures mistake { (kind_of shown.now ≢ ErrorKind.DisplayHelp)
+        → (kind_of shown.now ≢ ErrorKind.DisplayVersion)
         → (result ≡ Exit.NotStarted) × (out.new ≡ out.old) }
-    ensures asked { (kind_of shown.now ≡ ErrorKind.DisplayHelp) ⊎ (kind_of shown.now ≡ ErrorKind.DisplayVersion)
+    ensures asked { (kind_of shown.now ≡ ErrorKind.DisplayHelp)
+        ⊎ (kind_of shown.now ≡ ErrorKind.DisplayVersion)
         → ((result ≡ Exit.Done) ⊎ (result ≡ Exit.DeviceFailed)) × (err.new ≡ err.old) }
 {
     if shown.kind() == ErrorKind::OutOfMemory {
@@ -142,8 +144,8 @@ where
     R: Readers + AllocGlobal,
     O: ByteSink,
     E: ByteSink,
-    ensures formats { IfOk result (λ exit. Formats (R.opens rt.now) (R.stands rt.now) R.File.remaining
-        R.Standard.remaining (map (λ name. name.now) request.now.files.items) (limits_of request.now.job) exit
+    ensures formats { IfOk result (λ exit. Formats (R.opens rt.now) (R.stands rt.now)
+        R.File.remaining R.Standard.remaining (map (λ name. name.now) request.now.files.items) (limits_of request.now.job) exit
         (O.sunk out.old) (O.sunk out.new) (E.sunk err.old) (E.sunk err.new)) }
     ensures fault { IfErr result (NamesOneOf (map (λ name. name.now) request.now.files.items)) }
     ensures unwritten { OnErr result ((out.new ≡ out.old) × (err.new ≡ err.old)) }
@@ -159,7 +161,8 @@ fn open_all<R: Readers + AllocGlobal>(
     rt: &R,
     names: &[&str],
 ) -> Result<Inputs<R::File, R::Standard>, StartFault>
-    ensures parts { IfOk result (AreNamed (R.opens rt.now) (R.stands rt.now) (map (λ name. name.now) names.now)) }
+    ensures parts { IfOk result (AreNamed (R.opens rt.now) (R.stands rt.now)
+        (map (λ name. name.now) names.now)) }
     ensures fault { IfErr result (NamesOneOf (map (λ name. name.now) names.now)) }
 {
     let mut parts = Vec::new(rt.alloc());

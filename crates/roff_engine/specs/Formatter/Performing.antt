@@ -29,18 +29,20 @@ pub record AllPerformed (l : Limits) (t : Tape) (before now : Seen) (s : State) 
   pub reaches : Reaches l t before now (acting s rest history)
   pub stands : Stands l.line (text_of history) env
 
--- the definition comes to a state whose next step a limit refuses
+-- the definition comes to a state whose next event a limit refuses
 pub record StoppedAt (l : Limits) (t : Tape) (before now : Seen) (s : State) (limit : Limit) : Type 0 where
+  pub next : PageEvent
   pub to_do : List PageEvent
   pub history : PageHistory
-  pub reaches : Reaches l t before now (acting s to_do history)
-  pub stops : step l (acting s to_do history) ≡ stopped_by l limit (acting s to_do history)
+  pub reaches : Reaches l t before now (acting s (next ∷ to_do) history)
+  pub stops : step l (acting s (next ∷ to_do) history) ≡ stopped_by l limit (acting s (next ∷ to_do) history)
 
--- the definition comes to a state in whose next step the output failed
+-- the definition comes to a state in whose next event the output failed
 pub record FailedAt (l : Limits) (t : Tape) (before now : Seen) (s : State) : Type 0 where
+  pub next : PageEvent
   pub to_do : List PageEvent
   pub history : PageHistory
-  pub stops : OutputStops l t before now (acting s to_do history)
+  pub stops : OutputStops l t before now (acting s (next ∷ to_do) history)
   pub messages : Appends before.err.contents now.err.contents (reported s)
   pub faults : NoFewerFaults before now
 

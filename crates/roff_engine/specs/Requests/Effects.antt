@@ -39,7 +39,7 @@ bad_number = Ignored (BadNumber ∷ [])
 abbrev pub behind_break : Bool → List PageEvent → List PageEvent
 behind_break breaks events = if breaks then Text WordEnd ∷ Text Break ∷ events else events
 
--- what a request means that did this, with a break in front or without: what is ignored doesn't break
+-- what a request means by what it did: it breaks, if its row has it so, unless it is ignored
 abbrev pub meant_by : Bool → Done → Effect
 meant_by breaks (Ignored messages) = record { messages = messages; events = [] }
 meant_by breaks (Does messages events) =

@@ -7,7 +7,7 @@ use Rattle.roff_engine.specs.declared.number.NumberGiven.TheVariants.{Missing, B
 use Rattle.roff_engine.specs.Numbers.{number_given, is_line_scale, is_below_zero}
 use Rattle.roff_engine.specs.Requests.Effects.{Done, Does, bad_number}
 
--- the blank lines of a number: none if it is below 0, which is reported, and one where none is given
+-- the blank lines of a number: one where none is given, none if it is below 0, which is reported
 abbrev pub spaced : NumberGiven → Done
 spaced Missing = Does [] (Space 1 ∷ [])
 spaced Bad = bad_number

@@ -1,7 +1,8 @@
 -- How far a run of the code has come, as a run of the definition.
-use Rattle.std.specs.Prelude.{◌≡◌, ℕ, ◌-◌, false, List, [], ◌++◌, None, Result, Ok, Err, OnOk}
+use Rattle.std.specs.Prelude.{◌≡◌, ◌⊎◌, ℕ, ◌-◌, false, List, [], ◌++◌, None, Result, Ok, Err, OnOk}
 use Rattle.std.specs.Io.KnownBytes.{Appends}
 use Rattle.roff_num.specs.declared.limit.Limit.{Limit}
+use Rattle.roff_num.specs.declared.limit.Limit.TheVariants.{Bytes}
 use Rattle.roff_scan.specs.Tape.{Tape, Answer, Item, IsItem, front, behind_front, items_then}
 use Rattle.roff_lines.specs.Env.Stands.{Stands}
 use Rattle.roff_engine.specs.declared.running.Running.{Running as Coded}
@@ -11,7 +12,7 @@ use Rattle.roff_engine.specs.declared.halt.Halt.{Halt}
 use Rattle.roff_engine.specs.declared.halt.Halt.TheVariants.{Limit as Limited, Output, Messages}
 use Rattle.roff_engine.specs.declared.meter.Meter.{Meter}
 use Rattle.roff_num.specs.declared.limits.Limits.{Limits}
-use Rattle.roff_engine.specs.Engine.Outcome.{Seen, NoFewerFaults, IsLeftOf, Reaches, OutputStops, MessagesFail, Outcome}
+use Rattle.roff_engine.specs.Engine.Outcome.{Seen, NoFewerFaults, left_behind, Reaches, OutputStops, MessagesFail, Outcome}
 use Rattle.roff_engine.specs.Output.{PageHistory, text_of}
 use Rattle.roff_engine.specs.Reading.{Reading}
 use Rattle.roff_engine.specs.Formatter.ReadsAs.{ReadsAs}
@@ -50,7 +51,8 @@ pub record LimitStops (l : Limits) (t left : Tape) (line : ℕ) (limit : Limit) 
   pub reaches : Reaches l t before now state
   pub goes_on : state.ended ≡ None
   pub stops : step l state ≡ stopped_by l limit state
-  pub rest : IsLeftOf left state
+  pub rest : (left ≡ state.tape) ⊎ ((limit ≡ Bytes) × (left ≡ behind_front state.tape))
+  pub left_is : left ≡ left_behind state
   pub quiet : state.last_message ≡ []
   pub line_is : state.line ≡ line
 
@@ -60,7 +62,7 @@ pub record OutputStopsAt (l : Limits) (t left : Tape) (line : ℕ) (before now :
   pub stops : OutputStops l t before now state
   pub messages : Appends before.err.contents now.err.contents (reported state)
   pub faults : NoFewerFaults before now
-  pub rest : IsLeftOf left state
+  pub rest : left ≡ left_behind state
   pub line_is : state.line ≡ line
 
 -- why the run can't go on, before that is reported

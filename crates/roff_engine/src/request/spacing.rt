@@ -19,7 +19,7 @@ pub(super) fn space_down(argument: Option<&[u8]>) -> Done
     spaced(NumberGiven::read(argument, Scale::Lines))
 }
 
-/// The blank lines of a number: none if it is below 0, which is reported, and one where none is given.
+/// The blank lines of a number: one where none is given, none if it is below 0, which is reported.
 fn spaced(given: NumberGiven) -> Done
     ensures { done_of result ≡ spaced given }
 {

@@ -39,6 +39,10 @@ abbrev pub MayGive : Option (List ℕ) → Option Ending → Tape → Type 0
 MayGive known None t = IsRead known t
 MayGive known (Some ending) t = t ≡ only ending
 
+-- how many faults the source answered
+abbrev pub faults_of : {R : Type 0} → ReadSource R → ℕ
+faults_of s = s.failures
+
 -- the same of the source
 abbrev pub may_give : {R : Type 0} → (R → Option (List ℕ)) → ReadSource R → Tape → Type 0
 may_give remaining s = MayGive (unread remaining s) (ending_given s)

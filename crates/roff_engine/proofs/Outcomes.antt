@@ -1,0 +1,76 @@
+-- Each outcome of a run of the code beside the last state of the definition.
+use Rattle.std.proofs.Common.{◌≡◌, inl, inr, List, ℕ, ◌++◌, Option, Some, refl, ◌∙◌, subst, append_assoc, ◌⊎◌}
+use Rattle.std.specs.Io.KnownBytes.{Appends}
+use Rattle.roff_num.specs.Lists.{IsBeginning}
+use Rattle.roff_num.specs.declared.limit.Limit.TheVariants.{Bytes}
+use Rattle.roff_num.specs.declared.limits.Limits.{Limits}
+use Rattle.roff_engine.specs.declared.status.Status.TheVariants.{Limit as Limited}
+use Rattle.roff_engine.specs.Engine.Outcome.{Seen, AppendsBetween, Completes, OutputFails, MessagesFail}
+use Rattle.roff_engine.specs.Outcomes.{Gives, EachOutcomeGives}
+use Rattle.roff_engine.specs.Results.{last_state, output_of, messages_of}
+use Rattle.roff_engine.specs.Run.{State, step, output, reported}
+use Rattle.roff_engine.specs.Sinks.{AppendsFront}
+use Rattle.roff_engine.specs.declared.status.Status.{Status}
+use Rattle.roff_scan.specs.Tape.{Tape, behind_front}
+use Rattle.roff_engine.proofs.Beginnings.{IsBeginning-same}
+use Rattle.roff_engine.proofs.Endings.{no_other_state_is_last}
+use Rattle.roff_engine.proofs.Leads.{Leads-step}
+use Rattle.roff_engine.proofs.RunsAppend.{each_state_is_a_beginning}
+
+-- a beginning of a text was written
+AppendsFront-beginning : (old new : Option (List ℕ)) (piece all : List ℕ) → Appends old new piece → IsBeginning piece all → AppendsFront old new all
+AppendsFront-beginning old new piece all written begins = record { front = piece; back = begins.rest; split = begins.split; written = written }
+
+-- what was written goes on from one beginning of a text and is a beginning of another
+AppendsFront-between : (old new : Option (List ℕ)) (least most all : List ℕ) → AppendsBetween old new least most → IsBeginning most all → AppendsFront old new all
+AppendsFront-between old new least most all between begins = record {
+  front = least ++ between.front;
+  back = between.back ++ begins.rest;
+  split = begins.split ∙ rw between.split (simp append_assoc);
+  written = between.written;
+}
+
+-- the run ended by itself, in the definition's last state
+Gives-Completes : (l : Limits) (t left : Tape) (status : Status) (before now : Seen) → Completes l t left status before now → Gives l t left status before now
+Gives-Completes l t left status before now run =
+    let last : run.state ≡ last_state l t = no_other_state_is_last l t run.state run.reaches.comes (rw run.ended refl) in
+    let text : Appends before.out.contents now.out.contents (output_of l t) =
+    subst (λ (s : State). Appends before.out.contents now.out.contents (output s)) last run.reaches.text in
+    let messages : Appends before.err.contents now.err.contents (messages_of l t) =
+    subst (λ (s : State). Appends before.err.contents now.err.contents (reported s)) last run.reaches.messages in record {
+      text = AppendsFront-beginning _ _ _ _ text (IsBeginning-same _);
+      messages = λ well. AppendsFront-beginning _ _ _ _ messages (IsBeginning-same _);
+      all = λ out_well err_well. record {
+        text = text;
+        messages = messages;
+        ended = subst (λ (s : State). s.ended ≡ Some status) last run.ended;
+        rest = subst (λ (s : State). (left ≡ s.tape) ⊎ ((status ≡ Limited Bytes) × (left ≡ behind_front s.tape))) last run.rest;
+        fault = run.fault;
+      };
+    }
+
+-- the output failed
+Gives-OutputFails : (l : Limits) (t left : Tape) (status : Status) (before now : Seen) → OutputFails l t left status before now → Gives l t left status before now
+Gives-OutputFails l t left status before now run =
+    let s : State = run.state in
+    let whole = each_state_is_a_beginning l t (step l s) (Leads-step l _ s run.stops.comes) in record {
+      text = AppendsFront-between _ _ (output s) _ _ run.stops.text whole.text;
+      messages = λ well. absurd (well run.stops.fault);
+      all = λ out_well err_well. absurd (out_well run.stops.fault);
+    }
+
+-- the message sink failed
+Gives-MessagesFail : (l : Limits) (t left : Tape) (status : Status) (before now : Seen) → MessagesFail l t left status before now → Gives l t left status before now
+Gives-MessagesFail l t left status before now run =
+    let s : State = run.state in
+    let whole = each_state_is_a_beginning l t (step l s) (Leads-step l _ s run.comes) in record {
+      text = AppendsFront-beginning _ _ (output s) _ run.text (each_state_is_a_beginning l t s run.comes).text;
+      messages = λ well. AppendsFront-between _ _ (reported s) _ _ run.messages whole.messages;
+      all = λ out_well err_well. absurd (err_well run.fault);
+    }
+
+-- each outcome
+pub each_outcome_gives : EachOutcomeGives
+each_outcome_gives l t left status before now (inl run) = Gives-Completes l t left status before now run
+each_outcome_gives l t left status before now (inr (inl run)) = Gives-OutputFails l t left status before now run
+each_outcome_gives l t left status before now (inr (inr run)) = Gives-MessagesFail l t left status before now run

@@ -1,0 +1,3 @@
+-- The table of entries by name.
+pub mod Slots
+pub mod Kept

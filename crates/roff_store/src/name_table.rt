@@ -1,0 +1,264 @@
+//! Entries by name, found through the first two bytes of the name.
+
+ghost use Rattle.std.specs.Prelude.{◌≡◌, ℕ, ◌<◌, ◌≤◌, ◌^◌, ◌+◌, [], length, slice_index, Option, IfOk, IfSome, IfNone, vec_len, vec_capacity};
+ghost use Rattle.roff_store.specs.Named.{EachOnce, entry_of, with_entry, without_entry};
+ghost use Rattle.roff_store.specs.Buckets.{bucket_of};
+ghost use Rattle.roff_store.specs.NameTable.Slots.{buckets_of, entries_in, IsIndexed, LeadsTo, StandsAt};
+
+use roff_num::{Limit, Name};
+use std::alloc::{AllocError, Global};
+use std::marker::Model;
+
+/// A bucket for each pair of bytes.
+const BUCKETS: usize = 1 << 16;
+
+/// At least so many slots more than names, so that unused slots are seldom swept.
+const SPARE_SLOTS: u32 = 1024;
+
+/// A place for a name and its entry.
+#[derive(Drop)]
+struct Slot<E> {
+    name: Name,
+    entry: E,
+    /// Whether the name still has the entry. If not, the slot lies in no bucket.
+    is_used: bool,
+    /// One more than the place of the next older slot in the bucket; 0 if there is none.
+    older: u32,
+}
+
+/// Entries by name, in the order in which the names came.
+///
+/// A name that goes leaves its slot unused. The unused slots are swept once all are taken.
+#[derive(Drop)]
+pub(crate) struct NameTable<E> {
+    cap: u32,
+    /// How many slots are reserved.
+    room: u32,
+    count: u32,
+    slots: Vec<Slot<E>>,
+    /// For each bucket one more than the place of its newest slot; 0 if it has none.
+    heads: Vec<u32>,
+}
+
+impl<E> Model for NameTable<E> {
+    ghost use Rattle.roff_store.specs.Named.{Table, table_code};
+
+    ghost Value = { Table E };
+
+    ghost coded = { table_code E.code };
+
+    ghost use Rattle.roff_store.specs.NameTable.Kept.{kept_by, IsSound};
+
+    ghost view = { kept_by };
+
+    ghost invariant = { IsSound };
+}
+
+impl<E: Copy> NameTable<E> {
+    ghost use Rattle.roff_store.specs.Named.{Table, admitted, put_into, removed_from};
+
+    /// An empty table for so many names.
+    pub(crate) fn new(alloc: Global, cap: u32) -> Result<Self, AllocError>
+        ensures { IfOk result (λ t. t ≡ record { entries = []; cap = cap }) }
+    {
+        let room = cap.saturating_add(cap.max(SPARE_SLOTS));
+        Ok(NameTable {
+            cap,
+            room,
+            count: 0,
+            slots: Vec::with_capacity(alloc, room as usize)?,
+            heads: vec![in alloc; 0; BUCKETS]?,
+        })
+    }
+
+    /// How many names have an entry.
+    pub(crate) fn len(&self) -> usize
+        ensures { result ≡ length self.now.entries }
+    {
+        self.count as usize
+    }
+
+    /// The entry of a name.
+    pub(crate) fn get(&self, name: &Name) -> Option<E>
+        ensures { result ≡ entry_of name.now self.now.entries }
+    {
+        match find(self.slots.as_slice(), self.heads.as_slice(), name) {
+            Some(place) => Some(self.slots[place].entry),
+            None => None,
+        }
+    }
+
+    /// Gives a name an entry.
+    ///
+    /// # Errors
+    ///
+    /// [`Limit::Names`] if the name is new and the table is full; the table is then as it was.
+    pub(crate) fn put(&mut self, name: &Name, entry: E) -> Result<(), Limit>
+        ensures answer { result ≡ admitted name.now self.old }
+        ensures table { self.new ≡ put_into name.now entry self.old }
+    {
+        if let Some(place) = find(self.slots.as_slice(), self.heads.as_slice(), name) {
+            self.slots[place].entry = entry;
+            return Ok(());
+        }
+        if self.count == self.cap {
+            return Err(Limit::Names);
+        }
+        make_room(&mut self.slots, self.heads.as_mut_slice(), self.room);
+        add(&mut self.slots, self.heads.as_mut_slice(), name, entry);
+        self.count += 1;
+        Ok(())
+    }
+
+    /// Takes a name's entry away.
+    pub(crate) fn remove(&mut self, name: &Name)
+        ensures { self.new ≡ removed_from name.now self.old }
+    {
+        if let Some(place) = find(self.slots.as_slice(), self.heads.as_slice(), name) {
+            unlink(
+                self.slots.as_mut_slice(),
+                self.heads.as_mut_slice(),
+                name,
+                place,
+            );
+            self.count -= 1;
+        }
+    }
+}
+
+/// The bucket of a name: its first two bytes, the second one 0 if there is none.
+fn bucket_of(name: &Name) -> usize
+    ensures value { result ≡ bucket_of name.now }
+    ensures within { result < BUCKETS }
+{
+    match name.as_bytes() {
+        [] => 0,
+        [first] => usize::from(*first) * 256,
+        [first, second, ..] => usize::from(*first) * 256 + usize::from(*second),
+    }
+}
+
+/// The place of the slot of a name.
+fn find<E>(slots: &[Slot<E>], heads: &[u32], name: &Name) -> Option<usize>
+    requires { IsIndexed slots.now heads.now }
+    ensures inside { IfSome result (λ place. place < length slots.now) }
+    ensures found { IfSome result (λ place. StandsAt slots.now place name.now) }
+    ensures absent { IfNone result (entry_of name.now (entries_in slots.now) ≡ None) }
+{
+    let mut last = heads[bucket_of(name)] as usize;
+    while last > 0 {
+        let slot = &slots[last - 1];
+        if slot.name.is_same(name) {
+            return Some(last - 1);
+        }
+        last = slot.older as usize;
+    }
+    None
+}
+
+/// The place of the slot that leads to this one, or none if the head of its bucket does.
+fn newer_slot<E>(slots: &[Slot<E>], heads: &[u32], bucket: usize, place: usize) -> Option<usize>
+    requires index { IsIndexed slots.now heads.now }
+    requires within { bucket < BUCKETS }
+    requires inside { place < length slots.now }
+    requires lies { slice_index (buckets_of slots.now) place ≡ bucket }
+    ensures inside { IfSome result (λ newer. newer < length slots.now) }
+    ensures slot { IfSome result (λ newer. LeadsTo slots.now newer bucket (place + 1)) }
+    ensures head { IfNone result (slice_index heads.now bucket ≡ place + 1) }
+{
+    let mut newer = None;
+    let mut last = heads[bucket] as usize;
+    while last != place + 1 {
+        newer = Some(last - 1);
+        last = slots[last - 1].older as usize;
+    }
+    newer
+}
+
+/// Takes the slot of a name out of its bucket. It is then used no more.
+fn unlink<E>(slots: &mut [Slot<E>], heads: &mut [u32], name: &Name, place: usize)
+    requires index { IsIndexed slots.old heads.old }
+    requires inside { place < length slots.old }
+    requires stands { StandsAt slots.old place name.now }
+    requires once { EachOnce (entries_in slots.old) }
+    ensures entries { entries_in slots.new ≡ without_entry name.now (entries_in slots.old) }
+    ensures index { IsIndexed slots.new heads.new }
+{
+    let bucket = bucket_of(name);
+    let newer = newer_slot(slots, heads, bucket, place);
+    let slot = &mut slots[place];
+    slot.is_used = false;
+    let older = slot.older;
+    match newer {
+        Some(newer) => slots[newer].older = older,
+        None => heads[bucket] = older,
+    }
+}
+
+/// Adds a slot behind the others, in front of its bucket.
+fn add<E>(slots: &mut Vec<Slot<E>>, heads: &mut [u32], name: &Name, entry: E)
+    requires room { vec_len slots.old < vec_capacity slots.old }
+    requires small { vec_len slots.old + 1 < 2 ^ 32 }
+    requires index { IsIndexed slots.old.items heads.old }
+    requires absent { entry_of name.now (entries_in slots.old.items) ≡ None }
+    ensures entries { entries_in slots.new.items
+        ≡ with_entry name.now entry (entries_in slots.old.items) }
+    ensures len { vec_len slots.new ≡ vec_len slots.old + 1 }
+    ensures index { IsIndexed slots.new.items heads.new }
+    ensures capacity { vec_capacity slots.old ≤ vec_capacity slots.new }
+{
+    let head = &mut heads[bucket_of(name)];
+    let older = *head;
+    *head = slots.len() as u32 + 1;
+    let slot = Slot {
+        name: Name::new(name.as_bytes()).unwrap(),
+        entry,
+        is_used: true,
+        older,
+    };
+    slots.push(slot).unwrap();
+}
+
+/// Makes room for a slot: where so many are taken, those that aren't used go, and the others are
+/// linked anew.
+fn make_room<E: Drop>(slots: &mut Vec<Slot<E>>, heads: &mut [u32], room: u32)
+    requires few { length (entries_in slots.old.items) < room }
+    requires index { IsIndexed slots.old.items heads.old }
+    ensures room { vec_len slots.new < room }
+    ensures entries { entries_in slots.new.items ≡ entries_in slots.old.items }
+    ensures index { IsIndexed slots.new.items heads.new }
+    ensures capacity { vec_capacity slots.new ≡ vec_capacity slots.old }
+{
+    if slots.len() < room as usize {
+        return;
+    }
+    drop_unused(slots);
+    heads.fill(0);
+    link(slots.as_mut_slice(), heads);
+}
+
+/// Removes the slots that aren't used.
+fn drop_unused<E: Drop>(slots: &mut Vec<Slot<E>>)
+    ensures entries { entries_in slots.new.items ≡ entries_in slots.old.items }
+    ensures len { vec_len slots.new ≡ length (entries_in slots.old.items) }
+    ensures capacity { vec_capacity slots.new ≡ vec_capacity slots.old }
+{
+    slots.retain(|slot| slot.is_used);
+}
+
+/// Links the slots into their buckets, from the first one on.
+fn link<E>(slots: &mut [Slot<E>], heads: &mut [u32])
+    requires small { length slots.old < 2 ^ 32 }
+    requires heads { length heads.old ≡ BUCKETS }
+    requires clear { (bucket : ℕ) → bucket < BUCKETS → slice_index heads.old bucket ≡ 0 }
+    requires used { length (entries_in slots.old) ≡ length slots.old }
+    ensures entries { entries_in slots.new ≡ entries_in slots.old }
+    ensures index { IsIndexed slots.new heads.new }
+{
+    for place in 0..slots.len() {
+        let slot = &mut slots[place];
+        let head = &mut heads[bucket_of(&slot.name)];
+        slot.older = *head;
+        *head = place as u32 + 1;
+    }
+}

@@ -1,0 +1,2 @@
+-- A sink in memory that is watched.
+pub mod Telling

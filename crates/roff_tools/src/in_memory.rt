@@ -1,0 +1,98 @@
+//! A whole run in memory, from bytes to bytes.
+
+ghost use Rattle.std.specs.Prelude.{◌≡◌, ◌≤◌, length, take, IfOk};
+ghost use Rattle.roff_engine.specs.Results.{messages_of, output_of};
+ghost use Rattle.roff_num.specs.Lists.{IsBeginning};
+ghost use Rattle.roff_tools.specs.InMemory.{IsWholeResult};
+ghost use Rattle.roff_tools.specs.Memory.{tape_of_bytes};
+
+use crate::watched::WatchedSink;
+use crate::{Job, MemSource, run};
+use roff_engine::{Start, Status};
+use roff_num::Limits;
+use std::alloc::{AllocError, Global};
+
+/// Room, in bytes, for what a run writes and reports.
+#[derive(Clone, Copy, Debug, PartialEq, Eq)]
+pub struct Room {
+    /// For the text.
+    pub output: usize,
+    /// For the messages.
+    pub messages: usize,
+}
+
+/// What a run in memory gave.
+#[derive(Drop)]
+pub struct Formatted {
+    /// How it ended.
+    pub status: Status,
+    /// The text, as far as there was room.
+    pub output: Vec<u8>,
+    /// The messages, as far as there was room.
+    pub messages: Vec<u8>,
+}
+
+/// Formats a text that stands in memory. The source fails after `fail_at` of its bytes, if there are so
+/// many. Where the room for the text is passed, the run ends as at a failed write.
+///
+/// # Errors
+///
+/// [`AllocError`] if the room, or the memory that the limits ask for, can't be had.
+pub fn format_in_memory(
+    alloc: Global,
+    limits: Limits,
+    start: Start,
+    text: &[u8],
+    fail_at: Option<usize>,
+    room: Room,
+) -> Result<Formatted, AllocError>
+    // With room for all of it, the definition's result, and nothing else.
+    ensures whole { let t = tape_of_bytes text.now fail_at in
+        length (output_of limits t) ≤ room.output → length (messages_of limits t) ≤ room.messages →
+        IfOk result (λ f. IsWholeResult limits t f) }
+
+    // With room for the messages, as many of the definition's first bytes as there is room for.
+    ensures output { let t = tape_of_bytes text.now fail_at in
+        length (messages_of limits t) ≤ room.messages →
+        IfOk result (λ f. f.output.items ≡ take room.output (output_of limits t)) }
+
+    // In any case a beginning of what the definition writes.
+    ensures beginning { IfOk result (λ f.
+        IsBeginning f.output.items (output_of limits (tape_of_bytes text.now fail_at))) }
+{
+    let mut source = MemSource::new(text, fail_at);
+    let mut out = WatchedSink::new(alloc, room.output)?;
+    let mut err = WatchedSink::new(alloc, room.messages)?;
+    let job = Job::Nroff(limits, start);
+    let status = run(alloc, job, &mut source, &mut out, &mut err)?;
+    Ok(Formatted {
+        status,
+        output: out.into_kept(),
+        messages: err.into_kept(),
+    })
+}
+
+#[cfg(test)]
+mod tests {
+    use crate::{Limits, Room, Start, Status, format_in_memory};
+    use std::test::Fail;
+
+    const SPREAD: &[u8] = b".pl 2\n.ll 12n\na bb ccc dddd eeeee\n";
+
+    #[test]
+    fn whole_text_in_exact_room(rt: HostRuntime) -> Result<(), Fail> {
+        let room = Room {
+            output: 24,
+            messages: 0,
+        };
+        let limits = Limits::default();
+        let formatted = format_in_memory(rt.alloc(), limits, Start {}, SPREAD, None, room)?;
+        assert_eq!(rt;
+            formatted.output.as_slice(),
+            b"a   bb   ccc\ndddd eeeee\n".as_slice()
+        );
+        assert_eq!(rt; formatted.messages.as_slice(), b"".as_slice());
+        assert_eq!(rt; formatted.status, Status::Done);
+        Ok(())
+    }
+}
