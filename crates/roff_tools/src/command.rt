@@ -55,7 +55,7 @@ pub struct Request<'a> {
 /// text to be shown: a mistake in the words, or what `--help` or `--version` asks for.
 pub fn parse_words<'a, S: AsStr>(alloc: Global, words: &'a [S]) -> Result<Request<'a>, Error>
     ensures ok { IfOk result (AsksFor (subcommand_of roff_app (map S.text words.entry.now))) }
-    // The error is the first fault of the words; where they are in order only memory can be missing.
+    // The error is the first fault of the words; where they are in order, memory is missing.
     ensures fault { FailsBy (fault_of roff_app (map S.text words.entry.now)) result }
     ensures taken { IfErr result (λ e. takes roff_app (map S.text words.entry.now) ≡ true
         → kind_of e ≡ ErrorKind.OutOfMemory) }
