@@ -125,14 +125,22 @@ lent-files (Some s) other found empty is = rw (← is) refl
 
 -- the request for the command that was found
 pub found-AsksFor : (m : ArgMatches) (name : Text) (rows : List Row) (request : Request)
-    → Some name ≡ subcommand_name_of m → Some rows ≡ option_map (λ p. p.1) (subcommand_rows_of m)
+    → subcommand_name_of m ≡ Some name → option_map (λ p. p.1) (subcommand_rows_of m) ≡ Some rows
     → name ≡ codes "nroff" → Asks rows request → AsksFor (subcommand_rows_of m) request
 found-AsksFor m name rows request named found is asks = go (out-ArgMatches m).subcommand named found
   where
-    go : {Z : Type 0} (o : Option (Box SubCommand Z)) → Some name ≡ option_map (λ b. (out-SubCommand (box_value b)).name.now) o
-        → Some rows ≡ option_map (λ p. p.1) (subcommand_rows o) → AsksFor (subcommand_rows o) request
+    go : {Z : Type 0} (o : Option (Box SubCommand Z)) → option_map (λ b. (out-SubCommand (box_value b)).name.now) o ≡ Some name
+        → option_map (λ p. p.1) (subcommand_rows o) ≡ Some rows → AsksFor (subcommand_rows o) request
     go None e r = cc
     go (Some b) e r =
-        let name_is : name ≡ (out-SubCommand (box_value b)).name.now = cc in
+        let name_is : (out-SubCommand (box_value b)).name.now ≡ name = cc in
         let rows_are : rows ≡ rows_of (found_of (out-SubCommand (box_value b)).matches) = cc in
-        (sym name_is ∙ is, subst (λ (rs : List Row). Asks rs request) rows_are asks)
+        (name_is ∙ is, subst (λ (rs : List Row). Asks rs request) rows_are asks)
+
+-- the name of the command that was found
+pub subcommand_name-rows : (m : ArgMatches) (name : Text) (rows : List Row) → subcommand_rows_of m ≡ Some (name, rows) → subcommand_name_of m ≡ Some name
+subcommand_name-rows m name rows found = go (out-ArgMatches m).subcommand found
+  where
+    go : {Z : Type 0} (o : Option (Box SubCommand Z)) → subcommand_rows o ≡ Some (name, rows) → option_map (λ b. (out-SubCommand (box_value b)).name.now) o ≡ Some name
+    go None e = cc
+    go (Some b) e = ap (option_map (λ (p : Text × List Row). p.0)) e

@@ -1,5 +1,6 @@
 pub mod Overflows
 pub mod InMemory
 pub mod CommandLine
+pub mod Commands
 pub mod Named
 pub mod RunOver

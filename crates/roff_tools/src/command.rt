@@ -1,7 +1,7 @@
 //! The command line: its commands and options, and what its words ask for.
 
-ghost use Rattle.std.specs.Prelude.{◌≡◌, ◌⊎◌, true, [], MatchResult, IfOk, IfErr, fold, map};
-ghost use Rattle.clap.specs.Words.{HasKind, app_of, fault_of, found_of, kind_of, rows_of, rule_of, subcommand_of, takes, with_rule};
+ghost use Rattle.std.specs.Prelude.{◌≡◌, true, IfOk, IfErr, fold, map};
+ghost use Rattle.clap.specs.Words.{FailsBy, app_of, fault_of, found_of, kind_of, rows_of, rule_of, subcommand_of, takes, with_rule};
 ghost use Rattle.roff_num.specs.Clauses.{default_limits};
 ghost use Rattle.roff_tools.specs.CommandLine.{Asks, AsksFor, file_operand, limit_option, limits_asked_by};
 ghost use Rattle.roff_tools.specs.CommandLine.{limits_set, nroff_app, roff_app};
@@ -55,19 +55,17 @@ pub struct Request<'a> {
 /// text to be shown: a mistake in the words, or what `--help` or `--version` asks for.
 pub fn parse_words<'a, S: AsStr>(alloc: Global, words: &'a [S]) -> Result<Request<'a>, Error>
     ensures ok { IfOk result (AsksFor (subcommand_of roff_app (map S.text words.entry.now))) }
-    // The error is the first fault of the words; where they are in order only memory can be missing.
-    ensures fault { MatchResult result (λ _. fault_of roff_app (map S.text words.entry.now) ≡ [])
-        (λ e. (fault_of roff_app (map S.text words.entry.now) ≡ [])
-        ⊎ HasKind (fault_of roff_app (map S.text words.entry.now)) e) }
+    // The error is the first fault of the words; where they are in order, memory is missing.
+    ensures fault { FailsBy (fault_of roff_app (map S.text words.entry.now)) result }
     ensures taken { IfErr result (λ e. takes roff_app (map S.text words.entry.now) ≡ true
-        → (kind_of e ≡ ErrorKind.OutOfMemory) ⊎ (kind_of e ≡ ErrorKind.MissingSubcommand)) }
+        → kind_of e ≡ ErrorKind.OutOfMemory) }
 {
     let mut command = roff_command(alloc)?;
     let matches = command.try_get_matches_from_mut(words)?;
-    match matches.subcommand() {
-        Some((NROFF, nroff)) => Ok(nroff_request(alloc, nroff)?),
-        // The parser wants a command, so this one is taken there and has no line here.
-        _ => Err(command.error(ErrorKind::MissingSubcommand, "a command is missing")?),
+    match matches.subcommand_matches(NROFF) {
+        Some(nroff) => Ok(nroff_request(alloc, nroff)?),
+        // The parser wants a command, and this is the only one.
+        None => Err(command.error(ErrorKind::MissingSubcommand, "a command is missing")?),
     }
 }
 

@@ -1,17 +1,20 @@
 //! Facts about the definitions alone, as contracts of functions that do nothing.
 
 ghost use Rattle.std.specs.Prelude.{◌≡◌, [], ◌∷◌, codes};
-ghost use Rattle.roff_num.specs.Clauses.{default_limits};
 ghost use Rattle.roff_tools.specs.CommandRows.{asked, fault, formats};
-ghost use Rattle.clap.specs.declared.error.ErrorKind.TheVariants.{ArgumentConflict, DisplayHelp, DisplayVersion};
-ghost use Rattle.clap.specs.declared.error.ErrorKind.TheVariants.{InvalidValue, MissingSubcommand, UnknownArgument, ValueValidation};
+ghost use Rattle.clap.specs.declared.error.ErrorKind.TheVariants.{ArgumentConflict, DisplayHelp};
+ghost use Rattle.clap.specs.declared.error.ErrorKind.TheVariants.{DisplayVersion, InvalidValue};
+ghost use Rattle.clap.specs.declared.error.ErrorKind.TheVariants.{MissingSubcommand};
+ghost use Rattle.clap.specs.declared.error.ErrorKind.TheVariants.{UnknownArgument, ValueValidation};
 
 /// What command lines ask for: files, a limit on the bytes and one on a line.
 pub fn command_lines()
     ensures nothing { asked (codes "nroff" ∷ []) ≡ formats (codes "-" ∷ []) 50000000 4096 }
-    ensures options { asked (codes "nroff" ∷ codes "a" ∷ codes "--line=0" ∷ codes " b" ∷ codes "--bytes" ∷ codes "7" ∷ codes "-" ∷ [])
+    ensures options { asked (codes "nroff" ∷ codes "a" ∷ codes "--line=0" ∷ codes " b"
+        ∷ codes "--bytes" ∷ codes "7" ∷ codes "-" ∷ [])
         ≡ formats (codes "a" ∷ codes " b" ∷ codes "-" ∷ []) 7 0 }
-    ensures greatest { asked (codes "nroff" ∷ codes "--bytes=1000000000" ∷ codes "--line" ∷ codes "1000000000" ∷ [])
+    ensures greatest { asked (codes "nroff" ∷ codes "--bytes=1000000000"
+        ∷ codes "--line" ∷ codes "1000000000" ∷ [])
         ≡ formats (codes "-" ∷ []) 1000000000 1000000000 }
     ensures operands { asked (codes "nroff" ∷ codes "--" ∷ codes "--line" ∷ codes "-" ∷ [])
         ≡ formats (codes "--line" ∷ codes "-" ∷ []) 50000000 4096 }
@@ -25,7 +28,9 @@ pub fn command_line_faults()
     ensures help_of_nroff { fault (codes "nroff" ∷ codes "a" ∷ codes "-h" ∷ []) ≡ DisplayHelp ∷ [] }
     ensures unknown { fault (codes "nroff" ∷ codes "--page" ∷ []) ≡ UnknownArgument ∷ [] }
     ensures no_number { fault (codes "nroff" ∷ codes "--line=x" ∷ []) ≡ ValueValidation ∷ [] }
-    ensures too_great { fault (codes "nroff" ∷ codes "--bytes=1000000001" ∷ []) ≡ ValueValidation ∷ [] }
+    ensures too_great { fault (codes "nroff" ∷ codes "--bytes=1000000001" ∷ [])
+        ≡ ValueValidation ∷ [] }
     ensures no_value { fault (codes "nroff" ∷ codes "--bytes" ∷ []) ≡ InvalidValue ∷ [] }
-    ensures twice { fault (codes "nroff" ∷ codes "--line=1" ∷ codes "--line=2" ∷ []) ≡ ArgumentConflict ∷ [] }
+    ensures twice { fault (codes "nroff" ∷ codes "--line=1" ∷ codes "--line=2" ∷ [])
+        ≡ ArgumentConflict ∷ [] }
 {}

@@ -91,15 +91,17 @@ where
     S: AsStr,
     O: ByteSink,
     E: ByteSink,
-    // Where the words are in order the formatter runs as they ask, or could not start.
+    // Where the words are in order the formatter runs as they ask, or can't start.
     ensures formats { takes roff_app (map S.text words.now) ≡ true → (result ≡ Exit.NotStarted) ⊎
         FormatsAsked (R.opens rt.now) (R.stands rt.now) R.File.remaining R.Standard.remaining
         (subcommand_of roff_app (map S.text words.now)) result
         (O.sunk out.old) (O.sunk out.new) (E.sunk err.old) (E.sunk err.new) }
-    // Help and the version go to the output alone, and mistakes don't.
-    ensures asked { AskForHelp (fault_of roff_app (map S.text words.now)) → (result ≡ Exit.NotStarted)
+    // Help and the version go to the output alone, and nothing of a mistake does.
+    ensures asked { AskForHelp (fault_of roff_app (map S.text words.now))
+        → (result ≡ Exit.NotStarted)
         ⊎ (((result ≡ Exit.Done) ⊎ (result ≡ Exit.DeviceFailed)) × (err.new ≡ err.old)) }
-    ensures mistaken { AreMistaken (fault_of roff_app (map S.text words.now)) → result ≡ Exit.NotStarted }
+    ensures mistaken { AreMistaken (fault_of roff_app (map S.text words.now))
+        → result ≡ Exit.NotStarted }
     ensures unwritten { result ≡ Exit.NotStarted → out.new ≡ out.old }
 {
     match parse_words(rt.alloc(), words) {
@@ -145,7 +147,8 @@ where
     O: ByteSink,
     E: ByteSink,
     ensures formats { IfOk result (λ exit. Formats (R.opens rt.now) (R.stands rt.now)
-        R.File.remaining R.Standard.remaining (map (λ name. name.now) request.now.files.items) (limits_of request.now.job) exit
+        R.File.remaining R.Standard.remaining (map (λ name. name.now) request.now.files.items)
+        (limits_of request.now.job) exit
         (O.sunk out.old) (O.sunk out.new) (E.sunk err.old) (E.sunk err.new)) }
     ensures fault { IfErr result (NamesOneOf (map (λ name. name.now) request.now.files.items)) }
     ensures unwritten { OnErr result ((out.new ≡ out.old) × (err.new ≡ err.old)) }

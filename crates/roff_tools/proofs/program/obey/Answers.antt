@@ -3,7 +3,6 @@ use Rattle.roff_tools.proofs.program.obey.Goals as goal
 
 pub returns-clause-mistaken : goal.returns-clause-mistaken
 returns-clause-mistaken g c = λ mistaken. elim c.in-Err.ensures.fault [
-  | inl none ↦ absurd (mistaken.0 none)
-  | inr (inl memory) ↦ (c.show.ensures.mistake (λ help. cc) (λ version. cc)).0
-  | inr (inr among) ↦ (c.show.ensures.mistake (mistaken.1 _ among).0 (mistaken.1 _ among).1).0
+  | inl memory ↦ (c.show.ensures.mistake (λ help. cc) (λ version. cc)).0
+  | inr among ↦ (c.show.ensures.mistake (mistaken.1 _ among).0 (mistaken.1 _ among).1).0
 ]
