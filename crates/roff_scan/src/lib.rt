@@ -2,7 +2,11 @@
 #![tactic(auto)]
 
 mod bytes;
+mod half;
 mod source;
+mod unread;
 
 pub use bytes::{is_dropped, is_silent};
+pub use half::{CopyUnit, Half, NamePart};
 pub use source::{ByteSource, Note, ReadSource, Taken};
+pub use unread::{Item, Sight};

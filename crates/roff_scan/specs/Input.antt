@@ -1,0 +1,92 @@
+-- The input: what stands in front of the source, what is half read, and what is counted (manual, section 7).
+--
+-- Pushed texts, each with its end, and events put back stand ahead of the source's items in one list.
+use Rattle.std.specs.Prelude.{ℕ, ◌+◌, List, [], ◌∷◌, ◌++◌, map, if◌then◌else◌, ◌==◌}
+use Rattle.roff_scan.specs.Arguments.{Arguments, no_arguments, held}
+use Rattle.roff_scan.specs.Bytes.{newline}
+use Rattle.roff_scan.specs.declared.half.Half.{Half}
+
+-- an item ahead of the source
+pub data Ahead (E : Type 0) : Type 0 where
+  -- a byte of a pushed text
+  ByteAhead : (b : ℕ) → Ahead E
+  -- a byte that was taken and stands in front again: it costs nothing
+  FreeAhead : (b : ℕ) → Ahead E
+  -- the end of a pushed text
+  EndAhead : Ahead E
+  -- an event that was put back
+  DoAhead : (event : E) → Ahead E
+
+-- the input of a run, but for the source's items
+pub record Input (E : Type 0) : Type 0 where
+  -- what stands ahead of them
+  pub ahead : List (Ahead E)
+  -- the arguments of the control line that is being read
+  pub arguments : Arguments
+  -- what is half read, the innermost first
+  pub half : List Half
+  -- how much was taken: bytes, ends of texts, events put back
+  pub charge : ℕ
+  -- how many newlines were taken of the source
+  pub newlines : ℕ
+  -- the line of the source on which the last byte taken of it stands, 1 if none was
+  pub line : ℕ
+
+-- before the first item
+abbrev pub initial_input : {E : Type 0} → Input E
+initial_input = record { ahead = []; arguments = no_arguments; half = []; charge = 0; newlines = 0; line = 1 }
+
+-- the unread bytes of pushed texts
+abbrev pub bytes_ahead : {E : Type 0} → List (Ahead E) → ℕ
+bytes_ahead [] = 0
+bytes_ahead (ByteAhead b ∷ items) = bytes_ahead items + 1
+bytes_ahead (FreeAhead b ∷ items) = bytes_ahead items
+bytes_ahead (EndAhead ∷ items) = bytes_ahead items
+bytes_ahead (DoAhead event ∷ items) = bytes_ahead items
+
+-- the pushed texts that haven't ended
+abbrev pub ends_ahead : {E : Type 0} → List (Ahead E) → ℕ
+ends_ahead [] = 0
+ends_ahead (ByteAhead b ∷ items) = ends_ahead items
+ends_ahead (FreeAhead b ∷ items) = ends_ahead items
+ends_ahead (EndAhead ∷ items) = ends_ahead items + 1
+ends_ahead (DoAhead event ∷ items) = ends_ahead items
+
+-- what counts in the limit on the stack: unread pushed bytes, and the texts that are held while they are read
+abbrev pub pushed : {E : Type 0} → Input E → ℕ
+pushed i = bytes_ahead i.ahead + held i.arguments
+
+-- what counts in the limit on the depth: pushed texts that haven't ended
+abbrev pub depth : {E : Type 0} → Input E → ℕ
+depth i = ends_ahead i.ahead
+
+-- a text and its end are put in front
+abbrev pub pushing : {E : Type 0} → List ℕ → Input E → Input E
+pushing text i = record i { ahead = map ByteAhead text ++ EndAhead ∷ i.ahead }
+
+-- an event is put back
+abbrev pub putting_back : {E : Type 0} → E → Input E → Input E
+putting_back event i = record i { ahead = DoAhead event ∷ i.ahead }
+
+-- bytes that were taken stand in front again
+abbrev pub freeing : {E : Type 0} → List ℕ → Input E → Input E
+freeing bytes i = record i { ahead = map FreeAhead bytes ++ i.ahead }
+
+-- what an item ahead costs
+abbrev pub cost : {E : Type 0} → Ahead E → ℕ
+cost (ByteAhead b) = 1
+cost (FreeAhead b) = 0
+cost EndAhead = 1
+cost (DoAhead event) = 1
+
+-- an item ahead is taken, and these stand behind it
+abbrev pub item_taken : {E : Type 0} → Ahead E → List (Ahead E) → Input E → Input E
+item_taken item behind i = record i { ahead = behind; charge = i.charge + cost item }
+
+-- a byte of the source is taken: it stands on its line, and a newline on the line that it ends
+abbrev pub counting : {E : Type 0} → ℕ → Input E → Input E
+counting b i = record i {
+  charge = i.charge + 1;
+  newlines = if b == newline then i.newlines + 1 else i.newlines;
+  line = i.newlines + 1;
+}

@@ -1,0 +1,164 @@
+-- The unread input, and what its calls answer (manual, section 7).
+--
+-- Beside the input it has the limits, and the byte of the source that was looked at and isn't taken yet: that byte
+-- stands behind what is ahead, and before what the source still gives.
+use Rattle.std.specs.Prelude.{ℕ, ◌+◌, Bool, true, false, List, [], ◌∷◌, nat_lt, Option, Some, None, if◌then◌else◌, Result, Ok, Err}
+use Rattle.roff_num.specs.declared.limit.Limit.{Limit}
+use Rattle.roff_num.specs.declared.limit.Limit.TheVariants.{Bytes, Stack, Depth}
+use Rattle.roff_num.specs.declared.limits.Limits.{Limits}
+use Rattle.roff_scan.specs.Input.{Input, Ahead, ByteAhead, FreeAhead, EndAhead, DoAhead, cost, counting, item_taken, pushed, depth}
+use Rattle.roff_scan.specs.Tape.{Tape, Answer, Answers, Gives, Ends, OneByte, OneNote, Ending, Ended, Failed, Stopped, items_then}
+use Rattle.roff_scan.specs.declared.unread.Item.{Item}
+use Rattle.roff_scan.specs.declared.unread.Item.TheVariants.{Byte, End, Do, Note, SourceEnd, Fault, Stop, Refused}
+use Rattle.roff_scan.specs.declared.unread.Sight.{Sight}
+use Rattle.roff_scan.specs.declared.unread.Sight.TheVariants.{Byte as SightOfByte, Nothing as SightOfNothing, Note as SightOfNote, SourceEnd as SightOfEnd, Fault as SightOfFault, Stop as SightOfStop}
+
+-- the unread input
+pub record Unread (E : Type 0) : Type 0 where
+  pub input : Input E
+  -- the byte of the source that was looked at
+  pub looked : Option ℕ
+  pub limits : Limits
+
+-- the source's items, with the byte that was looked at in front
+abbrev pub looked_then : Option ℕ → Tape → Tape
+looked_then None t = t
+looked_then (Some b) t = items_then (OneByte b ∷ []) t
+
+-- the source's next answer: the byte that was looked at comes before all others
+abbrev pub answer_behind : Option ℕ → Answer → Answer
+answer_behind None a = a
+answer_behind (Some b) a = Gives (OneByte b)
+
+-- a source that isn't asked may give what it might have given
+pub record Stays (old new : Tape → Type 0) : Type 0 where
+  pub before : (t : Tape) → new t → old t
+  pub some : Tape
+  pub some_given : new some
+
+-- a source that is asked answers this, and one that isn't stays
+abbrev pub Asked : (old new : Tape → Type 0) → Bool → Answer → Type 0
+Asked old new true a = Answers old new a
+Asked old new false a = Stays old new
+
+-- what a call shows that takes an item
+pub data Shown (E : Type 0) : Type 0 where
+  -- a byte, from wherever it comes
+  ShowsByte : (b : ℕ) → Shown E
+  -- the end of a pushed text
+  ShowsEnd : Shown E
+  -- an event that was put back
+  ShowsDo : (event : E) → Shown E
+  -- a message of the source's
+  ShowsNote : (message : List ℕ) → Shown E
+  -- how the source's items end
+  ShowsEnding : (ending : Ending) → Shown E
+  -- nothing: one item more would pass a limit
+  ShowsRefusal : (limit : Limit) → Shown E
+
+-- what the code shows
+abbrev pub shown : {E : Type 0} → Item E → Shown E
+shown (Byte b) = ShowsByte b
+shown End = ShowsEnd
+shown (Do event) = ShowsDo event
+shown (Note message) = ShowsNote message.items
+shown SourceEnd = ShowsEnding Ended
+shown Fault = ShowsEnding Failed
+shown (Stop limit) = ShowsEnding (Stopped limit)
+shown (Refused limit) = ShowsRefusal limit
+
+-- what an item ahead shows
+abbrev pub shown_ahead : {E : Type 0} → Ahead E → Shown E
+shown_ahead (ByteAhead b) = ShowsByte b
+shown_ahead (FreeAhead b) = ShowsByte b
+shown_ahead EndAhead = ShowsEnd
+shown_ahead (DoAhead event) = ShowsDo event
+
+-- an item ahead is taken, unless it would pass the limit on bytes
+abbrev pub taking_ahead : {E : Type 0} → Ahead E → List (Ahead E) → Unread E → Shown E × Unread E
+taking_ahead item behind u =
+    if nat_lt u.limits.bytes (u.input.charge + cost item)
+    then (ShowsRefusal Bytes, u)
+    else (shown_ahead item, record u { input = item_taken item behind u.input })
+
+-- an answer of the source is taken; a byte that would pass the limit on bytes was looked at
+abbrev pub taking_answer : {E : Type 0} → Answer → Unread E → Shown E × Unread E
+taking_answer (Gives (OneByte b)) u =
+    if nat_lt u.limits.bytes (u.input.charge + 1)
+    then (ShowsRefusal Bytes, record u { looked = Some b })
+    else (ShowsByte b, record u { input = counting b u.input; looked = None })
+taking_answer (Gives (OneNote message)) u = (ShowsNote message, u)
+taking_answer (Ends ending) u = (ShowsEnding ending, u)
+
+-- the item in front is taken, where the source answers this if it is asked
+abbrev pub taking : {E : Type 0} → Answer → Unread E → Shown E × Unread E
+taking a u = elim u.input.ahead [
+  | [] ↦ taking_answer (answer_behind u.looked a) u
+  | item ∷ behind ↦ taking_ahead item behind u
+]
+
+-- whether the source is asked for what stands in front: nothing is ahead, and no byte was looked at
+abbrev pub asks_to_take : {E : Type 0} → Unread E → Bool
+asks_to_take u = elim u.input.ahead [
+  | [] ↦ elim u.looked [ None ↦ true | Some b ↦ false ]
+  | item ∷ behind ↦ false
+]
+
+-- what a call shows that looks ahead: the first byte behind any ends of texts
+pub data Sighted : Type 0 where
+  SeesByte : (b : ℕ) → Sighted
+  -- an event that was put back hides what stands behind it
+  SeesNothing : Sighted
+  SeesNote : (message : List ℕ) → Sighted
+  SeesEnding : (ending : Ending) → Sighted
+
+-- what the code shows
+abbrev pub sighted : Sight → Sighted
+sighted (SightOfByte b) = SeesByte b
+sighted SightOfNothing = SeesNothing
+sighted (SightOfNote message) = SeesNote message.items
+sighted SightOfEnd = SeesEnding Ended
+sighted SightOfFault = SeesEnding Failed
+sighted (SightOfStop limit) = SeesEnding (Stopped limit)
+
+-- what is seen of the items ahead; none where only ends of texts are there
+abbrev pub seen_ahead : {E : Type 0} → List (Ahead E) → Option Sighted
+seen_ahead [] = None
+seen_ahead (ByteAhead b ∷ items) = Some (SeesByte b)
+seen_ahead (FreeAhead b ∷ items) = Some (SeesByte b)
+seen_ahead (EndAhead ∷ items) = seen_ahead items
+seen_ahead (DoAhead event ∷ items) = Some SeesNothing
+
+-- what is seen of the source by its answer; a byte stays, and was looked at
+abbrev pub looking_at : {E : Type 0} → Answer → Unread E → Sighted × Unread E
+looking_at (Gives (OneByte b)) u = (SeesByte b, record u { looked = Some b })
+looking_at (Gives (OneNote message)) u = (SeesNote message, u)
+looking_at (Ends ending) u = (SeesEnding ending, u)
+
+-- the first byte behind any ends is looked at, where the source answers this if it is asked
+abbrev pub looking : {E : Type 0} → Answer → Unread E → Sighted × Unread E
+looking a u = elim (seen_ahead u.input.ahead) [
+  | None ↦ looking_at (answer_behind u.looked a) u
+  | Some sight ↦ (sight, u)
+]
+
+-- whether the source is asked for what is seen
+abbrev pub asks_to_look : {E : Type 0} → Unread E → Bool
+asks_to_look u = elim (seen_ahead u.input.ahead) [
+  | None ↦ elim u.looked [ None ↦ true | Some b ↦ false ]
+  | Some sight ↦ false
+]
+
+-- the first limit that a count of this input is above
+abbrev pub input_refusal : {E : Type 0} → Limits → Input E → Option Limit
+input_refusal l i =
+    if nat_lt l.stack (pushed i) then Some Stack else if nat_lt l.depth (depth i) then Some Depth else None
+
+-- a change of the input is made, unless a count would pass its limit
+abbrev pub unless_passed : {E : Type 0} → Option Limit → Input E → Unread E → Result (Unit {0}) Limit × Unread E
+unless_passed None i u = (Ok tt, record u { input = i })
+unless_passed (Some limit) i u = (Err limit, u)
+
+-- the input changes to this one, or a limit refuses it
+abbrev pub changing : {E : Type 0} → Input E → Unread E → Result (Unit {0}) Limit × Unread E
+changing i u = unless_passed (input_refusal u.limits i) i u
