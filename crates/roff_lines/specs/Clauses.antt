@@ -9,4 +9,5 @@ pub use Rattle.roff_lines.specs.Lines.{Finished, gap_text, may_be_wide, pending_
 pub use Rattle.roff_lines.specs.Columns.{finished_of, added_columns, line_bytes, written_by_break, is_blank_mark, without_blanks, StandsInColumns}
 pub use Rattle.roff_lines.specs.Filling.{lines_of, FillsLines}
 pub use Rattle.roff_lines.specs.Paragraphs.{finished_lines, until_break, full_lines, broken_lines, paragraph_lines}
+pub use Rattle.roff_lines.specs.LastLine.{line_width, last_width}
 pub use Rattle.roff_lines.specs.Shape.Shaped.{shaped}
