@@ -1,8 +1,9 @@
 -- The width of the last finished line (manual, section 8: the register `.n`), in columns.
-use Rattle.std.specs.Prelude.{ℕ, ◌+◌, List, [], ◌∷◌}
+use Rattle.std.specs.Prelude.{◌≡◌, ℕ, ◌+◌, List, [], ◌∷◌, length}
 use Rattle.roff_lines.specs.Glyphs.{text_width}
 use Rattle.roff_lines.specs.Events.{History}
 use Rattle.roff_lines.specs.Lines.{Finished}
+use Rattle.roff_lines.specs.Columns.{column_of}
 use Rattle.roff_lines.specs.Paragraphs.{finished_lines}
 
 -- the columns of a line's text, those that are spread over its gaps among them; not its lead
@@ -17,3 +18,7 @@ newest_width (line ∷ lines) = line_width line
 -- the width of the last line that a history finished
 abbrev pub last_width : History → ℕ
 last_width h = newest_width (finished_lines h)
+
+-- a line whose text ends so far behind its lead
+abbrev pub EndsAtWidth : Finished → Type 0
+EndsAtWidth line = column_of line (length line.text) ≡ line.lead + line_width line
