@@ -1,6 +1,7 @@
 pub mod Blanks
 pub mod Widths
 pub mod PendingLine
+pub mod LastLine
 pub mod Stands
 pub mod WordEnd
 pub mod LineEnd

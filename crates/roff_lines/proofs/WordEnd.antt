@@ -1,15 +1,32 @@
 -- A word end, where an environment stands for its history.
-use Rattle.std.proofs.Common.{◌≡◌, ℕ, true, false, not, List, [], ◌∷◌, ◌++◌, refl, sym, ap, ◌∙◌, arith, inl, inr}
+use Rattle.std.proofs.Common.{◌≡◌, ℕ, true, false, not, List, [], ◌∷◌, ◌++◌, None, refl, sym, ap, ◌∙◌, arith, inl, inr}
 use Rattle.std.proofs.lemmas.Bool.{cond_both, cases_Bool, not-true, not-false}
 use Rattle.roff_lines.specs.Events.{WordEnd, History}
 use Rattle.roff_lines.specs.Words.{has_open_word, open_word}
-use Rattle.roff_lines.specs.Lines.{gap_text, finished, pending_line}
-use Rattle.roff_lines.specs.Env.Kept.{Kept, without_word, word_as_line, word_fits, with_word_ended, finished_by_word}
+use Rattle.roff_lines.specs.Lines.{gap_text, laid_out, finished, pending_line}
+use Rattle.roff_lines.specs.LastLine.{last_width}
+use Rattle.roff_lines.specs.Env.Kept.{Kept, without_word, word_as_line, word_fits, pending_width, with_word_ended, finished_by_word}
 use Rattle.roff_lines.specs.Env.Stands.{Stands}
 use Rattle.roff_lines.proofs.PendingLine.{placed-full, line_text-full, line_indent-full, word_text-closed, pending_length-word_end}
+use Rattle.roff_lines.proofs.LastLine.{last_width-none, last_width-some}
 use Rattle.roff_lines.proofs.Stands.{is_empty-pending_line, words-no_line, blanks-counted, word_fits-stands, laid_out-stands}
 
 module _ (line_cap : ℕ) (h : History) (k : Kept) (s : Stands line_cap h k) where
+  -- the line that a word end finishes is the definition's
+  pub finished_by_word-stands : finished_by_word k ≡ finished h WordEnd
+  finished_by_word-stands =
+      elim (cases_Bool k.is_open) [
+        | inl o ↦ elim (cases_Bool k.has_line) [
+          | inl l ↦ rw (← s.is_open, ← s.has_line, o, l, word_fits-stands line_cap h k s o l, laid_out-stands line_cap h k s true l) refl
+          | inr l ↦ rw (← s.is_open, ← s.has_line, o, l) refl
+        ]
+        | inr o ↦ rw (← s.is_open, o) refl
+      ]
+
+  -- where it finishes none, the last width stays
+  last_width-kept : finished_by_word k ≡ None → k.last_width ≡ last_width (WordEnd ∷ h)
+  last_width-kept none = s.last_width ∙ sym (last_width-none h WordEnd (sym finished_by_word-stands ∙ none))
+
   -- no word is open
   Stands-closed : k.is_open ≡ false → Stands line_cap (WordEnd ∷ h) k
   Stands-closed o =
@@ -27,6 +44,7 @@ module _ (line_cap : ℕ) (h : History) (k : Kept) (s : Stands line_cap h k) whe
         blanks = rw closed s.blanks;
         has_glyph = s.has_glyph;
         ends_sentence = s.ends_sentence;
+        last_width = last_width-kept (rw o refl);
       }
 
   module _ (o : k.is_open ≡ true) where
@@ -49,10 +67,17 @@ module _ (line_cap : ℕ) (h : History) (k : Kept) (s : Stands line_cap h k) whe
         let within = sym (word_fits-stands line_cap h k s o l) ∙ f in
         rw open_before (rw (placed-full (pending_line h) (open_word h) (is_empty-pending_line line_cap h k s l), within) refl)
 
+    -- and so finishes that
+    last_width-full : k.has_line ≡ true → word_fits k ≡ false → pending_width true k ≡ last_width (WordEnd ∷ h)
+    last_width-full l f =
+        let full = laid_out k.settings true k.indent k.line in
+        sym (last_width-some h WordEnd full (sym finished_by_word-stands ∙ rw (o, l, f) refl))
+
     -- the word begins a line, whatever text was handed out last
-    Stands-beginning : (text : List ℕ) → pending_line (WordEnd ∷ h) ≡ open_word h ∷ [] →
-        Stands line_cap (WordEnd ∷ h) (without_word (word_as_line (record k { finished = text })))
-    Stands-beginning text line = record {
+    Stands-beginning : (text : List ℕ) (width : ℕ)
+        → pending_line (WordEnd ∷ h) ≡ open_word h ∷ [] → width ≡ last_width (WordEnd ∷ h)
+        → Stands line_cap (WordEnd ∷ h) (without_word (word_as_line (record k { finished = text; last_width = width })))
+    Stands-beginning text width line last = record {
       small = s.small;
       within = omega (arith, pending_length-word_end h, s.within);
       cap = s.cap;
@@ -65,6 +90,7 @@ module _ (line_cap : ℕ) (h : History) (k : Kept) (s : Stands line_cap h k) whe
       blanks = rw open_before refl;
       has_glyph = s.has_glyph;
       ends_sentence = s.ends_sentence;
+      last_width = last;
     }
 
     -- the word stands behind the pending line
@@ -87,6 +113,7 @@ module _ (line_cap : ℕ) (h : History) (k : Kept) (s : Stands line_cap h k) whe
           blanks = rw open_before refl;
           has_glyph = s.has_glyph;
           ends_sentence = s.ends_sentence;
+          last_width = last_width-kept (rw (o, l, f) refl);
         }
 
   -- what is kept behind a word end stands for the history with it
@@ -97,19 +124,9 @@ module _ (line_cap : ℕ) (h : History) (k : Kept) (s : Stands line_cap h k) whe
       (λ e. Stands-closed (not-true k.is_open e))
       (λ e. let o = not-false k.is_open e in
       cond_both (not k.has_line) _ _ Goal
-      (λ e'. Stands-beginning o k.finished (pending_line-first o (not-true k.has_line e')))
+      (λ e'. let l = not-true k.has_line e' in
+      Stands-beginning o k.finished k.last_width (pending_line-first o l) (last_width-kept (rw (o, l) refl)))
       (λ e'. let l = not-false k.has_line e' in
       cond_both (word_fits k) _ _ Goal
       (Stands-within o l)
-      (λ f. Stands-beginning o k.line (pending_line-behind o l f))))
-
-  -- the line that it finishes is the definition's
-  pub finished_by_word-stands : finished_by_word k ≡ finished h WordEnd
-  finished_by_word-stands =
-      elim (cases_Bool k.is_open) [
-        | inl o ↦ elim (cases_Bool k.has_line) [
-          | inl l ↦ rw (← s.is_open, ← s.has_line, o, l, word_fits-stands line_cap h k s o l, laid_out-stands line_cap h k s true l) refl
-          | inr l ↦ rw (← s.is_open, ← s.has_line, o, l) refl
-        ]
-        | inr o ↦ rw (← s.is_open, o) refl
-      ]
+      (λ f. Stands-beginning o k.line (pending_width true k) (pending_line-behind o l f) (last_width-full o l f))))

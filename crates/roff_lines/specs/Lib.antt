@@ -11,4 +11,5 @@ pub mod Shape
 pub mod LineBytes
 pub mod Filling
 pub mod Paragraphs
+pub mod LastLine
 pub mod Clauses

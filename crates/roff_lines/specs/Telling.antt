@@ -1,6 +1,7 @@
 -- Text as it is told to an environment (manual, section 4.1).
-use Rattle.std.specs.Prelude.{◌≡◌, false, List, [], ◌∷◌, ◌++◌, map, reverse}
+use Rattle.std.specs.Prelude.{◌≡◌, ℕ, false, List, [], ◌∷◌, ◌++◌, map, reverse, if◌then◌else◌, ◌==◌}
 use Rattle.roff_lines.specs.declared.glyph.Glyph.{Glyph}
+use Rattle.roff_lines.specs.declared.glyph.Glyph.TheVariants.{Printed}
 use Rattle.roff_lines.specs.declared.settings.Settings.{Settings}
 use Rattle.roff_lines.specs.Events.{Event, Print, WordEnd, Gap, Break, Set, History}
 use Rattle.roff_lines.specs.Words.{Word, is_empty, has_open_word, blanks, words}
@@ -30,3 +31,8 @@ pub record IsClear (h : History) : Type 0 where
   pub no_words : words h ≡ []
   pub no_open_word : has_open_word h ≡ false
   pub no_blanks : blanks h ≡ 0
+
+-- a history, and these bytes behind it, one after another: a blank ends a word, and a gap of it follows
+abbrev pub bytes_told : List ℕ → History → History
+bytes_told [] h = h
+bytes_told (b ∷ bytes) h = bytes_told bytes (if b == 32 then Gap 1 ∷ WordEnd ∷ h else Print (Printed b) ∷ h)

@@ -2,7 +2,7 @@
 
 ghost use Rattle.std.specs.Prelude.{◌≡◌, ℕ, ◌+◌, ◌<◌, ◌≤◌, ◌^◌, ◌↔◌, [], ◌∷◌, ◌++◌, length, IfOk, OnOk, OnErr, IsErr, IsOkUnless, option_map};
 ghost use Rattle.std.specs.Borrow.{sem};
-ghost use Rattle.roff_lines.specs.Clauses.{finished_of, Print, WordEnd, Gap, LineEnd, Break, Set, History, settings_after, text_width, finished, gap_text, may_be_wide, pending_length, shaped};
+ghost use Rattle.roff_lines.specs.Clauses.{finished_of, Print, WordEnd, Gap, LineEnd, Break, Set, History, settings_after, last_width, text_width, finished, gap_text, may_be_wide, pending_length, shaped};
 
 use crate::glyph::{Glyph, kept_byte};
 use crate::line::{FURTHER_BLANK, GAP, Line, UNPADDABLE};
@@ -33,6 +33,8 @@ pub struct Env {
     blanks: u64,
     /// The line that was handed out last.
     finished: Stretch,
+    /// The width of the line that was finished last, in columns.
+    last_width: u32,
     has_glyph: bool,
     ends_sentence: bool,
 }
@@ -67,6 +69,7 @@ impl Env {
             is_open: false,
             blanks: 0,
             finished: Stretch::new(alloc, cap)?,
+            last_width: 0,
             has_glyph: false,
             ends_sentence: false,
         })
@@ -79,6 +82,17 @@ impl Env {
             → Stands line_cap h self.now → result ≡ settings_after h }
     {
         self.settings
+    }
+
+    /// The width of the line that was finished last, in columns, from where its text begins (manual,
+    /// section 8, the register `.n`): the blanks of adjusting count, the indent doesn't. It is 0 at
+    /// first, and behind an empty line.
+    pub fn last_width(&self) -> u32
+        ensures kept { result ≡ self.now.last_width }
+        ensures counted { (line_cap : ℕ) (h : History)
+            → Stands line_cap h self.now → result ≡ last_width h }
+    {
+        self.last_width
     }
 
     /// Adds a glyph to the open word, or opens one with it.
@@ -188,7 +202,9 @@ impl Env {
             self.line.append(&self.word);
             self.word.clear();
         } else {
-            shape = Some(Shape::of(self.settings, true, self.indent, &self.line));
+            let full = Shape::of(self.settings, true, self.indent, &self.line);
+            self.last_width = full.width();
+            shape = Some(full);
             self.finished.clear();
             mem::swap(&mut self.finished, &mut self.line);
             mem::swap(&mut self.line, &mut self.word);
@@ -218,6 +234,7 @@ impl Env {
         match self.finish_pending() {
             Some(shape) => Some(shape),
             None => {
+                self.last_width = 0;
                 self.finished.clear();
                 Some(Shape::empty())
             }
@@ -237,6 +254,7 @@ impl Env {
             return None;
         }
         let shape = Shape::of(self.settings, false, self.indent, &self.line);
+        self.last_width = shape.width();
         self.finished.clear();
         mem::swap(&mut self.finished, &mut self.line);
         self.has_line = false;

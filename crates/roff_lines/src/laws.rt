@@ -1,7 +1,7 @@
 //! Facts about the definitions alone, as contracts of functions that do nothing.
 
-ghost use Rattle.std.specs.Prelude.{◌≡◌, ℕ, ◌<◌, List, [], ◌∷◌, ◌++◌, length, map, All, Some, true, false};
-ghost use Rattle.roff_lines.specs.Clauses.{Printed, StandsInColumns, written_by_break, FillsLines, lines_of, Finished, Word, is_empty, has_open_word, words, Event, Print, WordEnd, LineEnd, Break, History, settings_after, glyphs_told, words_told, IsOfText, IsWordUnder, IsClear, finished_lines, until_break, full_lines, broken_lines, paragraph_lines};
+ghost use Rattle.std.specs.Prelude.{◌≡◌, ℕ, ◌<◌, List, [], ◌∷◌, ◌++◌, length, map, All, Some, IfSome, true, false, codes};
+ghost use Rattle.roff_lines.specs.Clauses.{Printed, StandsInColumns, written_by_break, FillsLines, lines_of, Finished, Word, is_empty, has_open_word, words, Event, Print, WordEnd, LineEnd, Break, Set, Filling, Adjusting, Mode, Right, Centre, LineLength, Indent, last_width, EndsAtWidth, finished, bytes_told, History, settings_after, glyphs_told, words_told, IsOfText, IsWordUnder, IsClear, finished_lines, until_break, full_lines, broken_lines, paragraph_lines};
 
 /// Filling takes the longest fronts: the lines of a paragraph have its words in order; each word of
 /// a line but the first fits behind those before it; and the word that begins the next line didn't.
@@ -13,6 +13,34 @@ pub fn longest_fronts()
 /// and gaps before it, and what adjusting adds to these gaps.
 pub fn columns()
     ensures { (line : Finished) → StandsInColumns line }
+{}
+
+/// A finished line's text ends as many columns behind its lead as the line is wide.
+pub fn widths()
+    ensures { (h : History) (e : Event) → IfSome (finished h e) EndsAtWidth }
+{}
+
+/// How wide the last finished line is on worked rows. Of the five words the first three are the last
+/// finished line: eight columns, or twelve where its gaps are widened.
+pub fn last_width_rows()
+    ensures nothing { last_width [] ≡ 0 }
+    ensures pending { last_width (WordEnd ∷ bytes_told (codes "a bb ccc") []) ≡ 0 }
+    ensures spread { let before = Set (LineLength 12) ∷ [] in
+        last_width (WordEnd ∷ bytes_told (codes "a bb ccc dddd eeeee") before) ≡ 12 }
+    ensures indented { let before = Set (Indent 3) ∷ Set (LineLength 15) ∷ [] in
+        last_width (WordEnd ∷ bytes_told (codes "a bb ccc dddd eeeee") before) ≡ 12 }
+    ensures not_adjusted { let before = Set (Adjusting false) ∷ Set (LineLength 12) ∷ [] in
+        last_width (WordEnd ∷ bytes_told (codes "a bb ccc dddd eeeee") before) ≡ 8 }
+    ensures right_edge { let before = Set (Mode Right) ∷ Set (LineLength 12) ∷ [] in
+        last_width (WordEnd ∷ bytes_told (codes "a bb ccc dddd eeeee") before) ≡ 8 }
+    ensures centred { let before = Set (Mode Centre) ∷ Set (LineLength 12) ∷ [] in
+        last_width (WordEnd ∷ bytes_told (codes "a bb ccc dddd eeeee") before) ≡ 8 }
+    ensures broken { last_width (Break ∷ WordEnd ∷ bytes_told (codes "dddd eeeee") []) ≡ 10 }
+    ensures two_bytes { last_width (Break ∷ WordEnd ∷ bytes_told (195 ∷ 169 ∷ []) []) ≡ 1 }
+    ensures not_filled { let before = Set (Filling false) ∷ [] in
+        last_width (LineEnd ∷ WordEnd ∷ bytes_told (codes "x  y") before) ≡ 4 }
+    ensures empty_line { let before = Set (Filling false) ∷ [] in
+        last_width (LineEnd ∷ LineEnd ∷ WordEnd ∷ bytes_told (codes "x  y") before) ≡ 0 }
 {}
 
 /// A printed byte above the blank is written as itself: a new environment that is told a word of

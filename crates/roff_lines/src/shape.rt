@@ -1,7 +1,7 @@
 //! How a line is laid out as it is finished.
 
 ghost use Rattle.std.specs.Prelude.{◌≡◌, ◌<◌, ◌^◌, []};
-ghost use Rattle.roff_lines.specs.Clauses.{finished_of, empty_line, laid_out, shaped};
+ghost use Rattle.roff_lines.specs.Clauses.{finished_of, empty_line, laid_out, line_width, shaped};
 
 use crate::line::Line;
 use crate::settings::{AdjustMode, Settings};
@@ -13,6 +13,8 @@ pub(crate) struct Shape {
     lead: u64,
     spare: u64,
     gaps: u64,
+    /// The columns of the text, the spare ones among them.
+    width: u32,
 }
 
 impl Shape {
@@ -24,13 +26,15 @@ impl Shape {
             lead: 0,
             spare: 0,
             gaps: 0,
+            width: 0,
         }
     }
 
     /// That of a line as it is finished, by a word that doesn't fit or by a break.
     pub(crate) fn of(settings: Settings, by_word: bool, indent: u32, line: &Stretch) -> Shape
         requires { line.now.room < 2 ^ 32 }
-        ensures { shaped result line.now.text ≡ laid_out settings by_word indent line.now.text }
+        ensures line { shaped result line.now.text ≡ laid_out settings by_word indent line.now.text }
+        ensures width { result.width ≡ line_width (laid_out settings by_word indent line.now.text) }
     {
         let wide = u64::from(indent) + line.width();
         let free = u64::from(settings.line_length).saturating_sub(wide);
@@ -54,7 +58,15 @@ impl Shape {
             lead: u64::from(indent) + start,
             spare,
             gaps,
+            width: (line.width() + spare) as u32,
         }
+    }
+
+    /// The width of the line, in columns.
+    pub(crate) fn width(self) -> u32
+        ensures { result ≡ self.width }
+    {
+        self.width
     }
 
     /// The line of this shape and this text.

@@ -4,9 +4,11 @@ use Rattle.roff_lines.specs.declared.env.Env.TheInside.{Inside}
 use Rattle.roff_lines.specs.declared.settings.Settings.{Settings}
 use Rattle.roff_lines.specs.Glyphs.{text_width}
 use Rattle.roff_lines.specs.Lines.{Finished, gap_text, may_be_wide, laid_out, empty_line}
+use Rattle.roff_lines.specs.LastLine.{line_width}
 
 -- the pending line's text and its indent, and whether a word stands in it; the open word's text, and
--- whether there is one; the blanks before it; what the line of the input has so far
+-- whether there is one; the blanks before it; what the line of the input has so far; the line that was
+-- handed out last, and the width of the last one that was finished
 pub record Kept : Type 0 where
   pub cap : ℕ
   pub settings : Settings
@@ -19,6 +21,7 @@ pub record Kept : Type 0 where
   pub has_glyph : Bool
   pub ends_sentence : Bool
   pub finished : List ℕ
+  pub last_width : ℕ
 
 -- the pending line's length in bytes, the open word included
 abbrev pub kept_length : Kept → ℕ
@@ -38,6 +41,7 @@ kept_by a = record {
   has_glyph = a.has_glyph;
   ends_sentence = a.ends_sentence;
   finished = a.finished.text;
+  last_width = a.last_width;
 }
 
 -- each buffer has the limit's room, and the pending line is within the limit
@@ -63,13 +67,17 @@ word_as_line k = record k { line = k.word; indent = k.settings.indent; has_line 
 abbrev pub word_fits : Kept → Bool
 word_fits k = may_be_wide k.settings k.indent (text_width k.line + k.blanks + text_width k.word)
 
+-- the width of the pending line as it is finished, by a word that doesn't fit or else by a break
+abbrev pub pending_width : Bool → Kept → ℕ
+pending_width by_word k = line_width (laid_out k.settings by_word k.indent k.line)
+
 -- behind a word end
 abbrev pub with_word_ended : Kept → Kept
 with_word_ended k =
     if not k.is_open then k
     else if not k.has_line then without_word (word_as_line k)
     else if word_fits k then without_word (record k { line = k.line ++ (gap_text k.blanks ++ k.word) })
-    else without_word (word_as_line (record k { finished = k.line }))
+    else without_word (word_as_line (record k { finished = k.line; last_width = pending_width true k }))
 
 -- the line that a word end finishes
 abbrev pub finished_by_word : Kept → Option Finished
@@ -83,6 +91,7 @@ with_line_finished k = record k {
   has_line = false;
   blanks = if k.is_open then k.blanks else 0;
   finished = if k.has_line then k.line else k.finished;
+  last_width = if k.has_line then pending_width false k else k.last_width;
 }
 
 -- the line that a break finishes
@@ -95,7 +104,10 @@ with_input_line_ended k =
     let n : Kept = record k { has_glyph = false; ends_sentence = false } in
     if k.settings.filling
     then record n { blanks = if not k.is_open && k.has_glyph then (if k.ends_sentence then 2 else 1) else k.blanks }
-    else record (with_line_finished n) { finished = k.line }
+    else record (with_line_finished n) {
+      finished = k.line;
+      last_width = if k.has_line then pending_width false k else 0;
+    }
 
 -- the line that the end of a line of the input finishes
 abbrev pub finished_by_line_end : Kept → Option Finished

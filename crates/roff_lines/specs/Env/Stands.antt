@@ -4,6 +4,7 @@ use Rattle.roff_lines.specs.Events.{Event, History, settings_after}
 use Rattle.roff_lines.specs.Words.{word_text, is_empty, has_open_word, line_glyphs, ends_sentence, blanks, open_word, words}
 use Rattle.roff_lines.specs.Lines.{Finished, line_text, line_indent, pending_line, pending_length, finished}
 use Rattle.roff_lines.specs.Env.Kept.{Kept}
+use Rattle.roff_lines.specs.LastLine.{last_width}
 
 -- an environment of this limit keeps k behind the history h
 pub record Stands (line_cap : ℕ) (h : History) (k : Kept) : Type 0 where
@@ -25,6 +26,8 @@ pub record Stands (line_cap : ℕ) (h : History) (k : Kept) : Type 0 where
   -- what the line of the input has so far
   pub has_glyph : k.has_glyph ≡ not (is_empty (line_glyphs h))
   pub ends_sentence : k.ends_sentence ≡ ends_sentence (line_glyphs h)
+  -- the last line that was finished
+  pub last_width : k.last_width ≡ last_width h
 
 -- whatever history the old environment stands for, the new one stands for it with one event more
 abbrev pub StandsBehind : Kept → Event → Kept → Type 0
