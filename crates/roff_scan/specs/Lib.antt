@@ -2,6 +2,7 @@ pub mod Tape
 pub mod Bytes
 pub mod ReadSource
 pub mod Halves
+pub mod Nesting
 pub mod Arguments
 pub mod Input
 pub mod Unread

@@ -3,10 +3,11 @@
 
 mod bytes;
 mod half;
+mod halves;
 mod source;
 mod unread;
 
 pub use bytes::{is_dropped, is_silent};
-pub use half::{CopyUnit, Half, NamePart};
+pub use half::{CopyUnit, Half, NamePart, Read};
 pub use source::{ByteSource, Note, ReadSource, Taken};
 pub use unread::{Item, Sight};
