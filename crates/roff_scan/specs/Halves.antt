@@ -12,7 +12,7 @@ use Rattle.roff_scan.specs.declared.half.NamePart.TheVariants.{Nothing, Opened, 
 use Rattle.roff_scan.specs.declared.half.CopyUnit.{CopyUnit}
 use Rattle.roff_scan.specs.declared.half.CopyUnit.TheVariants.{Byte, Kept}
 use Rattle.roff_scan.specs.declared.half.Read.{Read}
-use Rattle.roff_scan.specs.declared.half.Read.TheVariants.{GoesOn, Unit, Escape, Asks}
+use Rattle.roff_scan.specs.declared.half.Read.TheVariants.{GoesOn, Unit as GivesUnit, Escape, Asks}
 
 -- the bytes of a unit: a byte, or a backslash and the byte behind it
 abbrev pub unit_bytes : CopyUnit → List ℕ
@@ -51,7 +51,7 @@ unit_of_name rest step (First a) unit = (Asks step (take 2 (a ∷ unit_bytes uni
 
 -- a unit, where this is half read
 abbrev pub unit_taken : List Half → CopyUnit → Reads
-unit_taken [] unit = (Unit unit, [])
+unit_taken [] unit = (GivesUnit unit, [])
 unit_taken (Backslash ∷ rest) unit = (GoesOn, Backslash ∷ rest)
 unit_taken (Name step part ∷ rest) unit = unit_of_name rest step part unit
 
@@ -72,7 +72,7 @@ escape_taken is_text rest b =
 
 -- a byte that isn't dropped, where this is half read; above a text line, or above arguments
 abbrev pub byte_read : Bool → List Half → ℕ → Reads
-byte_read is_text [] b = if b == backslash then (GoesOn, Backslash ∷ []) else (Unit (Byte b), [])
+byte_read is_text [] b = if b == backslash then (GoesOn, Backslash ∷ []) else (GivesUnit (Byte b), [])
 byte_read is_text (Backslash ∷ rest) b = escape_taken is_text rest b
 byte_read is_text (Name step part ∷ rest) b =
     if b == backslash then (GoesOn, Backslash ∷ Name step part ∷ rest) else unit_of_name rest step part (Byte b)

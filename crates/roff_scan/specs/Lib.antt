@@ -3,6 +3,7 @@ pub mod Bytes
 pub mod ReadSource
 pub mod Halves
 pub mod Nesting
+pub mod HalfLaws
 pub mod Arguments
 pub mod Input
 pub mod Unread

@@ -138,12 +138,7 @@ impl Halves {
     }
 
     /// A unit of a name, which is off already.
-    fn read_unit_of_name(
-        &mut self,
-        step: Option<Direction>,
-        part: NamePart,
-        unit: CopyUnit,
-    ) -> Read
+    fn read_unit_of_name(&mut self, step: Option<Direction>, part: NamePart, unit: CopyUnit) -> Read
         requires { AreNames (HalfName step part ∷ self.old) }
         ensures { (result, self.new) ≡ unit_of_name self.old step part unit }
     {

@@ -3,6 +3,7 @@
 
 mod bytes;
 mod half;
+pub mod half_laws;
 mod halves;
 mod source;
 mod unread;
