@@ -3,10 +3,12 @@
 
 mod bytes;
 mod half;
+pub mod half_laws;
+mod halves;
 mod source;
 mod unread;
 
 pub use bytes::{is_dropped, is_silent};
-pub use half::{CopyUnit, Half, NamePart};
+pub use half::{CopyUnit, Half, NamePart, Read};
 pub use source::{ByteSource, Note, ReadSource, Taken};
 pub use unread::{Item, Sight};
