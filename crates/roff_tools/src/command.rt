@@ -1,10 +1,7 @@
 //! The command line: its commands and options, and what its words ask for.
 
 ghost use Rattle.std.specs.Prelude.{◌≡◌, true, IfOk, IfErr, fold, map};
-ghost use Rattle.clap.specs.Words.{FailsBy, app_of, fault_of, found_of, kind_of, rows_of, rule_of, subcommand_of, takes, with_rule};
-ghost use Rattle.roff_num.specs.Clauses.{default_limits};
-ghost use Rattle.roff_tools.specs.CommandLine.{Asks, AsksFor, file_operand, limit_option, limits_asked_by};
-ghost use Rattle.roff_tools.specs.CommandLine.{limits_set, nroff_app, roff_app};
+ghost use Rattle.roff_tools.specs.Clauses.{Asks, AsksFor, FailsBy, app_of, default_limits, fault_of, file_operand, found_of, kind_of, limit_option, limits_asked_by, limits_set, nroff_app, roff_app, rows_of, rule_of, subcommand_of, takes, with_rule};
 
 use crate::{Job, Limit, Limits, Start, texts};
 use clap::error::ErrorKind;

@@ -1,13 +1,7 @@
 //! Facts about the definitions alone, as contracts of functions that do nothing.
 
 ghost use Rattle.std.specs.Prelude.{◌≡◌, [], ◌∷◌, codes};
-ghost use Rattle.clap.specs.declared.error.ErrorKind.TheVariants.{ArgumentConflict, DisplayHelp};
-ghost use Rattle.clap.specs.declared.error.ErrorKind.TheVariants.{DisplayVersion, InvalidValue};
-ghost use Rattle.clap.specs.declared.error.ErrorKind.TheVariants.{MissingSubcommand};
-ghost use Rattle.clap.specs.declared.error.ErrorKind.TheVariants.{UnknownArgument, ValueValidation};
-ghost use Rattle.roff_num.specs.Clauses.{default_limits};
-ghost use Rattle.roff_tools.specs.CommandLine.{EachOptionSetsItsLimit};
-ghost use Rattle.roff_tools.specs.CommandRows.{asked, fault, formats, limited, numbered};
+ghost use Rattle.roff_tools.specs.Clauses.{ArgumentConflict, DisplayHelp, DisplayVersion, EachOptionSetsItsLimit, InvalidValue, MissingSubcommand, UnknownArgument, ValueValidation, asked, default_limits, fault, formats, limited, numbered};
 
 /// Each limit of the formatter has an option, which sets it alone.
 pub fn limit_options()
