@@ -9,7 +9,7 @@ use Rattle.clap.specs.declared.error.ErrorKind.{ErrorKind}
 use Rattle.clap.specs.declared.error.ErrorKind.TheVariants.{DisplayHelp, DisplayVersion}
 use Rattle.clap.specs.declared.builder.value_parser.ValueParser.TheVariants.{Signed}
 use Rattle.roff_num.specs.declared.limit.Limit.{Limit}
-use Rattle.roff_num.specs.declared.limit.Limit.TheVariants.{Bytes, Line}
+use Rattle.roff_num.specs.declared.limit.Limit.TheVariants.{Bytes, Store, Stack, Depth, Names, Line, Traps, Output, Diversions, Environments, Conditions}
 use Rattle.roff_num.specs.declared.limits.Limits.{Limits}
 use Rattle.roff_num.specs.Clauses.{default_limits, limit_name, limits_with, value_of}
 use Rattle.roff_tools.specs.declared.command.Request.{Request}
@@ -17,7 +17,7 @@ use Rattle.roff_tools.specs.RunOver.{limits_of}
 
 -- the limits that have an option, in the order of help
 abbrev pub option_limits : List Limit
-option_limits = Bytes ∷ Line ∷ []
+option_limits = Bytes ∷ Store ∷ Stack ∷ Depth ∷ Names ∷ Line ∷ Traps ∷ Output ∷ Diversions ∷ Environments ∷ Conditions ∷ []
 
 -- a limit's option: it has the limit's name and default, and takes a number from 0 to 1,000,000,000
 abbrev pub limit_option : Limit → Rule
@@ -59,13 +59,24 @@ abbrev pub limits_set : Limits → Limit → Option ℕ → Limits
 limits_set l limit None = l
 limits_set l limit (Some n) = limits_with l limit n
 
+-- the number that a limit's option is given
+abbrev pub number_asked : List Row → Limit → Option ℕ
+number_asked rows limit = option_and_then number_of (one_of (limit_name limit) rows)
+
 -- the limits with one of them set by its option
 abbrev pub limits_asked_by : List Row → Limits → Limit → Limits
-limits_asked_by rows l limit = limits_set l limit (option_and_then number_of (one_of (limit_name limit) rows))
+limits_asked_by rows l limit = limits_set l limit (number_asked rows limit)
 
 -- the limits that the options ask for, and the default of each other one
 abbrev pub limits_asked : List Row → Limits
 limits_asked rows = fold (limits_asked_by rows) default_limits option_limits
+
+-- each limit has the number that its option is given, and its default where it is given none; one without an
+-- option is of tables, and none of the formatter's
+abbrev pub EachOptionSetsItsLimit : Type 0
+EachOptionSetsItsLimit = (rows : List Row) (limit : Limit)
+    → (value_of (limits_asked rows) limit ≡ unwrap_or (number_asked rows limit) (value_of default_limits limit))
+    ⊎ ((l : Limits) → value_of l limit ≡ 0)
 
 -- the files that the operands name
 abbrev pub files_asked : List Row → List Text

@@ -19,9 +19,29 @@ asked words =
     then option_map (λ p. record { command = p.0; files = files_asked p.1; limits = limits_asked p.1 }) (subcommand_of roff_app all)
     else None
 
--- `nroff` with these files, and these limits on the bytes and on a line
-abbrev pub formats : List Text → ℕ → ℕ → Option Asked
-formats files bytes line = Some (record { command = codes "nroff"; files = files; limits = record default_limits { bytes = bytes; line = line } })
+-- `nroff` with these files and these limits
+abbrev pub formats : List Text → Limits → Option Asked
+formats files limits = Some (record { command = codes "nroff"; files = files; limits = limits })
+
+-- the default limits, with these on the bytes and on a line
+abbrev pub limited : ℕ → ℕ → Limits
+limited bytes line = record default_limits { bytes = bytes; line = line }
+
+-- one limit after another, from 1 on
+abbrev pub numbered : Limits
+numbered = record {
+  bytes = 1;
+  store = 2;
+  stack = 3;
+  depth = 4;
+  names = 5;
+  line = 6;
+  traps = 7;
+  output = 8;
+  diversions = 9;
+  environments = 10;
+  conditions = 11;
+}
 
 -- the fault of the words
 abbrev pub fault : List Text → Kinds

@@ -10,3 +10,4 @@ pub mod CommandRows
 pub mod Exit
 pub mod RunOver
 pub mod Program
+pub mod Clauses

@@ -1,10 +1,7 @@
 //! The command line: its commands and options, and what its words ask for.
 
 ghost use Rattle.std.specs.Prelude.{◌≡◌, true, IfOk, IfErr, fold, map};
-ghost use Rattle.clap.specs.Words.{FailsBy, app_of, fault_of, found_of, kind_of, rows_of, rule_of, subcommand_of, takes, with_rule};
-ghost use Rattle.roff_num.specs.Clauses.{default_limits};
-ghost use Rattle.roff_tools.specs.CommandLine.{Asks, AsksFor, file_operand, limit_option, limits_asked_by};
-ghost use Rattle.roff_tools.specs.CommandLine.{limits_set, nroff_app, roff_app};
+ghost use Rattle.roff_tools.specs.Clauses.{Asks, AsksFor, FailsBy, app_of, default_limits, fault_of, file_operand, found_of, kind_of, limit_option, limits_asked_by, limits_set, nroff_app, roff_app, rows_of, rule_of, subcommand_of, takes, with_rule};
 
 use crate::{Job, Limit, Limits, Start, texts};
 use clap::error::ErrorKind;
@@ -31,14 +28,50 @@ struct LimitOption {
 }
 
 /// The options that set limits. The parser takes them, and their values are read, by this table.
-static LIMIT_OPTIONS: [LimitOption; 2] = [
+static LIMIT_OPTIONS: [LimitOption; 11] = [
     LimitOption {
         limit: Limit::Bytes,
         help: texts::BYTES,
     },
     LimitOption {
+        limit: Limit::Store,
+        help: texts::STORE,
+    },
+    LimitOption {
+        limit: Limit::Stack,
+        help: texts::STACK,
+    },
+    LimitOption {
+        limit: Limit::Depth,
+        help: texts::DEPTH,
+    },
+    LimitOption {
+        limit: Limit::Names,
+        help: texts::NAMES,
+    },
+    LimitOption {
         limit: Limit::Line,
         help: texts::LINE,
+    },
+    LimitOption {
+        limit: Limit::Traps,
+        help: texts::TRAPS,
+    },
+    LimitOption {
+        limit: Limit::Output,
+        help: texts::OUTPUT,
+    },
+    LimitOption {
+        limit: Limit::Diversions,
+        help: texts::DIVERSIONS,
+    },
+    LimitOption {
+        limit: Limit::Environments,
+        help: texts::ENVIRONMENTS,
+    },
+    LimitOption {
+        limit: Limit::Conditions,
+        help: texts::CONDITIONS,
     },
 ];
 
@@ -174,7 +207,10 @@ mod tests {
         let mut most = usual;
         most.bytes = 1_000_000_000;
         most.line = 1_000_000_000;
-        let rows: [(&[&str], Limits, &[&str]); 5] = [
+        let mut other = usual;
+        other.store = 1;
+        other.conditions = 2;
+        let rows: [(&[&str], Limits, &[&str]); 6] = [
             (&["roff", "nroff"], usual, &["-"]),
             (&["roff", "nroff", "a", "-", "b"], usual, &["a", "-", "b"]),
             (
@@ -185,6 +221,11 @@ mod tests {
             (
                 &["roff", "nroff", "--bytes=1000000000", "--line=1000000000"],
                 most,
+                &["-"],
+            ),
+            (
+                &["roff", "nroff", "--conditions=2", "--store", "1"],
+                other,
                 &["-"],
             ),
             (&["roff", "nroff", "--", "--line"], usual, &["--line"]),

@@ -1,7 +1,7 @@
 //! How the program ends.
 
 ghost use Rattle.std.specs.Prelude.{◌≡◌};
-ghost use Rattle.roff_tools.specs.Exit.{exit_after, exit_number};
+ghost use Rattle.roff_tools.specs.Clauses.{exit_after, exit_number};
 
 use crate::Status;
 

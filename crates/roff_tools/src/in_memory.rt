@@ -1,10 +1,7 @@
 //! A whole run in memory, from bytes to bytes.
 
 ghost use Rattle.std.specs.Prelude.{◌≡◌, ◌≤◌, length, take, IfOk};
-ghost use Rattle.roff_engine.specs.Results.{messages_of, output_of};
-ghost use Rattle.roff_num.specs.Lists.{IsBeginning};
-ghost use Rattle.roff_tools.specs.InMemory.{IsWholeResult};
-ghost use Rattle.roff_tools.specs.Memory.{tape_of_bytes};
+ghost use Rattle.roff_tools.specs.Clauses.{IsBeginning, IsWholeResult, messages_of, output_of, tape_of_bytes};
 
 use crate::watched::WatchedSink;
 use crate::{Job, MemSource, run};

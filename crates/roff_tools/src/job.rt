@@ -1,7 +1,7 @@
 //! A run of a command.
 
 ghost use Rattle.std.specs.Prelude.{◌≡◌, IfOk, OnErr};
-ghost use Rattle.roff_engine.specs.Engine.Outcome.{Runs, seen};
+ghost use Rattle.roff_tools.specs.Clauses.{Runs, seen};
 
 use roff_engine::{ByteSink, Engine, Start, Status};
 use roff_num::Limits;

@@ -1,23 +1,28 @@
 //! Facts about the definitions alone, as contracts of functions that do nothing.
 
 ghost use Rattle.std.specs.Prelude.{◌≡◌, [], ◌∷◌, codes};
-ghost use Rattle.roff_tools.specs.CommandRows.{asked, fault, formats};
-ghost use Rattle.clap.specs.declared.error.ErrorKind.TheVariants.{ArgumentConflict, DisplayHelp};
-ghost use Rattle.clap.specs.declared.error.ErrorKind.TheVariants.{DisplayVersion, InvalidValue};
-ghost use Rattle.clap.specs.declared.error.ErrorKind.TheVariants.{MissingSubcommand};
-ghost use Rattle.clap.specs.declared.error.ErrorKind.TheVariants.{UnknownArgument, ValueValidation};
+ghost use Rattle.roff_tools.specs.Clauses.{ArgumentConflict, DisplayHelp, DisplayVersion, EachOptionSetsItsLimit, InvalidValue, MissingSubcommand, UnknownArgument, ValueValidation, asked, default_limits, fault, formats, limited, numbered};
 
-/// What command lines ask for: files, a limit on the bytes and one on a line.
+/// Each limit of the formatter has an option, which sets it alone.
+pub fn limit_options()
+    ensures each { EachOptionSetsItsLimit }
+{}
+
+/// What command lines ask for: files and limits.
 pub fn command_lines()
-    ensures nothing { asked (codes "nroff" ∷ []) ≡ formats (codes "-" ∷ []) 50000000 4096 }
+    ensures nothing { asked (codes "nroff" ∷ []) ≡ formats (codes "-" ∷ []) default_limits }
     ensures options { asked (codes "nroff" ∷ codes "a" ∷ codes "--line=0" ∷ codes " b"
         ∷ codes "--bytes" ∷ codes "7" ∷ codes "-" ∷ [])
-        ≡ formats (codes "a" ∷ codes " b" ∷ codes "-" ∷ []) 7 0 }
+        ≡ formats (codes "a" ∷ codes " b" ∷ codes "-" ∷ []) (limited 7 0) }
     ensures greatest { asked (codes "nroff" ∷ codes "--bytes=1000000000"
         ∷ codes "--line" ∷ codes "1000000000" ∷ [])
-        ≡ formats (codes "-" ∷ []) 1000000000 1000000000 }
+        ≡ formats (codes "-" ∷ []) (limited 1000000000 1000000000) }
+    ensures all { asked (codes "nroff" ∷ codes "--conditions=11" ∷ codes "--environments=10"
+        ∷ codes "--diversions=9" ∷ codes "--output=8" ∷ codes "--traps=7" ∷ codes "--line=6"
+        ∷ codes "--names=5" ∷ codes "--depth=4" ∷ codes "--stack=3" ∷ codes "--store=2"
+        ∷ codes "--bytes=1" ∷ []) ≡ formats (codes "-" ∷ []) numbered }
     ensures operands { asked (codes "nroff" ∷ codes "--" ∷ codes "--line" ∷ codes "-" ∷ [])
-        ≡ formats (codes "--line" ∷ codes "-" ∷ []) 50000000 4096 }
+        ≡ formats (codes "--line" ∷ codes "-" ∷ []) default_limits }
 {}
 
 /// The faults of command lines.
@@ -29,6 +34,8 @@ pub fn command_line_faults()
     ensures unknown { fault (codes "nroff" ∷ codes "--page" ∷ []) ≡ UnknownArgument ∷ [] }
     ensures no_number { fault (codes "nroff" ∷ codes "--line=x" ∷ []) ≡ ValueValidation ∷ [] }
     ensures too_great { fault (codes "nroff" ∷ codes "--bytes=1000000001" ∷ [])
+        ≡ ValueValidation ∷ [] }
+    ensures too_great_later { fault (codes "nroff" ∷ codes "--conditions=1000000001" ∷ [])
         ≡ ValueValidation ∷ [] }
     ensures no_value { fault (codes "nroff" ∷ codes "--bytes" ∷ []) ≡ InvalidValue ∷ [] }
     ensures twice { fault (codes "nroff" ∷ codes "--line=1" ∷ codes "--line=2" ∷ [])

@@ -1,14 +1,7 @@
 //! The program: it reads its words, opens its files, runs the job and tells how it went.
 
 ghost use Rattle.std.specs.Prelude.{◌≡◌, ◌≢◌, ◌≤◌, ◌⊎◌, true, is_ok, IfOk, IfErr, OnErr, map};
-ghost use Rattle.std.specs.Process.{exit_status};
-ghost use Rattle.clap.specs.Words.{fault_of, kind_of, subcommand_of, takes};
-ghost use Rattle.roff_tools.specs.CommandLine.{AreMistaken, AskForHelp, roff_app};
-ghost use Rattle.roff_tools.specs.Exit.{exit_flushed};
-ghost use Rattle.roff_tools.specs.Inputs.Part.{AreNamed, IsNamed};
-ghost use Rattle.roff_tools.specs.Program.{FormatsAsked};
-ghost use Rattle.roff_tools.specs.RunOver.{Formats, limits_of};
-ghost use Rattle.roff_tools.specs.StartFault.{NamesFile, NamesOneOf};
+ghost use Rattle.roff_tools.specs.Clauses.{AreMistaken, AreNamed, AskForHelp, Formats, FormatsAsked, IsNamed, NamesFile, NamesOneOf, exit_flushed, exit_status, fault_of, kind_of, limits_of, roff_app, subcommand_of, takes};
 
 use crate::command::{Request, STANDARD_INPUT, parse_words};
 use crate::exit::Exit;

@@ -111,7 +111,7 @@ static FILE_ROWS: [Row; 23] = [
 ];
 
 /// What the options of limits do.
-static LIMIT_ROWS: [Row; 23] = [
+static LIMIT_ROWS: [Row; 25] = [
     (
         &["roff", "nroff", "filled", "--bytes", "0"],
         3,
@@ -240,6 +240,30 @@ static LIMIT_ROWS: [Row; 23] = [
         "one\ntwo\n",
         "nroff: line 9: limit line (4) reached\n",
     ),
+    (
+        &[
+            "roff",
+            "nroff",
+            "filled",
+            "--store=0",
+            "--stack=0",
+            "--depth=0",
+            "--names=0",
+            "--traps=0",
+            "--diversions=0",
+            "--environments=0",
+            "--conditions=0",
+        ],
+        0,
+        "ab cd\n",
+        "",
+    ),
+    (
+        &["roff", "nroff", "--output", "6", "filled"],
+        0,
+        "ab cd\n",
+        "",
+    ),
 ];
 
 /// Help and version.
@@ -261,7 +285,7 @@ static HELP_ROWS: [Row; 9] = [
 ];
 
 /// Mistakes on the command line.
-static MISTAKE_ROWS: [Row; 17] = [
+static MISTAKE_ROWS: [Row; 18] = [
     (&["roff"], 1, "", texts::NO_COMMAND),
     (&["roff", "troff"], 1, "", texts::WRONG_COMMAND),
     (&["roff", "one"], 1, "", texts::NO_SUCH_COMMAND),
@@ -307,6 +331,12 @@ static MISTAKE_ROWS: [Row; 17] = [
         1,
         "",
         texts::LINE_ABOVE_RANGE,
+    ),
+    (
+        &["roff", "nroff", "--conditions=1000000001"],
+        1,
+        "",
+        texts::LAST_ABOVE_RANGE,
     ),
     (
         &["roff", "nroff", "--line=1", "--line=2"],

@@ -35,12 +35,22 @@ Arguments:
   [FILE]...  Files to be read; '-' is standard input [default: -]
 
 Options:
-      --bytes <N>  Stop after N bytes of input [default: 50000000]
-      --line <N>   Longest pending output line, in bytes [default: 4096]
-  -h, --help       Print help
+      --bytes <N>         Most bytes read [default: 50000000]
+      --store <N>         Most bytes of strings and macros [default: 1048576]
+      --stack <N>         Most inserted bytes not yet read [default: 262144]
+      --depth <N>         Most inserted texts not yet ended [default: 200]
+      --names <N>         Most names, and as many registers [default: 2000]
+      --line <N>          Most bytes of a pending line or title [default: 4096]
+      --traps <N>         Most page traps planted [default: 64]
+      --output <N>        Most bytes of output [default: 200000000]
+      --diversions <N>    Most diversions open at once [default: 16]
+      --environments <N>  Most environments not gone back from [default: 32]
+      --conditions <N>    Most conditions that wait for .el [default: 64]
+  -h, --help              Print help
 
 nroff fills lines with the words of its input, and obeys its control lines, which
-begin with a period or an apostrophe. Each N is a number from 0 to 1000000000.
+begin with a period or an apostrophe. Each N is a number from 0 to 1000000000; a
+run stops, with status 3, before it would pass one.
 
 Files are read one after another as one input; all are opened before the first
 is read. '-', or no file at all, is standard input. Text is written on standard
@@ -135,9 +145,9 @@ For more information, try '--help'.
 pub const NO_VERSION: &str = "\
 error: unexpected argument '--version' found
 
-  tip: to pass '--version' as a value, use '-- --version'
+  tip: a similar argument exists: '--diversions'
 
-Usage: roff nroff [OPTIONS] [FILE]...
+Usage: roff nroff --diversions <N> [FILE]...
 
 For more information, try '--help'.
 ";
@@ -170,6 +180,12 @@ For more information, try '--help'.
 
 pub const LINE_ABOVE_RANGE: &str = "\
 error: invalid value '1000000001' for '--line <N>': 1000000001 is not in 0..=1000000000
+
+For more information, try '--help'.
+";
+
+pub const LAST_ABOVE_RANGE: &str = "\
+error: invalid value '1000000001' for '--conditions <N>': 1000000001 is not in 0..=1000000000
 
 For more information, try '--help'.
 ";

@@ -32,6 +32,10 @@ pub returns-clause-too_great : goal.returns-clause-too_great
 unfolding clap_on_literals roff_app nroff_app digits
 returns-clause-too_great c = refl
 
+pub returns-clause-too_great_later : goal.returns-clause-too_great_later
+unfolding clap_on_literals roff_app nroff_app digits
+returns-clause-too_great_later c = refl
+
 pub returns-clause-no_value : goal.returns-clause-no_value
 unfolding clap_on_literals roff_app nroff_app digits
 returns-clause-no_value c = refl

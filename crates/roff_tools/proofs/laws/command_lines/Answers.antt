@@ -16,6 +16,10 @@ pub returns-clause-greatest : goal.returns-clause-greatest
 unfolding clap_on_literals roff_app nroff_app digits
 returns-clause-greatest c = refl
 
+pub returns-clause-all : goal.returns-clause-all
+unfolding clap_on_literals roff_app nroff_app digits
+returns-clause-all c = refl
+
 pub returns-clause-operands : goal.returns-clause-operands
 unfolding clap_on_literals roff_app nroff_app digits
 returns-clause-operands c = refl
