@@ -1,6 +1,7 @@
 //! Sources of bytes, and what the bytes of a document are.
 #![tactic(auto)]
 
+mod arguments;
 mod bytes;
 mod half;
 pub mod half_laws;
@@ -8,6 +9,7 @@ mod halves;
 mod source;
 mod unread;
 
+pub use arguments::Place;
 pub use bytes::{is_dropped, is_silent};
 pub use half::{CopyUnit, Half, NamePart, Read};
 pub use source::{ByteSource, Note, ReadSource, Taken};

@@ -1,0 +1,16 @@
+pub mod Leads
+pub mod Beginnings
+pub mod PerformedOrStopped
+pub mod Readings
+pub mod Keeping
+pub mod StepsAppend
+pub mod StepsOnlyCut
+pub mod RunsOnlyCut
+pub mod RunsStayWithin
+pub mod Endings
+pub mod ResultsOnlyCut
+pub mod Taking
+pub mod StatusesTell
+pub mod RunsAppend
+pub mod RequestTable
+pub mod Numbering

@@ -1,0 +1,221 @@
+-- What is being read, and what each byte means there (manual, sections 1.1, 4.1, 8 and 10.1).
+use Rattle.std.specs.Prelude.{ℕ, ◌+◌, Bool, true, false, ◌||◌, List, [], ◌∷◌, ◌++◌, reverse, min, Some, None, Option, if◌then◌else◌, ◌==◌}
+use Rattle.roff_lines.specs.declared.event.Event.TheVariants.{Print, WordEnd, Gap, LineEnd, Break}
+use Rattle.roff_lines.specs.declared.glyph.Glyph.{Glyph}
+use Rattle.roff_lines.specs.declared.glyph.Glyph.TheVariants.{Printed, Blanks}
+use Rattle.roff_scan.specs.Arguments.{no_arguments, with_unit, settled, finished, only_kept}
+use Rattle.roff_scan.specs.Bytes.{newline, blank, apostrophe, dot, backslash, is_silent, is_dropped}
+use Rattle.roff_scan.specs.Halves.{Reads, byte_read, reading_ended}
+use Rattle.roff_scan.specs.Input.{Input, pushing}
+use Rattle.roff_scan.specs.declared.half.CopyUnit.{CopyUnit}
+use Rattle.roff_scan.specs.declared.half.CopyUnit.TheVariants.{Byte, Kept}
+use Rattle.roff_scan.specs.declared.half.Read.{Read}
+use Rattle.roff_scan.specs.declared.half.Read.TheVariants.{GoesOn, Unit, Escape, Asks}
+use Rattle.roff_store.specs.declared.register.Direction.{Direction}
+use Rattle.roff_run.specs.declared.reading.Reading.{Reading}
+use Rattle.roff_run.specs.declared.reading.Reading.TheVariants.{LineStart, Text as InText, Control, Name, Arguments as InArguments, Dropped}
+use Rattle.roff_run.specs.declared.reading.TextLine.{TextLine}
+use Rattle.roff_run.specs.declared.request.Request.{Request}
+use Rattle.roff_run.specs.declared.request.LineReading.{LineReading}
+use Rattle.roff_run.specs.declared.request.LineReading.TheVariants.{ByArguments}
+use Rattle.roff_run.specs.Registers.{Known, known_behind, step_changes, step_messages, text_of_register}
+use Rattle.roff_run.specs.Requests.{PageEvent, Text, Space, Effect, doing, row_of, request_named, request_effect}
+
+-- the input, as a run of the formatter has it
+abbrev pub PageInput : Type 0
+PageInput = Input PageEvent
+
+-- what one item does: the input and what is read behind it, and what it means
+pub record Taking : Type 0 where
+  pub input : PageInput
+  pub reading : Reading
+  pub effect : Effect
+
+-- this is read on, and nothing is meant yet
+abbrev pub going_on : PageInput → Reading → Taking
+going_on i reading = record { input = i; reading = reading; effect = doing [] }
+
+-- this is read on behind some events
+abbrev pub meaning_events : PageInput → Reading → List PageEvent → Taking
+meaning_events i reading events = record { input = i; reading = reading; effect = doing events }
+
+-- a text line on which nothing stands
+abbrev pub fresh_line : TextLine
+fresh_line = record { has_glyph = false; has_other = false; leading = 0 }
+
+-- a line of blanks alone: a break and a blank line
+abbrev pub blank_line : List PageEvent
+blank_line = Text WordEnd ∷ Text Break ∷ Space 1 ∷ []
+
+-- the end of a text line
+abbrev pub text_line_end : TextLine → List PageEvent
+text_line_end line = if line.has_glyph || line.has_other then Text WordEnd ∷ Text LineEnd ∷ [] else blank_line
+
+-- the leading blanks, as a glyph of their own
+abbrev pub leading_glyph : ℕ → List PageEvent
+leading_glyph n = if n == 0 then [] else Text (Print (Blanks n)) ∷ []
+
+-- a blank behind so many others at a line's beginning: the first of them is a break
+abbrev pub leading_blank_events : ℕ → List PageEvent
+leading_blank_events before = if before == 0 then Text WordEnd ∷ Text Break ∷ [] else []
+
+-- a glyph of a text line, behind the leading blanks
+abbrev pub glyph_taking : PageInput → TextLine → Glyph → Taking
+glyph_taking i line glyph =
+    meaning_events i (InText (record line { has_glyph = true; leading = 0 })) (leading_glyph line.leading ++ Text (Print glyph) ∷ [])
+
+-- something of a text line that prints nothing, and makes the line more than blanks
+abbrev pub other_taking : PageInput → TextLine → Taking
+other_taking i line = going_on i (InText (record line { has_other = true }))
+
+-- a count of leading blanks above this reads as this
+abbrev pub most_leading : ℕ
+most_leading = 2147483647
+
+-- a blank of a text line: before the first glyph a leading one, and else a gap
+abbrev pub blank_taking : PageInput → TextLine → Taking
+blank_taking i line =
+    if line.has_glyph then meaning_events i (InText line) (Text WordEnd ∷ Text (Gap 1) ∷ [])
+    else meaning_events i (InText (record line { leading = min (line.leading + 1) most_leading })) (leading_blank_events line.leading)
+
+-- a byte of a text line
+abbrev pub text_taking : PageInput → TextLine → ℕ → Taking
+text_taking i line b =
+    if b == newline then meaning_events i LineStart (text_line_end line)
+    else if is_silent b then other_taking i line
+    else if b == blank then blank_taking i line
+    else glyph_taking i line (Printed b)
+
+-- an escape of a text line, by the byte behind its backslash; behind a newline the line goes on
+abbrev pub escape_taking : PageInput → TextLine → ℕ → Taking
+escape_taking i line b =
+    if b == newline then going_on i (InText line)
+    else if is_silent b then other_taking i line
+    else if b == blank || b == 48 then glyph_taking i line (Blanks 1)
+    else if b == 101 then glyph_taking i line (Printed backslash)
+    else glyph_taking i line (Printed b)
+
+-- a register is read in the place of its escape: it is stepped first, and its text is put in front
+abbrev pub interpolating : Known → PageInput → Reading → Option Direction → List ℕ → Taking
+interpolating k i reading step name = record {
+  input = pushing (text_of_register (known_behind (step_changes step name) k) name) i;
+  reading = reading;
+  effect = record { messages = step_messages step name k.registers; changes = step_changes step name; events = [] };
+}
+
+-- what was found of a text line
+abbrev pub text_found : Known → PageInput → TextLine → Read → Taking
+text_found k i line GoesOn = going_on i (InText line)
+text_found k i line (Unit (Byte b)) = text_taking i line b
+text_found k i line (Unit (Kept b)) = escape_taking i line b
+text_found k i line (Escape b) = escape_taking i line b
+text_found k i line (Asks step name) = interpolating k i (InText line) step name
+
+-- what something reads of a text line, with what is half read then
+abbrev pub text_read : Known → PageInput → TextLine → Reads → Taking
+text_read k i line r = text_found k (record i { half = r.1 }) line r.0
+
+-- the arguments of a line that ends here; of an argument without a byte nothing is kept behind the 32nd
+abbrev pub arguments_given : PageInput → List (List ℕ)
+arguments_given i = reverse (only_kept (finished i.arguments)).whole
+
+-- a unit is held
+abbrev pub holding : CopyUnit → PageInput → PageInput
+holding unit i = record i { arguments = only_kept (with_unit i.arguments unit) }
+
+-- the input where no quote follows the quote before
+abbrev pub settling : PageInput → PageInput
+settling i = record i { arguments = only_kept (settled i.arguments) }
+
+-- the end of a request's line: the request is obeyed, and its arguments are released
+abbrev pub line_ended : Known → PageInput → Bool → Request → Taking
+line_ended k i breaks request = record {
+  input = record i { arguments = no_arguments };
+  reading = LineStart;
+  effect = request_effect k breaks request (arguments_given i);
+}
+
+-- a unit behind a request's name is held; a newline ends the line
+abbrev pub unit_found : Known → PageInput → Bool → Request → CopyUnit → Taking
+unit_found k i breaks request (Byte b) =
+    if b == newline then line_ended k i breaks request
+    else going_on (holding (Byte b) i) (InArguments breaks request)
+unit_found k i breaks request (Kept b) = going_on (holding (Kept b) i) (InArguments breaks request)
+
+-- what was found behind a request's name: an escape's beginning is no quote
+abbrev pub arguments_found : Known → PageInput → Bool → Request → Read → Taking
+arguments_found k i breaks request GoesOn = going_on (settling i) (InArguments breaks request)
+arguments_found k i breaks request (Unit unit) = unit_found k i breaks request unit
+arguments_found k i breaks request (Escape b) = unit_found k i breaks request (Kept b)
+arguments_found k i breaks request (Asks step name) = interpolating k (settling i) (InArguments breaks request) step name
+
+-- what something reads behind a request's name, with what is half read then
+abbrev pub arguments_read_on : Known → PageInput → Bool → Request → Reads → Taking
+arguments_read_on k i breaks request r = arguments_found k (record i { half = r.1 }) breaks request r.0
+
+-- a byte of a dropped line
+abbrev pub dropped_taking : PageInput → ℕ → Taking
+dropped_taking i b = going_on i (if b == newline then LineStart else Dropped)
+
+-- whether a byte ends a name, and doesn't belong to it
+abbrev pub ends_name : ℕ → Bool
+ends_name b = b == blank || (b == newline || b == backslash)
+
+-- the first byte behind a request's name, by how its line is read
+abbrev pub line_taking : Known → PageInput → Bool → Request → LineReading → ℕ → Taking
+line_taking k i breaks request ByArguments b = arguments_read_on k i breaks request (byte_read false i.half b)
+
+-- a byte behind a name that it doesn't belong to: the line of an unknown name is dropped
+abbrev pub name_ended_taking : Known → PageInput → Bool → List ℕ → ℕ → Taking
+name_ended_taking k i breaks name b = elim (request_named name) [
+  | None ↦ dropped_taking i b
+  | Some request ↦ line_taking k i breaks request (row_of request).line b
+]
+
+-- what is read behind a request's name, by how its line is read
+abbrev pub behind_name : Bool → Request → LineReading → Reading
+behind_name breaks request ByArguments = InArguments breaks request
+
+-- the last byte of a name of two bytes
+abbrev pub name_whole_taking : PageInput → Bool → List ℕ → Taking
+name_whole_taking i breaks name = elim (request_named name) [
+  | None ↦ going_on i Dropped
+  | Some request ↦ going_on i (behind_name breaks request (row_of request).line)
+]
+
+-- a byte that isn't dropped
+abbrev pub kept_taking : Known → Reading → PageInput → ℕ → Taking
+kept_taking k LineStart i b =
+    if b == dot then going_on i (Control true)
+    else if b == apostrophe then going_on i (Control false)
+    else text_read k i fresh_line (byte_read true i.half b)
+kept_taking k (InText line) i b = text_read k i line (byte_read true i.half b)
+kept_taking k (Control breaks) i b =
+    if b == blank then going_on i (Control breaks)
+    else if ends_name b then dropped_taking i b
+    else going_on i (Name breaks b)
+kept_taking k (Name breaks first) i b =
+    if ends_name b then name_ended_taking k i breaks (first ∷ []) b
+    else name_whole_taking i breaks (first ∷ b ∷ [])
+kept_taking k (InArguments breaks request) i b = arguments_read_on k i breaks request (byte_read false i.half b)
+kept_taking k Dropped i b = dropped_taking i b
+
+-- what isn't a byte of the line: no quote follows the quote before it
+abbrev pub interrupted : Reading → PageInput → PageInput
+interrupted (InArguments breaks request) i = settling i
+interrupted (_) i = i
+
+-- what a byte does where this is being read
+abbrev pub taking : Known → Reading → PageInput → ℕ → Taking
+taking k reading i b = if is_dropped b then going_on (interrupted reading i) reading else kept_taking k reading i b
+
+-- what is half read ends before a newline that stays, or at the input's end
+abbrev pub half_ended : Known → Reading → PageInput → Taking
+half_ended k (InText line) i = text_read k i line (reading_ended true i.half)
+half_ended k (InArguments breaks request) i = arguments_read_on k i breaks request (reading_ended false i.half)
+half_ended k reading i = going_on (record i { half = (reading_ended true i.half).1 }) reading
+
+-- the end of the input: an unfinished line ends as by a newline
+abbrev pub end_taking : Known → Reading → PageInput → Taking
+end_taking k LineStart i = going_on i LineStart
+end_taking k reading i = kept_taking k reading i newline

@@ -1,0 +1,141 @@
+-- The number registers of a run: those that a document sets, the page number, and the read-only ones (manual,
+-- section 8 and the lists of registers before section 1).
+use Rattle.std.specs.Prelude.{ℕ, ◌*◌, Bool, ◌&&◌, not, List, [], ◌∷◌, ℤ, bytes_eq, codes, decimal, find, fold, min, is_some, option_map, Option, Some, None, if◌then◌else◌}
+use Rattle.roff_lines.specs.declared.settings.Settings.{Settings}
+use Rattle.roff_num.specs.Ranges.{is_in_range}
+use Rattle.roff_num.specs.RegisterText.{register_text}
+use Rattle.roff_num.specs.declared.format.Format.{Format}
+use Rattle.roff_num.specs.declared.num.Num.{Num}
+use Rattle.roff_store.specs.Named.{without_entry}
+use Rattle.roff_store.specs.Registers.{Registers, register_of, unset_register, next_value, with_setting, with_format, with_step}
+use Rattle.roff_store.specs.declared.register.Direction.{Direction}
+use Rattle.roff_store.specs.declared.register.Register.{Register}
+use Rattle.roff_run.specs.declared.message.Message.{Message}
+use Rattle.roff_run.specs.declared.message.Message.TheVariants.{BadNumber}
+use Rattle.roff_run.specs.declared.registers.Query.{Query}
+use Rattle.roff_run.specs.declared.registers.Query.TheVariants.{Newlines, Indent, LineLength, LastWidth, Filling, LineSpacing, ColumnWidth, Later}
+pub mod Capped
+pub mod Kept
+pub mod Coded
+
+-- the registers that can be set: those by name, and the page number `%`, which always is one
+pub record AllRegisters : Type 0 where
+  pub named : Registers
+  pub page : Register
+
+-- at first none is set, and the page number is 0
+abbrev pub no_registers : AllRegisters
+no_registers = record { named = []; page = unset_register }
+
+-- all that a request or an escape may ask of the run
+pub record Known : Type 0 where
+  pub settings : Settings
+  pub registers : AllRegisters
+  -- the newlines taken of the source
+  pub newlines : ℕ
+  -- the width of the last finished line, in columns
+  pub last_width : ℕ
+
+-- the read-only registers, each with what it asks for; those whose part isn't built yet are 0
+abbrev pub read_only : List (List ℕ × Query)
+read_only =
+    (codes ".c", Newlines) ∷ (codes ".i", Indent) ∷ (codes ".l", LineLength) ∷ (codes ".n", LastWidth)
+    ∷ (codes ".u", Filling) ∷ (codes ".v", LineSpacing) ∷ (codes ".V", LineSpacing) ∷ (codes ".H", ColumnWidth)
+    ∷ (codes ".$", Later) ∷ (codes ".d", Later) ∷ (codes ".o", Later) ∷ (codes ".p", Later) ∷ (codes ".t", Later)
+    ∷ (codes ".z", Later) ∷ (codes "nl", Later) ∷ (codes "dn", Later) ∷ (codes "dl", Later)
+    ∷ []
+
+-- what a read-only register asks for, if a name is one's
+abbrev pub query_of : List ℕ → Option Query
+query_of name = option_map (λ row. row.1) (find (λ row. bytes_eq name row.0) read_only)
+
+-- a width in columns, in basic units
+abbrev pub in_units : ℕ → ℕ
+in_units columns = 24 * columns
+
+-- what is known about that, in basic units where it is a length
+abbrev pub answer : Known → Query → ℕ
+answer k Newlines = k.newlines
+answer k Indent = in_units k.settings.indent
+answer k LineLength = in_units k.settings.line_length
+answer k LastWidth = in_units k.last_width
+answer k Filling = if k.settings.filling then 1 else 0
+answer k LineSpacing = 40
+answer k ColumnWidth = 24
+answer k Later = 0
+
+-- a count above the greatest number reads as that
+abbrev pub greatest_number : ℕ
+greatest_number = 2147483647
+
+-- whether a name is the page number's
+abbrev pub is_page : List ℕ → Bool
+is_page name = bytes_eq name (codes "%")
+
+-- the register that a name reads as, if it isn't read-only
+abbrev pub settable : List ℕ → AllRegisters → Register
+settable name rs = if is_page name then rs.page else register_of name rs.named
+
+-- the text that the escape `\n` gives: a read-only value is written in plain decimal
+abbrev pub text_of_register : Known → List ℕ → List ℕ
+text_of_register k name = elim (query_of name) [
+  | Some query ↦ decimal (min (answer k query) greatest_number)
+  | None ↦ let r : Register = settable name k.registers in register_text r.format r.value.0
+]
+
+-- a change of the registers; one of a read-only register changes nothing
+pub data Change : Type 0 where
+  -- `nr`: a value and an increment
+  SetTo : (name : List ℕ) (value increment : Num) → Change
+  -- `af`: a format
+  FormatAs : (name : List ℕ) (format : Format) → Change
+  -- `rr`: these go; the page number stays
+  Remove : (names : List (List ℕ)) → Change
+  -- `\n+x`, `\n-x`: a step, if it isn't out of range
+  StepBy : (name : List ℕ) (direction : Direction) → Change
+
+-- the page number stepped, if the step isn't out of range
+abbrev pub stepped_page : Direction → Register → Register
+stepped_page direction r =
+    if is_in_range (next_value direction r) then record r { value = record { 0 = next_value direction r } } else r
+
+-- the page number's register or another, changed so
+abbrev pub changing_one : List ℕ → (Register → Register) → (Registers → Registers) → AllRegisters → AllRegisters
+changing_one name page others rs =
+    if is_some (query_of name) then rs
+    else if is_page name then record rs { page = page rs.page }
+    else record rs { named = others rs.named }
+
+-- the registers behind a change
+abbrev pub changed_by : Change → AllRegisters → AllRegisters
+changed_by (SetTo name value increment) rs =
+    changing_one name (λ r. record r { value = value; increment = increment }) (with_setting name value increment) rs
+changed_by (FormatAs name format) rs =
+    changing_one name (λ r. record r { format = format }) (with_format name format) rs
+changed_by (Remove names) rs = record rs { named = fold (λ named name. without_entry name named) rs.named names }
+changed_by (StepBy name direction) rs =
+    changing_one name (stepped_page direction) (with_step direction name) rs
+
+-- behind some changes, one after another
+abbrev pub changed_by_all : List Change → AllRegisters → AllRegisters
+changed_by_all [] rs = rs
+changed_by_all (c ∷ cs) rs = changed_by_all cs (changed_by c rs)
+
+-- whether a step would be out of range; a read-only register isn't stepped
+abbrev pub is_step_out_of_range : Direction → List ℕ → AllRegisters → Bool
+is_step_out_of_range direction name rs =
+    not (is_some (query_of name)) && not (is_in_range (next_value direction (settable name rs)))
+
+-- what is known behind some changes
+abbrev pub known_behind : List Change → Known → Known
+known_behind changes k = record k { registers = changed_by_all changes k.registers }
+
+-- the step that an escape makes, if it makes one
+abbrev pub step_changes : Option Direction → List ℕ → List Change
+step_changes None name = []
+step_changes (Some direction) name = StepBy name direction ∷ []
+
+-- what is said of it
+abbrev pub step_messages : Option Direction → List ℕ → AllRegisters → List Message
+step_messages None name rs = []
+step_messages (Some direction) name rs = if is_step_out_of_range direction name rs then BadNumber ∷ [] else []

@@ -1,0 +1,2 @@
+-- What the code has of the requests, as the definition's.
+pub mod Coded

@@ -1,0 +1,65 @@
+-- The code's table of requests, and what it does, as the definition's.
+use Rattle.std.specs.Prelude.{◌≡◌, ℕ, List, [], ◌∷◌, slice_get, IfSome, Option, Some, None}
+use Rattle.std.specs.Option.{option_copied, option_to_list}
+use Rattle.roff_num.specs.Names.{name_of}
+use Rattle.roff_run.specs.declared.registers.Change.{Change as CodedChange}
+use Rattle.roff_run.specs.declared.registers.Change.TheVariants.{SetTo as SetsTo, FormatAs as FormatsAs}
+use Rattle.roff_run.specs.declared.request.Given.{Given}
+use Rattle.roff_run.specs.declared.request.Request.{Request}
+use Rattle.roff_run.specs.declared.request.Row.{Row as CodedRow}
+use Rattle.roff_run.specs.declared.request.effects.Changes.{Changes}
+use Rattle.roff_run.specs.declared.request.effects.Changes.TheVariants.{Nothing, One, RemoveGiven}
+use Rattle.roff_run.specs.declared.request.effects.Done.{Done as CodedDone}
+use Rattle.roff_run.specs.declared.request.effects.Done.TheVariants.{Ignored as IgnoredWith, Does as DoesWith}
+use Rattle.roff_run.specs.declared.request.effects.Effect.{Effect as CodedEffect}
+use Rattle.roff_run.specs.declared.request.effects.Known.{Known as CodedKnown}
+use Rattle.roff_run.specs.Registers.{Known, Change, SetTo, FormatAs, Remove, settable}
+use Rattle.roff_run.specs.Requests.{Row, row_of, Done, Ignored, Does, Effect}
+use Rattle.roff_run.specs.Requests.Numbering.{name_given, names_given}
+
+-- the row that the code's table has for a request
+abbrev pub coded_row : Request → CodedRow
+coded_row request =
+    let row : Row = row_of request in
+    record { name = row.name; request = request; line = row.line; breaks = row.breaks }
+
+-- the code was given the first of these arguments
+pub record GivesFirst (as_given : List (List ℕ)) (given : Given) : Type 0 where
+  pub first : option_copied given.first ≡ slice_get as_given 0
+  pub second : option_copied given.second ≡ slice_get as_given 1
+  pub third : option_copied given.third ≡ slice_get as_given 2
+
+-- the register that the first argument names, if it names one
+abbrev pub register_named : List (List ℕ) → Option (List ℕ)
+register_named [] = None
+register_named (text ∷ others) = name_of (name_given text)
+
+-- the code knows what a request asks for: the settings, and the value of the register that the first argument names
+pub record KnowsOf (k : Known) (as_given : List (List ℕ)) (known : CodedKnown) : Type 0 where
+  pub settings : known.settings ≡ k.settings
+  pub in_force : IfSome (register_named as_given) (λ name. known.in_force ≡ (settable name k.registers).value)
+
+-- a change of one register
+abbrev pub change_of : CodedChange → Change
+change_of (SetsTo name value increment) = SetTo name value increment
+change_of (FormatsAs name format) = FormatAs name format
+
+-- the changes that a request makes, given these arguments
+abbrev pub changes_of : List (List ℕ) → Changes → List Change
+changes_of as_given Nothing = []
+changes_of as_given (One change) = change_of change ∷ []
+changes_of as_given RemoveGiven = Remove (names_given as_given) ∷ []
+
+-- what a request did in the code, given these arguments
+abbrev pub done_of : List (List ℕ) → CodedDone → Done
+done_of as_given (IgnoredWith message) = Ignored (option_to_list message)
+done_of as_given (DoesWith message changes events) =
+    Does (option_to_list message) (changes_of as_given changes) events.items
+
+-- what it means there
+abbrev pub effect_of : List (List ℕ) → CodedEffect → Effect
+effect_of as_given e = record {
+  messages = option_to_list e.message;
+  changes = changes_of as_given e.changes;
+  events = e.events.items;
+}

@@ -1,0 +1,64 @@
+-- The requests, as in the manual's alphabetical list of requests and sections.
+use Rattle.std.specs.Prelude.{ℕ, Bool, true, false, List, [], ◌∷◌, bytes_eq, codes, find, Option, ◌&&◌}
+use Rattle.roff_lines.specs.declared.settings.Param.TheVariants.{Filling, Adjusting}
+pub use Rattle.roff_run.specs.declared.event.PageEvent.{PageEvent}
+pub use Rattle.roff_run.specs.declared.event.PageEvent.TheVariants.{Text, Space}
+pub use Rattle.roff_run.specs.Registers.{Known}
+use Rattle.roff_run.specs.declared.request.LineReading.{LineReading}
+use Rattle.roff_run.specs.declared.request.LineReading.TheVariants.{ByArguments}
+use Rattle.roff_run.specs.declared.request.Request.{Request}
+use Rattle.roff_run.specs.declared.request.Request.TheVariants.{Adjust, AssignFormat, Break, Fill, Indent, LineLength, NoAdjust, NoFill, NumberRegister, RemoveRegisters, Space as SpaceDown}
+pub use Rattle.roff_run.specs.Requests.Effects.{Effect, doing, Done, Ignored, Does, nothing, setting, meant_by}
+use Rattle.roff_run.specs.Requests.Adjustment.{adjust}
+use Rattle.roff_run.specs.Requests.Spacing.{space_down}
+use Rattle.roff_run.specs.Requests.Lengths.{line_length, indent}
+use Rattle.roff_run.specs.Requests.Numbering.{assign_format, set_register, remove_registers}
+pub mod Effects
+pub mod Adjustment
+pub mod Spacing
+pub mod Lengths
+pub mod Numbering
+
+-- a request's name, how its line is read, whether it breaks, and what it does with its arguments
+pub record Row : Type 0 where
+  pub name : List ℕ
+  pub line : LineReading
+  pub breaks : Bool
+  pub does : Known → List (List ℕ) → Done
+
+-- a row, as it stands in the table
+abbrev pub row : List ℕ → LineReading → Bool → (Known → List (List ℕ) → Done) → Row
+row name line breaks does = record { name = name; line = line; breaks = breaks; does = does }
+
+-- the same, whatever is known and given
+abbrev pub always : Done → Known → List (List ℕ) → Done
+always done known as_given = done
+
+-- the table, in the order of the names, and beside each request the number of its section
+abbrev pub row_of : Request → Row
+row_of Adjust = row (codes "ad") ByArguments false (λ known. adjust)  -- section 4
+row_of AssignFormat = row (codes "af") ByArguments false (λ known. assign_format)  -- section 8
+row_of Break = row (codes "br") ByArguments true (always nothing)  -- section 4
+row_of Fill = row (codes "fi") ByArguments true (always (setting (Filling true)))  -- section 4
+row_of Indent = row (codes "in") ByArguments true indent  -- section 6
+row_of LineLength = row (codes "ll") ByArguments false line_length  -- section 6
+row_of NoAdjust = row (codes "na") ByArguments false (always (setting (Adjusting false)))  -- section 4
+row_of NoFill = row (codes "nf") ByArguments true (always (setting (Filling false)))  -- section 4
+row_of NumberRegister = row (codes "nr") ByArguments false set_register  -- section 8
+row_of RemoveRegisters = row (codes "rr") ByArguments false (λ known. remove_registers)  -- section 8
+row_of SpaceDown = row (codes "sp") ByArguments true (λ known. space_down)  -- section 5
+
+-- all requests, in the order of the table
+abbrev pub requests : List Request
+requests =
+    Adjust ∷ AssignFormat ∷ Break ∷ Fill ∷ Indent ∷ LineLength ∷ NoAdjust ∷ NoFill ∷ NumberRegister ∷ RemoveRegisters
+    ∷ SpaceDown ∷ []
+
+-- the request of a name
+abbrev pub request_named : List ℕ → Option Request
+request_named name = find (λ request. bytes_eq (row_of request).name name) requests
+
+-- what a request means: it breaks if its row says so and a dot called it
+abbrev pub request_effect : Known → Bool → Request → List (List ℕ) → Effect
+request_effect known breaks request as_given =
+    let row : Row = row_of request in meant_by (breaks && row.breaks) (row.does known as_given)

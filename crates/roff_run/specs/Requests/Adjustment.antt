@@ -1,0 +1,33 @@
+-- Adjusting (manual, section 4).
+use Rattle.std.specs.Prelude.{ℕ, true, List, [], ◌∷◌, Option, Some, None, if◌then◌else◌, ◌==◌}
+use Rattle.roff_lines.specs.declared.event.Event.TheVariants.{Set}
+use Rattle.roff_lines.specs.declared.settings.AdjustMode.{AdjustMode}
+use Rattle.roff_lines.specs.declared.settings.AdjustMode.TheVariants.{Left, Right, Centre, Both}
+use Rattle.roff_lines.specs.declared.settings.Param.TheVariants.{Adjusting, Mode}
+use Rattle.roff_run.specs.declared.event.PageEvent.TheVariants.{Text}
+use Rattle.roff_run.specs.Requests.Effects.{Done, Does, setting}
+
+-- the mode of adjusting that a letter stands for
+abbrev pub mode_named : ℕ → Option AdjustMode
+mode_named c =
+    if c == 108 then Some Left
+    else if c == 114 then Some Right
+    else if c == 99 then Some Centre
+    else if c == 98 then Some Both
+    else if c == 110 then Some Both
+    else None
+
+-- the mode that the first letter of the first argument stands for
+abbrev pub mode_wanted : List (List ℕ) → Option AdjustMode
+mode_wanted [] = None
+mode_wanted ([] ∷ as_given) = None
+mode_wanted ((c ∷ letters) ∷ as_given) = mode_named c
+
+-- adjusting on, in a mode or in the one in force
+abbrev pub adjusting_in : Option AdjustMode → Done
+adjusting_in None = setting (Adjusting true)
+adjusting_in (Some mode) = Does [] [] (Text (Set (Mode mode)) ∷ Text (Set (Adjusting true)) ∷ [])
+
+-- `ad`: the mode is that of the argument, if it names one
+abbrev pub adjust : List (List ℕ) → Done
+adjust as_given = adjusting_in (mode_wanted as_given)

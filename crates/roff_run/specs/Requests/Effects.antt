@@ -1,0 +1,56 @@
+-- What a request does, and what that means for the registers and the page.
+use Rattle.std.specs.Prelude.{Bool, List, [], ◌∷◌, if◌then◌else◌}
+use Rattle.roff_lines.specs.declared.event.Event.TheVariants.{WordEnd, Break, Set}
+use Rattle.roff_lines.specs.declared.settings.Param.{Param}
+use Rattle.roff_run.specs.declared.event.PageEvent.{PageEvent}
+use Rattle.roff_run.specs.declared.event.PageEvent.TheVariants.{Text}
+use Rattle.roff_run.specs.declared.message.Message.{Message}
+use Rattle.roff_run.specs.declared.message.Message.TheVariants.{BadNumber, BadFormat}
+use Rattle.roff_run.specs.Registers.{Change}
+
+-- what a byte or a request means: messages, changes of registers, and then events
+pub record Effect : Type 0 where
+  pub messages : List Message
+  pub changes : List Change
+  pub events : List PageEvent
+
+-- events alone
+abbrev pub doing : List PageEvent → Effect
+doing events = record { messages = []; changes = []; events = events }
+
+-- what a request does with its arguments
+pub data Done : Type 0 where
+  -- it is ignored, and says why
+  Ignored : (messages : List Message) → Done
+  -- it says this, the registers change so, and this happens behind its break
+  Does : (messages : List Message) (changes : List Change) (events : List PageEvent) → Done
+
+-- nothing happens behind its break
+abbrev pub nothing : Done
+nothing = Does [] [] []
+
+-- a parameter is set
+abbrev pub setting : Param → Done
+setting p = Does [] [] (Text (Set p) ∷ [])
+
+-- a register changes
+abbrev pub changing : Change → Done
+changing change = Does [] (change ∷ []) []
+
+-- an argument isn't a number, or is out of range
+abbrev pub bad_number : Done
+bad_number = Ignored (BadNumber ∷ [])
+
+-- an argument isn't a format
+abbrev pub bad_format : Done
+bad_format = Ignored (BadFormat ∷ [])
+
+-- a break in front of some events, if there is one
+abbrev pub behind_break : Bool → List PageEvent → List PageEvent
+behind_break breaks events = if breaks then Text WordEnd ∷ Text Break ∷ events else events
+
+-- what a request means by what it did: it breaks, if its row has it so, unless it is ignored
+abbrev pub meant_by : Bool → Done → Effect
+meant_by breaks (Ignored messages) = record { messages = messages; changes = []; events = [] }
+meant_by breaks (Does messages changes events) =
+    record { messages = messages; changes = changes; events = behind_break breaks events }

@@ -1,0 +1,41 @@
+-- What a run gives on a small text: worked rows are computed with these.
+use Rattle.std.specs.Prelude.{ℕ, List, map, take, Option, Some}
+use Rattle.roff_run.specs.declared.status.Status.{Status}
+use Rattle.roff_num.specs.LimitValues.{default_limits}
+use Rattle.roff_num.specs.declared.limits.Limits.{Limits}
+use Rattle.roff_run.specs.Results.{last_state}
+use Rattle.roff_run.specs.Run.{State, output, reported}
+use Rattle.roff_scan.specs.Tape.{OneByte, Ending, Ended, Failed}
+
+-- what a run gave: the output, the messages, and the status that it ended with
+pub record Result : Type 0 where
+  pub text : List ℕ
+  pub messages : List ℕ
+  pub status : Option Status
+
+-- a run that ended with this status
+abbrev pub gives : List ℕ → List ℕ → Status → Result
+gives text messages status = record { text = text; messages = messages; status = Some status }
+
+-- what a run over a text gives
+abbrev pub result_of : Limits → List ℕ → Ending → Result
+result_of l text ending =
+    let s : State = last_state l (record { items = map OneByte text; ending = ending }) in
+    record { text = output s; messages = reported s; status = s.ended }
+
+-- with the limits as they are without an option
+abbrev pub formatted : List ℕ → Result
+formatted text = result_of default_limits text Ended
+
+-- with these limits on the bytes, and on the pending line
+abbrev pub formatted_within : ℕ → ℕ → List ℕ → Result
+formatted_within bytes line text = result_of (record default_limits { bytes = bytes; line = line }) text Ended
+
+-- with these limits on the pushed bytes, the pushed texts and the registers
+abbrev pub formatted_with : ℕ → ℕ → ℕ → List ℕ → Result
+formatted_with stack depth names text =
+    result_of (record default_limits { stack = stack; depth = depth; names = names }) text Ended
+
+-- where the source fails after so many bytes
+abbrev pub formatted_failing : ℕ → List ℕ → Result
+formatted_failing count text = result_of default_limits (take count text) Failed

@@ -1,0 +1,246 @@
+-- The run: a machine of small steps over the source's tape.
+use Rattle.std.specs.Prelude.{◌≡◌, ℕ, zero, suc, ◌+◌, Bool, true, false, List, [], ◌∷◌, ◌++◌, length, nat_lt, Option, Some, None, if◌then◌else◌, ◌==◌}
+use Rattle.roff_lines.specs.Events.{settings_after}
+use Rattle.roff_lines.specs.LastLine.{last_width}
+use Rattle.roff_lines.specs.Lines.{pending_length}
+use Rattle.roff_lines.specs.declared.event.Event.TheVariants.{WordEnd, Break}
+use Rattle.roff_num.specs.LimitValues.{value_of}
+use Rattle.roff_num.specs.declared.limit.Limit.{Limit}
+use Rattle.roff_num.specs.declared.limit.Limit.TheVariants.{Bytes, Names, Stack, Depth, Line}
+use Rattle.roff_num.specs.declared.limits.Limits.{Limits}
+use Rattle.roff_scan.specs.Bytes.{newline}
+use Rattle.roff_scan.specs.Halves.{newline_stays}
+use Rattle.roff_scan.specs.Input.{Ahead, ByteAhead, FreeAhead, EndAhead, DoAhead, initial_input, pushed, depth, cost, item_taken, counting}
+use Rattle.roff_scan.specs.Tape.{Tape, Answer, OneByte, OneNote, Ended, Failed, Stopped, Gives, Ends, front, behind_front}
+use Rattle.roff_scan.specs.Unread.{Sighted, SeesByte, SeesNothing, SeesNote, SeesEnding, seen_ahead}
+use Rattle.roff_scan.specs.declared.half.Half.{Half}
+use Rattle.roff_run.specs.Messages.{message_line, message_lines}
+use Rattle.roff_run.specs.Output.{PageHistory, text_of, written}
+use Rattle.roff_run.specs.Reading.{PageInput, Taking, taking, half_ended, end_taking, interrupted}
+use Rattle.roff_run.specs.Registers.{AllRegisters, Known, no_registers, changed_by_all}
+use Rattle.roff_run.specs.Requests.{PageEvent, Text, Space, Effect}
+use Rattle.roff_run.specs.declared.message.Message.{Message}
+use Rattle.roff_run.specs.declared.message.Message.TheVariants.{LimitReached, ReadFailed}
+use Rattle.roff_run.specs.declared.reading.Reading.{Reading}
+use Rattle.roff_run.specs.declared.reading.Reading.TheVariants.{LineStart}
+use Rattle.roff_run.specs.declared.status.Status.{Status}
+use Rattle.roff_run.specs.declared.status.Status.TheVariants.{Done, Device, Limit as Limited}
+
+-- a state of the run
+pub record State : Type 0 where
+  -- the source's items not yet taken
+  pub tape : Tape
+  -- what stands ahead of them, what is half read, and what was counted
+  pub input : PageInput
+  -- what is being read
+  pub reading : Reading
+  -- the number registers
+  pub registers : AllRegisters
+  -- the events that the last item means and that are still to be performed
+  pub to_do : List PageEvent
+  -- the events that were performed, the newest first
+  pub history : PageHistory
+  -- the messages, as they are written
+  pub messages : List ℕ
+  -- whether the end of the input was met
+  pub is_closing : Bool
+  -- how the run ended, and the message with which it did, if there is one
+  pub ended : Option Status
+  pub last_message : List ℕ
+
+-- before the first step
+abbrev pub initial : Tape → State
+initial tape = record {
+  tape = tape;
+  input = initial_input;
+  reading = LineStart;
+  registers = no_registers;
+  to_do = [];
+  history = [];
+  messages = [];
+  is_closing = false;
+  ended = None;
+  last_message = [];
+}
+
+-- what a request or an escape may ask behind this history
+abbrev pub known_at : PageHistory → AllRegisters → PageInput → Known
+known_at h rs i = record {
+  settings = settings_after (text_of h);
+  registers = rs;
+  newlines = i.newlines;
+  last_width = last_width (text_of h);
+}
+
+-- the same of a state
+abbrev pub known : State → Known
+known s = known_at s.history s.registers s.input
+
+-- the run ended
+abbrev pub ending_as : Status → State → State
+ending_as status s = record s { ended = Some status }
+
+-- the run ended, and says why
+abbrev pub ending_with : Status → Message → State → State
+ending_with status message s = record s { ended = Some status; last_message = message_line s.input.line message }
+
+-- a limit stopped the run
+abbrev pub stopped_by : Limits → Limit → State → State
+stopped_by l limit s = ending_with (Limited limit) (LimitReached limit (value_of l limit)) s
+
+-- what an item means is to be done: its messages are written, its changes made, and its events stand in front
+abbrev pub meaning : Effect → State → State
+meaning effect s = record s {
+  messages = s.messages ++ message_lines s.input.line effect.messages;
+  registers = changed_by_all effect.changes s.registers;
+  to_do = effect.events ++ s.to_do;
+}
+
+-- the limit on bytes stops one more
+abbrev pub passes_bytes : Limits → PageInput → Bool
+passes_bytes l i = nat_lt l.bytes (i.charge + 1)
+
+-- what an event makes grow, each count as it is behind the event, in the order in which they are looked at
+abbrev pub counts : PageHistory → PageEvent → List (Limit × ℕ)
+counts h (Text e) = (Line, pending_length (e ∷ text_of h)) ∷ []
+counts h (Space lines) = []
+
+-- the first limit that a count is above
+abbrev pub first_passed : Limits → List (Limit × ℕ) → Option Limit
+first_passed l [] = None
+first_passed l (c ∷ cs) = if nat_lt (value_of l c.0) c.1 then Some c.0 else first_passed l cs
+
+-- the limit that an event would pass behind a history, if it would pass one
+abbrev pub refusal : Limits → PageHistory → PageEvent → Option Limit
+refusal l h e = first_passed l (counts h e)
+
+-- what a step does, unless a limit refuses it
+abbrev pub unless_refused : Limits → Option Limit → State → State → State
+unless_refused l None s done = done
+unless_refused l (Some limit) s done = stopped_by l limit s
+
+-- an event is performed, or refused by a limit
+abbrev pub performing : Limits → PageEvent → List PageEvent → State → State
+performing l e rest s = unless_refused l (refusal l s.history e) s (record s { to_do = rest; history = e ∷ s.history })
+
+-- what a step may make grow, as it is behind the step, in the order in which it is looked at
+abbrev pub counts_in : AllRegisters → PageInput → List (Limit × ℕ)
+counts_in rs i = (Names, length rs.named) ∷ (Stack, pushed i) ∷ (Depth, depth i) ∷ []
+
+-- the same of a state
+abbrev pub grown : State → List (Limit × ℕ)
+grown s = counts_in s.registers s.input
+
+-- a step that leads to this state is made, unless a count would pass its limit there
+abbrev pub made : Limits → State → State → State
+made l s done = unless_refused l (first_passed l (grown done)) s done
+
+-- the source has moved on
+abbrev pub moved : State → State
+moved s = record s { tape = behind_front s.tape }
+
+-- what is done with an item: this is read behind it, and its effect is meant
+abbrev pub taken_as : Taking → State → State
+taken_as t s = meaning t.effect (record s { input = t.input; reading = t.reading })
+
+-- a byte does what it does where it is read
+abbrev pub byte_taken : ℕ → State → State
+byte_taken b s = taken_as (taking (known s) s.reading s.input b) s
+
+-- what is half read ends before what stays
+abbrev pub half_ends : State → State
+half_ends s = taken_as (half_ended (known s) s.reading s.input) s
+
+-- the end of the input is met: an unfinished line ends, and then the pending line is placed
+abbrev pub end_met : State → State
+end_met s = taken_as (end_taking (known s) s.reading s.input) (record s { is_closing = true; to_do = Text WordEnd ∷ Text Break ∷ [] })
+
+-- an item ahead of the source was taken: a byte is read, and an event that was put back is to be performed
+abbrev pub ahead_taken : Ahead PageEvent → State → State
+ahead_taken (ByteAhead b) s = byte_taken b s
+ahead_taken (FreeAhead b) s = byte_taken b s
+ahead_taken EndAhead s = s
+ahead_taken (DoAhead e) s = record s { input = interrupted s.reading s.input; to_do = e ∷ [] }
+
+-- an item ahead of the source is taken, at its cost
+abbrev pub taking_ahead : Limits → Ahead PageEvent → List (Ahead PageEvent) → State → State
+taking_ahead l item behind s =
+    if nat_lt l.bytes (s.input.charge + cost item) then stopped_by l Bytes s
+    else made l s (ahead_taken item (record s { input = item_taken item behind s.input }))
+
+-- a byte of the source is taken
+abbrev pub taking_byte : Limits → ℕ → State → State
+taking_byte l b s =
+    if passes_bytes l s.input then stopped_by l Bytes s
+    else made l s (byte_taken b (moved (record s { input = counting b s.input })))
+
+-- the end of the input: what is half read ends first, one after another
+abbrev pub ending_input : Limits → List Half → State → State
+ending_input l [] s = made l s (end_met s)
+ending_input l (first ∷ others) s = made l s (half_ends s)
+
+-- the source was asked, with nothing ahead of it, and answered this. At the limit a byte is looked at and not taken.
+abbrev pub answered : Limits → Answer → State → State
+answered l (Gives (OneByte b)) s = taking_byte l b s
+answered l (Gives (OneNote message)) s = moved (record s { messages = s.messages ++ message })
+answered l (Ends Ended) s = ending_input l s.input.half s
+answered l (Ends Failed) s = ending_with Device ReadFailed s
+answered l (Ends (Stopped limit)) s = ending_as (Limited limit) s
+
+-- the item in front is taken: one ahead, or one of the source
+abbrev pub in_front_taken : Limits → List (Ahead PageEvent) → State → State
+in_front_taken l [] s = answered l (front s.tape) s
+in_front_taken l (item ∷ behind) s = taking_ahead l item behind s
+
+-- what is half read waits for a byte: a newline that is seen stays, and ends it
+abbrev pub byte_seen : Limits → ℕ → State → State
+byte_seen l b s = if b == newline then made l s (half_ends s) else in_front_taken l s.input.ahead s
+
+-- it waits, and the source is seen behind ends of texts alone, and answers this
+abbrev pub awaited_of_source : Limits → Answer → State → State
+awaited_of_source l (Gives (OneByte b)) s = byte_seen l b s
+awaited_of_source l (Gives (OneNote message)) s = moved (record s { messages = s.messages ++ message })
+awaited_of_source l (Ends Ended) s = in_front_taken l s.input.ahead s
+awaited_of_source l (Ends Failed) s = ending_with Device ReadFailed s
+awaited_of_source l (Ends (Stopped limit)) s = ending_as (Limited limit) s
+
+-- it waits, and this is seen ahead of the source, or of the source behind ends of texts alone
+abbrev pub awaited : Limits → Option Sighted → State → State
+awaited l (Some (SeesByte b)) s = byte_seen l b s
+awaited l (Some SeesNothing) s = in_front_taken l s.input.ahead s
+awaited l (Some (SeesNote message)) s = in_front_taken l s.input.ahead s
+awaited l (Some (SeesEnding ending)) s = in_front_taken l s.input.ahead s
+awaited l None s = awaited_of_source l (front s.tape) s
+
+-- one item of the input, or how it ends
+abbrev pub reading_on : Limits → State → State
+reading_on l s =
+    if newline_stays s.input.half then awaited l (seen_ahead s.input.ahead) s
+    else in_front_taken l s.input.ahead s
+
+-- one step of a run that hasn't ended: the first of the events to do, the end, or an item
+abbrev pub step_with : Limits → List PageEvent → State → State
+step_with l (e ∷ rest) s = performing l e rest s
+step_with l [] s = if s.is_closing then ending_as Done s else reading_on l s
+
+-- one step: a run that has ended stays as it is
+abbrev pub step : Limits → State → State
+step l s = elim s.ended [ None ↦ step_with l s.to_do s | Some status ↦ s ]
+
+-- so many steps
+abbrev pub after : Limits → ℕ → State → State
+after l zero s = s
+after l (suc n) s = after l n (step l s)
+
+-- some number of steps leads from one state to another
+pub record Leads (l : Limits) (s t : State) : Type 0 where
+  pub steps : ℕ
+  pub there : after l steps s ≡ t
+
+-- what a run wrote
+abbrev pub output : State → List ℕ
+output s = written s.history
+
+-- what it reported
+abbrev pub reported : State → List ℕ
+reported s = s.messages ++ s.last_message

@@ -1,0 +1,2 @@
+-- What the code of a text line does.
+pub mod Stepping

@@ -1,0 +1,16 @@
+//! The run of the formatter as a machine of small steps over the unread input: what each item means, the
+//! requests, the number registers, the messages, and laws over whole runs.
+#![tactic(auto)]
+
+mod event;
+pub mod laws;
+mod message;
+mod number;
+mod reading;
+mod registers;
+mod request;
+mod status;
+
+pub use event::{Events, PageEvent};
+pub use message::{Message, MessageLine};
+pub use status::Status;

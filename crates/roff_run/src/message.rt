@@ -1,0 +1,75 @@
+//! The messages of a run.
+
+ghost use Rattle.std.specs.Prelude.{◌≡◌, ◌+◌, ◌≤◌, ◌++◌, length};
+ghost use Rattle.arrayvec.specs.ArrayVec.{array_vec_len};
+ghost use Rattle.roff_run.specs.Messages.{message_line, message_text};
+
+use arrayvec::ArrayVec;
+use itoa::Buffer;
+use roff_num::Limit;
+
+/// What a run reports.
+#[derive(Clone, Copy, Debug, PartialEq, Eq)]
+pub enum Message {
+    /// A limit of this value stopped the run.
+    LimitReached(Limit, u32),
+    /// An argument that should be a number isn't one, or is out of range.
+    BadNumber,
+    /// An argument that should be a format isn't one.
+    BadFormat,
+    /// A space below 0.
+    BackwardMotion,
+    /// The source failed.
+    ReadFailed,
+    /// The output failed.
+    WriteFailed,
+}
+
+/// Room for the longest message.
+pub type MessageLine = ArrayVec<u8, 128>;
+
+impl Message {
+    /// The message as it is written, on this line of the input.
+    pub fn line(self, line: u32) -> MessageLine
+        ensures { result.items ≡ message_line line self }
+    {
+        let mut text = MessageLine::new();
+        append(&mut text, b"nroff: line ");
+        append(&mut text, Buffer::new().format(line).as_bytes());
+        append(&mut text, b": ");
+        self.say(&mut text);
+        append(&mut text, b"\n");
+        text
+    }
+
+    /// Adds what the message says.
+    fn say(self, text: &mut MessageLine)
+        requires { array_vec_len text.old ≤ 64 }
+        ensures said { text.new.items ≡ text.old.items ++ message_text self }
+        ensures room { array_vec_len text.new ≤ array_vec_len text.old + 40 }
+    {
+        match self {
+            Message::LimitReached(limit, value) => {
+                append(text, b"limit ");
+                append(text, limit.name().as_bytes());
+                append(text, b" (");
+                append(text, Buffer::new().format(value).as_bytes());
+                append(text, b") reached");
+            }
+            Message::BadNumber => append(text, b"bad number"),
+            Message::BadFormat => append(text, b"bad format"),
+            Message::BackwardMotion => append(text, b"backward motion"),
+            Message::ReadFailed => append(text, b"read failed"),
+            Message::WriteFailed => append(text, b"write failed"),
+        }
+    }
+}
+
+/// Adds bytes.
+fn append(text: &mut MessageLine, bytes: &[u8])
+    requires { array_vec_len text.old + length bytes.now ≤ 128 }
+    ensures items { text.new.items ≡ text.old.items ++ bytes.now }
+    ensures len { array_vec_len text.new ≡ array_vec_len text.old + length bytes.now }
+{
+    text.try_extend_from_slice(bytes).unwrap();
+}

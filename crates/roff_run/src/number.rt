@@ -1,0 +1,77 @@
+//! Numbers as arguments of requests: the values of expressions, and the lengths that they set.
+
+ghost use Rattle.std.specs.Prelude.{◌≡◌, ◌+ℤ◌};
+ghost use Rattle.roff_num.specs.Ranges.{in_range};
+ghost use Rattle.roff_run.specs.Numbers.{rounded_in_range, value_beside, value_in};
+
+use roff_num::{NumFault, Scale, eval, round_h, round_v};
+
+/// The value of an argument, in basic units where it is a length. What follows the expression in it
+/// is passed over.
+///
+/// # Errors
+///
+/// The expression's first fault.
+pub(crate) fn value_in(scale: Scale, text: &[u8]) -> Result<i32, NumFault>
+    ensures { result ≡ value_in scale text.now }
+{
+    match eval(text, 0, scale, Some(0)) {
+        Ok((value, _)) => Ok(value.0),
+        Err(fault) => Err(fault),
+    }
+}
+
+/// The value of an argument beside the one in force: a sign in front adds to that, or takes from it.
+///
+/// # Errors
+///
+/// The expression's first fault, or [`NumFault::Range`] for the sum.
+pub(crate) fn value_beside(in_force: i64, scale: Scale, text: &[u8]) -> Result<i32, NumFault>
+    ensures { result ≡ value_beside in_force scale text.now }
+{
+    match text.split_first() {
+        Some((b'+', unsigned)) => match value_in(scale, unsigned) {
+            Ok(value) => sum_in_range(in_force, i64::from(value)),
+            Err(fault) => Err(fault),
+        },
+        Some((b'-', unsigned)) => match value_in(scale, unsigned) {
+            Ok(value) => sum_in_range(in_force, -i64::from(value)),
+            Err(fault) => Err(fault),
+        },
+        _ => value_in(scale, text),
+    }
+}
+
+/// The sum of two values, if it is in range.
+fn sum_in_range(left: i64, right: i64) -> Result<i32, NumFault>
+    ensures { result ≡ in_range (left +ℤ right) }
+{
+    match left.checked_add(right) {
+        Some(sum) => in_range(sum),
+        None => Err(NumFault::Range),
+    }
+}
+
+/// A value, if it is in range.
+fn in_range(value: i64) -> Result<i32, NumFault>
+    ensures { result ≡ in_range value }
+{
+    match i32::try_from(value) {
+        Ok(value) => Ok(value),
+        Err(_) => Err(NumFault::Range),
+    }
+}
+
+/// A horizontal length as a whole number of columns, in basic units.
+pub(crate) fn rounded_to_columns(length: i32) -> i32
+    ensures { Ok result ≡ rounded_in_range 24 length }
+{
+    round_h(length)
+}
+
+/// A height as a whole number of lines, in basic units.
+pub(crate) fn rounded_to_lines(height: i32) -> i32
+    ensures { Ok result ≡ rounded_in_range 40 height }
+{
+    round_v(height)
+}

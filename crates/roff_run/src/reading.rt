@@ -1,0 +1,272 @@
+//! What is being read of a line, and what stands on it.
+
+ghost use Rattle.std.specs.Prelude.{◌≡◌, ℕ, ◌≤◌, ◌++◌, ◌∷◌, [], length, true, min};
+ghost use Rattle.roff_lines.specs.declared.event.Event.TheVariants.{Print};
+ghost use Rattle.roff_lines.specs.declared.glyph.Glyph.TheVariants.{Printed};
+ghost use Rattle.roff_run.specs.Reading.{PageInput, behind_name, going_on, kept_taking, dropped_taking, ends_name, escape_taking, fresh_line, glyph_taking, blank_taking, leading_blank_events, leading_glyph, most_leading, other_taking, text_line_end, text_taking};
+ghost use Rattle.roff_run.specs.Requests.{Text, row_of};
+ghost use Rattle.roff_run.specs.TextLine.Stepping.{step_at};
+ghost use Rattle.roff_run.specs.Registers.{Known};
+ghost use Rattle.roff_run.specs.declared.reading.Reading.TheVariants.{Control as BehindControl, Name as InName};
+
+use crate::event::{Events, PageEvent};
+use crate::request::{LineReading, Request};
+use roff_lines::{Event, Glyph};
+use roff_scan::is_silent;
+
+/// A count of leading blanks above this reads as this.
+const MOST_LEADING: u32 = 2_147_483_647;
+
+/// What is being read of a line.
+#[derive(Clone, Copy, Debug, PartialEq, Eq)]
+pub(crate) enum Reading {
+    /// A line begins.
+    LineStart,
+    /// A text line.
+    Text(TextLine),
+    /// Behind the dot or apostrophe of a control line; requests break behind a dot.
+    Control { breaks: bool },
+    /// Behind the first byte of a name.
+    Name { breaks: bool, first: u8 },
+    /// Behind a request's name.
+    Arguments { breaks: bool, request: Request },
+    /// A line that is dropped.
+    Dropped,
+}
+
+/// What stands on a text line so far.
+#[derive(Clone, Copy, Debug, PartialEq, Eq)]
+pub(crate) struct TextLine {
+    /// Whether a glyph does.
+    pub(crate) has_glyph: bool,
+    /// Whether something else does that prints nothing.
+    pub(crate) has_other: bool,
+    /// The blanks before its first glyph.
+    pub(crate) leading: u32,
+}
+
+/// What something of a text line does: what is read behind it, and the events that it means.
+#[derive(Drop)]
+pub(crate) struct TextStep {
+    pub(crate) reading: Reading,
+    pub(crate) events: Events,
+}
+
+impl Reading {
+    /// What is read behind a request's name.
+    fn behind_name(breaks: bool, request: Request) -> Reading
+        ensures { result ≡ behind_name breaks request (row_of request).line }
+    {
+        match request.row().line {
+            LineReading::ByArguments => Reading::Arguments { breaks, request },
+        }
+    }
+
+    /// What is read behind a byte behind a control line's dot or apostrophe, and the blanks there.
+    pub(crate) fn behind_control(breaks: bool, byte: u8) -> Reading
+        ensures { (k : Known) (i : PageInput)
+            → kept_taking k (BehindControl breaks) i byte ≡ going_on i result }
+    {
+        if byte == b' ' {
+            Reading::Control { breaks }
+        } else if ends_name(byte) {
+            Reading::behind_dropped(byte)
+        } else {
+            Reading::Name {
+                breaks,
+                first: byte,
+            }
+        }
+    }
+
+    /// What is read behind the byte behind the first one of a name. No request has a name of one byte.
+    pub(crate) fn behind_first(breaks: bool, first: u8, byte: u8) -> Reading
+        ensures { (k : Known) (i : PageInput)
+            → kept_taking k (InName breaks first) i byte ≡ going_on i result }
+    {
+        if ends_name(byte) {
+            return Reading::behind_dropped(byte);
+        }
+        match Request::named(first, byte) {
+            Some(request) => Reading::behind_name(breaks, request),
+            None => Reading::Dropped,
+        }
+    }
+
+    /// What is read behind a byte of a line that is dropped.
+    pub(crate) fn behind_dropped(byte: u8) -> Reading
+        ensures { (i : PageInput) → dropped_taking i byte ≡ going_on i result }
+    {
+        if byte == b'\n' {
+            Reading::LineStart
+        } else {
+            Reading::Dropped
+        }
+    }
+}
+
+impl TextLine {
+    /// Nothing yet.
+    pub(crate) fn new() -> Self
+        ensures { result ≡ fresh_line }
+    {
+        TextLine {
+            has_glyph: false,
+            has_other: false,
+            leading: 0,
+        }
+    }
+
+    /// Whether a byte is a glyph behind another on the line, and does nothing else. Most are.
+    pub(crate) fn goes_on_with(self, byte: u8) -> bool
+        ensures { result ≡ true → (i : PageInput)
+            → text_taking i self byte ≡ glyph_taking i self (Printed byte) }
+    {
+        self.has_glyph && self.leading == 0 && byte > b' ' && byte != 127 && byte != b'\\'
+    }
+
+    /// The events of the line's end: a line of blanks alone is a break and a blank line.
+    pub(crate) fn end(self) -> Events
+        ensures { result.items ≡ text_line_end self }
+    {
+        if self.has_glyph || self.has_other {
+            events(&[
+                PageEvent::Text(Event::WordEnd),
+                PageEvent::Text(Event::LineEnd),
+            ])
+        } else {
+            events(&[
+                PageEvent::Text(Event::WordEnd),
+                PageEvent::Text(Event::Break),
+                PageEvent::Space(1),
+            ])
+        }
+    }
+
+    /// What a byte does that isn't dropped.
+    pub(crate) fn taking(self, byte: u8) -> TextStep
+        ensures { (i : PageInput) → step_at i result ≡ text_taking i self byte }
+    {
+        if byte == b'\n' {
+            TextStep {
+                reading: Reading::LineStart,
+                events: self.end(),
+            }
+        } else if is_silent(byte) {
+            self.other()
+        } else if byte == b' ' {
+            self.blank()
+        } else {
+            self.glyph(Glyph::Printed(byte))
+        }
+    }
+
+    /// What an escape does, by the byte behind its backslash.
+    pub(crate) fn escape(self, byte: u8) -> TextStep
+        ensures { (i : PageInput) → step_at i result ≡ escape_taking i self byte }
+    {
+        if byte == b'\n' {
+            TextStep {
+                reading: Reading::Text(self),
+                events: Events::new(),
+            }
+        } else if is_silent(byte) {
+            self.other()
+        } else if byte == b' ' || byte == b'0' {
+            self.glyph(Glyph::Blanks(1))
+        } else if byte == b'e' {
+            self.glyph(Glyph::Printed(b'\\'))
+        } else {
+            self.glyph(Glyph::Printed(byte))
+        }
+    }
+
+    /// Something that prints nothing.
+    fn other(self) -> TextStep
+        ensures { (i : PageInput) → step_at i result ≡ other_taking i self }
+    {
+        let mut behind = self;
+        behind.has_other = true;
+        TextStep {
+            reading: Reading::Text(behind),
+            events: Events::new(),
+        }
+    }
+
+    /// A glyph, behind the leading blanks.
+    fn glyph(self, glyph: Glyph) -> TextStep
+        ensures { (i : PageInput) → step_at i result ≡ glyph_taking i self glyph }
+    {
+        let mut behind = self;
+        behind.has_glyph = true;
+        behind.leading = 0;
+        TextStep {
+            reading: Reading::Text(behind),
+            events: printed(self.leading, glyph),
+        }
+    }
+
+    /// A blank.
+    fn blank(self) -> TextStep
+        ensures { (i : PageInput) → step_at i result ≡ blank_taking i self }
+    {
+        if self.has_glyph {
+            return TextStep {
+                reading: Reading::Text(self),
+                events: events(&[
+                    PageEvent::Text(Event::WordEnd),
+                    PageEvent::Text(Event::Gap(1)),
+                ]),
+            };
+        }
+        let mut behind = self;
+        behind.leading = self.leading.saturating_add(1).min(MOST_LEADING);
+        TextStep {
+            reading: Reading::Text(behind),
+            events: leading_blank(self.leading),
+        }
+    }
+}
+
+/// The events of a glyph behind so many leading blanks.
+fn printed(leading: u32, glyph: Glyph) -> Events
+    ensures { result.items ≡ leading_glyph leading ++ Text (Print glyph) ∷ [] }
+{
+    let glyph = PageEvent::Text(Event::Print(glyph));
+    if leading == 0 {
+        events(&[glyph])
+    } else {
+        events(&[PageEvent::Text(Event::Print(Glyph::Blanks(leading))), glyph])
+    }
+}
+
+/// The events of a blank behind so many others at a line's beginning.
+fn leading_blank(before: u32) -> Events
+    ensures { result.items ≡ leading_blank_events before }
+{
+    if before == 0 {
+        events(&[
+            PageEvent::Text(Event::WordEnd),
+            PageEvent::Text(Event::Break),
+        ])
+    } else {
+        Events::new()
+    }
+}
+
+/// These events.
+fn events(all: &[PageEvent]) -> Events
+    requires { length all.now ≤ 4 }
+    ensures { result.items ≡ all.now }
+{
+    let mut events = Events::new();
+    events.try_extend_from_slice(all).unwrap();
+    events
+}
+
+/// Whether a byte ends a name, and doesn't belong to it.
+pub(crate) fn ends_name(byte: u8) -> bool
+    ensures { result ≡ ends_name byte }
+{
+    byte == b' ' || byte == b'\n' || byte == b'\\'
+}

@@ -1,0 +1,132 @@
+//! What a request does, and what that means for the page.
+
+ghost use Rattle.std.specs.Prelude.{◌≡◌, ◌≤◌, ℕ, List, [], length};
+ghost use Rattle.std.specs.Option.{option_to_list};
+ghost use Rattle.roff_run.specs.Request.Coded.{changes_of, done_of, effect_of};
+ghost use Rattle.roff_run.specs.Requests.Effects.{Does, Ignored, bad_format, bad_number, meant_by, nothing, setting};
+
+use crate::event::{Events, PageEvent, RequestEvents};
+use crate::message::Message;
+use crate::registers::Change;
+use roff_lines::{Event, Param, Settings};
+use roff_num::Num;
+
+/// All that a request may ask of the run.
+#[derive(Clone, Copy, Debug)]
+pub(crate) struct Known {
+    /// The settings in force.
+    pub(crate) settings: Settings,
+    /// The value of the register that the first argument names, if it names one.
+    pub(crate) in_force: Num,
+}
+
+/// What a request does with its arguments.
+#[derive(Drop)]
+pub(crate) enum Done {
+    /// It is ignored, and says why.
+    Ignored(Option<Message>),
+    /// It says this, the registers change so, and this happens behind its break.
+    Does(Option<Message>, Changes, RequestEvents),
+}
+
+/// What a request changes of the registers.
+#[derive(Drop)]
+pub(crate) enum Changes {
+    /// Nothing.
+    Nothing,
+    /// One register.
+    One(Change),
+    /// The registers that its arguments name go.
+    RemoveGiven,
+}
+
+/// What a request means: a message, changes of registers, and then events.
+#[derive(Drop)]
+pub(crate) struct Effect {
+    pub(crate) message: Option<Message>,
+    pub(crate) changes: Changes,
+    pub(crate) events: Events,
+}
+
+impl Done {
+    /// Nothing happens behind its break.
+    pub(super) fn nothing() -> Done
+        ensures { (as_given : List (List ℕ)) → done_of as_given result ≡ nothing }
+    {
+        Done::doing(None, &[])
+    }
+
+    /// A parameter is set.
+    pub(super) fn setting(param: Param) -> Done
+        ensures { (as_given : List (List ℕ)) → done_of as_given result ≡ setting param }
+    {
+        Done::doing(None, &[PageEvent::Text(Event::Set(param))])
+    }
+
+    /// Registers change.
+    pub(super) fn changing(changes: Changes) -> Done
+        ensures { (as_given : List (List ℕ))
+            → done_of as_given result ≡ Does [] (changes_of as_given changes) [] }
+    {
+        Done::Does(None, changes, RequestEvents::new())
+    }
+
+    /// An argument that it can't do without is missing.
+    pub(super) fn unsaid() -> Done
+        ensures { (as_given : List (List ℕ)) → done_of as_given result ≡ Ignored [] }
+    {
+        Done::Ignored(None)
+    }
+
+    /// An argument isn't a number, or is out of range.
+    pub(super) fn bad_number() -> Done
+        ensures { (as_given : List (List ℕ)) → done_of as_given result ≡ bad_number }
+    {
+        Done::Ignored(Some(Message::BadNumber))
+    }
+
+    /// An argument isn't a format.
+    pub(super) fn bad_format() -> Done
+        ensures { (as_given : List (List ℕ)) → done_of as_given result ≡ bad_format }
+    {
+        Done::Ignored(Some(Message::BadFormat))
+    }
+
+    /// It says this, and these events happen.
+    pub(super) fn doing(message: Option<Message>, events: &[PageEvent]) -> Done
+        requires { length events.now ≤ 2 }
+        ensures { (as_given : List (List ℕ))
+            → done_of as_given result ≡ Does (option_to_list message) [] events.now }
+    {
+        let mut behind_break = RequestEvents::new();
+        behind_break.try_extend_from_slice(events).unwrap();
+        Done::Does(message, Changes::Nothing, behind_break)
+    }
+
+    /// What it means, with a break or without: what is ignored doesn't break.
+    pub(super) fn meaning(self, breaks: bool) -> Effect
+        ensures { (as_given : List (List ℕ))
+            → effect_of as_given result ≡ meant_by breaks (done_of as_given self) }
+    {
+        let mut events = Events::new();
+        match self {
+            Done::Ignored(message) => Effect {
+                message,
+                changes: Changes::Nothing,
+                events,
+            },
+            Done::Does(message, changes, behind_break) => {
+                if breaks {
+                    events.push(PageEvent::Text(Event::WordEnd));
+                    events.push(PageEvent::Text(Event::Break));
+                }
+                events.try_extend_from_slice(&behind_break).unwrap();
+                Effect {
+                    message,
+                    changes,
+                    events,
+                }
+            }
+        }
+    }
+}

@@ -1,0 +1,36 @@
+//! Blank lines.
+
+ghost use Rattle.std.specs.Prelude.{◌≡◌, ℕ, List, slice_get, Ok};
+ghost use Rattle.std.specs.Option.{option_copied};
+ghost use Rattle.roff_run.specs.Request.Coded.{done_of};
+ghost use Rattle.roff_run.specs.Requests.Spacing.{space_down, spaced};
+
+use crate::event::PageEvent;
+use crate::message::Message;
+use crate::number::{rounded_to_lines, value_in};
+use crate::request::Done;
+use roff_num::Scale;
+
+/// `sp`: so many blank lines, one where no height is given.
+pub(super) fn space_down(argument: Option<&[u8]>) -> Done
+    ensures { (as_given : List (List ℕ)) → option_copied argument.entry ≡ slice_get as_given 0
+        → done_of as_given result ≡ space_down as_given }
+{
+    match argument {
+        None => Done::doing(None, &[PageEvent::Space(1)]),
+        Some(text) => match value_in(Scale::Lines, text) {
+            Ok(height) => spaced(rounded_to_lines(height)),
+            Err(_) => Done::bad_number(),
+        },
+    }
+}
+
+/// The blank lines of a height in basic units: none if it is below 0, which is reported.
+fn spaced(height: i32) -> Done
+    ensures { (as_given : List (List ℕ)) → done_of as_given result ≡ spaced (Ok height) }
+{
+    if height < 0 {
+        return Done::doing(Some(Message::BackwardMotion), &[PageEvent::Space(0)]);
+    }
+    Done::doing(None, &[PageEvent::Space(height as u32 / 40)])
+}
