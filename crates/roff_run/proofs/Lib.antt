@@ -13,4 +13,6 @@ pub mod Taking
 pub mod StatusesTell
 pub mod RunsAppend
 pub mod RequestTable
+pub mod RegisterTables
+pub mod RegisterLaws
 pub mod Numbering

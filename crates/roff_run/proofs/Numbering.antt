@@ -1,11 +1,11 @@
 -- What setting a register does, by the arguments that are given.
-use Rattle.std.proofs.Common.{◌≡◌, ℕ, ℤ, List, [], ◌∷◌, drop, slice_get, IfSome, Option, Some, Result, arith, ap, sym, ◌∙◌}
+use Rattle.std.proofs.Common.{◌≡◌, ℕ, ℤ, List, [], ◌∷◌, drop, slice_get, IfSome, Some, Result, arith, ap, sym, ◌∙◌}
 use Rattle.std.proofs.lemmas.Bool.Decides.{nat_tests}
 use Rattle.roff_num.specs.declared.num.Num.{Num}
 use Rattle.roff_num.specs.declared.num.NumFault.{NumFault}
 use Rattle.roff_num.specs.declared.num.Scale.TheVariants.{Units}
 use Rattle.roff_run.specs.Numbers.{value_beside}
-use Rattle.roff_run.specs.Registers.{Known, AllRegisters, settable}
+use Rattle.roff_run.specs.Registers.{Known, settable}
 use Rattle.roff_run.specs.Request.Coded.{register_named}
 use Rattle.roff_run.specs.Requests.Effects.{Done}
 use Rattle.roff_run.specs.Requests.Numbering.{if_named, increment_given, set_register, set_to}

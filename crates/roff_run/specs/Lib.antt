@@ -3,6 +3,7 @@ pub mod Limits
 pub mod Messages
 pub mod Numbers
 pub mod Registers
+pub mod RegisterLaws
 pub mod Requests
 pub mod RequestLaws
 pub mod Request

@@ -2,7 +2,7 @@
 --
 -- What follows an expression in its argument is passed over. Control lines have no place on the line, and there are
 -- no pages yet: a distance `|N` is measured from 0.
-use Rattle.std.specs.Prelude.{ℕ, ◌/◌, Bool, true, false, List, [], ◌∷◌, drop, ℤ, pos, negsuc, neg_ℤ, ◌+ℤ◌, Option, Some, None, Result, Ok, Err, if◌then◌else◌, ◌==◌}
+use Rattle.std.specs.Prelude.{ℕ, List, drop, ℤ, pos, negsuc, ◌+ℤ◌, Some, Result, Ok, if◌then◌else◌, ◌==◌}
 use Rattle.roff_num.specs.Expressions.{value_at, sign_at}
 use Rattle.roff_num.specs.Ranges.{in_range, signed}
 use Rattle.roff_num.specs.Rounding.{rounded}

@@ -49,6 +49,10 @@ read_only =
 abbrev pub query_of : List ℕ → Option Query
 query_of name = option_map (λ row. row.1) (find (λ row. bytes_eq name row.0) read_only)
 
+-- whether a name is that of a read-only register
+abbrev pub is_read_only : List ℕ → Bool
+is_read_only name = is_some (query_of name)
+
 -- a width in columns, in basic units
 abbrev pub in_units : ℕ → ℕ
 in_units columns = 24 * columns
@@ -76,12 +80,14 @@ is_page name = bytes_eq name (codes "%")
 abbrev pub settable : List ℕ → AllRegisters → Register
 settable name rs = if is_page name then rs.page else register_of name rs.named
 
--- the text that the escape `\n` gives: a read-only value is written in plain decimal
+-- the text of a name that asks for this: a read-only value is written in plain decimal
+abbrev pub text_asked : Option Query → Known → List ℕ → List ℕ
+text_asked (Some query) k name = decimal (min (answer k query) greatest_number)
+text_asked None k name = let r : Register = settable name k.registers in register_text r.format r.value.0
+
+-- the text that the escape `\n` gives
 abbrev pub text_of_register : Known → List ℕ → List ℕ
-text_of_register k name = elim (query_of name) [
-  | Some query ↦ decimal (min (answer k query) greatest_number)
-  | None ↦ let r : Register = settable name k.registers in register_text r.format r.value.0
-]
+text_of_register k name = text_asked (query_of name) k name
 
 -- a change of the registers; one of a read-only register changes nothing
 pub data Change : Type 0 where
@@ -102,7 +108,7 @@ stepped_page direction r =
 -- the page number's register or another, changed so
 abbrev pub changing_one : List ℕ → (Register → Register) → (Registers → Registers) → AllRegisters → AllRegisters
 changing_one name page others rs =
-    if is_some (query_of name) then rs
+    if is_read_only name then rs
     else if is_page name then record rs { page = page rs.page }
     else record rs { named = others rs.named }
 
@@ -124,7 +130,7 @@ changed_by_all (c ∷ cs) rs = changed_by_all cs (changed_by c rs)
 -- whether a step would be out of range; a read-only register isn't stepped
 abbrev pub is_step_out_of_range : Direction → List ℕ → AllRegisters → Bool
 is_step_out_of_range direction name rs =
-    not (is_some (query_of name)) && not (is_in_range (next_value direction (settable name rs)))
+    not (is_read_only name) && not (is_in_range (next_value direction (settable name rs)))
 
 -- what is known behind some changes
 abbrev pub known_behind : List Change → Known → Known

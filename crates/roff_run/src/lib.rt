@@ -7,6 +7,7 @@ pub mod laws;
 mod message;
 mod number;
 mod reading;
+pub mod register_laws;
 mod registers;
 mod request;
 mod status;

@@ -10,9 +10,11 @@ ghost use Rattle.roff_run.specs.Registers.{is_page, stepped_page};
 ghost use Rattle.roff_run.specs.declared.message.Message.TheVariants.{BadNumber};
 
 mod read_only;
+#[cfg(test)]
+mod tests;
 
 use crate::message::Message;
-use read_only::query_of;
+use read_only::{is_read_only, query_of};
 use roff_lines::Settings;
 use roff_num::{Format, Limit, Name, Num, NumText, write_num};
 use roff_store::{Direction, RegTable, Register};
@@ -61,7 +63,10 @@ pub(crate) enum Change {
         increment: Num,
     },
     /// `af`: a format.
-    FormatAs { name: Name, format: Format },
+    FormatAs {
+        name: Name,
+        format: Format,
+    },
 }
 
 /// What the escape `\n` gives.
@@ -87,11 +92,11 @@ impl Model for RunRegisters {
 
     ghost Value = { Capped };
 
-    ghost use Rattle.roff_run.specs.Registers.Kept.{kept_by, IsWithin};
+    ghost use Rattle.roff_run.specs.Registers.Kept.{kept_by, IsSound};
 
     ghost view = { kept_by };
 
-    ghost invariant = { IsWithin };
+    ghost invariant = { IsSound };
 }
 
 impl RunRegisters {
@@ -192,7 +197,7 @@ impl RunRegisters {
         ensures message { option_to_list result
             ≡ step_messages (Some direction) name.now self.old.all }
     {
-        if query_of(name).is_some() {
+        if is_read_only(name) {
             return None;
         }
         if is_page(name) {
@@ -209,15 +214,16 @@ impl RunRegisters {
         ensures answer { result ≡ admitted (SetTo name.now value increment) self.old }
         ensures registers { self.new ≡ after (SetTo name.now value increment) self.old }
     {
-        if query_of(name).is_some() {
+        let RunRegisters { named, page } = self;
+        if is_read_only(name) {
             return Ok(());
         }
         if is_page(name) {
-            self.page.value = value;
-            self.page.increment = increment;
+            page.value = value;
+            page.increment = increment;
             return Ok(());
         }
-        self.named.set(name, value, increment)
+        named.set(name, value, increment)
     }
 
     /// Sets how a register is written.
@@ -225,14 +231,15 @@ impl RunRegisters {
         ensures answer { result ≡ admitted (FormatAs name.now format) self.old }
         ensures registers { self.new ≡ after (FormatAs name.now format) self.old }
     {
-        if query_of(name).is_some() {
+        let RunRegisters { named, page } = self;
+        if is_read_only(name) {
             return Ok(());
         }
         if is_page(name) {
-            self.page.format = format;
+            page.format = format;
             return Ok(());
         }
-        self.named.set_format(name, format)
+        named.set_format(name, format)
     }
 }
 

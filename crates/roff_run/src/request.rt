@@ -110,8 +110,7 @@ impl Request {
             → KnowsOf k as_given known → GivesFirst as_given given.entry
             → effect_of as_given result ≡ request_effect k by_dot self as_given }
     {
-        self.does(known, given)
-            .meaning(by_dot && self.row().breaks)
+        self.does(known, given).meaning(by_dot && self.row().breaks)
     }
 
     /// What it does behind its break.

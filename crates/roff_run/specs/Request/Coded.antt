@@ -1,9 +1,7 @@
 -- The code's table of requests, and what it does, as the definition's.
-use Rattle.std.specs.Prelude.{◌≡◌, ℕ, List, [], ◌∷◌, slice_get, IfSome, Option, Some, None}
+use Rattle.std.specs.Prelude.{◌≡◌, ℕ, List, [], ◌∷◌, slice_get, IfSome, Option, None}
 use Rattle.std.specs.Option.{option_copied, option_to_list}
 use Rattle.roff_num.specs.Names.{name_of}
-use Rattle.roff_run.specs.declared.registers.Change.{Change as CodedChange}
-use Rattle.roff_run.specs.declared.registers.Change.TheVariants.{SetTo as SetsTo, FormatAs as FormatsAs}
 use Rattle.roff_run.specs.declared.request.Given.{Given}
 use Rattle.roff_run.specs.declared.request.Request.{Request}
 use Rattle.roff_run.specs.declared.request.Row.{Row as CodedRow}
@@ -13,7 +11,8 @@ use Rattle.roff_run.specs.declared.request.effects.Done.{Done as CodedDone}
 use Rattle.roff_run.specs.declared.request.effects.Done.TheVariants.{Ignored as IgnoredWith, Does as DoesWith}
 use Rattle.roff_run.specs.declared.request.effects.Effect.{Effect as CodedEffect}
 use Rattle.roff_run.specs.declared.request.effects.Known.{Known as CodedKnown}
-use Rattle.roff_run.specs.Registers.{Known, Change, SetTo, FormatAs, Remove, settable}
+use Rattle.roff_run.specs.Registers.{Known, Change, Remove, settable}
+use Rattle.roff_run.specs.Registers.Coded.{change_of}
 use Rattle.roff_run.specs.Requests.{Row, row_of, Done, Ignored, Does, Effect}
 use Rattle.roff_run.specs.Requests.Numbering.{name_given, names_given}
 
@@ -38,11 +37,6 @@ register_named (text ∷ others) = name_of (name_given text)
 pub record KnowsOf (k : Known) (as_given : List (List ℕ)) (known : CodedKnown) : Type 0 where
   pub settings : known.settings ≡ k.settings
   pub in_force : IfSome (register_named as_given) (λ name. known.in_force ≡ (settable name k.registers).value)
-
--- a change of one register
-abbrev pub change_of : CodedChange → Change
-change_of (SetsTo name value increment) = SetTo name value increment
-change_of (FormatsAs name format) = FormatAs name format
 
 -- the changes that a request makes, given these arguments
 abbrev pub changes_of : List (List ℕ) → Changes → List Change

@@ -1,8 +1,8 @@
 //! The read-only registers, as in the manual's lists of registers before section 1.
 
-ghost use Rattle.std.specs.Prelude.{◌≡◌, ◌*◌, bytes_eq, find, min};
+ghost use Rattle.std.specs.Prelude.{◌≡◌, ◌≤◌, bytes_eq, find, min};
 ghost use Rattle.std.specs.Option.{option_copied};
-ghost use Rattle.roff_run.specs.Registers.{AllRegisters, answer, greatest_number, in_units, query_of};
+ghost use Rattle.roff_run.specs.Registers.{AllRegisters, answer, greatest_number, in_units, is_read_only, query_of};
 ghost use Rattle.roff_run.specs.Registers.Coded.{known_of};
 
 use super::{Facts, Query};
@@ -52,6 +52,13 @@ pub(super) fn query_of(name: &Name) -> Option<Query>
     Some(row_named(name.as_bytes())?.query)
 }
 
+/// Whether a name is that of a read-only register.
+pub(super) fn is_read_only(name: &Name) -> bool
+    ensures { result ≡ is_read_only name.now }
+{
+    query_of(name).is_some()
+}
+
 /// The row of a name.
 fn row_named(name: &[u8]) -> Option<&'static ReadOnly>
     ensures { option_copied result ≡ find (λ row. bytes_eq name.now row.name) READ_ONLY }
@@ -62,8 +69,9 @@ fn row_named(name: &[u8]) -> Option<&'static ReadOnly>
 impl Query {
     /// What is known about it, in basic units where it is a length.
     pub(super) fn answer(self, facts: Facts) -> u32
-        ensures { (all : AllRegisters) →
+        ensures value { (all : AllRegisters) →
             result ≡ min (answer (known_of facts all) self) greatest_number }
+        ensures within { result ≤ GREATEST_NUMBER }
     {
         let settings = facts.settings;
         let answer = match self {

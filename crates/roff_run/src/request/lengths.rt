@@ -12,7 +12,7 @@ use roff_lines::Param;
 use roff_num::{NumFault, Scale};
 
 /// The basic units of a column.
-const COLUMN: i64 = 24;
+const COLUMN: u32 = 24;
 
 /// `ll`: the line length.
 pub(super) fn line_length(known: Known, argument: Option<&[u8]>) -> Done
@@ -55,8 +55,9 @@ fn length_wanted(in_force: u32, previous: u32, argument: Option<&[u8]>) -> Resul
 fn length_set(in_force: u32, text: &[u8]) -> Result<u32, NumFault>
     ensures { result ≡ length_set in_force text.now }
 {
-    match value_beside(COLUMN * i64::from(in_force), Scale::Columns, text) {
-        Ok(length) => Ok(rounded_to_columns(length).max(0) as u32 / 24),
+    let units = i64::from(COLUMN) * i64::from(in_force);
+    match value_beside(units, Scale::Columns, text) {
+        Ok(length) => Ok(rounded_to_columns(length).max(0) as u32 / COLUMN),
         Err(fault) => Err(fault),
     }
 }

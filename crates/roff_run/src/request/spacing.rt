@@ -11,6 +11,9 @@ use crate::number::{rounded_to_lines, value_in};
 use crate::request::Done;
 use roff_num::Scale;
 
+/// The basic units of a line.
+const LINE: u32 = 40;
+
 /// `sp`: so many blank lines, one where no height is given.
 pub(super) fn space_down(argument: Option<&[u8]>) -> Done
     ensures { (as_given : List (List ℕ)) → option_copied argument.entry ≡ slice_get as_given 0
@@ -32,5 +35,5 @@ fn spaced(height: i32) -> Done
     if height < 0 {
         return Done::doing(Some(Message::BackwardMotion), &[PageEvent::Space(0)]);
     }
-    Done::doing(None, &[PageEvent::Space(height as u32 / 40)])
+    Done::doing(None, &[PageEvent::Space(height as u32 / LINE)])
 }

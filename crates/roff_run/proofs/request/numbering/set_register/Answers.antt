@@ -1,10 +1,10 @@
-use Rattle.std.proofs.Common.{◌≡◌, ℤ, drop, slice_get, Some, Result, arith, ap, rules, sym, ◌∙◌}
+use Rattle.std.proofs.Common.{◌≡◌, ℤ, slice_get, Some, Result, arith, ap, sym, ◌∙◌}
 use Rattle.std.proofs.lemmas.Int.{ints}
 use Rattle.roff_num.specs.declared.num.NumFault.{NumFault}
 use Rattle.roff_num.specs.declared.num.Scale.TheVariants.{Units}
 use Rattle.roff_run.specs.Numbers.{value_beside}
 use Rattle.roff_run.specs.Request.Coded.{register_named}
-use Rattle.roff_run.specs.Requests.Numbering.{increment_given, set_to}
+use Rattle.roff_run.specs.Requests.Numbering.{set_to}
 use Rattle.roff_run.proofs.Numbering.{set_register-named}
 use Rattle.roff_run.proofs.request.numbering.set_register.Goals as goal
 

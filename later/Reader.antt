@@ -1,3 +1,0 @@
--- What the code reads, as the definition reads it.
-pub mod State
-pub mod Taken
