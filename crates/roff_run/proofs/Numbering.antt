@@ -1,14 +1,18 @@
--- What setting a register does, by the arguments that are given.
-use Rattle.std.proofs.Common.{◌≡◌, ℕ, ℤ, List, [], ◌∷◌, drop, slice_get, IfSome, Some, Result, arith, ap, sym, ◌∙◌}
+-- Number registers that are set and removed, by the arguments that are given.
+use Rattle.std.proofs.Common.{◌≡◌, ℕ, ℤ, Bool, true, false, cond, List, [], ◌∷◌, ◌++◌, map, take, drop, slice_get, IfSome, Some, Result, arith, ap, refl, sym, ◌∙◌}
+use Rattle.std.specs.Prelude.{filter}
+use Rattle.std.proofs.lemmas.List.{take-append-drop}
+use Rattle.std.proofs.lemmas.List.Elements.{filter-append}
 use Rattle.std.proofs.lemmas.Bool.Decides.{nat_tests}
 use Rattle.roff_num.specs.declared.num.Num.{Num}
 use Rattle.roff_num.specs.declared.num.NumFault.{NumFault}
 use Rattle.roff_num.specs.declared.num.Scale.TheVariants.{Units}
+use Rattle.roff_scan.specs.Arguments.{has_byte, kept, kept_by_place}
 use Rattle.roff_run.specs.Numbers.{value_beside}
 use Rattle.roff_run.specs.Registers.{Known, settable}
 use Rattle.roff_run.specs.Request.Coded.{register_named}
 use Rattle.roff_run.specs.Requests.Effects.{Done}
-use Rattle.roff_run.specs.Requests.Numbering.{if_named, increment_given, set_register, set_to}
+use Rattle.roff_run.specs.Requests.Numbering.{if_named, increment_given, name_given, names_given, set_register, set_to}
 
 -- an argument that has a byte gives a name
 if_named-some : (c : ℕ) (text : List ℕ) (done : Done) → if_named (c ∷ text) done ≡ done
@@ -41,3 +45,28 @@ set_register-named k ((c ∷ d ∷ rest) ∷ second ∷ others) name text in_for
     let in_force_now : Num = (settable (c ∷ d ∷ []) k.registers).value in
     if_named-some c (d ∷ rest) (setting_beside in_force_now (c ∷ d ∷ []) second (increment_given others))
     ∙ setting_beside-same in_force in_force_now name (c ∷ d ∷ []) text second (increment_given others) known (cc) (cc)
+
+-- an element in front of a filtered list, filtered by the same test
+filter-cond : (p : List ℕ → Bool) (x : List ℕ) (xs : List (List ℕ)) (passes : Bool) → p x ≡ passes
+    → filter p (cond passes (x ∷ xs) xs) ≡ cond passes (x ∷ filter p xs) (filter p xs)
+filter-cond p x xs true is = rw is refl
+filter-cond p x xs false is = refl
+
+-- a list filtered twice
+filter-filter : (p : List ℕ → Bool) (xs : List (List ℕ)) → filter p (filter p xs) ≡ filter p xs
+filter-filter p [] = refl
+filter-filter p (x ∷ xs) =
+    filter-cond p x (filter p xs) (p x) refl
+    ∙ ap (λ (ys : List (List ℕ)). cond (p x) (x ∷ ys) ys) (filter-filter p xs)
+
+-- a list whose end is filtered first
+filter-end : (p : List ℕ → Bool) (n : ℕ) (xs : List (List ℕ)) → filter p (take n xs ++ filter p (drop n xs)) ≡ filter p xs
+filter-end p n xs =
+    filter-append p (take n xs) (filter p (drop n xs))
+    ∙ ap (λ (ys : List (List ℕ)). filter p (take n xs) ++ ys) (filter-filter p (drop n xs))
+    ∙ sym (filter-append p (take n xs) (drop n xs))
+    ∙ ap (filter p) (take-append-drop n xs)
+
+-- the arguments that are kept give all names
+pub names_given-kept : (texts : List (List ℕ)) → names_given (kept texts) ≡ names_given texts
+names_given-kept texts = ap (map name_given) (filter-end has_byte kept_by_place texts)

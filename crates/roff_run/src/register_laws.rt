@@ -1,4 +1,5 @@
-//! Facts about the definitions of number registers alone, as contracts of functions that do nothing.
+//! Facts about the definitions of number registers alone, as contracts of functions that do
+//! nothing.
 
 ghost use Rattle.roff_run.specs.RegisterLaws.{FormatsReadBack, FormatsStay, PageNumberStays, ReadingIsSilent, ReadingMakesNone, ReadOnlyAreLeftAlone, ReadOnlyStay, RemovedReadAsZero, UndefinedReadAsZero, ValuesReadBack};
 

@@ -142,8 +142,8 @@ impl RunRegisters {
     ///
     /// # Errors
     ///
-    /// [`Limit::Names`] if more names than may would have a register; the registers are then as they
-    /// were.
+    /// [`Limit::Names`] if more names than may would have a register; the registers are then as
+    /// they were.
     pub(crate) fn apply(&mut self, change: &Change) -> Result<(), Limit>
         ensures answer { result ≡ admitted (change_of change.now) self.old }
         ensures registers { self.new ≡ after (change_of change.now) self.old }
@@ -172,13 +172,13 @@ impl RunRegisters {
         name: &Name,
         facts: Facts,
     ) -> Interpolated
-        ensures registers { self.new
-            ≡ record self.old { all = changed_by_all (step_changes direction name.now) self.old.all } }
+        ensures registers { let changes = step_changes direction name.now in
+            self.new ≡ record self.old { all = changed_by_all changes self.old.all } }
         ensures message { option_to_list result.message
             ≡ step_messages direction name.now self.old.all }
-        ensures text { let known = known_of facts self.old.all in
+        ensures text { let changes = step_changes direction name.now in
             result.text.items
-            ≡ text_of_register (known_behind (step_changes direction name.now) known) name.now }
+            ≡ text_of_register (known_behind changes (known_of facts self.old.all)) name.now }
     {
         let message = match direction {
             None => None,

@@ -1,10 +1,11 @@
 -- Setting, formatting and removing number registers (manual, section 8).
-use Rattle.std.specs.Prelude.{ℕ, ℤ, pos, List, [], ◌∷◌, length, map, take, filter, not, Option, Some, None, Result, Ok, Err, if◌then◌else◌, ◌==◌}
+use Rattle.std.specs.Prelude.{ℕ, ℤ, pos, List, [], ◌∷◌, length, map, take, filter, Option, Some, None, Result, Ok, Err, if◌then◌else◌, ◌==◌}
 use Rattle.roff_num.specs.Formats.{format_of}
 use Rattle.roff_num.specs.declared.format.Format.{Format}
 use Rattle.roff_num.specs.declared.num.Num.{Num}
 use Rattle.roff_num.specs.declared.num.NumFault.{NumFault}
 use Rattle.roff_num.specs.declared.num.Scale.TheVariants.{Units}
+use Rattle.roff_scan.specs.Arguments.{has_byte}
 use Rattle.roff_run.specs.Numbers.{value_in, value_beside}
 use Rattle.roff_run.specs.Registers.{Known, SetTo, FormatAs, Remove, settable}
 use Rattle.roff_run.specs.Requests.Effects.{Done, Ignored, changing, bad_number, bad_format}
@@ -53,7 +54,7 @@ assign_format (name ∷ format ∷ others) = if_named name (format_as (name_give
 
 -- the names that arguments give
 abbrev pub names_given : List (List ℕ) → List (List ℕ)
-names_given as_given = map name_given (filter (λ text. not (length text == 0)) as_given)
+names_given as_given = map name_given (filter has_byte as_given)
 
 -- `rr`: registers go
 abbrev pub remove_registers : List (List ℕ) → Done
