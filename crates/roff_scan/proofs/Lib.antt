@@ -1,1 +1,6 @@
 pub mod Giving
+pub mod KeptTexts
+pub mod KeptArguments
+pub mod Ends
+pub mod ArgumentBlock
+pub mod QuotedArguments

@@ -3,5 +3,8 @@ pub mod Bytes
 pub mod ReadSource
 pub mod Halves
 pub mod Arguments
+pub mod ArgumentTexts
+pub mod ArgumentList
+pub mod Quoting
 pub mod Input
 pub mod Unread
