@@ -5,5 +5,8 @@ pub mod Halves
 pub mod Nesting
 pub mod HalfLaws
 pub mod Arguments
+pub mod ArgumentTexts
+pub mod ArgumentList
+pub mod Quoting
 pub mod Input
 pub mod Unread

@@ -1,4 +1,5 @@
-//! Sources of bytes, and what the bytes of a document are.
+//! Sources of bytes, what the bytes of a document are, and what is read of them: names behind backslashes
+//! and the arguments of a line.
 #![tactic(auto)]
 
 mod arguments;
@@ -6,10 +7,11 @@ mod bytes;
 mod half;
 pub mod half_laws;
 mod halves;
+pub mod laws;
 mod source;
 mod unread;
 
-pub use arguments::Place;
+pub use arguments::{ArgumentList, Place};
 pub use bytes::{is_dropped, is_silent};
 pub use half::{CopyUnit, Half, NamePart, Read};
 pub use source::{ByteSource, Note, ReadSource, Taken};
