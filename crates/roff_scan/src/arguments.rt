@@ -14,7 +14,7 @@ const KEPT_BY_PLACE: usize = 32;
 
 /// Where the reading of arguments stands.
 #[derive(Clone, Copy, Debug, PartialEq, Eq)]
-pub(crate) enum Place {
+pub enum Place {
     /// Between arguments.
     Between,
     /// In one.

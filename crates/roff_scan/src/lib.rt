@@ -11,7 +11,7 @@ pub mod laws;
 mod source;
 mod unread;
 
-pub use arguments::ArgumentList;
+pub use arguments::{ArgumentList, Place};
 pub use bytes::{is_dropped, is_silent};
 pub use half::{CopyUnit, Half, NamePart, Read};
 pub use source::{ByteSource, Note, ReadSource, Taken};

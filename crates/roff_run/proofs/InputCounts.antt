@@ -1,0 +1,193 @@
+-- What the calls of the unread input leave of the counts that limits are on.
+use Rattle.std.proofs.Common.{◌≡◌, ℕ, ◌+◌, ◌-◌, ◌*◌, ◌≤◌, Bool, true, false, not, cond, List, [], ◌∷◌, ◌++◌, length, take, drop, Option, Some, None, refl, sym, subst, ap, ◌∙◌, append_assoc, arith}
+use Rattle.std.specs.Prelude.{nat_lt, if◌then◌else◌, ◌==◌, ◌&&◌, ◌||◌, nat_le, reverse, filter}
+use Rattle.std.proofs.lemmas.Bool.{le-ltb, ltb-false}
+use Rattle.std.proofs.lemmas.Bool.Decides.{nat_tests}
+use Rattle.std.proofs.lemmas.List.{reverse-append, length-reverse, take-append-drop}
+use Rattle.roff_num.specs.declared.limit.Limit.TheVariants.{Bytes, Stack, Depth, Names}
+use Rattle.roff_num.specs.declared.limits.Limits.{Limits}
+use Rattle.roff_store.specs.declared.register.Direction.{Direction}
+use Rattle.roff_scan.specs.Arguments.{Arguments, held, total_length, has_byte, only_kept, settled, settled_at, kept, kept_behind, kept_by_place, no_arguments}
+use Rattle.roff_scan.specs.Bytes.{newline, blank, apostrophe, dot, backslash, is_silent, is_dropped}
+use Rattle.roff_scan.specs.Halves.{Reads, most_names, name_begun, unit_of_name, unit_taken, copied_escape, escape_taken, byte_read, name_ended, reading_ended, newline_stays}
+use Rattle.roff_scan.specs.Input.{Ahead, ByteAhead, FreeAhead, EndAhead, DoAhead, cost, counting, item_taken, pushed, depth, bytes_ahead, ends_ahead, pushing}
+use Rattle.roff_scan.specs.Tape.{Tape, Item, Answer, Gives, Ends, OneByte, OneNote, Ending, Ended, Failed, Stopped, front, behind_front, items_then, only, Took}
+use Rattle.roff_scan.specs.Unread.{Unread, Shown, ShowsByte, ShowsEnd, ShowsDo, ShowsNote, ShowsEnding, ShowsRefusal, taking, taking_ahead, taking_answer, looked_then, answer_behind, asks_to_take, shown_ahead, Sighted, SeesByte, SeesNothing, SeesNote, SeesEnding, seen_ahead, looking, looking_at, asks_to_look, Asked, input_refusal}
+use Rattle.roff_scan.specs.declared.arguments.Place.{Place}
+use Rattle.roff_scan.specs.declared.arguments.Place.TheVariants.{Between, InPlain, InQuotes, BehindQuote}
+use Rattle.roff_scan.specs.declared.half.CopyUnit.{CopyUnit}
+use Rattle.roff_scan.specs.declared.half.CopyUnit.TheVariants.{Byte, Kept}
+use Rattle.roff_scan.specs.declared.half.Half.{Half}
+use Rattle.roff_scan.specs.declared.half.Half.TheVariants.{Backslash, Name}
+use Rattle.roff_scan.specs.declared.half.NamePart.{NamePart}
+use Rattle.roff_scan.specs.declared.half.NamePart.TheVariants.{Nothing, Opened, First}
+use Rattle.roff_scan.specs.declared.half.Read.{Read}
+use Rattle.roff_scan.specs.declared.half.Read.TheVariants.{GoesOn, Unit as GivesUnit, Escape, Asks}
+use Rattle.roff_run.specs.Reading.{PageInput, interrupted, settling, Taking, interpolating, text_taking, escape_taking, text_found, text_read, unit_found, arguments_found, arguments_read_on, fresh_line, ends_name, going_on, dropped_taking, line_taking, behind_name, kept_taking, half_ended, taking as byte_taking}
+use Rattle.roff_run.specs.Registers.{AllRegisters, Known, known_behind, step_changes, text_of_register}
+use Rattle.roff_run.specs.Requests.{PageEvent, request_named, row_of}
+use Rattle.roff_run.specs.Run.{State, made, byte_taken, ending_input, ending_with, ending_as, stopped_by, in_front_taken, answered, ahead_taken, half_ends, awaited, awaited_of_source, first_passed, counts_in}
+use Rattle.roff_run.specs.declared.message.Message.TheVariants.{ReadFailed}
+use Rattle.roff_run.specs.declared.reading.Reading.{Reading}
+use Rattle.roff_run.specs.declared.reading.Reading.TheVariants.{LineStart, Text as InText, Control, Name as InName, Arguments as InArguments, Dropped}
+use Rattle.roff_run.specs.declared.reading.TextLine.{TextLine}
+use Rattle.roff_run.specs.declared.request.LineReading.{LineReading}
+use Rattle.roff_run.specs.declared.request.LineReading.TheVariants.{ByArguments}
+use Rattle.roff_run.specs.declared.request.Request.{Request}
+use Rattle.roff_run.specs.declared.status.Status.TheVariants.{Device, Limit as Limited}
+use Rattle.roff_run.proofs.InFront.{one_of}
+
+-- what one input has ahead, and in its arguments, counts for no more than what another has
+pub record NoMore (now before : PageInput) : Type 0 where
+  pub bytes : pushed now ≤ pushed before
+  pub texts : depth now ≤ depth before
+
+-- by the items ahead alone
+by_ahead : (now before : PageInput) → now.arguments ≡ before.arguments → bytes_ahead now.ahead ≤ bytes_ahead before.ahead
+    → ends_ahead now.ahead ≤ ends_ahead before.ahead → NoMore now before
+by_ahead now before same bytes texts =
+    let held_same : held now.arguments ≡ held before.arguments = ap held same in record { bytes = omega arith; texts = texts }
+
+-- what changes nothing there
+NoMore-same : (i : PageInput) → NoMore i i
+NoMore-same i = record { bytes = omega arith; texts = omega arith }
+
+-- behind an item
+bytes_behind : (item : Ahead PageEvent) (items : List (Ahead PageEvent)) → bytes_ahead items ≤ bytes_ahead (item ∷ items)
+bytes_behind (ByteAhead b) items = omega arith
+bytes_behind (FreeAhead b) items = omega arith
+bytes_behind EndAhead items = omega arith
+bytes_behind (DoAhead event) items = omega arith
+
+ends_behind : (item : Ahead PageEvent) (items : List (Ahead PageEvent)) → ends_ahead items ≤ ends_ahead (item ∷ items)
+ends_behind (ByteAhead b) items = omega arith
+ends_behind (FreeAhead b) items = omega arith
+ends_behind EndAhead items = omega arith
+ends_behind (DoAhead event) items = omega arith
+
+pub NoMore-item_taken : (item : Ahead PageEvent) (items : List (Ahead PageEvent)) (i : PageInput) → i.ahead ≡ item ∷ items → NoMore (item_taken item items i) i
+NoMore-item_taken item items i ahead = by_ahead (item_taken item items i) i refl
+    (subst (λ (all : List (Ahead PageEvent)). bytes_ahead items ≤ bytes_ahead all) (sym ahead) (bytes_behind item items))
+    (subst (λ (all : List (Ahead PageEvent)). ends_ahead items ≤ ends_ahead all) (sym ahead) (ends_behind item items))
+
+-- what a call leaves counts for no more
+abbrev LeavesNoMore : PageInput → Shown PageEvent × Unread PageEvent → Type 0
+LeavesNoMore i call = NoMore call.1.input i
+
+NoMore-answer : (a : Answer) (u : Unread PageEvent) → LeavesNoMore u.input (taking_answer a u)
+NoMore-answer (Gives (OneByte b)) u = one_of (LeavesNoMore u.input) _ _ _ (NoMore-same u.input) (by_ahead (counting b u.input) u.input refl (omega arith) (omega arith))
+NoMore-answer (Gives (OneNote message)) u = NoMore-same u.input
+NoMore-answer (Ends ending) u = NoMore-same u.input
+
+NoMore-taking_of : (ahead : List (Ahead PageEvent)) (a : Answer) (i : PageInput) (looked : Option ℕ) (limits : Limits)
+    → let u : Unread PageEvent = record { input = record i { ahead = ahead }; looked = looked; limits = limits } in LeavesNoMore u.input (taking a u)
+NoMore-taking_of [] a i looked limits = NoMore-answer (answer_behind looked a) (record { input = record i { ahead = [] }; looked = looked; limits = limits })
+NoMore-taking_of (item ∷ items) a i looked limits =
+    let before : PageInput = record i { ahead = item ∷ items } in
+    one_of (LeavesNoMore before) _ _ _ (NoMore-same before) (NoMore-item_taken item items before refl)
+
+-- the call that takes the item in front
+pub NoMore-taking : (a : Answer) (u : Unread PageEvent) → NoMore (taking a u).1.input u.input
+NoMore-taking a u = NoMore-taking_of u.input.ahead a u.input u.looked u.limits
+
+-- the bytes of some texts and of others
+total_length-append : (xs ys : List (List ℕ)) → total_length (xs ++ ys) ≡ total_length xs + total_length ys
+total_length-append [] ys = omega arith
+total_length-append (x ∷ xs) ys = omega (arith, total_length-append xs ys)
+
+total_length-reverse : (xs : List (List ℕ)) → total_length (reverse xs) ≡ total_length xs
+total_length-reverse [] = refl
+total_length-reverse (x ∷ xs) =
+    let split : total_length (reverse xs ++ x ∷ []) ≡ total_length (reverse xs) + total_length (x ∷ []) = total_length-append (reverse xs) (x ∷ []) in
+    ap total_length (reverse-append (x ∷ []) xs) ∙ omega (arith, split, total_length-reverse xs)
+
+-- a text without a byte adds none
+no_byte : (n : ℕ) → not (n == 0) ≡ false → n ≡ 0
+no_byte n none = grind (arith, nat_tests)
+
+with_byte_or_not : (x : List ℕ) (rest : List (List ℕ)) (c : Bool) → has_byte x ≡ c → total_length (cond c (x ∷ rest) rest) ≡ length x + total_length rest
+with_byte_or_not x rest true is = refl
+with_byte_or_not x rest false is = omega (arith, no_byte (length x) is)
+
+total_length-has_byte : (xs : List (List ℕ)) → total_length (filter has_byte xs) ≡ total_length xs
+total_length-has_byte [] = refl
+total_length-has_byte (x ∷ xs) =
+    with_byte_or_not x (filter has_byte xs) (has_byte x) refl ∙ ap (λ n. length x + n) (total_length-has_byte xs)
+
+-- what isn't kept has no byte
+total_length-kept : (n : ℕ) (xs : List (List ℕ)) → total_length (kept_behind n xs) ≡ total_length xs
+total_length-kept n xs =
+    let of_kept : total_length (kept_behind n xs) ≡ total_length (take n xs) + total_length (filter has_byte (drop n xs)) =
+    total_length-append (take n xs) (filter has_byte (drop n xs)) in
+    let of_all : total_length (take n xs ++ drop n xs) ≡ total_length (take n xs) + total_length (drop n xs) = total_length-append (take n xs) (drop n xs) in
+    let all : total_length (take n xs ++ drop n xs) ≡ total_length xs = ap total_length (take-append-drop n xs) in
+    omega (arith, of_kept, of_all, all, total_length-has_byte (drop n xs))
+
+pub held-only_kept : (a : Arguments) → held (only_kept a) ≡ held a
+held-only_kept a =
+    ap (λ n. n + length a.begun)
+    (total_length-reverse (kept (reverse a.whole)) ∙ total_length-kept kept_by_place (reverse a.whole) ∙ total_length-reverse a.whole)
+
+held-settled_at : (place : Place) (a : Arguments) → held (settled_at place a) ≡ held a
+held-settled_at Between a = refl
+held-settled_at InPlain a = refl
+held-settled_at InQuotes a = refl
+held-settled_at BehindQuote a = omega (arith, length-reverse a.begun)
+
+-- where no quote follows, as many bytes are held
+pub held-settled : (a : Arguments) → held (settled a) ≡ held a
+held-settled a = held-settled_at a.place a
+
+pub pushed-settling : (i : PageInput) → pushed (settling i) ≡ pushed i
+pushed-settling i = ap (λ n. bytes_ahead i.ahead + n) (held-only_kept (settled i.arguments) ∙ held-settled i.arguments)
+
+pub NoMore-settling : (i : PageInput) → NoMore (settling i) i
+NoMore-settling i = record { bytes = omega (arith, pushed-settling i); texts = omega arith }
+
+pub NoMore-interrupted : (reading : Reading) (i : PageInput) → NoMore (interrupted reading i) i
+NoMore-interrupted (InArguments breaks request) i = NoMore-settling i
+NoMore-interrupted (_) i = NoMore-same i
+
+-- where the arguments are released
+pub NoMore-released : (i : PageInput) → NoMore (record i { arguments = no_arguments }) i
+NoMore-released i = record { bytes = omega arith; texts = omega arith }
+
+-- a limit that a count isn't above is above none that is no more
+not_above : (limit before now : ℕ) → now ≤ before → nat_lt limit before ≡ false → nat_lt limit now ≡ false
+not_above limit before now less passes = le-ltb limit now (omega (arith, ltb-false limit before passes))
+
+-- where none of two is refused
+neither : {A : Type 0} (x : A) (rest : Option A) (c : Bool) → (if c then Some x else rest) ≡ None → (c ≡ false) × (rest ≡ None)
+neither x rest true none = cc
+neither x rest false none = (refl, none)
+
+first_not : {A : Type 0} (x : A) (rest : Option A) (c : Bool) → c ≡ false → rest ≡ None → (if c then Some x else rest) ≡ None
+first_not x rest true passes none = cc
+first_not x rest false passes none = none
+
+-- where the counts are no more, no limit refuses what none refused
+pub input_refusal-no_more : (l : Limits) (now before : PageInput) → NoMore now before → input_refusal l before ≡ None → input_refusal l now ≡ None
+input_refusal-no_more l now before less none =
+    let stack = neither Stack (if nat_lt l.depth (depth before) then Some Depth else None) (nat_lt l.stack (pushed before)) none in
+    let texts = neither Depth None (nat_lt l.depth (depth before)) stack.1 in
+    first_not Stack _ _ (not_above l.stack (pushed before) (pushed now) less.bytes stack.0)
+    (first_not Depth None _ (not_above l.depth (depth before) (depth now) less.texts texts.0) refl)
+
+-- where the names are within their limit, the others decide
+pub first_passed-few_names : (l : Limits) (rs : AllRegisters) (i : PageInput) → nat_lt l.names (length rs.named) ≡ false
+    → first_passed l (counts_in rs i) ≡ input_refusal l i
+first_passed-few_names l rs i few = ap (λ (c : Bool). if c then Some Names else input_refusal l i) few
+
+pub first_passed-no_more : (l : Limits) (rs : AllRegisters) (now before : PageInput) → NoMore now before
+    → first_passed l (counts_in rs before) ≡ None → first_passed l (counts_in rs now) ≡ None
+first_passed-no_more l rs now before less none =
+    let names = neither Names (input_refusal l before) (nat_lt l.names (length rs.named)) none in
+    first_not Names (input_refusal l now) _ names.0 (input_refusal-no_more l now before less names.1)
+
+-- taking an item raises no count
+pub input_refusal-taking : (l : Limits) (a : Answer) (u : Unread PageEvent) → input_refusal l u.input ≡ None → input_refusal l (taking a u).1.input ≡ None
+input_refusal-taking l a u none = input_refusal-no_more l (taking a u).1.input u.input (NoMore-taking a u) none
+
+pub first_passed-taking : (l : Limits) (rs : AllRegisters) (a : Answer) (u : Unread PageEvent)
+    → first_passed l (counts_in rs u.input) ≡ None → first_passed l (counts_in rs (taking a u).1.input) ≡ None
+first_passed-taking l rs a u none = first_passed-no_more l rs (taking a u).1.input u.input (NoMore-taking a u) none
