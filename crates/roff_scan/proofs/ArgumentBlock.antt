@@ -33,7 +33,7 @@ held-kept_in block ends place within =
       EndWithin-last (length block) 0 ends within,
     )
 
--- a byte behind the block one of the argument being read
+-- a byte behind the block is one of the argument being read
 pub kept_in-byte : (block ends : List ℕ) (old new : Place) (b : ℕ) → EndWithin (length block) 0 ends
     → kept_in (block ++ b ∷ []) ends new ≡ with_byte (kept_in block ends old) new b
 kept_in-byte block ends old new b within =
