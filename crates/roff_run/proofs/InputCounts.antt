@@ -1,40 +1,22 @@
 -- What the calls of the unread input leave of the counts that limits are on.
-use Rattle.std.proofs.Common.{◌≡◌, ℕ, ◌+◌, ◌-◌, ◌*◌, ◌≤◌, Bool, true, false, not, cond, List, [], ◌∷◌, ◌++◌, length, take, drop, Option, Some, None, refl, sym, subst, ap, ◌∙◌, append_assoc, arith}
-use Rattle.std.specs.Prelude.{nat_lt, if◌then◌else◌, ◌==◌, ◌&&◌, ◌||◌, nat_le, reverse, filter}
+use Rattle.std.proofs.Common.{◌≡◌, ℕ, ◌+◌, ◌≤◌, Bool, true, false, cond, List, [], ◌∷◌, ◌++◌, length, take, drop, Option, Some, None, refl, sym, subst, ap, ◌∙◌, arith}
+use Rattle.std.specs.Prelude.{nat_lt, if◌then◌else◌, reverse, filter}
 use Rattle.std.proofs.lemmas.Bool.{le-ltb, ltb-false}
-use Rattle.std.proofs.lemmas.Bool.Decides.{nat_tests}
 use Rattle.std.proofs.lemmas.List.{reverse-append, length-reverse, take-append-drop}
-use Rattle.roff_num.specs.declared.limit.Limit.TheVariants.{Bytes, Stack, Depth, Names}
+use Rattle.roff_num.specs.declared.limit.Limit.TheVariants.{Stack, Depth, Names}
 use Rattle.roff_num.specs.declared.limits.Limits.{Limits}
-use Rattle.roff_store.specs.declared.register.Direction.{Direction}
 use Rattle.roff_scan.specs.Arguments.{Arguments, held, total_length, has_byte, only_kept, settled, settled_at, kept, kept_behind, kept_by_place, no_arguments}
-use Rattle.roff_scan.specs.Bytes.{newline, blank, apostrophe, dot, backslash, is_silent, is_dropped}
-use Rattle.roff_scan.specs.Halves.{Reads, most_names, name_begun, unit_of_name, unit_taken, copied_escape, escape_taken, byte_read, name_ended, reading_ended, newline_stays}
-use Rattle.roff_scan.specs.Input.{Ahead, ByteAhead, FreeAhead, EndAhead, DoAhead, cost, counting, item_taken, pushed, depth, bytes_ahead, ends_ahead, pushing}
-use Rattle.roff_scan.specs.Tape.{Tape, Item, Answer, Gives, Ends, OneByte, OneNote, Ending, Ended, Failed, Stopped, front, behind_front, items_then, only, Took}
-use Rattle.roff_scan.specs.Unread.{Unread, Shown, ShowsByte, ShowsEnd, ShowsDo, ShowsNote, ShowsEnding, ShowsRefusal, taking, taking_ahead, taking_answer, looked_then, answer_behind, asks_to_take, shown_ahead, Sighted, SeesByte, SeesNothing, SeesNote, SeesEnding, seen_ahead, looking, looking_at, asks_to_look, Asked, input_refusal}
+use Rattle.roff_scan.specs.Input.{Ahead, ByteAhead, FreeAhead, EndAhead, DoAhead, counting, item_taken, pushed, depth, bytes_ahead, ends_ahead}
+use Rattle.roff_scan.specs.Tape.{Answer, Gives, Ends, OneByte, OneNote}
+use Rattle.roff_scan.specs.Unread.{Unread, Shown, taking, taking_answer, answer_behind, input_refusal}
 use Rattle.roff_scan.specs.declared.arguments.Place.{Place}
 use Rattle.roff_scan.specs.declared.arguments.Place.TheVariants.{Between, InPlain, InQuotes, BehindQuote}
-use Rattle.roff_scan.specs.declared.half.CopyUnit.{CopyUnit}
-use Rattle.roff_scan.specs.declared.half.CopyUnit.TheVariants.{Byte, Kept}
-use Rattle.roff_scan.specs.declared.half.Half.{Half}
-use Rattle.roff_scan.specs.declared.half.Half.TheVariants.{Backslash, Name}
-use Rattle.roff_scan.specs.declared.half.NamePart.{NamePart}
-use Rattle.roff_scan.specs.declared.half.NamePart.TheVariants.{Nothing, Opened, First}
-use Rattle.roff_scan.specs.declared.half.Read.{Read}
-use Rattle.roff_scan.specs.declared.half.Read.TheVariants.{GoesOn, Unit as GivesUnit, Escape, Asks}
-use Rattle.roff_run.specs.Reading.{PageInput, interrupted, settling, Taking, interpolating, text_taking, escape_taking, text_found, text_read, unit_found, arguments_found, arguments_read_on, fresh_line, ends_name, going_on, dropped_taking, line_taking, behind_name, kept_taking, half_ended, taking as byte_taking}
-use Rattle.roff_run.specs.Registers.{AllRegisters, Known, known_behind, step_changes, text_of_register}
-use Rattle.roff_run.specs.Requests.{PageEvent, request_named, row_of}
-use Rattle.roff_run.specs.Run.{State, made, byte_taken, ending_input, ending_with, ending_as, stopped_by, in_front_taken, answered, ahead_taken, half_ends, awaited, awaited_of_source, first_passed, counts_in}
-use Rattle.roff_run.specs.declared.message.Message.TheVariants.{ReadFailed}
+use Rattle.roff_run.specs.Reading.{PageInput, interrupted, settling}
+use Rattle.roff_run.specs.Registers.{AllRegisters}
+use Rattle.roff_run.specs.Requests.{PageEvent}
+use Rattle.roff_run.specs.Run.{first_passed, counts_in}
 use Rattle.roff_run.specs.declared.reading.Reading.{Reading}
-use Rattle.roff_run.specs.declared.reading.Reading.TheVariants.{LineStart, Text as InText, Control, Name as InName, Arguments as InArguments, Dropped}
-use Rattle.roff_run.specs.declared.reading.TextLine.{TextLine}
-use Rattle.roff_run.specs.declared.request.LineReading.{LineReading}
-use Rattle.roff_run.specs.declared.request.LineReading.TheVariants.{ByArguments}
-use Rattle.roff_run.specs.declared.request.Request.{Request}
-use Rattle.roff_run.specs.declared.status.Status.TheVariants.{Device, Limit as Limited}
+use Rattle.roff_run.specs.declared.reading.Reading.TheVariants.{Arguments as InArguments}
 use Rattle.roff_run.proofs.InFront.{one_of}
 
 -- what one input has ahead, and in its arguments, counts for no more than what another has
@@ -102,12 +84,13 @@ total_length-reverse (x ∷ xs) =
     ap total_length (reverse-append (x ∷ []) xs) ∙ omega (arith, split, total_length-reverse xs)
 
 -- a text without a byte adds none
-no_byte : (n : ℕ) → not (n == 0) ≡ false → n ≡ 0
-no_byte n none = grind (arith, nat_tests)
+no_byte : (x : List ℕ) → has_byte x ≡ false → length x ≡ 0
+no_byte [] none = refl
+no_byte (b ∷ text) none = cc
 
 with_byte_or_not : (x : List ℕ) (rest : List (List ℕ)) (c : Bool) → has_byte x ≡ c → total_length (cond c (x ∷ rest) rest) ≡ length x + total_length rest
 with_byte_or_not x rest true is = refl
-with_byte_or_not x rest false is = omega (arith, no_byte (length x) is)
+with_byte_or_not x rest false is = omega (arith, no_byte x is)
 
 total_length-has_byte : (xs : List (List ℕ)) → total_length (filter has_byte xs) ≡ total_length xs
 total_length-has_byte [] = refl
