@@ -1,1 +1,4 @@
 pub mod Giving
+pub mod Counts
+pub mod Pushing
+pub mod Standing

@@ -4,4 +4,5 @@ pub mod ReadSource
 pub mod Halves
 pub mod Arguments
 pub mod Input
+pub mod Slots
 pub mod Unread

@@ -3,6 +3,7 @@
 
 mod bytes;
 mod half;
+mod slots;
 mod source;
 mod unread;
 

@@ -1,0 +1,190 @@
+//! What stands ahead of the source: pushed texts, events put back, and bytes in front again.
+
+ghost use Rattle.std.specs.Prelude.{◌≡◌, ◌+◌, ◌<◌, ◌≤◌, ◌^◌, [], ◌∷◌, ◌++◌, map, reverse, length, IfOk, vec_len, vec_capacity};
+ghost use Rattle.roff_scan.specs.Slots.Standing.{standing, items_of, IsStacked};
+ghost use Rattle.roff_scan.specs.Input.{is_none_ahead, ByteAhead, FreeAhead, EndAhead, DoAhead, bytes_ahead, ends_ahead, events_ahead, frees_ahead, most_events, most_frees};
+
+use std::alloc::{AllocError, Global};
+use std::marker::Model;
+
+/// How many events may stand ahead before each end, and before none.
+const EVENTS: usize = 3;
+
+/// How many bytes may stand in front again.
+const FREES: usize = 21;
+
+/// An item taken from the front.
+#[derive(Clone, Copy)]
+pub(crate) enum Front<E> {
+    /// A byte of a pushed text.
+    Byte(u8),
+    /// A byte that stood in front again.
+    Free(u8),
+    /// The end of a pushed text.
+    End,
+    /// An event that was put back.
+    Do(E),
+}
+
+/// What stands behind the bytes of a text.
+#[derive(Clone, Copy)]
+enum Mark<E> {
+    /// The end of a text, and so many more ends.
+    Ends(usize),
+    /// A byte that stands in front again.
+    Free(u8),
+    /// An event that was put back.
+    Do(E),
+}
+
+/// A mark, and how many unread bytes lie below it.
+#[derive(Clone, Copy)]
+struct Slot<E> {
+    height: usize,
+    mark: Mark<E>,
+}
+
+/// What stands ahead of the source. All its memory is reserved as it is made.
+#[derive(Drop)]
+pub(crate) struct Slots<E> {
+    most_bytes: usize,
+    most_texts: usize,
+    /// The slot in front is the last one.
+    slots: Vec<Slot<E>>,
+    /// The unread bytes of all texts. The next one is the last.
+    bytes: Vec<u8>,
+    /// How many texts haven't ended.
+    ends: usize,
+}
+
+impl<E> Model for Slots<E> {
+    ghost use Rattle.roff_scan.specs.Slots.Held.{Held};
+
+    ghost Value = { Held E };
+
+    ghost use Rattle.roff_scan.specs.Slots.Held.{held_by, IsSound};
+
+    ghost view = { held_by };
+
+    ghost invariant = { IsSound };
+}
+
+impl<E: Copy> Slots<E> {
+    ghost use Rattle.roff_scan.specs.Slots.Standing.{item_of};
+
+    /// Nothing stands ahead; there is room for so many unread bytes and texts.
+    pub(crate) fn new(alloc: Global, stack: u32, depth: u32) -> Result<Self, AllocError>
+        ensures { IfOk result (λ s. s ≡ record { ahead = []; most_bytes = stack; most_texts = depth }) }
+    {
+        let most_bytes = stack as usize;
+        let most_texts = depth as usize;
+        Ok(Slots {
+            most_bytes,
+            most_texts,
+            slots: Vec::with_capacity(alloc, most_texts + EVENTS * (most_texts + 1) + FREES)?,
+            bytes: Vec::with_capacity(alloc, most_bytes)?,
+            ends: 0,
+        })
+    }
+
+    /// Whether nothing stands ahead.
+    #[inline(always)]
+    pub(crate) fn is_empty(&self) -> bool
+        ensures { result ≡ is_none_ahead self.now.ahead }
+    {
+        self.slots.is_empty()
+    }
+
+    /// How many unread bytes of pushed texts there are.
+    pub(crate) fn byte_count(&self) -> usize
+        ensures count { result ≡ bytes_ahead self.now.ahead }
+        ensures within { result ≤ self.now.most_bytes }
+    {
+        self.bytes.len()
+    }
+
+    /// How many pushed texts haven't ended.
+    pub(crate) fn depth(&self) -> usize
+        ensures count { result ≡ ends_ahead self.now.ahead }
+        ensures within { result ≤ self.now.most_texts }
+    {
+        self.ends
+    }
+
+    /// Puts a text and its end in front.
+    pub(crate) fn push(&mut self, text: &[u8])
+        requires bytes { length text.now + bytes_ahead self.old.ahead ≤ self.old.most_bytes }
+        requires ends { ends_ahead self.old.ahead < self.old.most_texts }
+        ensures { self.new
+            ≡ record self.old { ahead = map ByteAhead text.now ++ EndAhead ∷ self.old.ahead } }
+    {
+        put_end(&mut self.slots, self.bytes.as_slice());
+        self.ends += 1;
+        put_reversed(&mut self.bytes, text);
+    }
+
+    /// Puts an event in front.
+    pub(crate) fn put_back(&mut self, event: E)
+        requires { events_ahead self.old.ahead < most_events self.old.most_texts }
+        ensures { self.new ≡ record self.old { ahead = DoAhead event ∷ self.old.ahead } }
+    {
+        put_mark(&mut self.slots, self.bytes.as_slice(), Mark::Do(event));
+    }
+
+    /// Puts a byte in front again.
+    pub(crate) fn free(&mut self, byte: u8)
+        requires { frees_ahead self.old.ahead < most_frees }
+        ensures { self.new ≡ record self.old { ahead = FreeAhead byte ∷ self.old.ahead } }
+    {
+        put_mark(&mut self.slots, self.bytes.as_slice(), Mark::Free(byte));
+    }
+}
+
+/// Puts a mark in front.
+fn put_mark<E>(slots: &mut Vec<Slot<E>>, bytes: &[u8], mark: Mark<E>)
+    requires room { vec_len slots.old < vec_capacity slots.old }
+    requires stacked { IsStacked (reverse slots.old.items) (length bytes.now) }
+    ensures items { standing (reverse slots.new.items) bytes.now
+        ≡ items_of mark ++ standing (reverse slots.old.items) bytes.now }
+    ensures stacked { IsStacked (reverse slots.new.items) (length bytes.now) }
+    ensures some { 0 < vec_len slots.new }
+    ensures capacity { vec_capacity slots.new ≡ vec_capacity slots.old }
+{
+    slots.push_reserved(Slot {
+        height: bytes.len(),
+        mark,
+    });
+}
+
+/// Puts the end of a text in front. Ends that nothing stands between share a slot.
+fn put_end<E: Copy>(slots: &mut Vec<Slot<E>>, bytes: &[u8])
+    requires room { vec_len slots.old < vec_capacity slots.old }
+    requires few { ends_ahead (standing (reverse slots.old.items) bytes.now) + 1 < 2 ^ 64 }
+    requires stacked { IsStacked (reverse slots.old.items) (length bytes.now) }
+    ensures items { standing (reverse slots.new.items) bytes.now
+        ≡ EndAhead ∷ standing (reverse slots.old.items) bytes.now }
+    ensures stacked { IsStacked (reverse slots.new.items) (length bytes.now) }
+    ensures some { 0 < vec_len slots.new }
+    ensures capacity { vec_capacity slots.new ≡ vec_capacity slots.old }
+{
+    if let Some((slot, _)) = slots.as_slice().split_last()
+        && slot.height == bytes.len()
+        && let Mark::Ends(more) = slot.mark
+    {
+        let _same = slots.take_last();
+        put_mark(slots, bytes, Mark::Ends(more + 1));
+    } else {
+        put_mark(slots, bytes, Mark::Ends(0));
+    }
+}
+
+/// Puts the bytes of a text on top of the others, the last one first.
+fn put_reversed(bytes: &mut Vec<u8>, text: &[u8])
+    requires { vec_len bytes.old + length text.now ≤ vec_capacity bytes.old }
+    ensures items { bytes.new.items ≡ bytes.old.items ++ reverse text.now }
+    ensures capacity { vec_capacity bytes.old ≤ vec_capacity bytes.new }
+{
+    let below = bytes.len();
+    bytes.extend_from_slice(text).unwrap();
+    bytes.as_mut_slice()[below..].reverse();
+}
