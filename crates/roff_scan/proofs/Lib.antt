@@ -2,3 +2,4 @@ pub mod Giving
 pub mod Counts
 pub mod Pushing
 pub mod Standing
+pub mod Taking

@@ -108,6 +108,11 @@ cost (FreeAhead b) = 0
 cost EndAhead = 1
 cost (DoAhead event) = 1
 
+-- what the front item costs, if there is one
+abbrev pub front_cost : {E : Type 0} → List (Ahead E) → ℕ
+front_cost [] = 0
+front_cost (item ∷ items) = cost item
+
 -- an item ahead is taken, and these stand behind it
 abbrev pub item_taken : {E : Type 0} → Ahead E → List (Ahead E) → Input E → Input E
 item_taken item behind i = record i { ahead = behind; charge = i.charge + cost item }

@@ -1,9 +1,10 @@
 //! What stands ahead of the source: pushed texts, events put back, and bytes in front again.
 
-ghost use Rattle.std.specs.Prelude.{◌≡◌, ◌+◌, ◌<◌, ◌≤◌, ◌^◌, [], ◌∷◌, ◌++◌, map, reverse, length, IfOk, vec_len, vec_capacity};
-ghost use Rattle.roff_scan.specs.Slots.Standing.{standing, items_of, IsStacked};
-ghost use Rattle.roff_scan.specs.Input.{is_none_ahead, ByteAhead, FreeAhead, EndAhead, DoAhead, bytes_ahead, ends_ahead, events_ahead, frees_ahead, most_events, most_frees};
+ghost use Rattle.std.specs.Prelude.{false, ◌≡◌, ◌+◌, ◌<◌, ◌≤◌, ◌^◌, [], ◌∷◌, ◌++◌, map, reverse, length, IfOk, option_map, vec_len, vec_capacity};
+ghost use Rattle.roff_scan.specs.Slots.Standing.{standing, items_of, item_of, is_byte_next, IsStacked};
+ghost use Rattle.roff_scan.specs.Input.{is_none_ahead, front_cost, ByteAhead, FreeAhead, EndAhead, DoAhead, bytes_ahead, ends_ahead, events_ahead, frees_ahead, most_events, most_frees};
 
+use crate::unread::Sight;
 use std::alloc::{AllocError, Global};
 use std::marker::Model;
 
@@ -70,7 +71,7 @@ impl<E> Model for Slots<E> {
 }
 
 impl<E: Copy> Slots<E> {
-    ghost use Rattle.roff_scan.specs.Slots.Standing.{item_of};
+    ghost use Rattle.roff_scan.specs.Unread.{sighted, seen_ahead};
 
     /// Nothing stands ahead; there is room for so many unread bytes and texts.
     pub(crate) fn new(alloc: Global, stack: u32, depth: u32) -> Result<Self, AllocError>
@@ -131,12 +132,94 @@ impl<E: Copy> Slots<E> {
         put_mark(&mut self.slots, self.bytes.as_slice(), Mark::Do(event));
     }
 
+    /// What the front item costs, if there is one.
+    pub(crate) fn cost(&self) -> u32
+        ensures { result ≡ front_cost self.now.ahead }
+    {
+        if is_byte_next(self.slots.as_slice(), self.bytes.as_slice()) {
+            return 1;
+        }
+        match self.slots.as_slice().split_last() {
+            Some((slot, _)) => match slot.mark {
+                Mark::Free(_) => 0,
+                Mark::Ends(_) | Mark::Do(_) => 1,
+            },
+            None => 0,
+        }
+    }
+
+    /// Takes the front item.
+    pub(crate) fn take(&mut self) -> Front<E>
+        requires { is_none_ahead self.old.ahead ≡ false }
+        ensures { self.old ≡ record self.new { ahead = item_of result ∷ self.new.ahead } }
+    {
+        if is_byte_next(self.slots.as_slice(), self.bytes.as_slice()) {
+            return Front::Byte(self.bytes.take_last());
+        }
+        let front = take_mark(&mut self.slots, self.bytes.as_slice());
+        if matches!(front, Front::End) {
+            self.ends -= 1;
+        }
+        front
+    }
+
+    /// What is seen in front, behind any ends of texts; nothing where only those are there.
+    pub(crate) fn seen(&self) -> Option<Sight>
+        ensures { option_map sighted result ≡ seen_ahead self.now.ahead }
+    {
+        let mut slots = self.slots.as_slice();
+        while let Some((slot, below)) = slots.split_last() {
+            if slot.height < self.bytes.len() {
+                return Some(Sight::Byte(self.bytes[self.bytes.len() - 1]));
+            }
+            match slot.mark {
+                Mark::Ends(_) => slots = below,
+                Mark::Free(byte) => return Some(Sight::Byte(byte)),
+                Mark::Do(_) => return Some(Sight::Nothing),
+            }
+        }
+        None
+    }
+
     /// Puts a byte in front again.
     pub(crate) fn free(&mut self, byte: u8)
         requires { frees_ahead self.old.ahead < most_frees }
         ensures { self.new ≡ record self.old { ahead = FreeAhead byte ∷ self.old.ahead } }
     {
         put_mark(&mut self.slots, self.bytes.as_slice(), Mark::Free(byte));
+    }
+}
+
+/// Whether a byte of a text comes next.
+fn is_byte_next<E>(slots: &[Slot<E>], bytes: &[u8]) -> bool
+    ensures { result ≡ is_byte_next (reverse slots.now) bytes.now }
+{
+    match slots.split_last() {
+        Some((slot, _)) => slot.height < bytes.len(),
+        None => false,
+    }
+}
+
+/// Takes the first item of the mark in front.
+fn take_mark<E>(slots: &mut Vec<Slot<E>>, bytes: &[u8]) -> Front<E>
+    requires some { 0 < vec_len slots.old }
+    requires mark { is_byte_next (reverse slots.old.items) bytes.now ≡ false }
+    requires stacked { IsStacked (reverse slots.old.items) (length bytes.now) }
+    ensures items { standing (reverse slots.old.items) bytes.now
+        ≡ item_of result ∷ standing (reverse slots.new.items) bytes.now }
+    ensures stacked { IsStacked (reverse slots.new.items) (length bytes.now) }
+    ensures capacity { vec_capacity slots.new ≡ vec_capacity slots.old }
+{
+    let slot = slots.take_last();
+    match slot.mark {
+        Mark::Free(byte) => Front::Free(byte),
+        Mark::Do(event) => Front::Do(event),
+        Mark::Ends(more) => {
+            if more > 0 {
+                put_mark(slots, bytes, Mark::Ends(more - 1));
+            }
+            Front::End
+        }
     }
 }
 

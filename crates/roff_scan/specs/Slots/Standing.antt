@@ -1,5 +1,5 @@
 -- How slots and a stack of bytes stand for what is ahead of the source.
-use Rattle.std.specs.Prelude.{◌≡◌, ℕ, ◌≤◌, List, [], ◌∷◌, ◌++◌, map, reverse, take, drop, replicate}
+use Rattle.std.specs.Prelude.{◌≡◌, ℕ, ◌≤◌, Bool, false, nat_lt, List, [], ◌∷◌, ◌++◌, map, length, reverse, take, drop, replicate}
 use Rattle.roff_scan.specs.Input.{Ahead, ByteAhead, FreeAhead, EndAhead, DoAhead}
 use Rattle.roff_scan.specs.declared.slots.Front.{Front}
 use Rattle.roff_scan.specs.declared.slots.Front.TheVariants.{Byte as FrontByte, Free as FrontFree, End as FrontEnd, Do as FrontDo}
@@ -31,3 +31,8 @@ standing (slot ∷ slots) bytes =
 abbrev pub IsStacked : {E : Type 0} → List (Slot E) → ℕ → Type 0
 IsStacked [] height = height ≡ 0
 IsStacked (slot ∷ slots) height = (slot.height ≤ height) × IsStacked slots slot.height
+
+-- whether a byte of a text comes next
+abbrev pub is_byte_next : {E : Type 0} → List (Slot E) → List ℕ → Bool
+is_byte_next [] bytes = false
+is_byte_next (slot ∷ slots) bytes = nat_lt slot.height (length bytes)
