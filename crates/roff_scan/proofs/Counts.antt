@@ -1,8 +1,8 @@
 -- What is counted of what stands ahead.
-use Rattle.std.proofs.Common.{◌≡◌, ◌<◌, ◌≤◌, ◌+◌, ◌-◌, ℕ, zero, suc, List, [], ◌∷◌, ◌++◌, length, map, take, drop, refl, sym, ap, ◌∙◌, arith, append_assoc, length-append, length-drop, zero-add}
+use Rattle.std.proofs.Common.{◌≡◌, ◌<◌, ◌≤◌, ◌+◌, ℕ, zero, suc, List, [], ◌∷◌, ◌++◌, length, map, take, drop, refl, sym, arith, length-drop, zero-add}
 use Rattle.std.specs.Prelude.{reverse, replicate}
 use Rattle.std.proofs.lemmas.List.{length-reverse, length-take-le}
-use Rattle.roff_scan.specs.Input.{Ahead, ByteAhead, FreeAhead, EndAhead, DoAhead, bytes_ahead, ends_ahead, events_ahead, frees_ahead}
+use Rattle.roff_scan.specs.Input.{Ahead, ByteAhead, FreeAhead, EndAhead, bytes_ahead, ends_ahead, events_ahead, frees_ahead}
 use Rattle.roff_scan.specs.Slots.Standing.{standing, items_of, IsStacked}
 use Rattle.roff_scan.specs.declared.slots.Slot.{Slot}
 use Rattle.roff_scan.specs.declared.slots.Mark.{Mark}
@@ -25,6 +25,23 @@ module _ {E : Type 0} where
   pub frees_ahead-bytes : (text : List ℕ) (items : List (Ahead E)) → frees_ahead (map ByteAhead text ++ items) ≡ frees_ahead items
   frees_ahead-bytes [] items = refl
   frees_ahead-bytes (b ∷ text) items = frees_ahead-bytes text items
+
+  -- bytes in front again, in front of other items
+  pub frees_ahead-frees : (bytes : List ℕ) (items : List (Ahead E)) → frees_ahead (map FreeAhead bytes ++ items) ≡ length bytes + frees_ahead items
+  frees_ahead-frees [] items = sym (zero-add (frees_ahead items))
+  frees_ahead-frees (b ∷ bytes) items = grind (arith, frees_ahead-frees bytes items)
+
+  pub bytes_ahead-frees : (bytes : List ℕ) (items : List (Ahead E)) → bytes_ahead (map FreeAhead bytes ++ items) ≡ bytes_ahead items
+  bytes_ahead-frees [] items = refl
+  bytes_ahead-frees (b ∷ bytes) items = bytes_ahead-frees bytes items
+
+  pub ends_ahead-frees : (bytes : List ℕ) (items : List (Ahead E)) → ends_ahead (map FreeAhead bytes ++ items) ≡ ends_ahead items
+  ends_ahead-frees [] items = refl
+  ends_ahead-frees (b ∷ bytes) items = ends_ahead-frees bytes items
+
+  pub events_ahead-frees : (bytes : List ℕ) (items : List (Ahead E)) → events_ahead (map FreeAhead bytes ++ items) ≡ events_ahead items
+  events_ahead-frees [] items = refl
+  events_ahead-frees (b ∷ bytes) items = events_ahead-frees bytes items
 
   -- ends have no bytes
   bytes_ahead-ends : (n : ℕ) (items : List (Ahead E)) → bytes_ahead (replicate n EndAhead ++ items) ≡ bytes_ahead items

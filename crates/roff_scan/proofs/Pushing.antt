@@ -1,17 +1,17 @@
--- A text is put in front of what slots hold.
-use Rattle.std.proofs.Common.{◌≡◌, ◌<◌, ◌≤◌, ◌+◌, ℕ, List, [], ◌∷◌, ◌++◌, length, length-append, map, refl, arith}
+-- Texts and bytes are put in front of what slots hold.
+use Rattle.std.proofs.Common.{◌≡◌, ◌<◌, ◌≤◌, ◌+◌, ℕ, List, ◌∷◌, ◌++◌, length, length-append, map, refl, arith}
 use Rattle.std.specs.Prelude.{reverse}
 use Rattle.std.proofs.lemmas.List.{length-reverse}
-use Rattle.roff_scan.specs.Input.{ByteAhead, EndAhead, bytes_ahead, ends_ahead}
+use Rattle.roff_scan.specs.Input.{ByteAhead, FreeAhead, EndAhead, bytes_ahead, ends_ahead, frees_ahead, most_frees}
 use Rattle.roff_scan.specs.Slots.Held.{Held, HasRoom}
 use Rattle.roff_scan.specs.Slots.Standing.{standing, IsStacked}
 use Rattle.roff_scan.specs.declared.slots.Slot.{Slot}
-use Rattle.roff_scan.proofs.Counts.{bytes_ahead-bytes, ends_ahead-bytes, events_ahead-bytes, frees_ahead-bytes}
+use Rattle.roff_scan.proofs.Counts.{bytes_ahead-bytes, ends_ahead-bytes, events_ahead-bytes, frees_ahead-bytes, bytes_ahead-frees, ends_ahead-frees, events_ahead-frees, frees_ahead-frees}
 use Rattle.roff_scan.proofs.Standing.{standing-text, IsStacked-more}
 
 module _ {E : Type 0} where
   module _ (old new : List (Slot E)) (bytes seen more text : List ℕ) (same : seen ≡ bytes) (longer : more ≡ bytes ++ reverse text)
-    (some : 0 < length new) (stacked : IsStacked (reverse new) (length seen)) where
+      (some : 0 < length new) (stacked : IsStacked (reverse new) (length seen)) where
     -- something is there, from either end
     some_reversed : 0 < length (reverse new)
     some_reversed = rw length-reverse some
@@ -33,4 +33,13 @@ module _ {E : Type 0} where
     ends = rw (ends_ahead-bytes text (EndAhead ∷ h.ahead)) (omega (arith, ends));
     events = rw (events_ahead-bytes text (EndAhead ∷ h.ahead)) room.events;
     frees = rw (frees_ahead-bytes text (EndAhead ∷ h.ahead)) room.frees;
+  }
+
+  -- there is room for bytes in front again
+  pub HasRoom-freed : (h : Held E) (bytes : List ℕ) → HasRoom h → frees_ahead h.ahead + length bytes ≤ most_frees → HasRoom (record h { ahead = map FreeAhead bytes ++ h.ahead })
+  HasRoom-freed h bytes room frees = record {
+    bytes = rw (bytes_ahead-frees bytes h.ahead) room.bytes;
+    ends = rw (ends_ahead-frees bytes h.ahead) room.ends;
+    events = rw (events_ahead-frees bytes h.ahead) room.events;
+    frees = rw (frees_ahead-frees bytes h.ahead) (omega (arith, frees));
   }

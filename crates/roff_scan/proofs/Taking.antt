@@ -1,15 +1,12 @@
 -- The front item of what slots stand for.
-use Rattle.std.proofs.Common.{true, false, ◌==◌, ◌≡◌, ◌<◌, ◌≤◌, ◌+◌, ◌-◌, ℕ, zero, suc, List, [], ◌∷◌, ◌++◌, Some, None, length, length-append, length-drop, map, take, drop, get_or, refl, sym, ap, subst, ◌∙◌, arith}
-use Rattle.std.specs.Prelude.{reverse, replicate, nat_lt}
+use Rattle.std.proofs.Common.{true, false, ◌≡◌, ◌<◌, ◌≤◌, ◌+◌, ◌-◌, ℕ, zero, suc, List, [], ◌∷◌, ◌++◌, length, length-append, take, get_or, refl, sym, ap, subst, ◌∙◌, arith}
+use Rattle.std.specs.Prelude.{replicate}
 use Rattle.std.proofs.lemmas.Bool.Decides.{nat_tests}
-use Rattle.std.proofs.lemmas.List.{length-reverse, take_more, take_all}
-use Rattle.roff_scan.specs.Input.{Ahead, ByteAhead, FreeAhead, EndAhead, DoAhead, front_cost, ends_ahead}
-use Rattle.roff_scan.specs.Slots.Held.{Held, HasRoom}
+use Rattle.std.proofs.lemmas.List.{take_more, take_all}
+use Rattle.roff_scan.specs.Input.{Ahead, ByteAhead, EndAhead}
 use Rattle.roff_scan.specs.Slots.Standing.{standing, items_of, is_byte_next, IsStacked}
-use Rattle.roff_scan.specs.Unread.{seen_ahead, SeesByte, SeesNothing}
+use Rattle.roff_scan.specs.Unread.{seen_ahead}
 use Rattle.roff_scan.specs.declared.slots.Slot.{Slot}
-use Rattle.roff_scan.specs.declared.slots.Mark.{Mark}
-use Rattle.roff_scan.specs.declared.slots.Mark.TheVariants.{Ends, Free, Do}
 use Rattle.roff_scan.proofs.Standing.{standing-append, standing_mark}
 
 -- the last one of some bytes

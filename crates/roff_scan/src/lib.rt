@@ -10,4 +10,4 @@ mod unread;
 pub use bytes::{is_dropped, is_silent};
 pub use half::{CopyUnit, Half, NamePart};
 pub use source::{ByteSource, Note, ReadSource, Taken};
-pub use unread::{Item, Sight};
+pub use unread::{Item, Sight, Unread};

@@ -4,7 +4,7 @@ ghost use Rattle.std.specs.Prelude.{false, ◌≡◌, ◌+◌, ◌<◌, ◌≤�
 ghost use Rattle.roff_scan.specs.Slots.Standing.{standing, items_of, item_of, is_byte_next, IsStacked};
 ghost use Rattle.roff_scan.specs.Input.{is_none_ahead, front_cost, ByteAhead, FreeAhead, EndAhead, DoAhead, bytes_ahead, ends_ahead, events_ahead, frees_ahead, most_events, most_frees};
 
-use crate::unread::Sight;
+use crate::unread::{Item, Sight};
 use std::alloc::{AllocError, Global};
 use std::marker::Model;
 
@@ -25,6 +25,21 @@ pub(crate) enum Front<E> {
     End,
     /// An event that was put back.
     Do(E),
+}
+
+impl<E> Front<E> {
+    ghost use Rattle.roff_scan.specs.Unread.{shown, shown_ahead};
+
+    /// The item, as it is shown.
+    pub(crate) fn into_item(self) -> Item<E>
+        ensures { shown result ≡ shown_ahead (item_of self) }
+    {
+        match self {
+            Front::Byte(byte) | Front::Free(byte) => Item::Byte(byte),
+            Front::End => Item::End,
+            Front::Do(event) => Item::Do(event),
+        }
+    }
 }
 
 /// What stands behind the bytes of a text.
@@ -181,12 +196,12 @@ impl<E: Copy> Slots<E> {
         None
     }
 
-    /// Puts a byte in front again.
-    pub(crate) fn free(&mut self, byte: u8)
-        requires { frees_ahead self.old.ahead < most_frees }
-        ensures { self.new ≡ record self.old { ahead = FreeAhead byte ∷ self.old.ahead } }
+    /// Puts bytes in front again.
+    pub(crate) fn free(&mut self, bytes: &[u8])
+        requires { frees_ahead self.old.ahead + length bytes.now ≤ most_frees }
+        ensures { self.new ≡ record self.old { ahead = map FreeAhead bytes.now ++ self.old.ahead } }
     {
-        put_mark(&mut self.slots, self.bytes.as_slice(), Mark::Free(byte));
+        put_frees(&mut self.slots, self.bytes.as_slice(), bytes);
     }
 }
 
@@ -230,13 +245,27 @@ fn put_mark<E>(slots: &mut Vec<Slot<E>>, bytes: &[u8], mark: Mark<E>)
     ensures items { standing (reverse slots.new.items) bytes.now
         ≡ items_of mark ++ standing (reverse slots.old.items) bytes.now }
     ensures stacked { IsStacked (reverse slots.new.items) (length bytes.now) }
-    ensures some { 0 < vec_len slots.new }
+    ensures len { vec_len slots.new ≡ vec_len slots.old + 1 }
     ensures capacity { vec_capacity slots.new ≡ vec_capacity slots.old }
 {
     slots.push_reserved(Slot {
         height: bytes.len(),
         mark,
     });
+}
+
+/// Puts bytes in front again.
+fn put_frees<E>(slots: &mut Vec<Slot<E>>, bytes: &[u8], frees: &[u8])
+    requires room { vec_len slots.old + length frees.now ≤ vec_capacity slots.old }
+    requires stacked { IsStacked (reverse slots.old.items) (length bytes.now) }
+    ensures items { standing (reverse slots.new.items) bytes.now
+        ≡ map FreeAhead frees.now ++ standing (reverse slots.old.items) bytes.now }
+    ensures stacked { IsStacked (reverse slots.new.items) (length bytes.now) }
+    ensures capacity { vec_capacity slots.new ≡ vec_capacity slots.old }
+{
+    for free in frees.iter().rev() {
+        put_mark(slots, bytes, Mark::Free(*free));
+    }
 }
 
 /// Puts the end of a text in front. Ends that nothing stands between share a slot.

@@ -1,11 +1,11 @@
-use Rattle.std.proofs.Common.{◌≡◌, ◌≤◌, ◌<◌, ◌+◌, ◌^◌, ℕ, List, arith, ap, sym, ◌∙◌, ◌∷◌, ◌++◌, [], length, refl}
-use Rattle.std.specs.Prelude.{reverse, replicate}
-use Rattle.roff_scan.specs.Input.{ends_ahead, EndAhead}
+use Rattle.std.proofs.Common.{◌≡◌, ◌<◌, ◌+◌, ◌^◌, ℕ, List, arith, sym, ◌∙◌, ◌∷◌, ◌++◌, [], length, refl}
+use Rattle.std.specs.Prelude.{reverse}
+use Rattle.roff_scan.specs.Input.{ends_ahead}
 use Rattle.roff_scan.specs.Slots.Standing.{standing, items_of}
 use Rattle.roff_scan.specs.declared.slots.Slot.{Slot}
 use Rattle.roff_scan.specs.declared.slots.Mark.TheVariants.{Ends}
 use Rattle.roff_scan.proofs.Counts.{ends_ahead-more}
-use Rattle.roff_scan.proofs.Standing.{standing_mark, reverse_front, one_more_end}
+use Rattle.roff_scan.proofs.Standing.{standing_mark, reverse_front}
 use Rattle.roff_scan.proofs.slots.put_end.Goals as goal
 
 module _ {E : Type 0} where

@@ -1,4 +1,4 @@
-use Rattle.std.proofs.Common.{◌≡◌, sym, ap, ◌∙◌, arith, length, ℕ}
+use Rattle.std.proofs.Common.{sym, ap, ◌∙◌, arith}
 use Rattle.std.specs.Prelude.{reverse}
 use Rattle.roff_scan.proofs.Counts.{bytes_ahead-standing}
 use Rattle.roff_scan.specs.Input.{bytes_ahead}

@@ -1,6 +1,5 @@
-use Rattle.std.proofs.Common.{◌≡◌, ℕ, List, ap, sym, ◌∙◌, refl}
+use Rattle.std.proofs.Common.{sym, ◌∙◌, refl}
 use Rattle.std.specs.Prelude.{reverse}
-use Rattle.roff_scan.specs.Input.{Ahead, front_cost}
 use Rattle.roff_scan.proofs.Taking.{standing_last}
 use Rattle.roff_scan.proofs.slots.Slots.cost.Goals as goal
 

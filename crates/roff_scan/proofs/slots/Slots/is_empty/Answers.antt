@@ -1,9 +1,6 @@
-use Rattle.std.proofs.Common.{◌≡◌, sym, ap, ◌∙◌, length, ◌==◌, ℕ}
 use Rattle.std.specs.Prelude.{reverse}
 use Rattle.std.proofs.lemmas.List.{length-reverse}
 use Rattle.roff_scan.proofs.Standing.{is_none_ahead-standing}
-use Rattle.roff_scan.specs.Input.{is_none_ahead}
-use Rattle.roff_scan.specs.Slots.Held.{Held}
 use Rattle.roff_scan.proofs.slots.Slots.is_empty.Goals as goal
 
 pub returns : goal.returns

@@ -1,9 +1,8 @@
-use Rattle.std.proofs.Common.{◌≡◌, ◌≤◌, ◌<◌, ◌+◌, ◌^◌, ℕ, List, arith, ap, sym, ◌∙◌, ◌∷◌, ◌++◌, [], length, length-append, map, refl}
-use Rattle.std.specs.Prelude.{reverse, vec_len, vec_capacity}
+use Rattle.std.proofs.Common.{◌<◌, ◌+◌, arith, ap, ◌∷◌, ◌++◌, length, map}
+use Rattle.std.specs.Prelude.{reverse}
 use Rattle.std.proofs.lemmas.List.{length-reverse}
-use Rattle.roff_scan.specs.Input.{ends_ahead, bytes_ahead, ByteAhead, EndAhead}
-use Rattle.roff_scan.specs.Slots.Held.{Held, held_by, HasRoom}
-use Rattle.roff_scan.specs.Slots.Standing.{standing}
+use Rattle.roff_scan.specs.Input.{ByteAhead, EndAhead}
+use Rattle.roff_scan.specs.Slots.Held.{Held, held_by}
 use Rattle.roff_scan.proofs.Counts.{length-slots, bytes_ahead-standing, ends_ahead-bytes}
 use Rattle.roff_scan.proofs.Pushing.{standing-pushed, IsStacked-pushed, HasRoom-pushed}
 use Rattle.roff_scan.proofs.slots.Slots.push.Goals as goal
@@ -53,4 +52,4 @@ returns g c =
     let bytes = c.put_reversed.new.bytes.items in
     let some : 0 < length new.items = omega (arith, new.ok.0, c.put_end.ensures.some) in
     let stands = standing-pushed inside.slots.items new.items inside.bytes.items c.as_slice.result.now bytes text c.as_slice.ensures.value c.put_reversed.ensures.items some c.put_end.ensures.stacked c.put_end.ensures.items in
-    rw (stands, ← c.self.view_is) refl
+    rw stands (ap (λ (h : Held _). record h { ahead = map ByteAhead text ++ EndAhead ∷ h.ahead }) c.self.view_is)

@@ -1,5 +1,5 @@
-use Rattle.std.proofs.Common.{◌<◌, ℕ, length, arith}
-use Rattle.std.specs.Prelude.{reverse, vec_capacity}
+use Rattle.std.proofs.Common.{arith}
+use Rattle.std.specs.Prelude.{reverse}
 use Rattle.std.proofs.lemmas.List.{length-reverse}
 use Rattle.roff_scan.proofs.Counts.{length-slots}
 use Rattle.roff_scan.proofs.slots.Slots.put_back.Goals as goal

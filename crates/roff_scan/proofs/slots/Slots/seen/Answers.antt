@@ -1,4 +1,4 @@
-use Rattle.std.proofs.Common.{◌≡◌, ◌≤◌, ℕ, List, [], ◌∷◌, ◌++◌, length, ap, sym, ◌∙◌, arith}
+use Rattle.std.proofs.Common.{◌≡◌, ◌≤◌, ℕ, List, [], ◌∷◌, ◌++◌, length, arith}
 use Rattle.std.specs.Prelude.{reverse}
 use Rattle.roff_scan.specs.Slots.Standing.{standing, IsStacked}
 use Rattle.roff_scan.specs.Unread.{seen_ahead}
@@ -30,6 +30,6 @@ loop-slot-preserved g c =
     let split = c.in-Some.ensures.cases.0 in
     let reached : length bytes ≤ c.in-Some.slot.now.height = omega (arith, c.self.inside.bytes.ok.0, c.len.ensures, c.if-slot-len.false) in
     record {
-      seen = sym (seen_below c.loop-slot.slots.now c.in-Some.below.now c.in-Some.slot.now bytes split c.loop-slot.invariant.stacked c.in-Ends.field-0 reached c.in-Ends.is) ∙ c.loop-slot.invariant.seen;
+      seen = rw (← seen_below c.loop-slot.slots.now c.in-Some.below.now c.in-Some.slot.now bytes split c.loop-slot.invariant.stacked c.in-Ends.field-0 reached c.in-Ends.is) c.loop-slot.invariant.seen;
       stacked = stacked_below c.loop-slot.slots.now c.in-Some.below.now c.in-Some.slot.now bytes split c.loop-slot.invariant.stacked reached;
     }
