@@ -17,7 +17,11 @@ use Rattle.roff_run.specs.Requests.{PageEvent}
 use Rattle.roff_run.specs.Run.{first_passed, counts_in}
 use Rattle.roff_run.specs.declared.reading.Reading.{Reading}
 use Rattle.roff_run.specs.declared.reading.Reading.TheVariants.{Arguments as InArguments}
-use Rattle.roff_run.proofs.InFront.{one_of}
+
+-- of either part of a test it holds
+pub one_of : {A : Type 0} (P : A → Type 0) (c : Bool) (x y : A) → P x → P y → P (if c then x else y)
+one_of P true x y first second = first
+one_of P false x y first second = second
 
 -- what one input has ahead, and in its arguments, counts for no more than what another has
 pub record NoMore (now before : PageInput) : Type 0 where

@@ -22,7 +22,7 @@ use Rattle.roff_run.specs.declared.reading.TextLine.{TextLine}
 use Rattle.roff_run.specs.declared.request.LineReading.{LineReading}
 use Rattle.roff_run.specs.declared.request.LineReading.TheVariants.{ByArguments}
 use Rattle.roff_run.specs.declared.request.Request.{Request}
-use Rattle.roff_run.specs.Reading.{PageInput, Taking, fresh_line, glyph_taking, blank_taking, text_taking, escape_taking, text_found, unit_found, arguments_found, dropped_taking, ends_name, line_taking, name_ended_taking, behind_name, name_whole_taking, kept_taking, interrupted, taking, half_ended, end_taking, going_on}
+use Rattle.roff_run.specs.Reading.{PageInput, Taking, fresh_line, glyph_taking, blank_taking, text_taking, escape_taking, first_taking, beginning_found, text_found, unit_found, arguments_found, dropped_taking, ends_name, line_taking, name_ended_taking, behind_name, name_whole_taking, kept_taking, interrupted, taking, half_ended, end_taking, going_on}
 use Rattle.roff_run.specs.Registers.{Known, known_behind, step_changes, text_of_register}
 use Rattle.roff_run.specs.Requests.{PageEvent, row_of, request_named}
 
@@ -141,8 +141,11 @@ input-text_taking i line b =
 -- and the byte of an escape
 input-escape_taking : (i : PageInput) (line : TextLine) (b : ℕ) → (escape_taking i line b).input ≡ i
 input-escape_taking i line b =
-    input-if i (b == newline) _ _ refl
-    (input-if i (is_silent b) _ _ refl (input-if i (b == blank || b == 48) _ _ refl (input-if i (b == 101) _ _ refl refl)))
+    input-if i (b == newline || is_silent b) _ _ refl (input-if i (b == blank || b == 48) _ _ refl (input-if i (b == 101) _ _ refl refl))
+
+-- and the first byte of a line
+input-first_taking : (i : PageInput) (b : ℕ) → (first_taking i b).input ≡ i
+input-first_taking i b = input-if i (b == dot) _ _ refl (input-if i (b == apostrophe) _ _ refl (input-text_taking i fresh_line b))
 
 -- this is half read behind it
 Keeps-half : (most : ℕ) (i j : PageInput) (half : List Half) → length half ≤ most → j ≡ record i { half = half } → Keeps most i j
@@ -166,6 +169,16 @@ Keeps-text_found most k i half line (GivesUnit (Byte b)) few = Keeps-half most i
 Keeps-text_found most k i half line (GivesUnit (Kept b)) few = Keeps-half most i _ half few (input-escape_taking (record i { half = half }) line b)
 Keeps-text_found most k i half line (Escape b) few = Keeps-half most i _ half few (input-escape_taking (record i { half = half }) line b)
 Keeps-text_found most k i half line (Asks step name) few =
+    record { charge = refl; newlines = refl; line = refl; free = free_ahead-register k step name i.ahead; half = few }
+
+-- what was found where a line begins, with this half read
+Keeps-beginning_found : (most : ℕ) (k : Known) (i : PageInput) (half : List Half) (found : Read) → length half ≤ most
+    → Keeps most i (beginning_found k (record i { half = half }) found).input
+Keeps-beginning_found most k i half GoesOn few = record { charge = refl; newlines = refl; line = refl; free = refl; half = few }
+Keeps-beginning_found most k i half (GivesUnit (Byte b)) few = Keeps-half most i _ half few (input-first_taking (record i { half = half }) b)
+Keeps-beginning_found most k i half (GivesUnit (Kept b)) few = Keeps-half most i _ half few (input-escape_taking (record i { half = half }) fresh_line b)
+Keeps-beginning_found most k i half (Escape b) few = Keeps-half most i _ half few (input-escape_taking (record i { half = half }) fresh_line b)
+Keeps-beginning_found most k i half (Asks step name) few =
     record { charge = refl; newlines = refl; line = refl; free = free_ahead-register k step name i.ahead; half = few }
 
 -- a unit of a line of arguments
@@ -217,8 +230,7 @@ Keeps-name_whole_taking i breaks name =
 -- a byte that isn't dropped
 Keeps-kept_taking : (k : Known) (reading : Reading) (i : PageInput) (b : ℕ) → KeepsOneMore i (kept_taking k reading i b).input
 Keeps-kept_taking k LineStart i b =
-    Keeps-if _ i (b == dot) _ _ (KeepsOneMore-same i)
-    (Keeps-if _ i (b == apostrophe) _ _ (KeepsOneMore-same i) (Keeps-text_found _ k i (byte_read true i.half b).1 fresh_line (byte_read true i.half b).0 (Leaves-byte_read true i.half b)))
+    Keeps-beginning_found _ k i (byte_read true i.half b).1 (byte_read true i.half b).0 (Leaves-byte_read true i.half b)
 Keeps-kept_taking k (InText line) i b = Keeps-text_found _ k i (byte_read true i.half b).1 line (byte_read true i.half b).0 (Leaves-byte_read true i.half b)
 Keeps-kept_taking k (Control breaks) i b =
     Keeps-if _ i (b == blank) _ _ (KeepsOneMore-same i) (Keeps-if _ i (ends_name b) _ _ (KeepsOneMore-same i) (KeepsOneMore-same i))
@@ -243,7 +255,8 @@ Keeps-taking k reading i b = Keeps-if _ i (is_dropped b) _ _ (Keeps-interrupted 
 -- what is half read ends
 pub Keeps-half_ended : (k : Known) (reading : Reading) (i : PageInput) (first : Half) (others : List Half) → i.half ≡ first ∷ others
     → Keeps (length others) i (half_ended k reading i).input
-Keeps-half_ended k LineStart i first others is = Keeps-half (length others) i _ (reading_ended true i.half).1 (leaves_ended true i.half first others is) refl
+Keeps-half_ended k LineStart i first others is =
+    Keeps-beginning_found (length others) k i (reading_ended true i.half).1 (reading_ended true i.half).0 (leaves_ended true i.half first others is)
 Keeps-half_ended k (InText line) i first others is = Keeps-text_found (length others) k i (reading_ended true i.half).1 line (reading_ended true i.half).0 (leaves_ended true i.half first others is)
 Keeps-half_ended k (Control breaks) i first others is = Keeps-half (length others) i _ (reading_ended true i.half).1 (leaves_ended true i.half first others is) refl
 Keeps-half_ended k (Name breaks byte) i first others is = Keeps-half (length others) i _ (reading_ended true i.half).1 (leaves_ended true i.half first others is) refl

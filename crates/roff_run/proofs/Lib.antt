@@ -16,6 +16,5 @@ pub mod RequestTable
 pub mod RegisterTables
 pub mod RegisterLaws
 pub mod Numbering
-pub mod InFront
 pub mod InputCounts
 pub mod TurnsToCome

@@ -9,7 +9,7 @@ use Rattle.roff_num.specs.declared.num.NumFault.{NumFault}
 use Rattle.roff_num.specs.declared.num.Scale.TheVariants.{Units}
 use Rattle.roff_scan.specs.Arguments.{has_byte, kept, kept_by_place}
 use Rattle.roff_run.specs.Numbers.{value_beside}
-use Rattle.roff_run.specs.Registers.{Known, settable}
+use Rattle.roff_run.specs.Registers.{Known, value_in_force}
 use Rattle.roff_run.specs.Request.Coded.{register_named}
 use Rattle.roff_run.specs.Requests.Effects.{Done}
 use Rattle.roff_run.specs.Requests.Numbering.{if_named, increment_given, name_given, names_given, set_register, set_to}
@@ -34,15 +34,15 @@ setting_beside-same in_force known name given text value increment by_known by_n
 -- a register that is named is set beside its value
 pub set_register-named : (k : Known) (as_given : List (List ℕ)) (name text : List ℕ) (in_force : Num)
     → Some name ≡ register_named as_given → Some text ≡ slice_get as_given 1
-    → IfSome (register_named as_given) (λ named. in_force ≡ (settable named k.registers).value)
+    → IfSome (register_named as_given) (λ named. in_force ≡ (value_in_force k named))
     → set_register k as_given ≡ setting_beside in_force name text (increment_given (drop 2 as_given))
 set_register-named k [] name text in_force named given known = cc
 set_register-named k (first ∷ []) name text in_force named given known = cc
 set_register-named k ([] ∷ second ∷ others) name text in_force named given known = cc
 set_register-named k ((c ∷ []) ∷ second ∷ others) name text in_force named given known =
-    setting_beside-same in_force (settable (c ∷ []) k.registers).value name (c ∷ []) text second (increment_given others) known (cc) (cc)
+    setting_beside-same in_force (value_in_force k (c ∷ [])) name (c ∷ []) text second (increment_given others) known (cc) (cc)
 set_register-named k ((c ∷ d ∷ rest) ∷ second ∷ others) name text in_force named given known =
-    let in_force_now : Num = (settable (c ∷ d ∷ []) k.registers).value in
+    let in_force_now : Num = (value_in_force k (c ∷ d ∷ [])) in
     if_named-some c (d ∷ rest) (setting_beside in_force_now (c ∷ d ∷ []) second (increment_given others))
     ∙ setting_beside-same in_force in_force_now name (c ∷ d ∷ []) text second (increment_given others) known (cc) (cc)
 

@@ -18,7 +18,7 @@ use Rattle.roff_scan.specs.declared.half.NamePart.{NamePart}
 use Rattle.roff_scan.specs.declared.half.NamePart.TheVariants.{Nothing, Opened, First}
 use Rattle.roff_scan.specs.declared.half.Read.{Read}
 use Rattle.roff_scan.specs.declared.half.Read.TheVariants.{GoesOn, Unit as GivesUnit, Escape, Asks}
-use Rattle.roff_run.specs.Reading.{PageInput, interrupted, settling, Taking, interpolating, text_taking, escape_taking, text_found, text_read, unit_found, arguments_found, arguments_read_on, fresh_line, ends_name, going_on, dropped_taking, line_taking, behind_name, kept_taking, half_ended, taking as byte_taking}
+use Rattle.roff_run.specs.Reading.{PageInput, interrupted, settling, Taking, interpolating, text_taking, escape_taking, first_taking, beginning_found, beginning_read, text_found, text_read, unit_found, arguments_found, arguments_read_on, fresh_line, ends_name, going_on, dropped_taking, line_taking, behind_name, kept_taking, half_ended, taking as byte_taking}
 use Rattle.roff_run.specs.Registers.{Known, known_behind, step_changes, text_of_register}
 use Rattle.roff_run.specs.Requests.{PageEvent, request_named, row_of}
 use Rattle.roff_run.specs.declared.reading.Reading.{Reading}
@@ -27,7 +27,7 @@ use Rattle.roff_run.specs.declared.reading.TextLine.{TextLine}
 use Rattle.roff_run.specs.declared.request.LineReading.{LineReading}
 use Rattle.roff_run.specs.declared.request.LineReading.TheVariants.{ByArguments}
 use Rattle.roff_run.specs.declared.request.Request.{Request}
-use Rattle.roff_run.proofs.InFront.{one_of}
+use Rattle.roff_run.proofs.InputCounts.{one_of}
 
 -- the bytes ahead that cost nothing
 abbrev pub free_ahead : List (Ahead PageEvent) → ℕ
@@ -160,8 +160,7 @@ all-text_taking bytes i line b =
 all-escape_taking : (bytes : ℕ) (i : PageInput) (line : TextLine) (b : ℕ) → LeavesAll bytes i (escape_taking i line b)
 all-escape_taking bytes i line b =
     let P : Taking → Type 0 = LeavesAll bytes i in
-    one_of P (b == newline) _ _ refl
-    (one_of P (is_silent b) _ _ refl (one_of P (b == blank || b == 48) _ _ refl (one_of P (b == 101) _ _ refl refl)))
+    one_of P (b == newline || is_silent b) _ _ refl (one_of P (b == blank || b == 48) _ _ refl (one_of P (b == 101) _ _ refl refl))
 
 all-text_found : (bytes : ℕ) (k : Known) (i : PageInput) (line : TextLine) (read : Read) → LeavesAll bytes i (text_found k i line read)
 all-text_found bytes k i line GoesOn = refl
@@ -169,6 +168,18 @@ all-text_found bytes k i line (GivesUnit (Byte b)) = all-text_taking bytes i lin
 all-text_found bytes k i line (GivesUnit (Kept b)) = all-escape_taking bytes i line b
 all-text_found bytes k i line (Escape b) = all-escape_taking bytes i line b
 all-text_found bytes k i line (Asks step name) = all-interpolating bytes k i (InText line) step name
+
+all-first_taking : (bytes : ℕ) (i : PageInput) (b : ℕ) → LeavesAll bytes i (first_taking i b)
+all-first_taking bytes i b =
+    let P : Taking → Type 0 = LeavesAll bytes i in
+    one_of P (b == dot) _ _ refl (one_of P (b == apostrophe) _ _ refl (all-text_taking bytes i fresh_line b))
+
+all-beginning_found : (bytes : ℕ) (k : Known) (i : PageInput) (read : Read) → LeavesAll bytes i (beginning_found k i read)
+all-beginning_found bytes k i GoesOn = refl
+all-beginning_found bytes k i (GivesUnit (Byte b)) = all-first_taking bytes i b
+all-beginning_found bytes k i (GivesUnit (Kept b)) = all-escape_taking bytes i fresh_line b
+all-beginning_found bytes k i (Escape b) = all-escape_taking bytes i fresh_line b
+all-beginning_found bytes k i (Asks step name) = all-interpolating bytes k i LineStart step name
 
 all-unit_found : (bytes : ℕ) (k : Known) (i : PageInput) (breaks : Bool) (request : Request) (unit : CopyUnit) → LeavesAll bytes i (unit_found k i breaks request unit)
 all-unit_found bytes k i breaks request (Byte b) = one_of (LeavesAll bytes i) (b == newline) _ _ refl refl
@@ -187,6 +198,10 @@ LeavesAtMost bytes i more t = turns_within bytes t.input ≤ turns_within bytes 
 most-text_read : (bytes : ℕ) (k : Known) (i : PageInput) (line : TextLine) (r : Reads) (more : ℕ) → length r.1 ≤ length i.half + more
     → LeavesAtMost bytes i more (text_read k i line r)
 most-text_read bytes k i line r more few = omega (arith, all-text_found bytes k (record i { half = r.1 }) line r.0)
+
+most-beginning_read : (bytes : ℕ) (k : Known) (i : PageInput) (r : Reads) (more : ℕ) → length r.1 ≤ length i.half + more
+    → LeavesAtMost bytes i more (beginning_read k i r)
+most-beginning_read bytes k i r more few = omega (arith, all-beginning_found bytes k (record i { half = r.1 }) r.0)
 
 most-arguments_read_on : (bytes : ℕ) (k : Known) (i : PageInput) (breaks : Bool) (request : Request) (r : Reads) (more : ℕ) → length r.1 ≤ length i.half + more
     → LeavesAtMost bytes i more (arguments_read_on k i breaks request r)
@@ -210,10 +225,7 @@ most-name_whole_taking bytes i breaks None = omega arith
 most-name_whole_taking bytes i breaks (Some request) = omega arith
 
 most-kept_taking : (bytes : ℕ) (k : Known) (reading : Reading) (i : PageInput) (b : ℕ) → LeavesAtMost bytes i 1 (kept_taking k reading i b)
-most-kept_taking bytes k LineStart i b =
-    let P : Taking → Type 0 = LeavesAtMost bytes i 1 in
-    one_of P (b == dot) _ _ (omega arith)
-    (one_of P (b == apostrophe) _ _ (omega arith) (most-text_read bytes k i fresh_line (byte_read true i.half b) 1 (length-byte_read true i.half b)))
+most-kept_taking bytes k LineStart i b = most-beginning_read bytes k i (byte_read true i.half b) 1 (length-byte_read true i.half b)
 most-kept_taking bytes k (InText line) i b = most-text_read bytes k i line (byte_read true i.half b) 1 (length-byte_read true i.half b)
 most-kept_taking bytes k (Control breaks) i b =
     let P : Taking → Type 0 = LeavesAtMost bytes i 1 in
@@ -247,6 +259,9 @@ length-newline_stays (first ∷ rest) stays = omega arith
 -- where what is half read ends, a turn fewer is to come
 pub turns_within-half_ended : (bytes : ℕ) (k : Known) (reading : Reading) (i : PageInput) → 1 ≤ length i.half
     → turns_within bytes (half_ended k reading i).input + 1 ≤ turns_within bytes i
+turns_within-half_ended bytes k LineStart i some =
+    let r : Reads = reading_ended true i.half in
+    omega (arith, all-beginning_found bytes k (record i { half = r.1 }) r.0, fewer_half true i.half some)
 turns_within-half_ended bytes k (InText line) i some =
     let r : Reads = reading_ended true i.half in
     omega (arith, all-text_found bytes k (record i { half = r.1 }) line r.0, fewer_half true i.half some)

@@ -89,8 +89,7 @@ text_taking i line b =
 -- an escape of a text line, by the byte behind its backslash; behind a newline the line goes on
 abbrev pub escape_taking : PageInput → TextLine → ℕ → Taking
 escape_taking i line b =
-    if b == newline then going_on i (InText line)
-    else if is_silent b then other_taking i line
+    if b == newline || is_silent b then other_taking i line
     else if b == blank || b == 48 then glyph_taking i line (Blanks 1)
     else if b == 101 then glyph_taking i line (Printed backslash)
     else glyph_taking i line (Printed b)
@@ -103,6 +102,13 @@ interpolating k i reading step name = record {
   effect = record { messages = step_messages step name k.registers; changes = step_changes step name; events = [] };
 }
 
+-- the first byte of a line
+abbrev pub first_taking : PageInput → ℕ → Taking
+first_taking i b =
+    if b == dot then going_on i (Control true)
+    else if b == apostrophe then going_on i (Control false)
+    else text_taking i fresh_line b
+
 -- what was found of a text line
 abbrev pub text_found : Known → PageInput → TextLine → Read → Taking
 text_found k i line GoesOn = going_on i (InText line)
@@ -110,6 +116,18 @@ text_found k i line (Unit (Byte b)) = text_taking i line b
 text_found k i line (Unit (Kept b)) = escape_taking i line b
 text_found k i line (Escape b) = escape_taking i line b
 text_found k i line (Asks step name) = interpolating k i (InText line) step name
+
+-- what was found where a line begins: an interpolation leaves it at its beginning
+abbrev pub beginning_found : Known → PageInput → Read → Taking
+beginning_found k i GoesOn = going_on i LineStart
+beginning_found k i (Unit (Byte b)) = first_taking i b
+beginning_found k i (Unit (Kept b)) = escape_taking i fresh_line b
+beginning_found k i (Escape b) = escape_taking i fresh_line b
+beginning_found k i (Asks step name) = interpolating k i LineStart step name
+
+-- what something reads where a line begins, with what is half read then
+abbrev pub beginning_read : Known → PageInput → Reads → Taking
+beginning_read k i r = beginning_found k (record i { half = r.1 }) r.0
 
 -- what something reads of a text line, with what is half read then
 abbrev pub text_read : Known → PageInput → TextLine → Reads → Taking
@@ -185,10 +203,7 @@ name_whole_taking i breaks name = elim (request_named name) [
 
 -- a byte that isn't dropped
 abbrev pub kept_taking : Known → Reading → PageInput → ℕ → Taking
-kept_taking k LineStart i b =
-    if b == dot then going_on i (Control true)
-    else if b == apostrophe then going_on i (Control false)
-    else text_read k i fresh_line (byte_read true i.half b)
+kept_taking k LineStart i b = beginning_read k i (byte_read true i.half b)
 kept_taking k (InText line) i b = text_read k i line (byte_read true i.half b)
 kept_taking k (Control breaks) i b =
     if b == blank then going_on i (Control breaks)
@@ -211,6 +226,7 @@ taking k reading i b = if is_dropped b then going_on (interrupted reading i) rea
 
 -- what is half read ends before a newline that stays, or at the input's end
 abbrev pub half_ended : Known → Reading → PageInput → Taking
+half_ended k LineStart i = beginning_read k i (reading_ended true i.half)
 half_ended k (InText line) i = text_read k i line (reading_ended true i.half)
 half_ended k (InArguments breaks request) i = arguments_read_on k i breaks request (reading_ended false i.half)
 half_ended k reading i = going_on (record i { half = (reading_ended true i.half).1 }) reading

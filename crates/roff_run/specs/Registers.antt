@@ -1,6 +1,6 @@
 -- The number registers of a run: those that a document sets, the page number, and the read-only ones (manual,
 -- section 8 and the lists of registers before section 1).
-use Rattle.std.specs.Prelude.{ℕ, ◌*◌, Bool, ◌&&◌, not, List, [], ◌∷◌, ℤ, bytes_eq, codes, decimal, find, fold, min, is_some, option_map, Option, Some, None, if◌then◌else◌}
+use Rattle.std.specs.Prelude.{ℕ, ◌*◌, Bool, ◌&&◌, not, List, [], ◌∷◌, ℤ, pos, bytes_eq, codes, decimal, find, fold, min, is_some, option_map, Option, Some, None, if◌then◌else◌}
 use Rattle.roff_lines.specs.declared.settings.Settings.{Settings}
 use Rattle.roff_num.specs.Ranges.{is_in_range}
 use Rattle.roff_num.specs.RegisterText.{register_text}
@@ -88,6 +88,15 @@ text_asked None k name = let r : Register = settable name k.registers in registe
 -- the text that the escape `\n` gives
 abbrev pub text_of_register : Known → List ℕ → List ℕ
 text_of_register k name = text_asked (query_of name) k name
+
+-- the value that is in force under a name, by the read-only register that the name asks for, if it asks for one
+abbrev pub value_asked : Option Query → Known → List ℕ → Num
+value_asked (Some query) k name = record { 0 = pos (min (answer k query) greatest_number) }
+value_asked None k name = (settable name k.registers).value
+
+-- the value that is in force under a name
+abbrev pub value_in_force : Known → List ℕ → Num
+value_in_force k name = value_asked (query_of name) k name
 
 -- a change of the registers; one of a read-only register changes nothing
 pub data Change : Type 0 where

@@ -1,6 +1,7 @@
 //! What is being read of a line, and what stands on it.
 
-ghost use Rattle.std.specs.Prelude.{◌≡◌, ℕ, ◌≤◌, ◌++◌, ◌∷◌, [], length, true, min};
+ghost use Rattle.std.specs.Prelude.{◌≡◌, ℕ, ◌≤◌, ◌++◌, ◌∷◌, ◌==◌, ◌||◌, [], length, true, min};
+ghost use Rattle.roff_scan.specs.Bytes.{is_silent, newline};
 ghost use Rattle.roff_lines.specs.declared.event.Event.TheVariants.{Print};
 ghost use Rattle.roff_lines.specs.declared.glyph.Glyph.TheVariants.{Printed};
 ghost use Rattle.roff_run.specs.Reading.{PageInput, behind_name, going_on, kept_taking, dropped_taking, ends_name, escape_taking, fresh_line, glyph_taking, blank_taking, leading_blank_events, leading_glyph, most_leading, other_taking, text_line_end, text_taking};
@@ -165,12 +166,7 @@ impl TextLine {
     pub(crate) fn escape(self, byte: u8) -> TextStep
         ensures { (i : PageInput) → step_at i result ≡ escape_taking i self byte }
     {
-        if byte == b'\n' {
-            TextStep {
-                reading: Reading::Text(self),
-                events: Events::new(),
-            }
-        } else if is_silent(byte) {
+        if gives_nothing(byte) {
             self.other()
         } else if byte == b' ' || byte == b'0' {
             self.glyph(Glyph::Blanks(1))
@@ -262,6 +258,13 @@ fn events(all: &[PageEvent]) -> Events
     let mut events = Events::new();
     events.try_extend_from_slice(all).unwrap();
     events
+}
+
+/// Whether an escape with this byte behind its backslash gives nothing.
+fn gives_nothing(byte: u8) -> bool
+    ensures { result ≡ (byte == newline || is_silent byte) }
+{
+    byte == b'\n' || is_silent(byte)
 }
 
 /// Whether a byte ends a name, and doesn't belong to it.

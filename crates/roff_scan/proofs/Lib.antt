@@ -5,3 +5,9 @@ pub mod KeptArguments
 pub mod Ends
 pub mod ArgumentBlock
 pub mod QuotedArguments
+pub mod Asking
+pub mod Changing
+pub mod Counts
+pub mod Pushing
+pub mod Standing
+pub mod Taking

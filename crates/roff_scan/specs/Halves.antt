@@ -83,11 +83,12 @@ name_ended rest step Nothing = (GoesOn, rest)
 name_ended rest step Opened = (GoesOn, rest)
 name_ended rest step (First a) = (Asks step (a ∷ []), rest)
 
--- the reading on top ends before what stays: a backslash of copy mode is a byte
+-- the reading on top ends before what stays: a backslash of copy mode is a byte, and one of the text an escape
+-- that gives nothing, as before a newline
 abbrev pub reading_ended : Bool → List Half → Reads
 reading_ended is_text [] = (GoesOn, [])
 reading_ended is_text (Backslash ∷ rest) =
-    if is_text && length rest == 0 then (GoesOn, []) else unit_taken rest (Byte backslash)
+    if is_text && length rest == 0 then (Escape newline, []) else unit_taken rest (Byte backslash)
 reading_ended is_text (Name step part ∷ rest) = name_ended rest step part
 
 -- whether a newline stays, and ends the reading on top

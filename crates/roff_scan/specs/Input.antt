@@ -1,7 +1,7 @@
 -- The input: what stands in front of the source, what is half read, and what is counted (manual, section 7).
 --
 -- Pushed texts, each with its end, and events put back stand ahead of the source's items in one list.
-use Rattle.std.specs.Prelude.{ℕ, ◌+◌, List, [], ◌∷◌, ◌++◌, map, if◌then◌else◌, ◌==◌}
+use Rattle.std.specs.Prelude.{ℕ, ◌+◌, ◌*◌, Bool, true, false, List, [], ◌∷◌, ◌++◌, map, if◌then◌else◌, ◌==◌}
 use Rattle.roff_scan.specs.Arguments.{Arguments, no_arguments, held}
 use Rattle.roff_scan.specs.Bytes.{newline}
 use Rattle.roff_scan.specs.declared.half.Half.{Half}
@@ -36,6 +36,11 @@ pub record Input (E : Type 0) : Type 0 where
 abbrev pub initial_input : {E : Type 0} → Input E
 initial_input = record { ahead = []; arguments = no_arguments; half = []; charge = 0; newlines = 0; line = 1 }
 
+-- whether nothing stands ahead
+abbrev pub is_none_ahead : {E : Type 0} → List (Ahead E) → Bool
+is_none_ahead [] = true
+is_none_ahead (item ∷ items) = false
+
 -- the unread bytes of pushed texts
 abbrev pub bytes_ahead : {E : Type 0} → List (Ahead E) → ℕ
 bytes_ahead [] = 0
@@ -51,6 +56,30 @@ ends_ahead (ByteAhead b ∷ items) = ends_ahead items
 ends_ahead (FreeAhead b ∷ items) = ends_ahead items
 ends_ahead (EndAhead ∷ items) = ends_ahead items + 1
 ends_ahead (DoAhead event ∷ items) = ends_ahead items
+
+-- the events that were put back
+abbrev pub events_ahead : {E : Type 0} → List (Ahead E) → ℕ
+events_ahead [] = 0
+events_ahead (ByteAhead b ∷ items) = events_ahead items
+events_ahead (FreeAhead b ∷ items) = events_ahead items
+events_ahead (EndAhead ∷ items) = events_ahead items
+events_ahead (DoAhead event ∷ items) = events_ahead items + 1
+
+-- the bytes that stand in front again
+abbrev pub frees_ahead : {E : Type 0} → List (Ahead E) → ℕ
+frees_ahead [] = 0
+frees_ahead (ByteAhead b ∷ items) = frees_ahead items
+frees_ahead (FreeAhead b ∷ items) = frees_ahead items + 1
+frees_ahead (EndAhead ∷ items) = frees_ahead items
+frees_ahead (DoAhead event ∷ items) = frees_ahead items
+
+-- for so many events put back there is room, by the limit on the depth: three before each end, and three before none
+abbrev pub most_events : ℕ → ℕ
+most_events most_texts = 3 * (most_texts + 1)
+
+-- for so many bytes that stand in front again there is room
+abbrev pub most_frees : ℕ
+most_frees = 21
 
 -- what counts in the limit on the stack: unread pushed bytes, and the texts that are held while they are read
 abbrev pub pushed : {E : Type 0} → Input E → ℕ
@@ -78,6 +107,11 @@ cost (ByteAhead b) = 1
 cost (FreeAhead b) = 0
 cost EndAhead = 1
 cost (DoAhead event) = 1
+
+-- what the front item costs, if there is one
+abbrev pub front_cost : {E : Type 0} → List (Ahead E) → ℕ
+front_cost [] = 0
+front_cost (item ∷ items) = cost item
 
 -- an item ahead is taken, and these stand behind it
 abbrev pub item_taken : {E : Type 0} → Ahead E → List (Ahead E) → Input E → Input E

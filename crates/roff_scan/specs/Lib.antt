@@ -9,4 +9,5 @@ pub mod ArgumentTexts
 pub mod ArgumentList
 pub mod Quoting
 pub mod Input
+pub mod Slots
 pub mod Unread

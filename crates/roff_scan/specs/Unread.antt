@@ -2,11 +2,13 @@
 --
 -- Beside the input it has the limits, and the byte of the source that was looked at and isn't taken yet: that byte
 -- stands behind what is ahead, and before what the source still gives.
-use Rattle.std.specs.Prelude.{ℕ, ◌+◌, Bool, true, false, List, [], ◌∷◌, nat_lt, Option, Some, None, if◌then◌else◌, Result, Ok, Err}
+pub mod Calls
+pub mod Kept
+use Rattle.std.specs.Prelude.{ℕ, ◌+◌, ◌≤◌, ◌&&◌, is_none, Bool, true, false, List, [], ◌∷◌, length, ◌==◌, nat_lt, Option, Some, None, if◌then◌else◌, Result, Ok, Err}
 use Rattle.roff_num.specs.declared.limit.Limit.{Limit}
 use Rattle.roff_num.specs.declared.limit.Limit.TheVariants.{Bytes, Stack, Depth}
 use Rattle.roff_num.specs.declared.limits.Limits.{Limits}
-use Rattle.roff_scan.specs.Input.{Input, Ahead, ByteAhead, FreeAhead, EndAhead, DoAhead, cost, counting, item_taken, pushed, depth}
+use Rattle.roff_scan.specs.Input.{Input, initial_input, is_none_ahead, Ahead, ByteAhead, FreeAhead, EndAhead, DoAhead, cost, counting, item_taken, pushed, depth}
 use Rattle.roff_scan.specs.Tape.{Tape, Answer, Answers, Gives, Ends, OneByte, OneNote, Ending, Ended, Failed, Stopped, items_then}
 use Rattle.roff_scan.specs.declared.unread.Item.{Item}
 use Rattle.roff_scan.specs.declared.unread.Item.TheVariants.{Byte, End, Do, Note, SourceEnd, Fault, Stop, Refused}
@@ -20,6 +22,21 @@ pub record Unread (E : Type 0) : Type 0 where
   pub looked : Option ℕ
   pub limits : Limits
 
+-- no count is above its limit
+pub record IsWithin {E : Type 0} (u : Unread E) : Type 0 where
+  pub charge : u.input.charge ≤ u.limits.bytes
+  pub newlines : u.input.newlines ≤ u.input.charge
+  pub pushed : pushed u.input ≤ u.limits.stack
+  pub depth : depth u.input ≤ u.limits.depth
+
+-- before anything is read
+abbrev pub initial_unread : {E : Type 0} → Limits → Unread E
+initial_unread limits = record { input = initial_input; looked = None; limits = limits }
+
+-- whether the source's next byte is the next one: nothing is ahead, nothing half read, and nothing looked at
+abbrev pub is_bare : {E : Type 0} → Unread E → Bool
+is_bare u = is_none_ahead u.input.ahead && is_none u.looked && (length u.input.half == 0)
+
 -- the source's items, with the byte that was looked at in front
 abbrev pub looked_then : Option ℕ → Tape → Tape
 looked_then None t = t
@@ -30,11 +47,10 @@ abbrev pub answer_behind : Option ℕ → Answer → Answer
 answer_behind None a = a
 answer_behind (Some b) a = Gives (OneByte b)
 
--- a source that isn't asked may give what it might have given
+-- a source that isn't asked may give what it might have given, and nothing else
 pub record Stays (old new : Tape → Type 0) : Type 0 where
   pub before : (t : Tape) → new t → old t
-  pub some : Tape
-  pub some_given : new some
+  pub after : (t : Tape) → old t → new t
 
 -- a source that is asked answers this, and one that isn't stays
 abbrev pub Asked : (old new : Tape → Type 0) → Bool → Answer → Type 0
@@ -90,19 +106,18 @@ taking_answer (Gives (OneByte b)) u =
 taking_answer (Gives (OneNote message)) u = (ShowsNote message, u)
 taking_answer (Ends ending) u = (ShowsEnding ending, u)
 
+-- the first of these is taken, or if there is none, what the source answers
+abbrev pub taking_first : {E : Type 0} → List (Ahead E) → Answer → Unread E → Shown E × Unread E
+taking_first [] a u = taking_answer (answer_behind u.looked a) u
+taking_first (item ∷ behind) a u = taking_ahead item behind u
+
 -- the item in front is taken, where the source answers this if it is asked
 abbrev pub taking : {E : Type 0} → Answer → Unread E → Shown E × Unread E
-taking a u = elim u.input.ahead [
-  | [] ↦ taking_answer (answer_behind u.looked a) u
-  | item ∷ behind ↦ taking_ahead item behind u
-]
+taking a u = taking_first u.input.ahead a u
 
 -- whether the source is asked for what stands in front: nothing is ahead, and no byte was looked at
 abbrev pub asks_to_take : {E : Type 0} → Unread E → Bool
-asks_to_take u = elim u.input.ahead [
-  | [] ↦ elim u.looked [ None ↦ true | Some b ↦ false ]
-  | item ∷ behind ↦ false
-]
+asks_to_take u = is_none_ahead u.input.ahead && is_none u.looked
 
 -- what a call shows that looks ahead: the first byte behind any ends of texts
 pub data Sighted : Type 0 where
@@ -135,19 +150,18 @@ looking_at (Gives (OneByte b)) u = (SeesByte b, record u { looked = Some b })
 looking_at (Gives (OneNote message)) u = (SeesNote message, u)
 looking_at (Ends ending) u = (SeesEnding ending, u)
 
+-- what is seen ahead, or if nothing is, what the source answers
+abbrev pub looking_past : {E : Type 0} → Option Sighted → Answer → Unread E → Sighted × Unread E
+looking_past None a u = looking_at (answer_behind u.looked a) u
+looking_past (Some sight) a u = (sight, u)
+
 -- the first byte behind any ends is looked at, where the source answers this if it is asked
 abbrev pub looking : {E : Type 0} → Answer → Unread E → Sighted × Unread E
-looking a u = elim (seen_ahead u.input.ahead) [
-  | None ↦ looking_at (answer_behind u.looked a) u
-  | Some sight ↦ (sight, u)
-]
+looking a u = looking_past (seen_ahead u.input.ahead) a u
 
--- whether the source is asked for what is seen
+-- whether the source is asked for what is seen: nothing is seen ahead, and no byte was looked at
 abbrev pub asks_to_look : {E : Type 0} → Unread E → Bool
-asks_to_look u = elim (seen_ahead u.input.ahead) [
-  | None ↦ elim u.looked [ None ↦ true | Some b ↦ false ]
-  | Some sight ↦ false
-]
+asks_to_look u = is_none (seen_ahead u.input.ahead) && is_none u.looked
 
 -- the first limit that a count of this input is above
 abbrev pub input_refusal : {E : Type 0} → Limits → Input E → Option Limit

@@ -92,7 +92,7 @@ impl Halves {
             None => Read::GoesOn,
             Some(Half::Backslash) => {
                 if is_text && self.is_empty() {
-                    Read::GoesOn
+                    Read::Escape(b'\n')
                 } else {
                     self.read_unit(CopyUnit::Byte(b'\\'))
                 }

@@ -8,6 +8,7 @@ mod half;
 pub mod half_laws;
 mod halves;
 pub mod laws;
+mod slots;
 mod source;
 mod unread;
 
@@ -15,4 +16,4 @@ pub use arguments::{ArgumentList, Place};
 pub use bytes::{is_dropped, is_silent};
 pub use half::{CopyUnit, Half, NamePart, Read};
 pub use source::{ByteSource, Note, ReadSource, Taken};
-pub use unread::{Item, Sight};
+pub use unread::{Item, Sight, Unread};

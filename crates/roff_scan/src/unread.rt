@@ -1,7 +1,14 @@
 //! The unread input: what stands ahead of the source, and what is counted.
 
-use crate::source::Note;
-use roff_num::Limit;
+ghost use Rattle.std.specs.Prelude.{true, false, ◌≡◌, ◌+◌, ◌<◌, ◌≤◌, length, IfOk};
+ghost use Rattle.roff_scan.specs.Tape.{Answer, OneByte, OneNote, Gives, Failed, Rises};
+ghost use Rattle.roff_scan.specs.Input.{is_none_ahead, events_ahead, frees_ahead, most_events, most_frees, pushed, depth, pushing, putting_back, freeing};
+
+use crate::slots::Slots;
+use crate::source::{ByteSource, Note, Taken};
+use roff_num::{Limit, Limits};
+use std::alloc::{AllocError, Global};
+use std::marker::Model;
 
 /// What was taken from the front of the unread input.
 #[derive(Drop)]
@@ -39,4 +46,227 @@ pub enum Sight {
     Fault,
     /// A limit of the source's own, for good.
     Stop(Limit),
+}
+
+/// The unread input: what stands ahead of the source, and what is counted.
+///
+/// All its memory is reserved as it is made.
+#[derive(Drop)]
+pub struct Unread<E> {
+    limits: Limits,
+    slots: Slots<E>,
+    /// The byte of the source that was looked at and isn't taken yet.
+    looked: Option<u8>,
+    charge: u32,
+    newlines: u32,
+    line: u32,
+}
+
+impl<E> Model for Unread<E> {
+    ghost use Rattle.roff_scan.specs.Unread.{Unread};
+
+    ghost Value = { Unread E };
+
+    ghost use Rattle.roff_scan.specs.Unread.Kept.{kept_by, IsSound};
+
+    ghost view = { kept_by };
+
+    ghost invariant = { IsSound };
+}
+
+impl<E: Copy> Unread<E> {
+    ghost use Rattle.roff_scan.specs.Unread.{initial_unread, is_bare, IsWithin, Shown, shown, ShowsNote, ShowsEnding, sighted, SeesNote, SeesEnding, taking, taking_answer, changing};
+    ghost use Rattle.roff_scan.specs.Unread.Calls.{Takes, Looks};
+
+    /// The input before anything is read.
+    pub fn new(alloc: Global, limits: Limits) -> Result<Self, AllocError>
+        ensures { IfOk result (λ u. u ≡ initial_unread limits) }
+    {
+        Ok(Unread {
+            limits,
+            slots: Slots::new(alloc, limits.stack, limits.depth)?,
+            looked: None,
+            charge: 0,
+            newlines: 0,
+            line: 1,
+        })
+    }
+
+    /// How much was taken: bytes, ends of texts, events put back.
+    pub fn charge(&self) -> u32
+        ensures count { result ≡ self.now.input.charge }
+        ensures within { IsWithin self.now }
+    {
+        self.charge
+    }
+
+    /// How many newlines of the source were taken.
+    pub fn newlines(&self) -> u32
+        ensures { result ≡ self.now.input.newlines }
+    {
+        self.newlines
+    }
+
+    /// The line of the source on which the last byte taken of it stands, 1 if none was.
+    pub fn line(&self) -> u32
+        ensures { result ≡ self.now.input.line }
+    {
+        self.line
+    }
+
+    /// What counts in the limit on the stack: the pushed bytes that aren't read yet.
+    pub fn pushed(&self) -> usize
+        ensures { result ≡ pushed self.now.input }
+    {
+        self.slots.byte_count()
+    }
+
+    /// What counts in the limit on the depth: the pushed texts that haven't ended.
+    pub fn depth(&self) -> usize
+        ensures { result ≡ depth self.now.input }
+    {
+        self.slots.depth()
+    }
+
+    /// Whether the source's next byte is the next one: nothing is ahead, nothing half read, and
+    /// nothing looked at.
+    #[inline(always)]
+    pub fn is_bare(&self) -> bool
+        ensures { result ≡ is_bare self.now }
+    {
+        self.slots.is_empty() && self.looked.is_none()
+    }
+
+    /// Takes the item in front. The source is asked where nothing is ahead and no byte was looked
+    /// at.
+    #[inline(always)]
+    pub fn take<S: ByteSource>(&mut self, source: &mut S) -> Item<E>
+        ensures takes { Takes (S.gives source.old) (S.gives source.new) self.old self.new
+            (shown result) }
+        ensures notes { S.notes source.new ≤ S.notes source.old }
+        ensures note { (m : _) → shown result ≡ ShowsNote m
+            → S.notes source.new < S.notes source.old }
+        ensures failures { S.failures source.old ≤ S.failures source.new }
+        ensures fault { shown result ≡ ShowsEnding Failed
+            → Rises (S.failures source.old) (S.failures source.new) }
+        ensures within { IsWithin self.new }
+    {
+        if !self.slots.is_empty() {
+            return self.take_ahead();
+        }
+        if let Some(byte) = self.looked {
+            return self.take_byte(byte);
+        }
+        match source.next_byte() {
+            Taken::Byte(byte) => self.take_byte(byte),
+            Taken::Note(note) => Item::Note(note),
+            Taken::End => Item::SourceEnd,
+            Taken::Fault => Item::Fault,
+            Taken::Stop(limit) => Item::Stop(limit),
+        }
+    }
+
+    /// Takes a byte of the source. It stays looked at if the limit on bytes refuses it.
+    #[inline(always)]
+    fn take_byte(&mut self, byte: u8) -> Item<E>
+        ensures takes { (shown result, self.new) ≡ taking_answer (Gives (OneByte byte)) self.old }
+        ensures within { IsWithin self.new }
+    {
+        if self.charge >= self.limits.bytes {
+            self.looked = Some(byte);
+            return Item::Refused(Limit::Bytes);
+        }
+        self.looked = None;
+        self.line = self.newlines + 1;
+        self.charge += 1;
+        if byte == b'\n' {
+            self.newlines += 1;
+        }
+        Item::Byte(byte)
+    }
+
+    /// Takes the front item ahead.
+    #[inline(never)]
+    fn take_ahead(&mut self) -> Item<E>
+        requires { is_none_ahead self.old.input.ahead ≡ false }
+        ensures takes { (a : Answer) → (shown result, self.new) ≡ taking a self.old }
+        ensures note { (m : _) → shown result ≡ ShowsNote m → ⊥ }
+        ensures ending { (e : _) → shown result ≡ ShowsEnding e → ⊥ }
+        ensures within { IsWithin self.new }
+    {
+        let cost = self.slots.cost();
+        if cost > self.limits.bytes - self.charge {
+            return Item::Refused(Limit::Bytes);
+        }
+        self.charge += cost;
+        self.slots.take().into_item()
+    }
+
+    /// Looks at the first byte behind any ends of texts. The source is asked where none stands
+    /// ahead and no byte was looked at.
+    pub fn look<S: ByteSource>(&mut self, source: &mut S) -> Sight
+        ensures looks { Looks (S.gives source.old) (S.gives source.new) self.old self.new
+            (sighted result) }
+        ensures notes { S.notes source.new ≤ S.notes source.old }
+        ensures note { (m : _) → sighted result ≡ SeesNote m
+            → S.notes source.new < S.notes source.old }
+        ensures failures { S.failures source.old ≤ S.failures source.new }
+        ensures fault { sighted result ≡ SeesEnding Failed
+            → Rises (S.failures source.old) (S.failures source.new) }
+        ensures within { IsWithin self.new }
+    {
+        if let Some(sight) = self.slots.seen() {
+            return sight;
+        }
+        if let Some(byte) = self.looked {
+            return Sight::Byte(byte);
+        }
+        match source.next_byte() {
+            Taken::Byte(byte) => {
+                self.looked = Some(byte);
+                Sight::Byte(byte)
+            }
+            Taken::Note(note) => Sight::Note(note),
+            Taken::End => Sight::SourceEnd,
+            Taken::Fault => Sight::Fault,
+            Taken::Stop(limit) => Sight::Stop(limit),
+        }
+    }
+
+    /// Puts a text and its end in front.
+    ///
+    /// # Errors
+    ///
+    /// [`Limit::Stack`] if its bytes don't fit, and then [`Limit::Depth`] if its end doesn't.
+    pub fn push(&mut self, text: &[u8]) -> Result<(), Limit>
+        ensures change { (result, self.new) ≡ changing (pushing text.now self.old.input) self.old }
+        ensures within { IsWithin self.new }
+    {
+        if text.len() > self.limits.stack as usize - self.pushed() {
+            return Err(Limit::Stack);
+        }
+        if self.depth() >= self.limits.depth as usize {
+            return Err(Limit::Depth);
+        }
+        self.slots.push(text);
+        Ok(())
+    }
+
+    /// Puts an event back in front.
+    pub fn put_back(&mut self, event: E)
+        requires { events_ahead self.old.input.ahead < most_events self.old.limits.depth }
+        ensures change { self.new ≡ record self.old { input = putting_back event self.old.input } }
+        ensures within { IsWithin self.new }
+    {
+        self.slots.put_back(event);
+    }
+
+    /// Puts bytes that were taken in front again. They cost nothing.
+    pub fn free(&mut self, bytes: &[u8])
+        requires { frees_ahead self.old.input.ahead + length bytes.now ≤ most_frees }
+        ensures change { self.new ≡ record self.old { input = freeing bytes.now self.old.input } }
+        ensures within { IsWithin self.new }
+    {
+        self.slots.free(bytes);
+    }
 }

@@ -11,7 +11,7 @@ use Rattle.roff_run.specs.declared.request.effects.Done.{Done as CodedDone}
 use Rattle.roff_run.specs.declared.request.effects.Done.TheVariants.{Ignored as IgnoredWith, Does as DoesWith}
 use Rattle.roff_run.specs.declared.request.effects.Effect.{Effect as CodedEffect}
 use Rattle.roff_run.specs.declared.request.effects.Known.{Known as CodedKnown}
-use Rattle.roff_run.specs.Registers.{Known, Change, Remove, settable}
+use Rattle.roff_run.specs.Registers.{Known, Change, Remove, value_in_force}
 use Rattle.roff_run.specs.Registers.Coded.{change_of}
 use Rattle.roff_run.specs.Requests.{Row, row_of, Done, Ignored, Does, Effect}
 use Rattle.roff_run.specs.Requests.Numbering.{name_given, names_given}
@@ -36,7 +36,7 @@ register_named (text ∷ others) = name_of (name_given text)
 -- the code knows what a request asks for: the settings, and the value of the register that the first argument names
 pub record KnowsOf (k : Known) (as_given : List (List ℕ)) (known : CodedKnown) : Type 0 where
   pub settings : known.settings ≡ k.settings
-  pub in_force : IfSome (register_named as_given) (λ name. known.in_force ≡ (settable name k.registers).value)
+  pub in_force : IfSome (register_named as_given) (λ name. known.in_force ≡ value_in_force k name)
 
 -- the changes that a request makes, given these arguments
 abbrev pub changes_of : List (List ℕ) → Changes → List Change

@@ -7,7 +7,7 @@ use Rattle.roff_num.specs.declared.num.NumFault.{NumFault}
 use Rattle.roff_num.specs.declared.num.Scale.TheVariants.{Units}
 use Rattle.roff_scan.specs.Arguments.{has_byte}
 use Rattle.roff_run.specs.Numbers.{value_in, value_beside}
-use Rattle.roff_run.specs.Registers.{Known, SetTo, FormatAs, Remove, settable}
+use Rattle.roff_run.specs.Registers.{Known, SetTo, FormatAs, Remove, value_in_force}
 use Rattle.roff_run.specs.Requests.Effects.{Done, Ignored, changing, bad_number, bad_format}
 
 -- a name that an argument gives: its first two bytes
@@ -39,7 +39,7 @@ set_register known [] = Ignored []
 set_register known (name ∷ []) = Ignored []
 set_register known (name ∷ value ∷ others) =
     if_named name (set_to (name_given name)
-    (value_beside (settable (name_given name) known.registers).value.0 Units value) (increment_given others))
+    (value_beside (value_in_force known (name_given name)).0 Units value) (increment_given others))
 
 -- a register is given a format, if it is one
 abbrev pub format_as : List ℕ → Option Format → Done

@@ -1,0 +1,68 @@
+-- Which changes of the input a limit refuses.
+use Rattle.std.proofs.Common.{true, false, ◌≡◌, ◌<◌, ◌≤◌, ◌+◌, ◌-◌, ℕ, List, ◌∷◌, Ok, Err, length, refl, arith}
+use Rattle.std.specs.Prelude.{nat_lt}
+use Rattle.std.proofs.lemmas.Bool.Decides.{nat_tests}
+use Rattle.roff_num.specs.declared.limit.Limit.TheVariants.{Stack, Depth}
+use Rattle.roff_scan.specs.Input.{Input, EndAhead, pushed, depth, pushing, freeing}
+use Rattle.roff_scan.specs.Unread.{Unread, IsWithin, changing}
+use Rattle.roff_scan.proofs.Counts.{bytes_ahead-bytes, ends_ahead-bytes, bytes_ahead-frees, ends_ahead-frees}
+
+-- a test that fails, and one that holds
+not_above : (limit count : ℕ) → count ≤ limit → nat_lt limit count ≡ false
+not_above limit count within = grind (arith, nat_tests)
+
+is_above : (limit count : ℕ) → limit < count → nat_lt limit count ≡ true
+is_above limit count above = grind (arith, nat_tests)
+
+module _ {E : Type 0} where
+  -- a pushed text counts by its bytes, and once in the depth
+  pub pushed-pushing : (text : List ℕ) (i : Input E) → pushed (pushing text i) ≡ length text + pushed i
+  pushed-pushing text i = omega (arith, bytes_ahead-bytes text (EndAhead ∷ i.ahead))
+
+  pub depth-pushing : (text : List ℕ) (i : Input E) → depth (pushing text i) ≡ depth i + 1
+  depth-pushing text i = ends_ahead-bytes text (EndAhead ∷ i.ahead)
+
+module _ {E : Type 0} (u : Unread E) (i : Input E) where
+  -- the limit on the stack comes first
+  pub changing_past_stack : u.limits.stack < pushed i → changing i u ≡ (Err Stack, u)
+  changing_past_stack above = rw (is_above u.limits.stack (pushed i) above) refl
+
+  pub changing_past_depth : pushed i ≤ u.limits.stack → u.limits.depth < depth i → changing i u ≡ (Err Depth, u)
+  changing_past_depth within above = rw (not_above u.limits.stack (pushed i) within, is_above u.limits.depth (depth i) above) refl
+
+  pub changing_within : pushed i ≤ u.limits.stack → depth i ≤ u.limits.depth → changing i u ≡ (Ok tt, record u { input = i })
+  changing_within within inside = rw (not_above u.limits.stack (pushed i) within, not_above u.limits.depth (depth i) inside) refl
+
+module _ {E : Type 0} (u : Unread E) (text : List ℕ) (bytes : ℕ) (counted : bytes ≡ pushed u.input) where
+  -- a text that doesn't fit is refused
+  pub push_past_stack : u.limits.stack - bytes < length text → changing (pushing text u.input) u ≡ (Err Stack, u)
+  push_past_stack above = changing_past_stack u (pushing text u.input) (rw (pushed-pushing text u.input) (omega (arith, above, counted)))
+
+  module _ (within : IsWithin u) (fits : length text ≤ u.limits.stack - bytes) where
+    -- what is pushed then
+    stack_within : pushed (pushing text u.input) ≤ u.limits.stack
+    stack_within = rw (pushed-pushing text u.input) (omega (arith, fits, within.pushed, counted))
+
+    -- an end that doesn't fit is refused
+    pub push_past_depth : u.limits.depth ≤ depth u.input → changing (pushing text u.input) u ≡ (Err Depth, u)
+    push_past_depth above = changing_past_depth u (pushing text u.input) stack_within (rw (depth-pushing text u.input) (omega (arith, above)))
+
+    module _ (inside : depth u.input < u.limits.depth) where
+      -- and a text and an end that fit are pushed
+      depth_within : depth (pushing text u.input) ≤ u.limits.depth
+      depth_within = rw (depth-pushing text u.input) (omega (arith, inside))
+
+      pub push_within : changing (pushing text u.input) u ≡ (Ok tt, record u { input = pushing text u.input })
+      push_within = changing_within u (pushing text u.input) stack_within depth_within
+
+      pub IsWithin-pushing : IsWithin (record u { input = pushing text u.input })
+      IsWithin-pushing = record { charge = within.charge; newlines = within.newlines; pushed = stack_within; depth = depth_within }
+
+-- bytes in front again count nowhere
+pub IsWithin-freeing : {E : Type 0} (u : Unread E) (bytes : List ℕ) → IsWithin u → IsWithin (record u { input = freeing bytes u.input })
+IsWithin-freeing u bytes within = record {
+  charge = within.charge;
+  newlines = within.newlines;
+  pushed = rw (bytes_ahead-frees bytes u.input.ahead) within.pushed;
+  depth = rw (ends_ahead-frees bytes u.input.ahead) within.depth;
+}

@@ -1,0 +1,35 @@
+use Rattle.std.proofs.Common.{◌≡◌, ◌≤◌, ℕ, List, [], ◌∷◌, ◌++◌, length, arith}
+use Rattle.std.specs.Prelude.{reverse}
+use Rattle.roff_scan.specs.Slots.Standing.{standing, IsStacked}
+use Rattle.roff_scan.specs.Unread.{seen_ahead}
+use Rattle.roff_scan.specs.declared.slots.Slot.{Slot}
+use Rattle.roff_scan.specs.declared.slots.Mark.TheVariants.{Ends}
+use Rattle.roff_scan.proofs.Standing.{standing_mark, reverse_front}
+use Rattle.roff_scan.proofs.Taking.{seen_ahead-ends}
+use Rattle.roff_scan.proofs.slots.Slots.seen.Goals as goal
+
+module _ {E : Type 0} (slots below : List (Slot E)) (slot : Slot E) (bytes : List ℕ) (split : slots ≡ below ++ slot ∷ []) (stacked : IsStacked (reverse slots) (length bytes)) where
+  -- the heights in the order of taking
+  in_order : IsStacked (slot ∷ reverse below) (length bytes)
+  in_order = rw (reverse_front slots below slot split) at stacked
+
+  at_end : length bytes ≤ slot.height → slot.height ≡ length bytes
+  at_end reached = omega (arith, in_order.0)
+
+  -- what is seen of ends stands below them
+  seen_below : (more : ℕ) → length bytes ≤ slot.height → slot.mark ≡ Ends more → seen_ahead (standing (reverse slots) bytes) ≡ seen_ahead (standing (reverse below) bytes)
+  seen_below more reached is =
+      rw (reverse_front slots below slot split, standing_mark slot (reverse below) bytes (at_end reached), is) (seen_ahead-ends more (standing (reverse below) bytes))
+
+  stacked_below : length bytes ≤ slot.height → IsStacked (reverse below) (length bytes)
+  stacked_below reached = rw (← at_end reached) in_order.1
+
+pub loop-slot-preserved : goal.loop-slot-preserved
+loop-slot-preserved g c =
+    let bytes = c.self.inside.bytes.items in
+    let split = c.in-Some.ensures.cases.0 in
+    let reached : length bytes ≤ c.in-Some.slot.now.height = omega (arith, c.self.inside.bytes.ok.0, c.len.ensures, c.if-slot-len.false) in
+    record {
+      seen = rw (← seen_below c.loop-slot.slots.now c.in-Some.below.now c.in-Some.slot.now bytes split c.loop-slot.invariant.stacked c.in-Ends.field-0 reached c.in-Ends.is) c.loop-slot.invariant.seen;
+      stacked = stacked_below c.loop-slot.slots.now c.in-Some.below.now c.in-Some.slot.now bytes split c.loop-slot.invariant.stacked reached;
+    }

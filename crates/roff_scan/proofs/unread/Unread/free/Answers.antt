@@ -1,0 +1,13 @@
+use Rattle.roff_scan.specs.Unread.Kept.{kept_by}
+use Rattle.roff_scan.proofs.Changing.{IsWithin-freeing}
+use Rattle.roff_scan.proofs.unread.Unread.free.Goals as goal
+
+pub invariant_of-self : goal.invariant_of-self
+invariant_of-self g c = record {
+  bytes = rw c.free.ensures c.self.invariant.bytes;
+  texts = rw c.free.ensures c.self.invariant.texts;
+  within = rw c.free.ensures (IsWithin-freeing (kept_by c.self.inside) c.args.bytes.now c.self.invariant.within);
+}
+
+pub returns-clause-within : goal.returns-clause-within
+returns-clause-within g c = (invariant_of-self g c).within

@@ -1,0 +1,26 @@
+-- What the unread input keeps.
+use Rattle.std.specs.Prelude.{◌≡◌, []}
+use Rattle.roff_scan.specs.Arguments.{no_arguments}
+use Rattle.roff_scan.specs.Unread.{Unread, IsWithin}
+use Rattle.roff_scan.specs.declared.unread.Unread.TheInside.{Inside}
+
+-- what the fields keep
+abbrev pub kept_by : {E : Type 0} → Inside E → Unread E
+kept_by a = record {
+  input = record {
+    ahead = a.slots.ahead;
+    arguments = no_arguments;
+    half = [];
+    charge = a.charge;
+    newlines = a.newlines;
+    line = a.line;
+  };
+  looked = a.looked;
+  limits = a.limits;
+}
+
+-- there is room by the limits, and no count is above its limit
+pub record IsSound {E : Type 0} (a : Inside E) : Type 0 where
+  pub bytes : a.slots.most_bytes ≡ a.limits.stack
+  pub texts : a.slots.most_texts ≡ a.limits.depth
+  pub within : IsWithin (kept_by a)

@@ -1,0 +1,302 @@
+//! What stands ahead of the source: pushed texts, events put back, and bytes in front again.
+
+ghost use Rattle.std.specs.Prelude.{false, ◌≡◌, ◌+◌, ◌<◌, ◌≤◌, ◌^◌, [], ◌∷◌, ◌++◌, map, reverse, length, IfOk, option_map, vec_len, vec_capacity};
+ghost use Rattle.roff_scan.specs.Slots.Standing.{standing, items_of, item_of, is_byte_next, IsStacked};
+ghost use Rattle.roff_scan.specs.Input.{is_none_ahead, front_cost, ByteAhead, FreeAhead, EndAhead, DoAhead, bytes_ahead, ends_ahead, events_ahead, frees_ahead, most_events, most_frees};
+
+use crate::unread::{Item, Sight};
+use std::alloc::{AllocError, Global};
+use std::marker::Model;
+
+/// How many events may stand ahead before each end, and before none.
+const EVENTS: usize = 3;
+
+/// How many bytes may stand in front again.
+const FREES: usize = 21;
+
+/// An item taken from the front.
+#[derive(Clone, Copy)]
+pub(crate) enum Front<E> {
+    /// A byte of a pushed text.
+    Byte(u8),
+    /// A byte that stood in front again.
+    Free(u8),
+    /// The end of a pushed text.
+    End,
+    /// An event that was put back.
+    Do(E),
+}
+
+impl<E> Front<E> {
+    ghost use Rattle.roff_scan.specs.Unread.{shown, shown_ahead};
+
+    /// The item, as it is shown.
+    pub(crate) fn into_item(self) -> Item<E>
+        ensures { shown result ≡ shown_ahead (item_of self) }
+    {
+        match self {
+            Front::Byte(byte) | Front::Free(byte) => Item::Byte(byte),
+            Front::End => Item::End,
+            Front::Do(event) => Item::Do(event),
+        }
+    }
+}
+
+/// What stands behind the bytes of a text.
+#[derive(Clone, Copy)]
+enum Mark<E> {
+    /// The end of a text, and so many more ends.
+    Ends(usize),
+    /// A byte that stands in front again.
+    Free(u8),
+    /// An event that was put back.
+    Do(E),
+}
+
+/// A mark, and how many unread bytes lie below it.
+#[derive(Clone, Copy)]
+struct Slot<E> {
+    height: usize,
+    mark: Mark<E>,
+}
+
+/// What stands ahead of the source. All its memory is reserved as it is made.
+#[derive(Drop)]
+pub(crate) struct Slots<E> {
+    most_bytes: usize,
+    most_texts: usize,
+    /// The slot in front is the last one.
+    slots: Vec<Slot<E>>,
+    /// The unread bytes of all texts. The next one is the last.
+    bytes: Vec<u8>,
+    /// How many texts haven't ended.
+    ends: usize,
+}
+
+impl<E> Model for Slots<E> {
+    ghost use Rattle.roff_scan.specs.Slots.Held.{Held};
+
+    ghost Value = { Held E };
+
+    ghost use Rattle.roff_scan.specs.Slots.Held.{held_by, IsSound};
+
+    ghost view = { held_by };
+
+    ghost invariant = { IsSound };
+}
+
+impl<E: Copy> Slots<E> {
+    ghost use Rattle.roff_scan.specs.Unread.{sighted, seen_ahead};
+
+    /// Nothing stands ahead; there is room for so many unread bytes and texts.
+    pub(crate) fn new(alloc: Global, stack: u32, depth: u32) -> Result<Self, AllocError>
+        ensures { IfOk result (λ s. s ≡ record { ahead = []; most_bytes = stack; most_texts = depth }) }
+    {
+        let most_bytes = stack as usize;
+        let most_texts = depth as usize;
+        Ok(Slots {
+            most_bytes,
+            most_texts,
+            slots: Vec::with_capacity(alloc, most_texts + EVENTS * (most_texts + 1) + FREES)?,
+            bytes: Vec::with_capacity(alloc, most_bytes)?,
+            ends: 0,
+        })
+    }
+
+    /// Whether nothing stands ahead.
+    #[inline(always)]
+    pub(crate) fn is_empty(&self) -> bool
+        ensures { result ≡ is_none_ahead self.now.ahead }
+    {
+        self.slots.is_empty()
+    }
+
+    /// How many unread bytes of pushed texts there are.
+    pub(crate) fn byte_count(&self) -> usize
+        ensures count { result ≡ bytes_ahead self.now.ahead }
+        ensures within { result ≤ self.now.most_bytes }
+    {
+        self.bytes.len()
+    }
+
+    /// How many pushed texts haven't ended.
+    pub(crate) fn depth(&self) -> usize
+        ensures count { result ≡ ends_ahead self.now.ahead }
+        ensures within { result ≤ self.now.most_texts }
+    {
+        self.ends
+    }
+
+    /// Puts a text and its end in front.
+    pub(crate) fn push(&mut self, text: &[u8])
+        requires bytes { length text.now + bytes_ahead self.old.ahead ≤ self.old.most_bytes }
+        requires ends { ends_ahead self.old.ahead < self.old.most_texts }
+        ensures { self.new
+            ≡ record self.old { ahead = map ByteAhead text.now ++ EndAhead ∷ self.old.ahead } }
+    {
+        put_end(&mut self.slots, self.bytes.as_slice());
+        self.ends += 1;
+        put_reversed(&mut self.bytes, text);
+    }
+
+    /// Puts an event in front.
+    pub(crate) fn put_back(&mut self, event: E)
+        requires { events_ahead self.old.ahead < most_events self.old.most_texts }
+        ensures { self.new ≡ record self.old { ahead = DoAhead event ∷ self.old.ahead } }
+    {
+        put_mark(&mut self.slots, self.bytes.as_slice(), Mark::Do(event));
+    }
+
+    /// What the front item costs, if there is one.
+    pub(crate) fn cost(&self) -> u32
+        ensures { result ≡ front_cost self.now.ahead }
+    {
+        if is_byte_next(self.slots.as_slice(), self.bytes.as_slice()) {
+            return 1;
+        }
+        match self.slots.as_slice().split_last() {
+            Some((slot, _)) => match slot.mark {
+                Mark::Free(_) => 0,
+                Mark::Ends(_) | Mark::Do(_) => 1,
+            },
+            None => 0,
+        }
+    }
+
+    /// Takes the front item.
+    pub(crate) fn take(&mut self) -> Front<E>
+        requires { is_none_ahead self.old.ahead ≡ false }
+        ensures { self.old ≡ record self.new { ahead = item_of result ∷ self.new.ahead } }
+    {
+        if is_byte_next(self.slots.as_slice(), self.bytes.as_slice()) {
+            return Front::Byte(self.bytes.take_last());
+        }
+        let front = take_mark(&mut self.slots, self.bytes.as_slice());
+        if matches!(front, Front::End) {
+            self.ends -= 1;
+        }
+        front
+    }
+
+    /// What is seen in front, behind any ends of texts; nothing where only those are there.
+    pub(crate) fn seen(&self) -> Option<Sight>
+        ensures { option_map sighted result ≡ seen_ahead self.now.ahead }
+    {
+        let mut slots = self.slots.as_slice();
+        while let Some((slot, below)) = slots.split_last() {
+            if slot.height < self.bytes.len() {
+                return Some(Sight::Byte(self.bytes[self.bytes.len() - 1]));
+            }
+            match slot.mark {
+                Mark::Ends(_) => slots = below,
+                Mark::Free(byte) => return Some(Sight::Byte(byte)),
+                Mark::Do(_) => return Some(Sight::Nothing),
+            }
+        }
+        None
+    }
+
+    /// Puts bytes in front again.
+    pub(crate) fn free(&mut self, bytes: &[u8])
+        requires { frees_ahead self.old.ahead + length bytes.now ≤ most_frees }
+        ensures { self.new ≡ record self.old { ahead = map FreeAhead bytes.now ++ self.old.ahead } }
+    {
+        put_frees(&mut self.slots, self.bytes.as_slice(), bytes);
+    }
+}
+
+/// Whether a byte of a text comes next.
+fn is_byte_next<E>(slots: &[Slot<E>], bytes: &[u8]) -> bool
+    ensures { result ≡ is_byte_next (reverse slots.now) bytes.now }
+{
+    match slots.split_last() {
+        Some((slot, _)) => slot.height < bytes.len(),
+        None => false,
+    }
+}
+
+/// Takes the first item of the mark in front.
+fn take_mark<E>(slots: &mut Vec<Slot<E>>, bytes: &[u8]) -> Front<E>
+    requires some { 0 < vec_len slots.old }
+    requires mark { is_byte_next (reverse slots.old.items) bytes.now ≡ false }
+    requires stacked { IsStacked (reverse slots.old.items) (length bytes.now) }
+    ensures items { standing (reverse slots.old.items) bytes.now
+        ≡ item_of result ∷ standing (reverse slots.new.items) bytes.now }
+    ensures stacked { IsStacked (reverse slots.new.items) (length bytes.now) }
+    ensures capacity { vec_capacity slots.new ≡ vec_capacity slots.old }
+{
+    let slot = slots.take_last();
+    match slot.mark {
+        Mark::Free(byte) => Front::Free(byte),
+        Mark::Do(event) => Front::Do(event),
+        Mark::Ends(more) => {
+            if more > 0 {
+                put_mark(slots, bytes, Mark::Ends(more - 1));
+            }
+            Front::End
+        }
+    }
+}
+
+/// Puts a mark in front.
+fn put_mark<E>(slots: &mut Vec<Slot<E>>, bytes: &[u8], mark: Mark<E>)
+    requires room { vec_len slots.old < vec_capacity slots.old }
+    requires stacked { IsStacked (reverse slots.old.items) (length bytes.now) }
+    ensures items { standing (reverse slots.new.items) bytes.now
+        ≡ items_of mark ++ standing (reverse slots.old.items) bytes.now }
+    ensures stacked { IsStacked (reverse slots.new.items) (length bytes.now) }
+    ensures len { vec_len slots.new ≡ vec_len slots.old + 1 }
+    ensures capacity { vec_capacity slots.new ≡ vec_capacity slots.old }
+{
+    slots.push_reserved(Slot {
+        height: bytes.len(),
+        mark,
+    });
+}
+
+/// Puts bytes in front again.
+fn put_frees<E>(slots: &mut Vec<Slot<E>>, bytes: &[u8], frees: &[u8])
+    requires room { vec_len slots.old + length frees.now ≤ vec_capacity slots.old }
+    requires stacked { IsStacked (reverse slots.old.items) (length bytes.now) }
+    ensures items { standing (reverse slots.new.items) bytes.now
+        ≡ map FreeAhead frees.now ++ standing (reverse slots.old.items) bytes.now }
+    ensures stacked { IsStacked (reverse slots.new.items) (length bytes.now) }
+    ensures capacity { vec_capacity slots.new ≡ vec_capacity slots.old }
+{
+    for free in frees.iter().rev() {
+        put_mark(slots, bytes, Mark::Free(*free));
+    }
+}
+
+/// Puts the end of a text in front. Ends that nothing stands between share a slot.
+fn put_end<E: Copy>(slots: &mut Vec<Slot<E>>, bytes: &[u8])
+    requires room { vec_len slots.old < vec_capacity slots.old }
+    requires few { ends_ahead (standing (reverse slots.old.items) bytes.now) + 1 < 2 ^ 64 }
+    requires stacked { IsStacked (reverse slots.old.items) (length bytes.now) }
+    ensures items { standing (reverse slots.new.items) bytes.now
+        ≡ EndAhead ∷ standing (reverse slots.old.items) bytes.now }
+    ensures stacked { IsStacked (reverse slots.new.items) (length bytes.now) }
+    ensures some { 0 < vec_len slots.new }
+    ensures capacity { vec_capacity slots.new ≡ vec_capacity slots.old }
+{
+    if let Some((slot, _)) = slots.as_slice().split_last()
+        && slot.height == bytes.len()
+        && let Mark::Ends(more) = slot.mark
+    {
+        let _same = slots.take_last();
+        put_mark(slots, bytes, Mark::Ends(more + 1));
+    } else {
+        put_mark(slots, bytes, Mark::Ends(0));
+    }
+}
+
+/// Puts the bytes of a text on top of the others, the last one first.
+fn put_reversed(bytes: &mut Vec<u8>, text: &[u8])
+    requires { vec_len bytes.old + length text.now ≤ vec_capacity bytes.old }
+    ensures items { bytes.new.items ≡ bytes.old.items ++ reverse text.now }
+    ensures capacity { vec_capacity bytes.old ≤ vec_capacity bytes.new }
+{
+    let below = bytes.len();
+    bytes.extend_from_slice(text).unwrap();
+    bytes.as_mut_slice()[below..].reverse();
+}
