@@ -5,3 +5,8 @@ pub mod Counts
 pub mod Pushing
 pub mod Standing
 pub mod Taking
+pub mod KeptTexts
+pub mod KeptArguments
+pub mod Ends
+pub mod ArgumentBlock
+pub mod QuotedArguments

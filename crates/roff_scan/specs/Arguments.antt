@@ -1,13 +1,10 @@
 -- The arguments of a control line (manual, section 7.3).
-use Rattle.std.specs.Prelude.{ℕ, ◌+◌, not, List, [], ◌∷◌, ◌++◌, length, reverse, take, drop, filter, if◌then◌else◌, ◌==◌}
-use Rattle.roff_scan.specs.Bytes.{blank, quote}
+use Rattle.std.specs.Prelude.{◌≡◌, ℕ, ◌+◌, ◌<◌, Bool, true, false, List, [], ◌∷◌, ◌++◌, length, reverse, take, drop, filter, slice_get, if◌then◌else◌, ◌==◌}
+use Rattle.roff_scan.specs.Bytes.{blank, quote, backslash}
+use Rattle.roff_scan.specs.declared.arguments.Place.{Place}
+use Rattle.roff_scan.specs.declared.arguments.Place.TheVariants.{Between, InPlain, InQuotes, BehindQuote}
 use Rattle.roff_scan.specs.declared.half.CopyUnit.{CopyUnit}
 use Rattle.roff_scan.specs.declared.half.CopyUnit.TheVariants.{Byte, Kept}
-
--- where the reading stands: between arguments, in one, in one within quotes, or behind a quote there,
--- which ends the argument unless another quote follows
-pub data Place : Type 0 where
-  Between InPlain InQuotes BehindQuote : Place
 
 -- the arguments read, and the one being read, each the newest first
 pub record Arguments : Type 0 where
@@ -34,29 +31,42 @@ between a b =
     else if b == quote then record a { place = InQuotes }
     else with_byte a InPlain b
 
+-- a byte, by where the reading stands
+abbrev pub with_byte_at : Place → Arguments → ℕ → Arguments
+with_byte_at Between a b = between a b
+with_byte_at InPlain a b = if b == blank then with_whole a else with_byte a InPlain b
+with_byte_at InQuotes a b = if b == quote then record a { place = BehindQuote } else with_byte a InQuotes b
+with_byte_at BehindQuote a b = if b == quote then with_byte a InQuotes b else between (with_whole a) b
+
 -- the arguments behind one byte more of the line
 abbrev pub with_argument_byte : Arguments → ℕ → Arguments
-with_argument_byte a b = elim a.place [
-  | Between ↦ between a b
-  | InPlain ↦ if b == blank then with_whole a else with_byte a InPlain b
-  | InQuotes ↦ if b == quote then record a { place = BehindQuote } else with_byte a InQuotes b
-  | BehindQuote ↦ if b == quote then with_byte a InQuotes b else between (with_whole a) b
-]
+with_argument_byte a b = with_byte_at a.place a b
+
+-- the arguments where what follows is no quote, by where the reading stands
+abbrev pub settled_at : Place → Arguments → Arguments
+settled_at Between a = a
+settled_at InPlain a = a
+settled_at InQuotes a = a
+settled_at BehindQuote a = with_whole a
 
 -- the arguments where what follows is no quote: behind one within quotes the argument is whole
 abbrev pub settled : Arguments → Arguments
-settled a = elim a.place [ Between ↦ a | InPlain ↦ a | InQuotes ↦ a | BehindQuote ↦ with_whole a ]
+settled a = settled_at a.place a
+
+-- where the reading stands once a byte has begun an argument, if none was begun
+abbrev pub in_argument : Place → Place
+in_argument Between = InPlain
+in_argument InPlain = InPlain
+in_argument InQuotes = InQuotes
+in_argument BehindQuote = BehindQuote
+
+-- two bytes of the argument being read, or of the one that they begin
+abbrev pub with_two_bytes : Arguments → ℕ → ℕ → Arguments
+with_two_bytes a b c = with_byte (with_byte a (in_argument a.place) b) (in_argument a.place) c
 
 -- the arguments behind an escape that is kept: its two bytes neither separate nor quote
 abbrev pub with_kept : Arguments → ℕ → Arguments
-with_kept a b =
-    let s = settled a in
-    elim s.place [
-      | Between ↦ record s { begun = b ∷ 92 ∷ s.begun; place = InPlain }
-      | InPlain ↦ record s { begun = b ∷ 92 ∷ s.begun }
-      | InQuotes ↦ record s { begun = b ∷ 92 ∷ s.begun }
-      | BehindQuote ↦ s
-    ]
+with_kept a b = with_two_bytes (settled a) backslash b
 
 -- the arguments behind a unit of copy mode
 abbrev pub with_unit : Arguments → CopyUnit → Arguments
@@ -72,9 +82,16 @@ total_length (text ∷ texts) = length text + total_length texts
 abbrev pub held : Arguments → ℕ
 held a = total_length a.whole + length a.begun
 
+-- the arguments once the line has ended, by where the reading stood
+abbrev pub finished_at : Place → Arguments → Arguments
+finished_at Between a = a
+finished_at InPlain a = with_whole a
+finished_at InQuotes a = with_whole a
+finished_at BehindQuote a = with_whole a
+
 -- the arguments once the line has ended: the one being read is whole
 abbrev pub finished : Arguments → Arguments
-finished a = elim a.place [ Between ↦ a | InPlain ↦ with_whole a | InQuotes ↦ with_whole a | BehindQuote ↦ with_whole a ]
+finished a = finished_at a.place a
 
 -- the arguments in order, at the line's end
 abbrev pub arguments_read : Arguments → List (List ℕ)
@@ -84,10 +101,24 @@ arguments_read a = reverse (finished a).whole
 abbrev pub kept_by_place : ℕ
 kept_by_place = 32
 
--- of the arguments behind so many those that have a byte: an empty one there is kept by nobody
+-- whether a text has a byte
+abbrev pub has_byte : List ℕ → Bool
+has_byte [] = false
+has_byte (b ∷ text) = true
+
+-- so many arguments, and of those behind them the ones that have a byte: an empty one there is kept by nobody
 abbrev pub kept_behind : ℕ → List (List ℕ) → List (List ℕ)
-kept_behind n texts = take n texts ++ filter (λ text. not (length text == 0)) (drop n texts)
+kept_behind n texts = take n texts ++ filter has_byte (drop n texts)
 
 -- what is kept of a line's arguments
 abbrev pub kept : List (List ℕ) → List (List ℕ)
 kept texts = kept_behind kept_by_place texts
+
+-- of the arguments that are whole only those that are kept
+abbrev pub only_kept : Arguments → Arguments
+only_kept a = record a { whole = reverse (kept (reverse a.whole)) }
+
+-- those that are kept by place are at their places
+abbrev pub FirstArgumentsAreKept : Type 0
+FirstArgumentsAreKept =
+    (texts : List (List ℕ)) (index : ℕ) → index < kept_by_place → slice_get (kept texts) index ≡ slice_get texts index

@@ -3,6 +3,9 @@ pub mod Bytes
 pub mod ReadSource
 pub mod Halves
 pub mod Arguments
+pub mod ArgumentTexts
+pub mod ArgumentList
+pub mod Quoting
 pub mod Input
 pub mod Slots
 pub mod Unread

@@ -1,0 +1,276 @@
+//! The arguments of a control line, held while they are read.
+
+ghost use Rattle.std.specs.Prelude.{◌≡◌, ℕ, ◌+◌, ◌<◌, ◌≤◌, ◌∷◌, ◌++◌, length, reverse, slice_get, IfOk, ◌==◌};
+ghost use Rattle.std.specs.Option.{option_copied};
+ghost use Rattle.roff_scan.specs.Arguments.{Arguments, no_arguments, with_unit, with_argument_byte, with_kept, with_byte, with_whole, settled, finished, held, kept, in_argument};
+ghost use Rattle.roff_scan.specs.ArgumentTexts.Ends.{is_kept, last_end, EndWithin, EndWithin-prop};
+
+use crate::half::CopyUnit;
+use std::alloc::{AllocError, Global};
+use std::marker::Model;
+
+/// How many arguments are kept though they may have no byte.
+const KEPT_BY_PLACE: usize = 32;
+
+/// Where the reading of arguments stands.
+#[derive(Clone, Copy, Debug, PartialEq, Eq)]
+pub(crate) enum Place {
+    /// Between arguments.
+    Between,
+    /// In one.
+    InPlain,
+    /// In one, within quotes.
+    InQuotes,
+    /// Behind a quote there, which ends the argument unless another quote follows.
+    BehindQuote,
+}
+
+/// The arguments of a control line as far as it is read, one after another in one block.
+///
+/// All its memory is reserved as it is made. An argument without a byte is kept only among the first 32
+/// of its line, as a line may have more of them than any memory.
+#[derive(Drop)]
+pub(crate) struct ArgumentTexts {
+    bytes: Vec<u8>,
+    /// Where each argument that is whole ends. The one being read lies behind the last of them.
+    ends: Vec<u32>,
+    place: Place,
+    room: u32,
+}
+
+/// The arguments of a control line, in order.
+#[derive(Clone, Copy, Debug)]
+pub struct ArgumentList<'a> {
+    bytes: &'a [u8],
+    ends: &'a [u32],
+    ghost within: { EndWithin (length bytes.now) 0 ends.now } by { EndWithin-prop _ _ _ },
+}
+
+impl Model for ArgumentTexts {
+    ghost use Rattle.roff_scan.specs.ArgumentTexts.Kept.{KeptArguments, kept_by, IsSound};
+
+    ghost Value = { KeptArguments };
+
+    ghost view = { kept_by };
+
+    ghost invariant = { IsSound };
+}
+
+impl Place {
+    ghost use Rattle.roff_scan.specs.ArgumentTexts.Kept.{is_held};
+
+    /// Whether a byte of the line is one of an argument; else it separates arguments, or quotes.
+    fn holds(self, byte: u8) -> bool
+        ensures { result ≡ is_held self byte }
+    {
+        match self {
+            Place::Between => byte != b' ' && byte != b'"',
+            Place::InQuotes => byte != b'"',
+            Place::InPlain | Place::BehindQuote => byte != b' ',
+        }
+    }
+
+    /// Where the reading stands once a byte has begun an argument, if none was begun.
+    fn in_argument(self) -> Place
+        ensures { result ≡ in_argument self }
+    {
+        match self {
+            Place::Between => Place::InPlain,
+            place => place,
+        }
+    }
+}
+
+impl ArgumentTexts {
+    ghost use Rattle.roff_scan.specs.ArgumentTexts.Kept.{KeptArguments, keeping, Keeps};
+    ghost use Rattle.roff_scan.specs.ArgumentList.{listed};
+
+    /// No argument, with room for so many bytes.
+    pub(crate) fn new(alloc: Global, room: u32) -> Result<Self, AllocError>
+        ensures value { IfOk result (λ t. t ≡ record { arguments = no_arguments; room = room }) }
+        ensures keeps { IfOk result (λ t. Keeps no_arguments t) }
+    {
+        Ok(ArgumentTexts {
+            bytes: Vec::with_capacity(alloc, room as usize)?,
+            ends: Vec::with_capacity(alloc, room as usize + KEPT_BY_PLACE)?,
+            place: Place::Between,
+            room,
+        })
+    }
+
+    /// Drops all arguments.
+    pub(crate) fn clear(&mut self)
+        ensures value { self.new ≡ record self.old { arguments = no_arguments } }
+        ensures keeps { Keeps no_arguments self.new }
+    {
+        self.bytes.clear();
+        self.ends.clear();
+        self.place = Place::Between;
+    }
+
+    /// How many bytes are held.
+    pub(crate) fn held(&self) -> usize
+        ensures value { result ≡ held self.now.arguments }
+        ensures keeps { (a : Arguments) → Keeps a self.now → result ≡ held a }
+    {
+        self.bytes.len()
+    }
+
+    /// How many bytes more would be held behind a unit.
+    pub(crate) fn bytes_more(&self, unit: CopyUnit) -> usize
+        ensures value { held (with_unit self.now.arguments unit)
+            ≡ held self.now.arguments + result }
+        ensures keeps { (a : Arguments) → Keeps a self.now
+            → held (with_unit a unit) ≡ held a + result }
+    {
+        match unit {
+            CopyUnit::Byte(byte) if self.place.holds(byte) => 1,
+            CopyUnit::Byte(_) => 0,
+            CopyUnit::Kept(_) => 2,
+        }
+    }
+
+    /// One unit more of the line.
+    pub(crate) fn take(&mut self, unit: CopyUnit)
+        requires { held (with_unit self.old.arguments unit) ≤ self.old.room }
+        ensures value { self.new ≡ keeping self.old (with_unit self.old.arguments unit) }
+        ensures keeps { (a : Arguments) → Keeps a self.old → Keeps (with_unit a unit) self.new }
+    {
+        match unit {
+            CopyUnit::Byte(byte) => self.take_byte(byte),
+            CopyUnit::Kept(byte) => self.take_kept(byte),
+        }
+    }
+
+    /// What follows is no quote: an argument within quotes whose last quote was read is whole.
+    pub(crate) fn settle(&mut self)
+        ensures value { self.new ≡ keeping self.old (settled self.old.arguments) }
+        ensures keeps { (a : Arguments) → Keeps a self.old → Keeps (settled a) self.new }
+    {
+        if let Place::BehindQuote = self.place {
+            self.end_argument();
+        }
+    }
+
+    /// The line has ended: the argument being read is whole.
+    pub(crate) fn finish(&mut self)
+        ensures value { self.new ≡ keeping self.old (finished self.old.arguments) }
+        ensures keeps { (a : Arguments) → Keeps a self.old → Keeps (finished a) self.new }
+    {
+        match self.place {
+            Place::Between => {}
+            _ => self.end_argument(),
+        }
+    }
+
+    /// The arguments that are whole.
+    pub(crate) fn list(&self) -> ArgumentList<'_>
+        ensures value { listed result ≡ reverse self.now.arguments.whole }
+        ensures keeps { (a : Arguments) → Keeps a self.now
+            → listed result ≡ kept (reverse a.whole) }
+    {
+        ArgumentList {
+            bytes: self.bytes.as_slice(),
+            ends: self.ends.as_slice(),
+        }
+    }
+
+    /// One byte more of the line.
+    fn take_byte(&mut self, byte: u8)
+        requires { held (with_argument_byte self.old.arguments byte) ≤ self.old.room }
+        ensures { self.new ≡ keeping self.old (with_argument_byte self.old.arguments byte) }
+    {
+        match (self.place, byte) {
+            (Place::Between, b' ') => {}
+            (Place::InPlain | Place::BehindQuote, b' ') => self.end_argument(),
+            (Place::Between, b'"') => self.place = Place::InQuotes,
+            (Place::InQuotes, b'"') => self.place = Place::BehindQuote,
+            (Place::InQuotes, _) | (Place::BehindQuote, b'"') => self.push(byte, Place::InQuotes),
+            (Place::Between | Place::InPlain, _) => self.push(byte, Place::InPlain),
+            (Place::BehindQuote, _) => {
+                self.end_argument();
+                self.push(byte, Place::InPlain);
+            }
+        }
+    }
+
+    /// An escape that is kept.
+    fn take_kept(&mut self, byte: u8)
+        requires { held (with_kept self.old.arguments byte) ≤ self.old.room }
+        ensures { self.new ≡ keeping self.old (with_kept self.old.arguments byte) }
+    {
+        self.settle();
+        let place = self.place.in_argument();
+        self.push(b'\\', place);
+        self.push(byte, place);
+    }
+
+    /// One byte more of the argument being read.
+    fn push(&mut self, byte: u8, place: Place)
+        requires { held self.old.arguments < self.old.room }
+        ensures { self.new
+            ≡ record self.old { arguments = with_byte self.old.arguments place byte } }
+    {
+        self.bytes.push(byte).unwrap();
+        self.place = place;
+    }
+
+    /// The argument being read is whole.
+    fn end_argument(&mut self)
+        ensures { self.new ≡ keeping self.old (with_whole self.old.arguments) }
+    {
+        let end = self.bytes.len() as u32;
+        if is_kept(self.ends.as_slice(), end) {
+            self.ends.push(end).unwrap();
+        }
+        self.place = Place::Between;
+    }
+}
+
+impl<'a> ArgumentList<'a> {
+    ghost use Rattle.roff_scan.specs.ArgumentList.{listed};
+
+    /// How many there are.
+    pub fn len(&self) -> usize
+        ensures { result ≡ length (listed self.now) }
+    {
+        self.ends.len()
+    }
+
+    /// Whether there is none.
+    pub fn is_empty(&self) -> bool
+        ensures { result ≡ (length (listed self.now) == 0) }
+    {
+        self.ends.is_empty()
+    }
+
+    /// The argument at an index, from 0 on.
+    pub fn get(&self, index: usize) -> Option<&'a [u8]>
+        ensures { option_copied result ≡ slice_get (listed self.now) index }
+    {
+        match self.ends.get(index) {
+            Some(end) => {
+                let start = last_end(&self.ends[..index]) as usize;
+                Some(&self.bytes[start..*end as usize])
+            }
+            None => None,
+        }
+    }
+}
+
+/// Whether an argument is kept that lies behind others, by where they end, and ends there itself.
+fn is_kept(ends: &[u32], end: u32) -> bool
+    ensures { result ≡ is_kept ends.now end }
+{
+    ends.len() < KEPT_BY_PLACE || last_end(ends) < end
+}
+
+/// Where the last text ends.
+fn last_end(ends: &[u32]) -> u32
+    ensures { result ≡ last_end 0 ends.now }
+{
+    match ends.last() {
+        Some(end) => *end,
+        None => 0,
+    }
+}
