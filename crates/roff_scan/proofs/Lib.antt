@@ -10,3 +10,4 @@ pub mod KeptArguments
 pub mod Ends
 pub mod ArgumentBlock
 pub mod QuotedArguments
+pub mod Nesting

@@ -2,6 +2,8 @@ pub mod Tape
 pub mod Bytes
 pub mod ReadSource
 pub mod Halves
+pub mod Nesting
+pub mod HalfLaws
 pub mod Arguments
 pub mod ArgumentTexts
 pub mod ArgumentList

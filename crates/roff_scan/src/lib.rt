@@ -4,13 +4,15 @@
 mod arguments;
 mod bytes;
 mod half;
-mod slots;
+pub mod half_laws;
+mod halves;
 pub mod laws;
+mod slots;
 mod source;
 mod unread;
 
 pub use arguments::ArgumentList;
 pub use bytes::{is_dropped, is_silent};
-pub use half::{CopyUnit, Half, NamePart};
+pub use half::{CopyUnit, Half, NamePart, Read};
 pub use source::{ByteSource, Note, ReadSource, Taken};
 pub use unread::{Item, Sight, Unread};
