@@ -1,10 +1,12 @@
 -- Which changes of the input a limit refuses.
-use Rattle.std.proofs.Common.{true, false, ◌≡◌, ◌<◌, ◌≤◌, ◌+◌, ◌-◌, ℕ, List, ◌∷◌, Ok, Err, length, refl, arith}
+use Rattle.std.proofs.Common.{true, false, ap, ◌≡◌, ◌<◌, ◌≤◌, ◌+◌, ◌-◌, ℕ, List, ◌∷◌, Ok, Err, length, refl, arith}
 use Rattle.std.specs.Prelude.{nat_lt}
 use Rattle.std.proofs.lemmas.Bool.Decides.{nat_tests}
 use Rattle.roff_num.specs.declared.limit.Limit.TheVariants.{Stack, Depth}
-use Rattle.roff_scan.specs.Input.{Input, EndAhead, pushed, depth, pushing, freeing}
+use Rattle.roff_scan.specs.Arguments.{Arguments, held}
+use Rattle.roff_scan.specs.Input.{Input, EndAhead, pushed, depth, pushing, freeing, with_arguments, bytes_ahead}
 use Rattle.roff_scan.specs.Unread.{Unread, IsWithin, changing}
+use Rattle.roff_scan.proofs.KeptArguments.{held-only_kept}
 use Rattle.roff_scan.proofs.Counts.{bytes_ahead-bytes, ends_ahead-bytes, bytes_ahead-frees, ends_ahead-frees}
 
 -- a test that fails, and one that holds
@@ -66,3 +68,32 @@ IsWithin-freeing u bytes within = record {
   pushed = rw (bytes_ahead-frees bytes u.input.ahead) within.pushed;
   depth = rw (ends_ahead-frees bytes u.input.ahead) within.depth;
 }
+
+module _ {E : Type 0} (u : Unread E) (a : Arguments) where
+  -- what isn't kept of arguments holds no bytes
+  pushed-with_arguments : pushed (with_arguments a u.input) ≡ bytes_ahead u.input.ahead + held a
+  pushed-with_arguments = ap (λ bytes. bytes_ahead u.input.ahead + bytes) (held-only_kept a)
+
+  -- other arguments that fit
+  pub IsWithin-with_arguments : IsWithin u → bytes_ahead u.input.ahead + held a ≤ u.limits.stack → IsWithin (record u { input = with_arguments a u.input })
+  IsWithin-with_arguments within fits = record { charge = within.charge; newlines = within.newlines; pushed = rw pushed-with_arguments fits; depth = within.depth }
+
+  -- arguments with no more bytes
+  pub IsWithin-same_held : IsWithin u → held a ≡ held u.input.arguments → IsWithin (record u { input = with_arguments a u.input })
+  IsWithin-same_held within same = IsWithin-with_arguments within (rw same within.pushed)
+
+  module _ (bytes more : ℕ) (counted : bytes ≡ pushed u.input) (longer : held a ≡ held u.input.arguments + more) where
+    -- arguments that don't fit are refused
+    pub hold_past_stack : u.limits.stack - bytes < more → changing (with_arguments a u.input) u ≡ (Err Stack, u)
+    hold_past_stack above = changing_past_stack u (with_arguments a u.input) (rw pushed-with_arguments (omega (arith, above, counted, longer)))
+
+    module _ (within : IsWithin u) (fits : more ≤ u.limits.stack - bytes) where
+      held_within : bytes_ahead u.input.ahead + held a ≤ u.limits.stack
+      held_within = omega (arith, fits, counted, longer, within.pushed)
+
+      -- and those that fit are held
+      pub hold_within : changing (with_arguments a u.input) u ≡ (Ok tt, record u { input = with_arguments a u.input })
+      hold_within = changing_within u (with_arguments a u.input) (rw pushed-with_arguments held_within) within.depth
+
+      pub IsWithin-holding : IsWithin (record u { input = with_arguments a u.input })
+      IsWithin-holding = IsWithin-with_arguments within held_within

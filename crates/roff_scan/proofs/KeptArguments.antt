@@ -162,6 +162,15 @@ held-settled_at BehindQuote a = held-with_whole a
 pub held-settled : (a : Arguments) → held (settled a) ≡ held a
 held-settled a = held-settled_at a.place a
 
+held-finished_at : (place : Place) (a : Arguments) → held (finished_at place a) ≡ held a
+held-finished_at Between a = refl
+held-finished_at InPlain a = held-with_whole a
+held-finished_at InQuotes a = held-with_whole a
+held-finished_at BehindQuote a = held-with_whole a
+
+pub held-finished : (a : Arguments) → held (finished a) ≡ held a
+held-finished a = held-finished_at a.place a
+
 pub held-with_kept : (a : Arguments) (b : ℕ) → held (with_kept a b) ≡ held a + 2
 held-with_kept a b = omega (arith, held-settled a)
 

@@ -2,7 +2,7 @@
 --
 -- Pushed texts, each with its end, and events put back stand ahead of the source's items in one list.
 use Rattle.std.specs.Prelude.{ℕ, ◌+◌, ◌*◌, Bool, true, false, List, [], ◌∷◌, ◌++◌, map, if◌then◌else◌, ◌==◌}
-use Rattle.roff_scan.specs.Arguments.{Arguments, no_arguments, held}
+use Rattle.roff_scan.specs.Arguments.{Arguments, no_arguments, only_kept, held}
 use Rattle.roff_scan.specs.Bytes.{newline}
 use Rattle.roff_scan.specs.declared.half.Half.{Half}
 
@@ -124,3 +124,15 @@ counting b i = record i {
   newlines = if b == newline then i.newlines + 1 else i.newlines;
   line = i.newlines + 1;
 }
+
+-- these are half read
+abbrev pub with_half : {E : Type 0} → List Half → Input E → Input E
+with_half half i = record i { half = half }
+
+-- no argument of the line was read
+abbrev pub without_arguments : {E : Type 0} → Input E → Input E
+without_arguments i = record i { arguments = no_arguments }
+
+-- these arguments were read: of those that are whole only the ones to be kept are there
+abbrev pub with_arguments : {E : Type 0} → Arguments → Input E → Input E
+with_arguments a i = record i { arguments = only_kept a }

@@ -8,8 +8,10 @@ use Rattle.std.specs.Prelude.{ℕ, ◌+◌, ◌≤◌, ◌&&◌, is_none, Bool, 
 use Rattle.roff_num.specs.declared.limit.Limit.{Limit}
 use Rattle.roff_num.specs.declared.limit.Limit.TheVariants.{Bytes, Stack, Depth}
 use Rattle.roff_num.specs.declared.limits.Limits.{Limits}
-use Rattle.roff_scan.specs.Input.{Input, initial_input, is_none_ahead, Ahead, ByteAhead, FreeAhead, EndAhead, DoAhead, cost, counting, item_taken, pushed, depth}
+use Rattle.roff_scan.specs.Halves.{Reads}
+use Rattle.roff_scan.specs.Input.{with_half, Input, initial_input, is_none_ahead, Ahead, ByteAhead, FreeAhead, EndAhead, DoAhead, cost, counting, item_taken, pushed, depth}
 use Rattle.roff_scan.specs.Tape.{Tape, Answer, Answers, Gives, Ends, OneByte, OneNote, Ending, Ended, Failed, Stopped, items_then}
+use Rattle.roff_scan.specs.declared.half.Read.{Read}
 use Rattle.roff_scan.specs.declared.unread.Item.{Item}
 use Rattle.roff_scan.specs.declared.unread.Item.TheVariants.{Byte, End, Do, Note, SourceEnd, Fault, Stop, Refused}
 use Rattle.roff_scan.specs.declared.unread.Sight.{Sight}
@@ -176,3 +178,7 @@ unless_passed (Some limit) i u = (Err limit, u)
 -- the input changes to this one, or a limit refuses it
 abbrev pub changing : {E : Type 0} → Input E → Unread E → Result (Unit {0}) Limit × Unread E
 changing i u = unless_passed (input_refusal u.limits i) i u
+
+-- what a reading gives, and the input with what is half read then
+abbrev pub reading : {E : Type 0} → Reads → Unread E → Read × Unread E
+reading r u = (r.0, record u { input = with_half r.1 u.input })

@@ -1,9 +1,15 @@
 //! The unread input: what stands ahead of the source, and what is counted.
 
-ghost use Rattle.std.specs.Prelude.{true, false, ◌≡◌, ◌+◌, ◌<◌, ◌≤◌, length, IfOk};
+ghost use Rattle.roff_scan.specs.Arguments.{with_unit, settled, finished};
+ghost use Rattle.roff_scan.specs.ArgumentList.{listed};
+ghost use Rattle.roff_scan.specs.Halves.{byte_read, reading_ended, newline_stays};
+ghost use Rattle.std.specs.Prelude.{reverse, true, false, ◌≡◌, ◌+◌, ◌<◌, ◌≤◌, length, IfOk};
 ghost use Rattle.roff_scan.specs.Tape.{Answer, OneByte, OneNote, Gives, Failed, Rises};
-ghost use Rattle.roff_scan.specs.Input.{is_none_ahead, events_ahead, frees_ahead, most_events, most_frees, pushed, depth, pushing, putting_back, freeing};
+ghost use Rattle.roff_scan.specs.Input.{is_none_ahead, events_ahead, frees_ahead, most_events, most_frees, pushed, depth, pushing, putting_back, freeing, with_arguments, without_arguments};
 
+use crate::arguments::{ArgumentList, ArgumentTexts};
+use crate::half::{CopyUnit, Read};
+use crate::halves::Halves;
 use crate::slots::Slots;
 use crate::source::{ByteSource, Note, Taken};
 use roff_num::{Limit, Limits};
@@ -55,6 +61,8 @@ pub enum Sight {
 pub struct Unread<E> {
     limits: Limits,
     slots: Slots<E>,
+    arguments: ArgumentTexts,
+    half: Halves,
     /// The byte of the source that was looked at and isn't taken yet.
     looked: Option<u8>,
     charge: u32,
@@ -75,7 +83,7 @@ impl<E> Model for Unread<E> {
 }
 
 impl<E: Copy> Unread<E> {
-    ghost use Rattle.roff_scan.specs.Unread.{initial_unread, is_bare, IsWithin, Shown, shown, ShowsNote, ShowsEnding, sighted, SeesNote, SeesEnding, taking, taking_answer, changing};
+    ghost use Rattle.roff_scan.specs.Unread.{initial_unread, is_bare, IsWithin, Shown, shown, ShowsNote, ShowsEnding, sighted, SeesNote, SeesEnding, taking, taking_answer, changing, reading};
     ghost use Rattle.roff_scan.specs.Unread.Calls.{Takes, Looks};
 
     /// The input before anything is read.
@@ -85,6 +93,8 @@ impl<E: Copy> Unread<E> {
         Ok(Unread {
             limits,
             slots: Slots::new(alloc, limits.stack, limits.depth)?,
+            arguments: ArgumentTexts::new(alloc, limits.stack)?,
+            half: Halves::new(),
             looked: None,
             charge: 0,
             newlines: 0,
@@ -114,11 +124,12 @@ impl<E: Copy> Unread<E> {
         self.line
     }
 
-    /// What counts in the limit on the stack: the pushed bytes that aren't read yet.
+    /// What counts in the limit on the stack: the pushed bytes that aren't read yet, and the
+    /// bytes of the arguments that are held.
     pub fn pushed(&self) -> usize
         ensures { result ≡ pushed self.now.input }
     {
-        self.slots.byte_count()
+        self.slots.byte_count() + self.arguments.held()
     }
 
     /// What counts in the limit on the depth: the pushed texts that haven't ended.
@@ -134,7 +145,7 @@ impl<E: Copy> Unread<E> {
     pub fn is_bare(&self) -> bool
         ensures { result ≡ is_bare self.now }
     {
-        self.slots.is_empty() && self.looked.is_none()
+        self.slots.is_empty() && self.looked.is_none() && self.half.is_empty()
     }
 
     /// Takes the item in front. The source is asked where nothing is ahead and no byte was looked
@@ -268,5 +279,81 @@ impl<E: Copy> Unread<E> {
         ensures within { IsWithin self.new }
     {
         self.slots.free(bytes);
+    }
+
+    /// Whether a newline stays, and ends the reading on top.
+    pub fn newline_stays(&self) -> bool
+        ensures { result ≡ newline_stays self.now.input.half }
+    {
+        self.half.newline_stays()
+    }
+
+    /// Reads a byte that was taken and isn't dropped; above a text line, or above arguments.
+    pub fn read_byte(&mut self, is_text: bool, byte: u8) -> Read
+        ensures reading { (result, self.new)
+            ≡ reading (byte_read is_text self.old.input.half byte) self.old }
+        ensures within { IsWithin self.new }
+    {
+        self.half.read_byte(is_text, byte)
+    }
+
+    /// Ends the reading on top, before what stays.
+    pub fn end_reading(&mut self, is_text: bool) -> Read
+        ensures reading { (result, self.new)
+            ≡ reading (reading_ended is_text self.old.input.half) self.old }
+        ensures within { IsWithin self.new }
+    {
+        self.half.end_reading(is_text)
+    }
+
+    /// Drops the arguments of the line before.
+    pub fn begin_arguments(&mut self)
+        ensures change { self.new ≡ record self.old { input = without_arguments self.old.input } }
+        ensures within { IsWithin self.new }
+    {
+        self.arguments.clear();
+    }
+
+    /// Holds one unit more of a line's arguments.
+    ///
+    /// # Errors
+    ///
+    /// [`Limit::Stack`] if its bytes don't fit.
+    pub fn hold(&mut self, unit: CopyUnit) -> Result<(), Limit>
+        ensures change { (result, self.new)
+            ≡ changing (with_arguments (with_unit self.old.input.arguments unit) self.old.input)
+            self.old }
+        ensures within { IsWithin self.new }
+    {
+        if self.arguments.bytes_more(unit) > self.limits.stack as usize - self.pushed() {
+            return Err(Limit::Stack);
+        }
+        self.arguments.take(unit);
+        Ok(())
+    }
+
+    /// What follows on the line is no quote: behind one within quotes the argument is whole.
+    pub fn settle(&mut self)
+        ensures change { self.new ≡ record self.old {
+            input = with_arguments (settled self.old.input.arguments) self.old.input } }
+        ensures within { IsWithin self.new }
+    {
+        self.arguments.settle();
+    }
+
+    /// The line has ended: the argument being read is whole.
+    pub fn finish_arguments(&mut self)
+        ensures change { self.new ≡ record self.old {
+            input = with_arguments (finished self.old.input.arguments) self.old.input } }
+        ensures within { IsWithin self.new }
+    {
+        self.arguments.finish();
+    }
+
+    /// The arguments of the line that are whole.
+    pub fn arguments(&self) -> ArgumentList<'_>
+        ensures { listed result ≡ reverse self.now.input.arguments.whole }
+    {
+        self.arguments.list()
     }
 }

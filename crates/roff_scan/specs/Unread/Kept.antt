@@ -1,6 +1,5 @@
 -- What the unread input keeps.
-use Rattle.std.specs.Prelude.{◌≡◌, []}
-use Rattle.roff_scan.specs.Arguments.{no_arguments}
+use Rattle.std.specs.Prelude.{◌≡◌, ◌<◌, ◌^◌}
 use Rattle.roff_scan.specs.Unread.{Unread, IsWithin}
 use Rattle.roff_scan.specs.declared.unread.Unread.TheInside.{Inside}
 
@@ -9,8 +8,8 @@ abbrev pub kept_by : {E : Type 0} → Inside E → Unread E
 kept_by a = record {
   input = record {
     ahead = a.slots.ahead;
-    arguments = no_arguments;
-    half = [];
+    arguments = a.arguments.arguments;
+    half = a.half;
     charge = a.charge;
     newlines = a.newlines;
     line = a.line;
@@ -23,4 +22,6 @@ kept_by a = record {
 pub record IsSound {E : Type 0} (a : Inside E) : Type 0 where
   pub bytes : a.slots.most_bytes ≡ a.limits.stack
   pub texts : a.slots.most_texts ≡ a.limits.depth
+  pub arguments : a.arguments.room ≡ a.limits.stack
+  pub small : a.limits.stack < 2 ^ 32
   pub within : IsWithin (kept_by a)

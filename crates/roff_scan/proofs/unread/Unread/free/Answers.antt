@@ -6,6 +6,8 @@ pub invariant_of-self : goal.invariant_of-self
 invariant_of-self g c = record {
   bytes = rw c.free.ensures c.self.invariant.bytes;
   texts = rw c.free.ensures c.self.invariant.texts;
+  arguments = c.self.invariant.arguments;
+  small = c.self.invariant.small;
   within = rw c.free.ensures (IsWithin-freeing (kept_by c.self.inside) c.args.bytes.now c.self.invariant.within);
 }
 

@@ -25,6 +25,8 @@ invariant_of-self g c =
     record {
       bytes = rw c.push.ensures c.self.invariant.bytes;
       texts = rw c.push.ensures c.self.invariant.texts;
+      arguments = c.self.invariant.arguments;
+      small = c.self.invariant.small;
       within = rw c.push.ensures (IsWithin-pushing kept c.args.text.now c.pushed.result counted c.self.invariant.within c.if-text-self.false shallow);
     }
 

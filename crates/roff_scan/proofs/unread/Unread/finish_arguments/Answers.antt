@@ -1,0 +1,19 @@
+use Rattle.roff_scan.specs.Arguments.{finished}
+use Rattle.roff_scan.specs.Unread.Kept.{kept_by}
+use Rattle.roff_scan.proofs.Changing.{IsWithin-same_held}
+use Rattle.roff_scan.proofs.KeptArguments.{held-finished}
+use Rattle.roff_scan.proofs.unread.Unread.finish_arguments.Goals as goal
+
+pub invariant_of-self : goal.invariant_of-self
+invariant_of-self g c =
+    let old = c.self.inside.arguments.arguments in
+    record {
+      bytes = c.self.invariant.bytes;
+      texts = c.self.invariant.texts;
+      arguments = rw c.finish.ensures.value c.self.invariant.arguments;
+      small = c.self.invariant.small;
+      within = rw c.finish.ensures.value (IsWithin-same_held (kept_by c.self.inside) (finished old) c.self.invariant.within (held-finished old));
+    }
+
+pub returns-clause-within : goal.returns-clause-within
+returns-clause-within g c = (invariant_of-self g c).within

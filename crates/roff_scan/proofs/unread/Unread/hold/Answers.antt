@@ -1,0 +1,38 @@
+use Rattle.std.proofs.Common.{◌≡◌, Ok, Err, sym, subst}
+use Rattle.roff_num.specs.declared.limit.Limit.TheVariants.{Stack}
+use Rattle.roff_scan.specs.Input.{with_arguments}
+use Rattle.roff_scan.specs.Unread.{Unread, changing}
+use Rattle.roff_scan.specs.Arguments.{with_unit}
+use Rattle.roff_scan.specs.Unread.Kept.{kept_by}
+use Rattle.roff_scan.proofs.Changing.{hold_past_stack, hold_within, IsWithin-holding}
+use Rattle.roff_scan.proofs.unread.Unread.hold.Goals as goal
+
+pub returns-then-bytes_more-self-clause-change : goal.returns-then-bytes_more-self-clause-change
+returns-then-bytes_more-self-clause-change g c =
+    let kept = kept_by c.self.inside in
+    let counted = rw (← c.self.view_is) at c.pushed.ensures in
+    subst (λ (u : Unread _). (Err Stack, u) ≡ changing (with_arguments (with_unit u.input.arguments c.args.unit) u.input) u) c.self.view_is
+    (sym (hold_past_stack kept (with_unit kept.input.arguments c.args.unit) c.pushed.result c.bytes_more.result counted c.bytes_more.ensures.value c.if-bytes_more-self.true))
+
+pub invariant_of-self : goal.invariant_of-self
+invariant_of-self g c =
+    let kept = kept_by c.self.inside in
+    let counted = rw (← c.self.view_is) at c.pushed.ensures in
+    record {
+      bytes = c.self.invariant.bytes;
+      texts = c.self.invariant.texts;
+      arguments = rw c.take.ensures.value c.self.invariant.arguments;
+      small = c.self.invariant.small;
+      within = rw c.take.ensures.value (IsWithin-holding kept (with_unit kept.input.arguments c.args.unit) c.pushed.result c.bytes_more.result counted c.bytes_more.ensures.value c.self.invariant.within c.if-bytes_more-self.false);
+    }
+
+pub returns-clause-change : goal.returns-clause-change
+returns-clause-change g c =
+    let kept = kept_by c.self.inside in
+    let counted = rw (← c.self.view_is) at c.pushed.ensures in
+    rw c.take.ensures.value
+    (subst (λ (u : Unread _). (Ok tt, record kept { input = with_arguments (with_unit kept.input.arguments c.args.unit) kept.input }) ≡ changing (with_arguments (with_unit u.input.arguments c.args.unit) u.input) u) c.self.view_is
+    (sym (hold_within kept (with_unit kept.input.arguments c.args.unit) c.pushed.result c.bytes_more.result counted c.bytes_more.ensures.value c.self.invariant.within c.if-bytes_more-self.false)))
+
+pub returns-clause-within : goal.returns-clause-within
+returns-clause-within g c = (invariant_of-self g c).within

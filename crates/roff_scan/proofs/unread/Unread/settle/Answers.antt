@@ -1,0 +1,19 @@
+use Rattle.roff_scan.specs.Arguments.{settled}
+use Rattle.roff_scan.specs.Unread.Kept.{kept_by}
+use Rattle.roff_scan.proofs.Changing.{IsWithin-same_held}
+use Rattle.roff_scan.proofs.KeptArguments.{held-settled}
+use Rattle.roff_scan.proofs.unread.Unread.settle.Goals as goal
+
+pub invariant_of-self : goal.invariant_of-self
+invariant_of-self g c =
+    let old = c.self.inside.arguments.arguments in
+    record {
+      bytes = c.self.invariant.bytes;
+      texts = c.self.invariant.texts;
+      arguments = rw c.settle.ensures.value c.self.invariant.arguments;
+      small = c.self.invariant.small;
+      within = rw c.settle.ensures.value (IsWithin-same_held (kept_by c.self.inside) (settled old) c.self.invariant.within (held-settled old));
+    }
+
+pub returns-clause-within : goal.returns-clause-within
+returns-clause-within g c = (invariant_of-self g c).within
