@@ -1,4 +1,4 @@
-//! Sources of bytes, and what the bytes of a document are.
+//! Sources of bytes, the unread input in front of one, and what the bytes of a document are.
 #![tactic(auto)]
 
 mod arguments;
@@ -10,6 +10,8 @@ pub mod laws;
 mod slots;
 mod source;
 mod unread;
+#[cfg(test)]
+mod unread_tests;
 
 pub use arguments::ArgumentList;
 pub use bytes::{is_dropped, is_silent};

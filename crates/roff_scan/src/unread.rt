@@ -335,7 +335,8 @@ impl<E: Copy> Unread<E> {
     /// What follows on the line is no quote: behind one within quotes the argument is whole.
     pub fn settle(&mut self)
         ensures change { self.new ≡ record self.old {
-            input = with_arguments (settled self.old.input.arguments) self.old.input } }
+          input = with_arguments (settled self.old.input.arguments) self.old.input;
+        } }
         ensures within { IsWithin self.new }
     {
         self.arguments.settle();
@@ -344,7 +345,8 @@ impl<E: Copy> Unread<E> {
     /// The line has ended: the argument being read is whole.
     pub fn finish_arguments(&mut self)
         ensures change { self.new ≡ record self.old {
-            input = with_arguments (finished self.old.input.arguments) self.old.input } }
+          input = with_arguments (finished self.old.input.arguments) self.old.input;
+        } }
         ensures within { IsWithin self.new }
     {
         self.arguments.finish();
