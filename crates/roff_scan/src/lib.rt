@@ -1,5 +1,5 @@
-//! Sources of bytes, what the bytes of a document are, and what is read of them: names behind backslashes
-//! and the arguments of a line.
+//! Sources of bytes, what the bytes of a document are, and the unread input: what stands in front of a source,
+//! names that are half read behind backslashes, and the arguments of a line.
 #![tactic(auto)]
 
 mod arguments;
@@ -11,6 +11,8 @@ pub mod laws;
 mod slots;
 mod source;
 mod unread;
+#[cfg(test)]
+mod unread_tests;
 
 pub use arguments::{ArgumentList, Place};
 pub use bytes::{is_dropped, is_silent};

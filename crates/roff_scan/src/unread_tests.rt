@@ -1,0 +1,93 @@
+//! What is taken of some inputs, in order, by the public calls.
+
+use crate::{CopyUnit, Item, Read, ReadSource, Sight, Unread};
+use roff_num::{Limit, Limits};
+use std::test::Fail;
+
+/// A letter for what was taken, and the byte if it is one.
+fn shown(item: Item<u8>) -> (char, u8) {
+    match item {
+        Item::Byte(byte) => ('b', byte),
+        Item::End => ('e', 0),
+        Item::Do(event) => ('d', event),
+        Item::Note(_) => ('n', 0),
+        Item::SourceEnd => ('s', 0),
+        Item::Fault => ('f', 0),
+        Item::Stop(_) => ('l', 0),
+        Item::Refused(_) => ('r', 0),
+    }
+}
+
+/// The byte that is seen, if one is.
+fn seen(sight: Sight) -> Option<u8> {
+    match sight {
+        Sight::Byte(byte) => Some(byte),
+        _ => None,
+    }
+}
+
+#[test]
+fn items_are_taken_from_the_front(rt: HostRuntime) -> Result<(), Fail> {
+    let mut source = ReadSource::new(rt.alloc(), b"x\n".as_slice())?;
+    let mut unread = Unread::new(rt.alloc(), Limits::DEFAULT)?;
+    assert!(rt; unread.is_bare());
+    assert_eq!(rt; seen(unread.look(&mut source)), Some(b'x'));
+    unread.put_back(7);
+    assert_eq!(rt; unread.push(b""), Ok(()));
+    assert_eq!(rt; unread.push(b"ab"), Ok(()));
+    assert_eq!(rt; (unread.pushed(), unread.depth()), (2, 2));
+    assert_eq!(rt; shown(unread.take(&mut source)), ('b', b'a'));
+    assert_eq!(rt; seen(unread.look(&mut source)), Some(b'b'));
+    assert_eq!(rt; shown(unread.take(&mut source)), ('b', b'b'));
+    assert_eq!(rt; seen(unread.look(&mut source)), None);
+    assert_eq!(rt; shown(unread.take(&mut source)), ('e', 0));
+    assert_eq!(rt; shown(unread.take(&mut source)), ('e', 0));
+    assert_eq!(rt; shown(unread.take(&mut source)), ('d', 7));
+    unread.free(b"!");
+    assert_eq!(rt; unread.charge(), 5);
+    assert_eq!(rt; shown(unread.take(&mut source)), ('b', b'!'));
+    assert_eq!(rt; unread.charge(), 5);
+    assert_eq!(rt; shown(unread.take(&mut source)), ('b', b'x'));
+    assert_eq!(rt; shown(unread.take(&mut source)), ('b', b'\n'));
+    assert_eq!(rt; (unread.line(), unread.newlines()), (1, 1));
+    assert_eq!(rt; shown(unread.take(&mut source)), ('s', 0));
+    assert!(rt; unread.is_bare());
+    Ok(())
+}
+
+#[test]
+fn limits_refuse_what_passes_them(rt: HostRuntime) -> Result<(), Fail> {
+    let limits = Limits {
+        bytes: 1,
+        stack: 3,
+        depth: 1,
+        ..Limits::DEFAULT
+    };
+    let mut source = ReadSource::new(rt.alloc(), b"xy".as_slice())?;
+    let mut unread: Unread<u8> = Unread::new(rt.alloc(), limits)?;
+    assert_eq!(rt; shown(unread.take(&mut source)), ('b', b'x'));
+    assert_eq!(rt; shown(unread.take(&mut source)), ('r', 0));
+    assert_eq!(rt; seen(unread.look(&mut source)), Some(b'y'));
+    assert_eq!(rt; unread.hold(CopyUnit::Kept(b'e')), Ok(()));
+    assert_eq!(rt; unread.push(b"ab"), Err(Limit::Stack));
+    assert_eq!(rt; unread.push(b"a"), Ok(()));
+    assert_eq!(rt; unread.push(b""), Err(Limit::Depth));
+    assert_eq!(rt; unread.hold(CopyUnit::Byte(b'a')), Err(Limit::Stack));
+    unread.finish_arguments();
+    assert_eq!(rt; unread.arguments().get(0), Some(b"\\e".as_slice()));
+    unread.begin_arguments();
+    assert_eq!(rt; (unread.pushed(), unread.arguments().len()), (1, 0));
+    Ok(())
+}
+
+#[test]
+fn names_are_read_behind_backslashes(rt: HostRuntime) -> Result<(), Fail> {
+    let mut unread: Unread<u8> = Unread::new(rt.alloc(), Limits::DEFAULT)?;
+    for byte in b"\\n(x" {
+        assert!(rt; matches!(unread.read_byte(true, *byte), Read::GoesOn));
+    }
+    assert!(rt; unread.newline_stays() && !unread.is_bare());
+    assert!(rt; matches!(unread.end_reading(true), Read::Asks(None, _)));
+    assert!(rt; unread.is_bare());
+    Ok(())
+}
