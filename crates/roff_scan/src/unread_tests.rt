@@ -43,15 +43,25 @@ fn items_are_taken_from_the_front(rt: HostRuntime) -> Result<(), Fail> {
     assert_eq!(rt; shown(unread.take(&mut source)), ('e', 0));
     assert_eq!(rt; shown(unread.take(&mut source)), ('e', 0));
     assert_eq!(rt; shown(unread.take(&mut source)), ('d', 7));
-    unread.free(b"!");
-    assert_eq!(rt; unread.charge(), 5);
-    assert_eq!(rt; shown(unread.take(&mut source)), ('b', b'!'));
     assert_eq!(rt; unread.charge(), 5);
     assert_eq!(rt; shown(unread.take(&mut source)), ('b', b'x'));
     assert_eq!(rt; shown(unread.take(&mut source)), ('b', b'\n'));
     assert_eq!(rt; (unread.line(), unread.newlines()), (1, 1));
     assert_eq!(rt; shown(unread.take(&mut source)), ('s', 0));
     assert!(rt; unread.is_bare());
+    Ok(())
+}
+
+#[test]
+fn free_bytes_cost_nothing(rt: HostRuntime) -> Result<(), Fail> {
+    let mut source = ReadSource::new(rt.alloc(), b"x".as_slice())?;
+    let mut unread: Unread<u8> = Unread::new(rt.alloc(), Limits::DEFAULT)?;
+    unread.free(b"!");
+    assert_eq!(rt; unread.pushed(), 0);
+    assert_eq!(rt; shown(unread.take(&mut source)), ('b', b'!'));
+    assert_eq!(rt; unread.charge(), 0);
+    assert_eq!(rt; shown(unread.take(&mut source)), ('b', b'x'));
+    assert_eq!(rt; unread.charge(), 1);
     Ok(())
 }
 
