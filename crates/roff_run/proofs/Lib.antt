@@ -18,3 +18,6 @@ pub mod RegisterLaws
 pub mod Numbering
 pub mod InputCounts
 pub mod TurnsToCome
+pub mod InFront
+pub mod Interpolation
+pub mod QuotedArguments

@@ -14,6 +14,8 @@ pub mod Run
 pub mod Results
 pub mod Rows
 pub mod Laws
+pub mod InterpolationLaws
+pub mod Quoting
 pub mod ResultLaws
 pub mod Taken
 pub mod Statuses

@@ -3,6 +3,7 @@
 #![tactic(auto)]
 
 mod event;
+pub mod interpolation_laws;
 pub mod laws;
 mod message;
 mod number;

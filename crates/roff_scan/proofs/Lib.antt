@@ -2,6 +2,7 @@ pub mod Giving
 pub mod Nesting
 pub mod KeptTexts
 pub mod KeptArguments
+pub mod Settling
 pub mod Ends
 pub mod ArgumentBlock
 pub mod QuotedArguments

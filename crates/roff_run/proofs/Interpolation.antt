@@ -1,0 +1,553 @@
+-- What is read in the place of an escape.
+use Rattle.std.proofs.Common.{◌≡◌, ℕ, ◌+◌, ◌<◌, ◌≤◌, Bool, true, false, List, [], ◌∷◌, ◌++◌, length, Option, Some, None, refl, ap, sym, subst, ◌∙◌, arith, rules}
+use Rattle.std.specs.Prelude.{nat_lt, not, ◌||◌, map, IsTrue, if◌then◌else◌, ◌==◌}
+use Rattle.std.proofs.lemmas.Bool.{le-ltb, lt-leb}
+use Rattle.std.specs.List.{list_any}
+use Rattle.std.proofs.lemmas.List.{append-nil}
+use Rattle.std.proofs.lemmas.List.Sums.{sum_by-cons}
+use Rattle.roff_num.specs.declared.limit.Limit.{Limit}
+use Rattle.roff_num.specs.declared.limit.Limit.TheVariants.{Bytes}
+use Rattle.roff_num.specs.declared.limits.Limits.{Limits}
+use Rattle.roff_scan.proofs.Settling.{settled-only_kept, held-only_kept-settled}
+use Rattle.roff_scan.specs.Arguments.{Arguments, settled, only_kept, held}
+use Rattle.roff_scan.specs.Bytes.{newline, backslash, is_dropped}
+use Rattle.roff_scan.specs.HalfLaws.{is_special, sign}
+use Rattle.roff_scan.specs.Halves.{Reads, byte_read, most_names, newline_stays}
+use Rattle.roff_scan.specs.Input.{Ahead, ByteAhead, EndAhead, cost, counting, item_taken, pushing, pushed, depth}
+use Rattle.roff_scan.specs.Tape.{Tape, Answer, Gives, OneByte, front, items_then}
+use Rattle.roff_scan.specs.Unread.{seen_ahead}
+use Rattle.roff_scan.specs.Nesting.{AreNames}
+use Rattle.roff_scan.specs.declared.half.Half.{Half}
+use Rattle.roff_scan.specs.declared.half.Half.TheVariants.{Backslash, Name}
+use Rattle.roff_scan.specs.declared.half.NamePart.TheVariants.{Nothing, Opened, First}
+use Rattle.roff_scan.specs.declared.half.Read.TheVariants.{GoesOn, Asks}
+use Rattle.roff_store.specs.declared.register.Direction.{Direction}
+use Rattle.roff_store.specs.declared.register.Direction.TheVariants.{Up, Down}
+use Rattle.roff_run.specs.declared.reading.Reading.{Reading}
+use Rattle.roff_run.specs.declared.reading.Reading.TheVariants.{LineStart, Text as InText, Control, Name as NameOf, Arguments as InArguments, Dropped}
+use Rattle.roff_run.specs.declared.reading.TextLine.{TextLine}
+use Rattle.roff_run.specs.declared.request.Request.{Request}
+use Rattle.roff_run.specs.declared.status.Status.{Status}
+use Rattle.roff_run.specs.InterpolationLaws.{TakesItems, BytesAheadAreTaken, BytesOfTheSourceAreTaken, StandsForItself, IsEscapeOf, Short, Long, reads_text, reads_escapes, stepped, with_text_ahead, with_source_behind, EscapesReadAsTexts, EscapesOfTheSourceReadAsTexts, EscapesOfTextReadAsTexts, cost_of_all, TextsCostTheirBytesAndOne}
+use Rattle.roff_run.specs.Laws.{IsWithin}
+use Rattle.roff_run.specs.Reading.{PageInput, Taking, going_on, taking, kept_taking, beginning_read, text_read, arguments_read_on, settling, interrupted, interpolating}
+use Rattle.roff_run.specs.Registers.{AllRegisters, Known, text_of_register}
+use Rattle.roff_run.specs.Requests.{PageEvent}
+use Rattle.roff_run.specs.Run.{State, known, made, byte_taken, byte_seen, half_ends, awaited, awaited_of_source, answered, moved, in_front_taken, taking_ahead, taking_byte, taken_as, first_passed, grown, unless_refused, stopped_by, reading_on, step, after}
+
+-- where bytes come from: they stand ahead of these items, or in the source in front of this tape
+data Origin : Type 0 where
+  FromAhead : (rest : List (Ahead PageEvent)) → Origin
+  FromSource : (tape : Tape) → Origin
+
+-- what is ahead of the source, where these bytes come first
+abbrev ahead_at : Origin → List ℕ → List (Ahead PageEvent)
+ahead_at (FromAhead rest) bytes = map ByteAhead bytes ++ rest
+ahead_at (FromSource tape) bytes = []
+
+-- the source's tape
+abbrev tape_at : Origin → List ℕ → Tape → Tape
+tape_at (FromAhead rest) bytes tape = tape
+tape_at (FromSource behind) bytes tape = items_then (map OneByte bytes) behind
+
+-- the line behind one of them
+abbrev line_behind : Origin → State → ℕ → ℕ
+line_behind (FromAhead rest) s line = line
+line_behind (FromSource tape) s line = s.input.newlines + 1
+
+line_behind-again : (from : Origin) (s : State) (line : ℕ) → line_behind from s (line_behind from s line) ≡ line_behind from s line
+line_behind-again (FromAhead rest) s line = refl
+line_behind-again (FromSource tape) s line = refl
+
+-- an input where these bytes come first
+abbrev input_of : State → Origin → List ℕ → Arguments → List Half → ℕ → ℕ → PageInput
+input_of s from bytes arguments half charge line =
+    record s.input { ahead = ahead_at from bytes; arguments = arguments; half = half; charge = charge; line = line }
+
+-- a run that reads this, where these bytes come first
+abbrev going : State → Reading → Origin → List ℕ → Arguments → List Half → ℕ → ℕ → State
+going s reading from bytes arguments half charge line = record s {
+  tape = tape_at from bytes s.tape;
+  input = input_of s from bytes arguments half charge line;
+  reading = reading;
+  to_do = [];
+  is_closing = false;
+  ended = None;
+}
+
+-- a state of a run that takes items is one of these
+is-going : (s : State) (from : Origin) (bytes : List ℕ) → TakesItems s → s.input.ahead ≡ ahead_at from bytes → s.tape ≡ tape_at from bytes s.tape
+    → going s s.reading from bytes s.input.arguments s.input.half s.input.charge s.input.line ≡ s
+is-going s from bytes on ahead tape =
+    let of : Tape → List (Ahead PageEvent) → List PageEvent → Bool → Option Status → State = λ t items es c e.
+    record s { tape = t; input = record s.input { ahead = items }; to_do = es; is_closing = c; ended = e } in
+    ap (of (tape_at from bytes s.tape) (ahead_at from bytes) [] false) (sym on.going)
+    ∙ ap (λ (c : Bool). of (tape_at from bytes s.tape) (ahead_at from bytes) [] c s.ended) (sym on.not_closing)
+    ∙ ap (λ (es : List PageEvent). of (tape_at from bytes s.tape) (ahead_at from bytes) es s.is_closing s.ended) (sym on.idle)
+    ∙ ap (λ (items : List (Ahead PageEvent)). of (tape_at from bytes s.tape) items s.to_do s.is_closing s.ended) (sym ahead)
+    ∙ ap (λ (t : Tape). of t s.input.ahead s.to_do s.is_closing s.ended) (sym tape)
+
+-- a byte that isn't a newline is taken, whether it is waited for or not
+taken-awaited : (l : Limits) (stays : Bool) (b : ℕ) (behind : List (Ahead PageEvent)) (s : State) → s.input.ahead ≡ ByteAhead b ∷ behind
+    → (b == newline) ≡ false
+    → (if stays then byte_seen l b s else in_front_taken l s.input.ahead s) ≡ taking_ahead l (ByteAhead b) behind s
+taken-awaited l true b behind s ahead is =
+    ap (λ (c : Bool). if c then made l s (half_ends s) else in_front_taken l s.input.ahead s) is
+    ∙ ap (λ (items : List (Ahead PageEvent)). in_front_taken l items s) ahead
+taken-awaited l false b behind s ahead is = ap (λ (items : List (Ahead PageEvent)). in_front_taken l items s) ahead
+
+-- the input is read where a byte is ahead
+reading_on-byte : (l : Limits) (b : ℕ) (behind : List (Ahead PageEvent)) (s : State) → s.input.ahead ≡ ByteAhead b ∷ behind
+    → (b == newline) ≡ false → reading_on l s ≡ taking_ahead l (ByteAhead b) behind s
+reading_on-byte l b behind s ahead is =
+    ap (λ (items : List (Ahead PageEvent)). if newline_stays s.input.half then awaited l (seen_ahead items) s else in_front_taken l s.input.ahead s) ahead
+    ∙ taken-awaited l (newline_stays s.input.half) b behind s ahead is
+
+-- it is taken within the limit on bytes
+taking_ahead-within : (l : Limits) (b : ℕ) (behind : List (Ahead PageEvent)) (s : State) → s.input.charge < l.bytes
+    → taking_ahead l (ByteAhead b) behind s ≡ made l s (byte_taken b (record s { input = item_taken (ByteAhead b) behind s.input }))
+taking_ahead-within l b behind s within =
+    let done : State = made l s (byte_taken b (record s { input = item_taken (ByteAhead b) behind s.input })) in
+    ap (λ (c : Bool). if c then stopped_by l Bytes s else done) (le-ltb l.bytes (s.input.charge + 1) (omega arith))
+
+-- a step of a run that takes items
+step-TakesItems : (l : Limits) (s : State) → TakesItems s → step l s ≡ reading_on l s
+step-TakesItems l s on = rw (on.going, on.idle, on.not_closing) refl
+
+pub bytes_ahead_are_taken : BytesAheadAreTaken
+bytes_ahead_are_taken l s b behind on ahead is within =
+    step-TakesItems l s on ∙ reading_on-byte l b behind s ahead is ∙ taking_ahead-within l b behind s within
+
+-- a byte of the source is taken, whether it is waited for or not
+answered-awaited : (l : Limits) (stays : Bool) (b : ℕ) (s : State) → (b == newline) ≡ false → s.input.ahead ≡ []
+    → (if stays then awaited_of_source l (Gives (OneByte b)) s else in_front_taken l s.input.ahead s) ≡ answered l (front s.tape) s
+answered-awaited l true b s is none =
+    ap (λ (c : Bool). if c then made l s (half_ends s) else in_front_taken l s.input.ahead s) is
+    ∙ ap (λ (items : List (Ahead PageEvent)). in_front_taken l items s) none
+answered-awaited l false b s is none = ap (λ (items : List (Ahead PageEvent)). in_front_taken l items s) none
+
+-- the input is read where a byte of the source comes first
+reading_on-source : (l : Limits) (b : ℕ) (s : State) → s.input.ahead ≡ [] → front s.tape ≡ Gives (OneByte b) → (b == newline) ≡ false
+    → reading_on l s ≡ taking_byte l b s
+reading_on-source l b s none gives is =
+    ap (λ (items : List (Ahead PageEvent)). if newline_stays s.input.half then awaited l (seen_ahead items) s else in_front_taken l s.input.ahead s) none
+    ∙ ap (λ (a : Answer). if newline_stays s.input.half then awaited_of_source l a s else in_front_taken l s.input.ahead s) gives
+    ∙ answered-awaited l (newline_stays s.input.half) b s is none
+    ∙ ap (λ (a : Answer). answered l a s) gives
+
+-- it is taken within the limit on bytes
+taking_byte-within : (l : Limits) (b : ℕ) (s : State) → s.input.charge < l.bytes
+    → taking_byte l b s ≡ made l s (byte_taken b (moved (record s { input = counting b s.input })))
+taking_byte-within l b s within =
+    let done : State = made l s (byte_taken b (moved (record s { input = counting b s.input }))) in
+    ap (λ (c : Bool). if c then stopped_by l Bytes s else done) (le-ltb l.bytes (s.input.charge + 1) (omega arith))
+
+pub bytes_of_the_source_are_taken : BytesOfTheSourceAreTaken
+bytes_of_the_source_are_taken l s b on none gives is within =
+    step-TakesItems l s on ∙ reading_on-source l b s none gives is ∙ taking_byte-within l b s within
+
+-- a byte that is read, and doesn't end the line
+abbrev pub IsRead : ℕ → Type 0
+IsRead b = IsTrue (not (is_dropped b || b == newline))
+
+-- of two tests neither holds
+pub not-first : (first second : Bool) → IsTrue (not (first || second)) → first ≡ false
+not-first true second neither = absurd (cc)
+not-first false second neither = refl
+
+not-or : (first second : Bool) → IsTrue (not (first || second)) → IsTrue (not second)
+not-or true second neither = absurd (cc)
+not-or false second neither = neither
+
+pub not-second : (first second : Bool) → IsTrue (not (first || second)) → second ≡ false
+not-second true second neither = absurd (cc)
+not-second false true neither = absurd (cc)
+not-second false false neither = refl
+
+-- a reading that reads escapes, and whether it is that of text
+data ReadsEscapes : Reading → Bool → Type 0 where
+  AtBeginning : ReadsEscapes LineStart true
+  OnText : (line : TextLine) → ReadsEscapes (InText line) true
+  OnArguments : (breaks : Bool) (request : Request) → ReadsEscapes (InArguments breaks request) false
+
+-- the arguments of a line where no quote follows the quote before
+abbrev settled_for : Reading → Arguments → Arguments
+settled_for (InArguments breaks request) a = only_kept (settled a)
+settled_for (_) a = a
+
+-- a byte that finds nothing
+taking-nothing : (k : Known) (reading : Reading) (is_text : Bool) (i : PageInput) (b : ℕ) (half : List Half) → ReadsEscapes reading is_text
+    → IsRead b → byte_read is_text i.half b ≡ (GoesOn, half) → settled_for reading i.arguments ≡ i.arguments
+    → taking k reading i b ≡ going_on (record i { half = half }) reading
+taking-nothing k reading is_text i b half AtBeginning read reads settled =
+    ap (λ (d : Bool). if d then going_on i LineStart else kept_taking k LineStart i b) (not-first (is_dropped b) (b == newline) read)
+    ∙ ap (beginning_read k i) reads
+taking-nothing k reading is_text i b half (OnText line) read reads settled =
+    ap (λ (d : Bool). if d then going_on i (InText line) else kept_taking k (InText line) i b) (not-first (is_dropped b) (b == newline) read)
+    ∙ ap (text_read k i line) reads
+taking-nothing k reading is_text i b half (OnArguments breaks request) read reads settled =
+    ap (λ (d : Bool). if d then going_on (settling i) (InArguments breaks request) else kept_taking k (InArguments breaks request) i b)
+    (not-first (is_dropped b) (b == newline) read)
+    ∙ ap (arguments_read_on k i breaks request) reads
+    ∙ ap (λ (a : Arguments). going_on (record i { half = half; arguments = a }) (InArguments breaks request)) settled
+
+-- a byte that asks for a register
+taking-asks : (k : Known) (reading : Reading) (is_text : Bool) (i : PageInput) (b : ℕ) (half : List Half) (step : Option Direction) (name : List ℕ)
+    → ReadsEscapes reading is_text → IsRead b → byte_read is_text i.half b ≡ (Asks step name, half)
+    → settled_for reading i.arguments ≡ i.arguments → taking k reading i b ≡ interpolating k (record i { half = half }) reading step name
+taking-asks k reading is_text i b half step name AtBeginning read reads settled =
+    ap (λ (d : Bool). if d then going_on i LineStart else kept_taking k LineStart i b) (not-first (is_dropped b) (b == newline) read)
+    ∙ ap (beginning_read k i) reads
+taking-asks k reading is_text i b half step name (OnText line) read reads settled =
+    ap (λ (d : Bool). if d then going_on i (InText line) else kept_taking k (InText line) i b) (not-first (is_dropped b) (b == newline) read)
+    ∙ ap (text_read k i line) reads
+taking-asks k reading is_text i b half step name (OnArguments breaks request) read reads settled =
+    ap (λ (d : Bool). if d then going_on (settling i) (InArguments breaks request) else kept_taking k (InArguments breaks request) i b)
+    (not-first (is_dropped b) (b == newline) read)
+    ∙ ap (arguments_read_on k i breaks request) reads
+    ∙ ap (λ (a : Arguments). interpolating k (record i { half = half; arguments = a }) (InArguments breaks request) step name) settled
+
+-- what is within the limits on names, on the stack and on the depth
+record Fits (l : Limits) (registers : AllRegisters) (i : PageInput) : Type 0 where
+  names : length registers.named ≤ l.names
+  stack : pushed i ≤ l.stack
+  depth : depth i ≤ l.depth
+
+-- a step that leads within them is made
+made-Fits : (l : Limits) (from done : State) → Fits l done.registers done.input → made l from done ≡ done
+made-Fits l from done fits =
+    let names : nat_lt l.names (length done.registers.named) ≡ false = le-ltb _ _ fits.names in
+    let stack : nat_lt l.stack (pushed done.input) ≡ false = le-ltb _ _ fits.stack in
+    let depth : nat_lt l.depth (depth done.input) ≡ false = le-ltb _ _ fits.depth in
+    let allowed : first_passed l (grown done) ≡ None = rw (names, stack, depth) refl in
+    ap (λ (r : Option Limit). unless_refused l r from done) allowed
+
+-- this is read on, and nothing is meant
+taken_as-going_on : (i : PageInput) (reading : Reading) (s : State) → taken_as (going_on i reading) s ≡ record s { input = i; reading = reading }
+taken_as-going_on i reading s = ap (λ (m : List ℕ). record s { input = i; reading = reading; messages = m }) (append-nil s.messages)
+
+-- a step at a byte
+step-byte : (l : Limits) (s : State) (reading : Reading) (from : Origin) (b : ℕ) (bytes : List ℕ) (a : Arguments) (half : List Half) (charge line : ℕ) (t : State)
+    → IsRead b → charge + 1 ≤ l.bytes → byte_taken b (going s reading from bytes a half (charge + 1) (line_behind from s line)) ≡ t
+    → Fits l t.registers t.input → step l (going s reading from (b ∷ bytes) a half charge line) ≡ t
+step-byte l s reading (FromAhead rest) b bytes a half charge line t read within is fits =
+    let before : State = going s reading (FromAhead rest) (b ∷ bytes) a half charge line in
+    bytes_ahead_are_taken l before b (map ByteAhead bytes ++ rest) (record { going = refl; not_closing = refl; idle = refl }) refl
+    (not-second (is_dropped b) (b == newline) read) (omega arith)
+    ∙ ap (made l before) is ∙ made-Fits l before t fits
+step-byte l s reading (FromSource tape) b bytes a half charge line t read within is fits =
+    let before : State = going s reading (FromSource tape) (b ∷ bytes) a half charge line in
+    let behind : State = going s reading (FromSource tape) bytes a half (charge + 1) (s.input.newlines + 1) in
+    let plain : (b == newline) ≡ false = not-second (is_dropped b) (b == newline) read in
+    bytes_of_the_source_are_taken l before b (record { going = refl; not_closing = refl; idle = refl }) refl refl plain (omega arith)
+    ∙ ap (λ (c : Bool). made l before (byte_taken b (record behind { input = record behind.input { newlines = if c then s.input.newlines + 1 else s.input.newlines } }))) plain
+    ∙ ap (made l before) is ∙ made-Fits l before t fits
+
+-- a register was asked for in such a run
+abbrev asked : State → Reading → Origin → Arguments → List Half → ℕ → ℕ → Option Direction → List ℕ → State
+asked s reading from a half charge line step name =
+    let t : State = stepped step name (going s reading from [] a half charge line) in
+    record t { input = pushing (text_of_register (known t) name) t.input }
+
+-- what it means is done
+taken_as-interpolating : (s : State) (reading : Reading) (from : Origin) (a : Arguments) (before half : List Half) (charge line : ℕ) (step : Option Direction) (name : List ℕ)
+    → taken_as (interpolating (known s) (input_of s from [] a half charge line) reading step name) (going s reading from [] a before charge line)
+    ≡ asked s reading from a half charge line step name
+taken_as-interpolating s reading from a before half charge line None name =
+    ap (λ (m : List ℕ). record (asked s reading from a half charge line None name) { messages = m }) (append-nil s.messages)
+taken_as-interpolating s reading from a before half charge line (Some direction) name = refl
+
+-- bytes of which the last asks for a register and the others find nothing
+data AsksAtLast (is_text : Bool) (step : Option Direction) (name : List ℕ) (behind : List Half) : List Half → List ℕ → Type 0 where
+  AtLast : (half : List Half) (b : ℕ) → IsRead b → byte_read is_text half b ≡ (Asks step name, behind) → AsksAtLast is_text step name behind half (b ∷ [])
+  Behind : (half other : List Half) (b : ℕ) (bytes : List ℕ) → IsRead b → byte_read is_text half b ≡ (GoesOn, other)
+      → AsksAtLast is_text step name behind other bytes → AsksAtLast is_text step name behind half (b ∷ bytes)
+
+-- behind a byte
+Fits-behind : (l : Limits) (registers : AllRegisters) (s : State) (from : Origin) (b : ℕ) (bytes : List ℕ) (a there : Arguments) (half other : List Half) (charge more line next : ℕ)
+    → held there ≡ held a → Fits l registers (input_of s from (b ∷ bytes) a half charge line) → Fits l registers (input_of s from bytes there other more next)
+Fits-behind l registers s (FromAhead rest) b bytes a there half other charge more line next same fits =
+    record { names = fits.names; stack = omega (arith, fits.stack); depth = fits.depth }
+Fits-behind l registers s (FromSource tape) b bytes a there half other charge more line next same fits =
+    record { names = fits.names; stack = omega (arith, fits.stack); depth = fits.depth }
+
+-- the steps at them
+after-asks : (l : Limits) (s : State) (reading : Reading) (is_text : Bool) (from : Origin) (a : Arguments) (line : ℕ)
+    (asks : Option Direction) (name : List ℕ) (behind half : List Half) (bytes : List ℕ) (charge total : ℕ)
+    → ReadsEscapes reading is_text → settled_for reading a ≡ a → line_behind from s line ≡ line → AsksAtLast is_text asks name behind half bytes
+    → charge + length bytes ≡ total → total ≤ l.bytes → Fits l s.registers (input_of s from bytes a half charge line)
+    → let t : State = asked s reading from a behind total line asks name in
+    Fits l t.registers t.input → after l (length bytes) (going s reading from bytes a half charge line) ≡ t
+after-asks l s reading is_text from a line asks name behind _ _ charge total on same stays (AtLast half b read reads) sum within fits fits_behind =
+    let t : State = asked s reading from a behind total line asks name in
+    let before : State = going s reading from [] a half (charge + 1) line in
+    let one : charge + 1 ≡ total = sum in
+    let is : byte_taken b before ≡ t =
+    ap (λ (taking : Taking). taken_as taking before) (taking-asks (known s) reading is_text before.input b behind asks name on read reads same)
+    ∙ taken_as-interpolating s reading from a half behind (charge + 1) line asks name
+    ∙ ap (λ (c : ℕ). asked s reading from a behind c line asks name) one in
+    step-byte l s reading from b [] a half charge line t read (omega arith)
+    (ap (λ (n : ℕ). byte_taken b (going s reading from [] a half (charge + 1) n)) stays ∙ is) fits_behind
+after-asks l s reading is_text from a line asks name behind _ _ charge total on same stays (Behind half other b others read reads last) sum within fits fits_behind =
+    let t : State = going s reading from others a other (charge + 1) line in
+    let before : State = going s reading from others a half (charge + 1) line in
+    let is : byte_taken b before ≡ t =
+    ap (λ (taking : Taking). taken_as taking before) (taking-nothing (known s) reading is_text before.input b other on read reads same)
+    ∙ taken_as-going_on t.input reading before in
+    let fits_there : Fits l s.registers t.input = Fits-behind l s.registers s from b others a a half other charge (charge + 1) line line refl fits in
+    ap (after l (length others)) (step-byte l s reading from b others a half charge line t read (omega arith)
+    (ap (λ (n : ℕ). byte_taken b (going s reading from others a half (charge + 1) n)) stays ∙ is) fits_there)
+    ∙ after-asks l s reading is_text from a line asks name behind other others (charge + 1) total on same stays last (omega arith) within fits_there fits_behind
+
+-- a backslash within names
+byte_read-backslash : (is_text : Bool) (names : List Half) → AreNames names → byte_read is_text names backslash ≡ (GoesOn, Backslash ∷ names)
+byte_read-backslash is_text [] are = refl
+byte_read-backslash is_text (Backslash ∷ rest) are = absurd (search (rules, are.all))
+byte_read-backslash is_text (Name asks part ∷ rest) are = refl
+
+taking-backslash : (k : Known) (reading : Reading) (is_text : Bool) (i : PageInput) → ReadsEscapes reading is_text → AreNames i.half
+    → taking k reading i backslash ≡ going_on (record i { half = Backslash ∷ i.half; arguments = settled_for reading i.arguments }) reading
+taking-backslash k _ _ i AtBeginning names = ap (beginning_read k i) (byte_read-backslash true i.half names)
+taking-backslash k _ _ i (OnText line) names = ap (text_read k i line) (byte_read-backslash true i.half names)
+taking-backslash k _ _ i (OnArguments breaks request) names =
+    ap (arguments_read_on k i breaks request) (byte_read-backslash false i.half names)
+
+-- arguments where no quote follows the quote before stay so
+settled_for-settled_for : (reading : Reading) (is_text : Bool) (a : Arguments) → ReadsEscapes reading is_text
+    → settled_for reading (settled_for reading a) ≡ settled_for reading a
+settled_for-settled_for _ _ a AtBeginning = refl
+settled_for-settled_for _ _ a (OnText line) = refl
+settled_for-settled_for _ _ a (OnArguments breaks request) = settled-only_kept a
+
+-- and hold as many bytes
+held-settled_for : (reading : Reading) (is_text : Bool) (a : Arguments) → ReadsEscapes reading is_text → held (settled_for reading a) ≡ held a
+held-settled_for _ _ a AtBeginning = refl
+held-settled_for _ _ a (OnText line) = refl
+held-settled_for _ _ a (OnArguments breaks request) = held-only_kept-settled a
+
+-- the steps at an escape
+after-escape : (l : Limits) (s : State) (reading : Reading) (is_text : Bool) (from : Origin) (a : Arguments)
+    (asks : Option Direction) (name : List ℕ) (names : List Half) (bytes : List ℕ) (charge line : ℕ)
+    → ReadsEscapes reading is_text → AreNames names → AsksAtLast is_text asks name names (Backslash ∷ names) bytes
+    → let total : ℕ = charge + length (backslash ∷ bytes) in
+    let t : State = asked s reading from (settled_for reading a) names total (line_behind from s line) asks name in
+    total ≤ l.bytes → Fits l s.registers (input_of s from (backslash ∷ bytes) a names charge line)
+    → Fits l t.registers t.input → after l (length (backslash ∷ bytes)) (going s reading from (backslash ∷ bytes) a names charge line) ≡ t
+after-escape l s reading is_text from a asks name names bytes charge line on are last within fits fits_behind =
+    let there : Arguments = settled_for reading a in
+    let next : ℕ = line_behind from s line in
+    let taken : State = going s reading from bytes a names (charge + 1) next in
+    let t : State = going s reading from bytes there (Backslash ∷ names) (charge + 1) next in
+    let is : byte_taken backslash taken ≡ t =
+    ap (λ (taking : Taking). taken_as taking taken) (taking-backslash (known s) reading is_text taken.input on are)
+    ∙ taken_as-going_on t.input reading taken in
+    let fits_there : Fits l s.registers t.input =
+    Fits-behind l s.registers s from backslash bytes a there names (Backslash ∷ names) charge (charge + 1) line next
+    (held-settled_for reading is_text a on) fits in
+    ap (after l (length bytes)) (step-byte l s reading from backslash bytes a names charge line t refl (omega arith) is fits_there)
+    ∙ after-asks l s reading is_text from there next asks name names (Backslash ∷ names) bytes (charge + 1) (charge + length (backslash ∷ bytes))
+    on (settled_for-settled_for reading is_text a on) (line_behind-again from s line)
+    last (omega arith) within fits_there fits_behind
+
+-- a byte that stands for itself is read
+pub IsRead-itself : (b : ℕ) → StandsForItself b → IsRead b
+IsRead-itself b may = not-or (b == backslash) (is_dropped b || b == newline) may
+
+-- the first unit of a name, where it is none of the special bytes
+name_begun-plain : (backslash opening plus minus : Bool) (a b c d e : Reads) → (backslash || (opening || (plus || (minus || false)))) ≡ false
+    → (if backslash then a else if opening then b else if plus then c else if minus then d else e) ≡ e
+name_begun-plain true opening plus minus a b c d e none = absurd (cc)
+name_begun-plain false true plus minus a b c d e none = absurd (cc)
+name_begun-plain false false true minus a b c d e none = absurd (cc)
+name_begun-plain false false false true a b c d e none = absurd (cc)
+name_begun-plain false false false false a b c d e none = refl
+
+name_begun-stepped : (backslash opening others : Bool) (a b c : Reads) → (backslash || (opening || others)) ≡ false
+    → (if backslash then a else if opening then b else c) ≡ c
+name_begun-stepped true opening others a b c none = absurd (cc)
+name_begun-stepped false true others a b c none = absurd (cc)
+name_begun-stepped false false others a b c none = refl
+
+-- a name of one byte
+byte_read-short : (is_text : Bool) (asks : Option Direction) (x : ℕ) (names : List Half) → is_special x ≡ false
+    → byte_read is_text (Name asks Nothing ∷ names) x ≡ (Asks asks (x ∷ []), names)
+byte_read-short is_text None x names plain = name_begun-plain (x == backslash) (x == 40) (x == 43) (x == 45) _ _ _ _ _ plain
+byte_read-short is_text (Some direction) x names plain = name_begun-stepped (x == backslash) (x == 40) (list_any (λ c. x == c) (43 ∷ 45 ∷ [])) _ _ _ plain
+
+-- `n` behind a backslash begins a name
+byte_read-n : (is_text : Bool) (names : List Half) → length names < most_names
+    → byte_read is_text (Backslash ∷ names) 110 ≡ (GoesOn, Name None Nothing ∷ names)
+byte_read-n is_text names few =
+    ap (λ (full : Bool). (GoesOn, (if full then names else Name None Nothing ∷ names))) (lt-leb most_names (length names) few)
+
+-- the bytes behind the backslash: `n`, the sign of the step, and the name
+asks-signed : (is_text : Bool) (asks : Option Direction) (name bytes : List ℕ) (names : List Half) → length names < most_names
+    → AsksAtLast is_text asks name names (Name asks Nothing ∷ names) bytes
+    → AsksAtLast is_text asks name names (Backslash ∷ names) (110 ∷ sign asks ++ bytes)
+asks-signed is_text None name bytes names few last = Behind _ _ 110 bytes refl (byte_read-n is_text names few) last
+asks-signed is_text (Some Up) name bytes names few last =
+    Behind _ _ 110 (43 ∷ bytes) refl (byte_read-n is_text names few) (Behind _ _ 43 bytes refl refl last)
+asks-signed is_text (Some Down) name bytes names few last =
+    Behind _ _ 110 (45 ∷ bytes) refl (byte_read-n is_text names few) (Behind _ _ 45 bytes refl refl last)
+
+-- the parenthesis of a name of two bytes
+byte_read-opening : (is_text : Bool) (asks : Option Direction) (names : List Half)
+    → byte_read is_text (Name asks Nothing ∷ names) 40 ≡ (GoesOn, Name asks Opened ∷ names)
+byte_read-opening is_text None names = refl
+byte_read-opening is_text (Some direction) names = refl
+
+asks-long : (is_text : Bool) (asks : Option Direction) (x y : ℕ) (names : List Half) → StandsForItself x → StandsForItself y
+    → AsksAtLast is_text asks (x ∷ y ∷ []) names (Name asks Nothing ∷ names) (40 ∷ x ∷ y ∷ [])
+asks-long is_text asks x y names first second =
+    let begun : List Half = Name asks (First x) ∷ names in
+    let of_first : byte_read is_text (Name asks Opened ∷ names) x ≡ (GoesOn, begun) =
+    ap (λ (c : Bool). if c then (GoesOn, Backslash ∷ Name asks Opened ∷ names) else (GoesOn, begun)) (not-first (x == backslash) (is_dropped x || x == newline) first) in
+    let of_second : byte_read is_text begun y ≡ (Asks asks (x ∷ y ∷ []), names) =
+    ap (λ (c : Bool). if c then (GoesOn, Backslash ∷ begun) else (Asks asks (x ∷ y ∷ []), names)) (not-first (y == backslash) (is_dropped y || y == newline) second) in
+    Behind _ _ 40 (x ∷ y ∷ []) refl (byte_read-opening is_text asks names)
+    (Behind _ _ x (y ∷ []) (IsRead-itself x first) of_first (AtLast _ y (IsRead-itself y second) of_second))
+
+-- a state behind bytes that were taken
+abbrev source_behind : Origin → State → State
+source_behind (FromAhead rest) s = s
+source_behind (FromSource tape) s = with_source_behind tape s
+
+-- the text of a register ahead of what is behind them
+abbrev read_from : Origin → Option Direction → List ℕ → ℕ → State → State
+read_from from asks name taken s = with_text_ahead name taken (ahead_at from []) (stepped asks name (source_behind from s))
+
+-- and in such a run
+read_from-asked : (s : State) (reading : Reading) (is_text : Bool) (from : Origin) (bytes : List ℕ) (a : Arguments) (half : List Half) (charge taken line : ℕ)
+    (asks : Option Direction) (name : List ℕ) → ReadsEscapes reading is_text
+    → read_from from asks name taken (going s reading from bytes a half charge line)
+    ≡ asked s reading from (settled_for reading a) half (charge + taken) (line_behind from s line) asks name
+read_from-asked s _ _ (FromAhead rest) bytes a half charge taken line None name AtBeginning = refl
+read_from-asked s _ _ (FromAhead rest) bytes a half charge taken line (Some direction) name AtBeginning = refl
+read_from-asked s _ _ (FromAhead rest) bytes a half charge taken line None name (OnText text) = refl
+read_from-asked s _ _ (FromAhead rest) bytes a half charge taken line (Some direction) name (OnText text) = refl
+read_from-asked s _ _ (FromAhead rest) bytes a half charge taken line None name (OnArguments breaks request) = refl
+read_from-asked s _ _ (FromAhead rest) bytes a half charge taken line (Some direction) name (OnArguments breaks request) = refl
+read_from-asked s _ _ (FromSource tape) bytes a half charge taken line None name AtBeginning = refl
+read_from-asked s _ _ (FromSource tape) bytes a half charge taken line (Some direction) name AtBeginning = refl
+read_from-asked s _ _ (FromSource tape) bytes a half charge taken line None name (OnText text) = refl
+read_from-asked s _ _ (FromSource tape) bytes a half charge taken line (Some direction) name (OnText text) = refl
+read_from-asked s _ _ (FromSource tape) bytes a half charge taken line None name (OnArguments breaks request) = refl
+read_from-asked s _ _ (FromSource tape) bytes a half charge taken line (Some direction) name (OnArguments breaks request) = refl
+
+-- its charge
+charge-asked : (s : State) (reading : Reading) (from : Origin) (a : Arguments) (half : List Half) (charge line : ℕ) (asks : Option Direction) (name : List ℕ)
+    → (asked s reading from a half charge line asks name).input.charge ≡ charge
+charge-asked s reading from a half charge line None name = refl
+charge-asked s reading from a half charge line (Some direction) name = refl
+
+-- a state within the limits is within those that a step looks at
+Fits-IsWithin : (l : Limits) (s : State) → IsWithin l s → Fits l s.registers s.input
+Fits-IsWithin l s within = record { names = within.names; stack = within.stack; depth = within.depth }
+
+-- where escapes are read, text is or arguments are
+ReadsEscapes-reads_escapes : (reading : Reading) → reads_escapes reading ≡ true → (is_text : Bool) × ReadsEscapes reading is_text
+ReadsEscapes-reads_escapes LineStart is = (true, AtBeginning)
+ReadsEscapes-reads_escapes (InText line) is = (true, OnText line)
+ReadsEscapes-reads_escapes (InArguments breaks request) is = (false, OnArguments breaks request)
+ReadsEscapes-reads_escapes (Control breaks) is = absurd (cc)
+ReadsEscapes-reads_escapes (NameOf breaks first) is = absurd (cc)
+ReadsEscapes-reads_escapes Dropped is = absurd (cc)
+
+-- an escape is read as the text of its register, where a run takes items
+escape-going : (l : Limits) (s : State) (reading : Reading) (is_text : Bool) (from : Origin) (a : Arguments)
+    (asks : Option Direction) (name : List ℕ) (names : List Half) (bytes : List ℕ) (charge line : ℕ)
+    → ReadsEscapes reading is_text → AreNames names → AsksAtLast is_text asks name names (Backslash ∷ names) bytes
+    → let first : State = going s reading from (backslash ∷ bytes) a names charge line in
+    let read : State = read_from from asks name (length (backslash ∷ bytes)) first in
+    IsWithin l first → IsWithin l read → after l (length (backslash ∷ bytes)) first ≡ read
+escape-going l s reading is_text from a asks name names bytes charge line on are last within within_read =
+    let first : State = going s reading from (backslash ∷ bytes) a names charge line in
+    let read : State = read_from from asks name (length (backslash ∷ bytes)) first in
+    let total : ℕ = charge + length (backslash ∷ bytes) in
+    let t : State = asked s reading from (settled_for reading a) names total (line_behind from s line) asks name in
+    let is : read ≡ t = read_from-asked s reading is_text from (backslash ∷ bytes) a names charge (length (backslash ∷ bytes)) line asks name on in
+    let within_t : IsWithin l t = subst (IsWithin l) is within_read in
+    let charged : t.input.charge ≡ total = charge-asked s reading from (settled_for reading a) names total (line_behind from s line) asks name in
+    after-escape l s reading is_text from a asks name names bytes charge line on are last (omega (arith, within_t.bytes, charged))
+    (Fits-IsWithin l first within) (Fits-IsWithin l t within_t)
+    ∙ sym is
+
+-- and in any state of such a run
+escape-reads : (l : Limits) (s : State) (is_text : Bool) (from : Origin) (asks : Option Direction) (name bytes : List ℕ)
+    → TakesItems s → ReadsEscapes s.reading is_text → AreNames s.input.half → AsksAtLast is_text asks name s.input.half (Backslash ∷ s.input.half) bytes
+    → s.input.ahead ≡ ahead_at from (backslash ∷ bytes) → s.tape ≡ tape_at from (backslash ∷ bytes) s.tape
+    → let read : State = read_from from asks name (length (backslash ∷ bytes)) s in
+    IsWithin l s → IsWithin l read → after l (length (backslash ∷ bytes)) s ≡ read
+escape-reads l s is_text from asks name bytes takes on are last ahead tape =
+    let Goal : State → Type 0 = λ t.
+    IsWithin l t → IsWithin l (read_from from asks name (length (backslash ∷ bytes)) t)
+    → after l (length (backslash ∷ bytes)) t ≡ read_from from asks name (length (backslash ∷ bytes)) t in
+    subst Goal (is-going s from (backslash ∷ bytes) takes ahead tape)
+    (escape-going l s s.reading is_text from s.input.arguments asks name s.input.half bytes s.input.charge s.input.line on are last)
+
+-- each escape
+escapes_read_from : (l : Limits) (s : State) (from : Origin) (asks : Option Direction) (name escape : List ℕ)
+    → IsEscapeOf asks name escape → TakesItems s → AreNames s.input.half → length s.input.half < most_names
+    → reads_escapes s.reading ≡ true → s.input.ahead ≡ ahead_at from escape → s.tape ≡ tape_at from escape s.tape
+    → let read : State = read_from from asks name (length escape) s in
+    IsWithin l s → IsWithin l read → after l (length escape) s ≡ read
+escapes_read_from l s from asks _ _ (Short _ x may plain) takes are few reads ahead tape =
+    let on = ReadsEscapes-reads_escapes s.reading reads in
+    escape-reads l s on.0 from asks (x ∷ []) (110 ∷ sign asks ++ x ∷ []) takes on.1 are
+    (asks-signed on.0 asks (x ∷ []) (x ∷ []) s.input.half few
+    (AtLast (Name asks Nothing ∷ s.input.half) x (IsRead-itself x may) (byte_read-short on.0 asks x s.input.half plain))) ahead tape
+escapes_read_from l s from asks _ _ (Long _ x y first second) takes are few reads ahead tape =
+    let on = ReadsEscapes-reads_escapes s.reading reads in
+    escape-reads l s on.0 from asks (x ∷ y ∷ []) (110 ∷ sign asks ++ 40 ∷ x ∷ y ∷ []) takes on.1 are
+    (asks-signed on.0 asks (x ∷ y ∷ []) (40 ∷ x ∷ y ∷ []) s.input.half few (asks-long on.0 asks x y s.input.half first second)) ahead tape
+
+pub escapes_read_as_texts : EscapesReadAsTexts
+escapes_read_as_texts l s asks name escape rest is_escape takes are few reads ahead =
+    escapes_read_from l s (FromAhead rest) asks name escape is_escape takes are few reads ahead refl
+
+pub escapes_of_the_source_read_as_texts : EscapesOfTheSourceReadAsTexts
+escapes_of_the_source_read_as_texts l s asks name escape tape is_escape takes are few reads none stands =
+    escapes_read_from l s (FromSource tape) asks name escape is_escape takes are few reads none stands
+
+-- where text is read, nothing that isn't a byte of the line changes the input
+interrupted-reads_text : (reading : Reading) (i : PageInput) → reads_text reading ≡ true → interrupted reading i ≡ i
+interrupted-reads_text LineStart i is = refl
+interrupted-reads_text (InText line) i is = refl
+interrupted-reads_text (InArguments breaks request) i is = absurd (cc)
+interrupted-reads_text (Control breaks) i is = absurd (cc)
+interrupted-reads_text (NameOf breaks first) i is = absurd (cc)
+interrupted-reads_text Dropped i is = absurd (cc)
+
+-- and escapes are read
+reads_escapes-reads_text : (reading : Reading) → reads_text reading ≡ true → reads_escapes reading ≡ true
+reads_escapes-reads_text LineStart is = refl
+reads_escapes-reads_text (InText line) is = refl
+reads_escapes-reads_text (InArguments breaks request) is = refl
+reads_escapes-reads_text (Control breaks) is = absurd (cc)
+reads_escapes-reads_text (NameOf breaks first) is = absurd (cc)
+reads_escapes-reads_text Dropped is = absurd (cc)
+
+-- no name is half read
+AreNames-nil : AreNames []
+AreNames-nil = record { all = refl; few = omega arith }
+
+pub escapes_of_text_read_as_texts : EscapesOfTextReadAsTexts
+escapes_of_text_read_as_texts l s name escape rest is_escape takes reads half ahead within within_read =
+    let of : PageInput → State = λ i. record s {
+      input = pushing (text_of_register (known s) name) (record i { ahead = rest; charge = s.input.charge + length escape });
+    } in
+    let is : with_text_ahead name (length escape) rest s ≡ of s.input = ap of (interrupted-reads_text s.reading s.input reads) in
+    let few : length s.input.half < most_names = rw half (omega arith) in
+    escapes_read_as_texts l s None name escape rest is_escape takes (rw half AreNames-nil) few (reads_escapes-reads_text s.reading reads) ahead
+    within (subst (IsWithin l) (sym is) within_read)
+    ∙ is
+
+-- what a text and its end cost
+cost_of_all-text : (text : List ℕ) (items : List (Ahead PageEvent)) → cost_of_all (map ByteAhead text ++ EndAhead ∷ items) ≡ length text + 1 + cost_of_all items
+cost_of_all-text [] items = omega (arith, sum_by-cons cost EndAhead items)
+cost_of_all-text (b ∷ text) items =
+    let others : List (Ahead PageEvent) = map ByteAhead text ++ EndAhead ∷ items in
+    omega (arith, sum_by-cons cost (ByteAhead b) others, cost_of_all-text text items)
+
+pub texts_cost_their_bytes_and_one : TextsCostTheirBytesAndOne
+texts_cost_their_bytes_and_one text i = cost_of_all-text text i.ahead

@@ -1,0 +1,117 @@
+-- Requests get the arguments that are written in quotes.
+use Rattle.std.proofs.Common.{◌≡◌, ℕ, Bool, true, false, List, [], ◌∷◌, ◌++◌, refl, sym, ◌∙◌, ap}
+use Rattle.std.specs.Prelude.{fold, All, ◌||◌, reverse, if◌then◌else◌, ◌==◌}
+use Rattle.std.specs.List.{flat_map}
+use Rattle.std.proofs.lemmas.List.{append-nil, reverse-reverse}
+use Rattle.std.proofs.lemmas.List.Elements.{All-nil, All-cons, All-head, All-tail, All-append}
+use Rattle.roff_scan.proofs.KeptArguments.{only_kept-finished, only_kept-with_unit}
+use Rattle.roff_scan.proofs.QuotedArguments.{quoted_arguments_read_back}
+use Rattle.roff_scan.specs.Arguments.{Arguments, no_arguments, with_argument_byte, finished, arguments_read, kept, only_kept}
+use Rattle.roff_scan.specs.Bytes.{newline, blank, quote, backslash, is_dropped}
+use Rattle.roff_scan.specs.Quoting.{quoted_byte, quoted, quoted_line}
+use Rattle.roff_scan.specs.Halves.{byte_read}
+use Rattle.roff_scan.specs.declared.half.CopyUnit.TheVariants.{Byte}
+use Rattle.roff_scan.specs.declared.half.Half.{Half}
+use Rattle.roff_scan.specs.declared.half.Half.TheVariants.{Backslash}
+use Rattle.roff_scan.specs.declared.half.Read.TheVariants.{GoesOn, Unit as GivesUnit}
+use Rattle.roff_run.proofs.Interpolation.{IsRead, not-first, not-second, IsRead-itself}
+use Rattle.roff_run.specs.declared.reading.Reading.{Reading}
+use Rattle.roff_run.specs.InterpolationLaws.{StandsForItself}
+use Rattle.roff_run.specs.Quoting.{both, taking_all, RequestsGetQuotedArguments}
+use Rattle.roff_run.specs.Reading.{PageInput, Taking, taking, kept_taking, arguments_read_on, line_ended, holding, settling, going_on, arguments_given}
+use Rattle.roff_run.specs.Registers.{Known}
+use Rattle.roff_run.specs.Requests.{request_effect}
+use Rattle.roff_run.specs.declared.reading.Reading.TheVariants.{LineStart, Arguments as InArguments}
+use Rattle.roff_run.specs.declared.request.Request.{Request}
+
+-- an input that holds what is kept of some arguments
+abbrev with_kept : PageInput → Arguments → PageInput
+with_kept i a = record i { half = []; arguments = only_kept a }
+
+-- a byte of the arguments goes to them
+taking-argument : (k : Known) (breaks : Bool) (request : Request) (i : PageInput) (a : Arguments) (b : ℕ) → StandsForItself b
+    → taking k (InArguments breaks request) (with_kept i a) b ≡ going_on (with_kept i (with_argument_byte a b)) (InArguments breaks request)
+taking-argument k breaks request i a b itself =
+    let reading : Reading = InArguments breaks request in
+    let held : PageInput = with_kept i a in
+    let read : IsRead b = IsRead-itself b itself in
+    let unit : byte_read false [] b ≡ (GivesUnit (Byte b), []) =
+    ap (λ (c : Bool). if c then (GoesOn, Backslash ∷ []) else (GivesUnit (Byte b), [])) (not-first (b == backslash) (is_dropped b || b == newline) itself) in
+    ap (λ (c : Bool). if c then going_on (settling held) reading else kept_taking k reading held b) (not-first (is_dropped b) (b == newline) read)
+    ∙ ap (arguments_read_on k held breaks request) unit
+    ∙ ap (λ (c : Bool). if c then line_ended k held breaks request else going_on (holding (Byte b) held) reading) (not-second (is_dropped b) (b == newline) read)
+    ∙ ap (λ (arguments : Arguments). going_on (record i { half = []; arguments = arguments }) reading) (only_kept-with_unit a (Byte b))
+
+-- what is done by a byte's taking and by those of others
+abbrev joined : Taking → Taking → Taking
+joined t others = record { input = others.input; reading = others.reading; effect = both t.effect others.effect }
+
+-- the arguments that are given at the line's end
+arguments_given-with_kept : (i : PageInput) (a : Arguments) → arguments_given (with_kept i a) ≡ kept (arguments_read a)
+arguments_given-with_kept i a =
+    ap (λ (finished : Arguments). reverse finished.whole) (only_kept-finished a) ∙ reverse-reverse (kept (reverse (finished a).whole))
+
+-- what the end of the line does
+abbrev line_taken : Known → Bool → Request → PageInput → List (List ℕ) → Taking
+line_taken k breaks request i as_given =
+    record { input = record i { half = []; arguments = no_arguments }; reading = LineStart; effect = request_effect k breaks request as_given }
+
+-- nothing is meant behind an effect
+both-none : (t : Taking) → joined t (going_on t.input t.reading) ≡ t
+both-none t = rw (append-nil t.effect.messages, append-nil t.effect.changes, append-nil t.effect.events) refl
+
+-- bytes of the arguments, and a newline
+taking_all-arguments : (k : Known) (breaks : Bool) (request : Request) (i : PageInput) (a : Arguments) (bytes : List ℕ) → All StandsForItself bytes
+    → taking_all k (InArguments breaks request) (with_kept i a) (bytes ++ newline ∷ [])
+    ≡ line_taken k breaks request i (kept (arguments_read (fold with_argument_byte a bytes)))
+taking_all-arguments k breaks request i a [] themselves =
+    both-none (line_taken k breaks request i (arguments_given (with_kept i a)))
+    ∙ ap (line_taken k breaks request i) (arguments_given-with_kept i a)
+taking_all-arguments k breaks request i a (b ∷ bytes) themselves =
+    ap (λ (t : Taking). joined t (taking_all k t.reading t.input (bytes ++ newline ∷ [])))
+    (taking-argument k breaks request i a b (All-head StandsForItself b bytes themselves))
+    ∙ taking_all-arguments k breaks request i (with_argument_byte a b) bytes (All-tail StandsForItself b bytes themselves)
+
+-- one quote
+itself-quote : All StandsForItself (quote ∷ [])
+itself-quote = All-cons StandsForItself quote [] refl (All-nil StandsForItself)
+
+-- a byte within quotes stands for itself if the byte does
+itself-quoted_byte : (b : ℕ) (is_quote : Bool) → StandsForItself b → All StandsForItself (if is_quote then quote ∷ quote ∷ [] else b ∷ [])
+itself-quoted_byte b true itself = All-cons StandsForItself quote (quote ∷ []) refl itself-quote
+itself-quoted_byte b false itself = All-cons StandsForItself b [] itself (All-nil StandsForItself)
+
+-- so do bytes within quotes
+itself-quoted_bytes : (argument : List ℕ) → All StandsForItself argument → All StandsForItself (flat_map quoted_byte argument)
+itself-quoted_bytes [] themselves = All-nil StandsForItself
+itself-quoted_bytes (b ∷ argument) themselves =
+    All-append StandsForItself (quoted_byte b) (flat_map quoted_byte argument)
+    (itself-quoted_byte b (b == quote) (All-head StandsForItself b argument themselves))
+    (itself-quoted_bytes argument (All-tail StandsForItself b argument themselves))
+
+-- an argument in quotes
+itself-quoted : (argument : List ℕ) → All StandsForItself argument → All StandsForItself (quoted argument)
+itself-quoted argument themselves =
+    All-cons StandsForItself quote (flat_map quoted_byte argument ++ quote ∷ []) refl
+    (All-append StandsForItself (flat_map quoted_byte argument) (quote ∷ []) (itself-quoted_bytes argument themselves) itself-quote)
+
+-- and all of them
+itself-quoted_line : (arguments : List (List ℕ)) → All (All StandsForItself) arguments → All StandsForItself (quoted_line arguments)
+itself-quoted_line [] themselves = All-nil StandsForItself
+itself-quoted_line (argument ∷ []) themselves = itself-quoted argument (All-head (All StandsForItself) argument [] themselves)
+itself-quoted_line (argument ∷ next ∷ arguments) themselves =
+    let others : All StandsForItself (quoted_line (next ∷ arguments)) =
+    itself-quoted_line (next ∷ arguments) (All-tail (All StandsForItself) argument (next ∷ arguments) themselves) in
+    All-append StandsForItself (quoted argument) (blank ∷ quoted_line (next ∷ arguments))
+    (itself-quoted argument (All-head (All StandsForItself) argument (next ∷ arguments) themselves))
+    (All-cons StandsForItself blank (quoted_line (next ∷ arguments)) refl others)
+
+-- a request gets those that are kept
+pub requests_get_quoted_arguments : RequestsGetQuotedArguments
+requests_get_quoted_arguments k breaks request i arguments half none themselves =
+    let input : record i { half = []; arguments = no_arguments } ≡ i =
+    ap (λ (h : List Half). record i { half = h; arguments = no_arguments }) (sym half) ∙ ap (λ (a : Arguments). record i { arguments = a }) (sym none) in
+    ap (λ (j : PageInput). taking_all k (InArguments breaks request) j (quoted_line arguments ++ newline ∷ [])) (sym input)
+    ∙ taking_all-arguments k breaks request i no_arguments (quoted_line arguments) (itself-quoted_line arguments themselves)
+    ∙ ap (λ (texts : List (List ℕ)). line_taken k breaks request i (kept texts)) (quoted_arguments_read_back arguments)
+    ∙ ap (λ (j : PageInput). let t : Taking = record { input = j; reading = LineStart; effect = request_effect k breaks request (kept arguments) } in t) input

@@ -1,0 +1,40 @@
+-- Arguments written in quotes, as a request gets them (manual, section 7.3).
+use Rattle.std.specs.Prelude.{◌≡◌, ℕ, Bool, List, [], ◌∷◌, ◌++◌, All}
+use Rattle.roff_scan.specs.Arguments.{no_arguments, kept}
+use Rattle.roff_scan.specs.Bytes.{newline}
+use Rattle.roff_scan.specs.Quoting.{quoted_line}
+use Rattle.roff_run.specs.InterpolationLaws.{StandsForItself}
+use Rattle.roff_run.specs.Reading.{PageInput, Taking, going_on, taking}
+use Rattle.roff_run.specs.Registers.{Known}
+use Rattle.roff_run.specs.Requests.{Effect, request_effect}
+use Rattle.roff_run.specs.declared.reading.Reading.{Reading}
+use Rattle.roff_run.specs.declared.reading.Reading.TheVariants.{LineStart, Arguments as InArguments}
+use Rattle.roff_run.specs.declared.request.Request.{Request}
+
+-- what two effects mean together, one after the other
+abbrev pub both : Effect → Effect → Effect
+both first second = record {
+  messages = first.messages ++ second.messages;
+  changes = first.changes ++ second.changes;
+  events = first.events ++ second.events;
+}
+
+-- what several bytes do, one after another: the input and what is read behind them, and what they mean together
+abbrev pub taking_all : Known → Reading → PageInput → List ℕ → Taking
+taking_all k reading i [] = going_on i reading
+taking_all k reading i (b ∷ bytes) =
+    let t : Taking = taking k reading i b in
+    let others : Taking = taking_all k t.reading t.input bytes in record {
+      input = others.input;
+      reading = others.reading;
+      effect = both t.effect others.effect;
+    }
+
+-- Behind a request's name the line of some arguments in quotes does what the request does with those of them that are
+-- kept, and none is held behind it.
+abbrev pub RequestsGetQuotedArguments : Type 0
+RequestsGetQuotedArguments =
+    (k : Known) (breaks : Bool) (request : Request) (i : PageInput) (arguments : List (List ℕ)) →
+    i.half ≡ [] → i.arguments ≡ no_arguments → All (All StandsForItself) arguments →
+    taking_all k (InArguments breaks request) i (quoted_line arguments ++ newline ∷ [])
+    ≡ record { input = i; reading = LineStart; effect = request_effect k breaks request (kept arguments) }

@@ -1,0 +1,42 @@
+//! Facts about what is read in the place of escapes, as contracts of functions that do nothing.
+
+ghost use Rattle.roff_run.specs.InterpolationLaws.{UnreadInputIsTheTape, StepsFollowTheTape, BytesAheadAreTaken, BytesOfTheSourceAreTaken, EscapesReadAsTexts, EscapesOfTheSourceReadAsTexts, EscapesOfTextReadAsTexts, PushedBytesCostAsOthers, TextsCostTheirBytesAndOne};
+ghost use Rattle.roff_run.specs.Quoting.{RequestsGetQuotedArguments};
+
+/// Where nothing stands ahead of the source and nothing is half read, the unread input is the
+/// source's tape: a step does what the front of the tape says.
+pub fn unread_input()
+    ensures tape { UnreadInputIsTheTape }
+    ensures steps { StepsFollowTheTape }
+{}
+
+/// A byte in front, ahead of the source or of the source itself, is taken in one step, and does
+/// there what it does where it is read.
+pub fn bytes_in_front()
+    ensures ahead { BytesAheadAreTaken }
+    ensures source { BytesOfTheSourceAreTaken }
+{}
+
+/// Reading the escape of a register is reading the register's text, the end of the text, and what
+/// stood behind the escape: so many steps lead there as the escape has bytes, and each byte costs
+/// one, if the limits allow the state before and the state behind. A step that the escape makes
+/// comes first, and is told where it would be out of range. So it is where the escape is read
+/// again, and where it stands in the source. A line that begins with an escape begins with the
+/// register's text.
+pub fn escapes()
+    ensures ahead { EscapesReadAsTexts }
+    ensures source { EscapesOfTheSourceReadAsTexts }
+    ensures of_text { EscapesOfTextReadAsTexts }
+{}
+
+/// A byte that is read again costs what it would if it stood in the source; the end of its text
+/// costs one more.
+pub fn costs()
+    ensures bytes { PushedBytesCostAsOthers }
+    ensures texts { TextsCostTheirBytesAndOne }
+{}
+
+/// A request gets the arguments that are written in quotes, those that are kept.
+pub fn quoted_arguments()
+    ensures { RequestsGetQuotedArguments }
+{}
