@@ -1,32 +1,33 @@
 -- How a run ends that is halted, and how that is told.
-use Rattle.std.proofs.Common.{◌≡◌, ◌⊎◌, ℕ, List, [], ◌∷◌, ap, Result, Ok, Err, inl, inr, refl, arith, append-nil}
-use Rattle.std.specs.Io.KnownBytes.{Appends}
-use Rattle.roff_lines.specs.declared.env.Env.{Env}
+use Rattle.std.proofs.Common.{◌≡◌, ◌⊎◌, ℕ, Result, Ok, Err, inl, inr, refl, subst, sym, arith, append-nil}
 use Rattle.roff_num.specs.declared.limit.Limit.{Limit}
-use Rattle.roff_num.specs.declared.limit.Limit.TheVariants.{Bytes}
 use Rattle.roff_num.specs.declared.limits.Limits.{Limits}
 use Rattle.roff_num.specs.LimitValues.{value_of}
 use Rattle.roff_scan.specs.Tape.{Tape, behind_front}
-use Rattle.roff_engine.specs.declared.status.Status.TheVariants.{Device, Limit as Limited}
+use Rattle.roff_run.specs.declared.status.Status.TheVariants.{Device, Limit as Limited}
+use Rattle.roff_run.specs.declared.message.Message.TheVariants.{LimitReached, WriteFailed}
+use Rattle.roff_run.specs.Messages.{message_line}
 use Rattle.roff_engine.specs.declared.halt.Halt.{Halt}
-use Rattle.roff_engine.specs.declared.halt.Halt.TheVariants.{Limit as ByLimit, Output, Messages}
-use Rattle.roff_engine.specs.declared.message.Message.TheVariants.{LimitReached, WriteFailed}
-use Rattle.roff_engine.specs.Messages.{message_line}
-use Rattle.roff_engine.specs.Engine.Outcome.{Seen, left_behind, Completes, OutputFails, MessagesFail, seen}
-use Rattle.roff_engine.specs.Formatter.Performing.{Does, acting}
-use Rattle.roff_engine.specs.Requests.{PageEvent}
-use Rattle.roff_engine.specs.Run.{State, initial, stopped_by}
+use Rattle.roff_engine.specs.declared.halt.Halt.TheVariants.{Limit as ByLimit, Refused}
+use Rattle.roff_engine.specs.Engine.Outcome.{Seen, IsLeftOf, Completes, OutputFails, MessagesFail, seen}
+use Rattle.roff_run.specs.Run.{State, initial, stopped_by}
 use Rattle.roff_engine.specs.Running.Turning.{LimitStops, OutputStopsAt, Halts}
 use Rattle.roff_engine.specs.Sinks.{Sunk, Writes, Fails, Puts}
 use Rattle.roff_engine.proofs.Appending.{Appends-append}
-use Rattle.roff_engine.proofs.Leads.{Leads-to}
+use Rattle.roff_run.proofs.Leads.{Leads-to}
 use Rattle.roff_engine.proofs.Performed.{between, faults_of_err}
 
 -- what is left at a limit, by the status that names it
-rest_told : (limit : Limit) (left tape : Tape) → (left ≡ tape) ⊎ ((limit ≡ Bytes) × (left ≡ behind_front tape))
-    → (left ≡ tape) ⊎ ((Limited limit ≡ Limited Bytes) × (left ≡ behind_front tape))
+rest_told : (limit : Limit) (left tape : Tape) → IsLeftOf left tape
+    → (left ≡ tape) ⊎ ((named : Limit) × (Limited limit ≡ Limited named) × (left ≡ behind_front tape))
 rest_told limit left tape (inl all) = inl all
-rest_told limit left tape (inr looked) = inr (ap (λ k. Limited k) looked.0, looked.1)
+rest_told limit left tape (inr looked) = inr (limit, refl, looked)
+
+-- a limit stops the run, whether it took the item or not
+pub limit_stops : (l : Limits) (t left : Tape) (line : ℕ) (halt : Halt) (limit : Limit) (before now : Seen)
+    → (halt ≡ ByLimit limit) ⊎ (halt ≡ Refused limit) → Halts l t left line halt before now → LimitStops l t left line limit before now
+limit_stops l t left line halt limit before now (inl is) halts = subst (λ (h : Halt). Halts l t left line h before now) is halts
+limit_stops l t left line halt limit before now (inr is) halts = subst (λ (h : Halt). Halts l t left line h before now) is halts
 
 -- the message sink was given more
 module _ (l : Limits) (t left : Tape) (line : ℕ) (before : Seen) (failures : ℕ) (out old new : Sunk) where
@@ -59,7 +60,7 @@ module _ (l : Limits) (t left : Tape) (line : ℕ) (before : Seen) (failures : �
     text = stops.reaches.text;
     messages = rw (stops.stops, stops.quiet, stops.line_is, append-nil) (between _ _ _ _ _ (rw (stops.quiet, append-nil) at stops.reaches.messages) told.written);
     fault = omega (arith, stops.reaches.faults.err, told.fault);
-    rest = stops.left_is;
+    rest = subst (λ (s : State). IsLeftOf left s.tape) (sym stops.stops) stops.rest;
   }
 
   -- the output failed, and the report was answered so
@@ -79,36 +80,3 @@ module _ (l : Limits) (t left : Tape) (line : ℕ) (before : Seen) (failures : �
     rest = stops.rest;
     messages = inr (rw stops.line_is (between _ _ _ _ _ stops.messages puts.err.written), omega (arith, stops.faults.err, puts.err.fault));
   }
-
--- an item's effect that the code could not do halts the run
-pub effect_halted : (l : Limits) (t left : Tape) (before now : Seen) (from s : State) (rest : List PageEvent) (halt : Halt) (env : Env)
-    → s.last_message ≡ [] → left ≡ left_behind from → left ≡ s.tape
-    → Does l t before now from s rest (Err halt) env → Halts l t left s.line halt before now
-effect_halted l t left before now from s rest (ByLimit limit) env quiet left_of_from left_of does = record {
-  state = acting s (does.next ∷ does.to_do) does.history;
-  reaches = does.reaches;
-  goes_on = refl;
-  stops = does.stops;
-  rest = inl left_of;
-  left_is = left_of;
-  quiet = quiet;
-  line_is = refl;
-}
-effect_halted l t left before now from s rest Output env quiet left_of_from left_of does = record {
-  state = acting s (does.next ∷ does.to_do) does.history;
-  stops = does.stops;
-  messages = does.messages;
-  faults = does.faults;
-  rest = left_of;
-  line_is = refl;
-}
-effect_halted l t left before now from s rest Messages env quiet left_of_from left_of does = record {
-  is_device = refl;
-  state = from;
-  comes = does.comes;
-  goes_on = does.goes_on;
-  text = does.text;
-  messages = does.messages;
-  fault = does.fault;
-  rest = left_of_from;
-}

@@ -1,5 +1,5 @@
 -- Events that are performed, one by one, over the states of the definition.
-use Rattle.std.proofs.Common.{◌≡◌, ◌<◌, ◌≤◌, ℕ, List, [], ◌∷◌, ◌++◌, Option, Some, None, Result, Ok, Err, OnOk, OnErr, IsOkUnless, append_assoc, ap, arith, refl, subst, sym}
+use Rattle.std.proofs.Common.{◌≡◌, ◌<◌, ◌≤◌, ℕ, List, [], ◌∷◌, ◌++◌, Option, Some, None, Result, Ok, Err, IsOkUnless, ap, arith, refl, sym}
 use Rattle.std.specs.Io.KnownBytes.{Appends}
 use Rattle.std.proofs.lemmas.Bool.{le-ltb, lt-ltb}
 use Rattle.roff_num.specs.declared.limit.Limit.{Limit}
@@ -8,22 +8,22 @@ use Rattle.roff_num.specs.declared.limits.Limits.{Limits}
 use Rattle.roff_scan.specs.Tape.{Tape}
 use Rattle.roff_lines.specs.declared.env.Env.{Env}
 use Rattle.roff_lines.specs.declared.event.Event.{Event}
-use Rattle.roff_lines.specs.declared.settings.Settings.{Settings}
 use Rattle.roff_lines.specs.Env.Stands.{Stands}
-use Rattle.roff_lines.specs.Events.{settings_after}
 use Rattle.roff_lines.specs.Lines.{Finished, finished, pending_length}
 use Rattle.roff_engine.specs.declared.formatter.Formatter.{Formatter}
 use Rattle.roff_engine.specs.declared.halt.Halt.{Halt}
-use Rattle.roff_engine.specs.declared.halt.Halt.TheVariants.{Limit as Limited, Output, Messages}
+use Rattle.roff_engine.specs.declared.halt.Halt.TheVariants.{Limit as Limited, Refused, Output, Messages}
 use Rattle.roff_engine.specs.Engine.Outcome.{Seen, AppendsBetween, NoFewerFaults, Reaches, seen}
-use Rattle.roff_engine.specs.Formatter.Performing.{AllPerformed, StoppedAt, FailedAt, LostAt, Performs, PerformsEvents, PerformsOnly, Means, Does, DoesEffect, Sinks, acting, with_events}
-use Rattle.roff_engine.specs.Messages.{message_lines}
-use Rattle.roff_engine.specs.Output.{PageHistory, text_of, finished_bytes, written_by}
-use Rattle.roff_engine.specs.Requests.{PageEvent, Text, Space, Effect, doing}
-use Rattle.roff_engine.specs.Run.{State, initial, step, stopped_by, refusal, unless_refused}
+use Rattle.roff_engine.specs.Formatter.Performing.{StoppedAt, FailedAt, LostAt, Performs, PerformsOnly, Means, Does, acting}
+use Rattle.roff_run.specs.Messages.{message_lines}
+use Rattle.roff_run.specs.declared.message.Message.{Message}
+use Rattle.roff_run.specs.Output.{PageHistory, text_of, finished_bytes, written_by}
+use Rattle.roff_run.specs.declared.event.PageEvent.{PageEvent}
+use Rattle.roff_run.specs.declared.event.PageEvent.TheVariants.{Text, Space}
+use Rattle.roff_run.specs.Run.{State, initial, step, refusal, unless_refused}
 use Rattle.roff_engine.specs.Sinks.{Sunk, Writes, AppendsFront, Fails, Puts}
 use Rattle.roff_engine.proofs.Appending.{Appends-append, Writes-nothing}
-use Rattle.roff_engine.proofs.Leads.{Leads-to}
+use Rattle.roff_run.proofs.Leads.{Leads-to}
 
 -- a beginning of a piece was written behind a text
 pub between : (old mid new : Option (List ℕ)) (least piece : List ℕ)
@@ -110,67 +110,69 @@ text_performs l t before failures err s h e rest env old new (Err Output) stands
     event_failed l t before failures err s h (Text e) rest old reached new (text_allowed l h e env stands) puts.err
 text_performs l t before failures err s h e rest env old new (Err Messages) stands puts halt reached = cc
 text_performs l t before failures err s h e rest env old new (Err (Limited limit)) stands puts halt reached = cc
+text_performs l t before failures err s h e rest env old new (Err (Refused limit)) stands puts halt reached = cc
 
 -- an event of the text that changes the environment alone, as the line that it finished was put
 pub text_performs_only : (e : Event) (line : Option Finished) (old new : Formatter) (told_old told_new : Sunk) (r : Result (Unit {0}) Halt)
     → ((l : Limits) (h : PageHistory) → Stands l.line (text_of h) old.env → line ≡ finished (text_of h) e)
     → ((l : Limits) (h : PageHistory) → Stands l.line (text_of h) old.env → Stands l.line (e ∷ text_of h) new.env)
-    → new.reading ≡ old.reading → new.argument ≡ old.argument
+    → new.reader ≡ old.reader
     → Puts told_old told_new (finished_bytes line) r → IsOkUnless r Output
     → PerformsOnly (Text e ∷ []) old new told_old told_new r
-text_performs_only e line old new told_old told_new r is_line stands reading argument puts halt = record {
+text_performs_only e line old new told_old told_new r is_line stands reader puts halt = record {
   events_performed = record {
     performs = λ l t before failures err s h rest stood reached.
         text_performs l t before failures err s h e rest new.env told_old told_new r (stands l h stood) (rw (← is_line l h stood) puts) halt reached;
   };
-  reading = reading;
-  argument = argument;
+  reader = reader;
 }
 
 -- an event of the text that finishes no line
 pub text_changes_only : (e : Event) (old new : Formatter) (told : Sunk)
     → ((l : Limits) (h : PageHistory) → Stands l.line (text_of h) old.env → Stands l.line (e ∷ text_of h) new.env)
     → ((h : PageHistory) → finished (text_of h) e ≡ None)
-    → new.reading ≡ old.reading → new.argument ≡ old.argument
+    → new.reader ≡ old.reader
     → PerformsOnly (Text e ∷ []) old new told told (Ok tt)
-text_changes_only e old new told stands none reading argument =
-    text_performs_only e None old new told told (Ok tt) (λ l h stood. sym (none h)) stands reading argument
+text_changes_only e old new told stands none reader =
+    text_performs_only e None old new told told (Ok tt) (λ l h stood. sym (none h)) stands reader
     (record { ok = Writes-nothing told; err = tt }) (cc)
 
 -- blank lines, as they were put
+space_performs : (l : Limits) (t : Tape) (before : Seen) (failures : ℕ) (err : Sunk) (s : State) (h : PageHistory) (lines : ℕ) (rest : List PageEvent) (env : Env) (old new : Sunk) (r : Result (Unit {0}) Halt)
+    → Stands l.line (text_of h) env → Puts old new (written_by h (Space lines)) r → IsOkUnless r Output
+    → Reaches l t before (seen failures old err) (acting s (Space lines ∷ rest) h)
+    → Performs l t before (seen failures new err) s rest r env
+space_performs l t before failures err s h lines rest env old new (Ok u) stands puts halt reached = record {
+  history = Space lines ∷ h;
+  reaches = event_performed l t before failures err s h (Space lines) rest old reached new refl puts.ok;
+  stands = stands;
+}
+space_performs l t before failures err s h lines rest env old new (Err Output) stands puts halt reached =
+    event_failed l t before failures err s h (Space lines) rest old reached new refl puts.err
+space_performs l t before failures err s h lines rest env old new (Err Messages) stands puts halt reached = cc
+space_performs l t before failures err s h lines rest env old new (Err (Limited limit)) stands puts halt reached = cc
+space_performs l t before failures err s h lines rest env old new (Err (Refused limit)) stands puts halt reached = cc
+
+-- and nothing else changed
 pub space_performs_only : (lines : ℕ) (old new : Formatter) (told_old told_new : Sunk) (r : Result (Unit {0}) Halt)
     → ((l : Limits) (h : PageHistory) → Stands l.line (text_of h) old.env → Stands l.line (text_of h) new.env)
-    → new.reading ≡ old.reading → new.argument ≡ old.argument
+    → new.reader ≡ old.reader
     → ((h : PageHistory) → Puts told_old told_new (written_by h (Space lines)) r) → IsOkUnless r Output
     → PerformsOnly (Space lines ∷ []) old new told_old told_new r
-space_performs_only lines old new told_old told_new (Ok u) stands reading argument puts halt = record {
-  events_performed = record {
-    performs = λ l t before failures err s h rest stood reached. record {
-      history = Space lines ∷ h;
-      reaches = event_performed l t before failures err s h (Space lines) rest told_old reached told_new refl (puts h).ok;
-      stands = stands l h stood;
-    };
-  };
-  reading = reading;
-  argument = argument;
-}
-space_performs_only lines old new told_old told_new (Err Output) stands reading argument puts halt = record {
+space_performs_only lines old new told_old told_new r stands reader puts halt = record {
   events_performed = record {
     performs = λ l t before failures err s h rest stood reached.
-        event_failed l t before failures err s h (Space lines) rest told_old reached told_new refl (puts h).err;
+        space_performs l t before failures err s h lines rest new.env told_old told_new r (stands l h stood) (puts h) halt reached;
   };
-  reading = reading;
-  argument = argument;
+  reader = reader;
 }
-space_performs_only lines old new told_old told_new (Err Messages) stands reading argument puts halt = cc
-space_performs_only lines old new told_old told_new (Err (Limited limit)) stands reading argument puts halt = cc
 
--- one step from a state means an effect
-module _ (l : Limits) (t : Tape) (before : Seen) (failures : ℕ) (out old new : Sunk) (from s : State) (h : PageHistory) (line : ℕ) (effect : Effect) (rest : List PageEvent)
-    (reached : Reaches l t before (seen failures out old) from) (means : Means l from s h line effect rest) where
-  -- its messages are told, and its events are to be done
-  pub effect_told : Writes old new (message_lines line effect.messages) → Reaches l t before (seen failures out new) (acting s (effect.events ++ rest) h)
-  effect_told writes = record {
+-- one step from a state means messages and events
+module _ (l : Limits) (t : Tape) (before : Seen) (failures : ℕ) (out old new : Sunk) (from s : State) (h : PageHistory) (line : ℕ) (messages : List Message) (events rest : List PageEvent)
+    (reached : Reaches l t before (seen failures out old) from) (means : Means l from s h line messages events rest) where
+  -- the messages are told, and the events are to be done
+  pub messages_told : Writes old new (message_lines line messages) → Reaches l t before (seen failures out new) (acting s (events ++ rest) h)
+  messages_told writes = record {
     comes = Leads-to l (initial t) _ _ reached.comes means.opens;
     text = rw (← means.wrote) reached.text;
     messages = rw means.said (Appends-append _ _ _ _ _ reached.messages writes.written);
@@ -178,8 +180,8 @@ module _ (l : Limits) (t : Tape) (before : Seen) (failures : ℕ) (out old new :
   }
 
   -- or they can't be told
-  pub effect_lost : Fails old new (message_lines line effect.messages) → LostAt l t before (seen failures out new) from
-  effect_lost fails = record {
+  pub messages_lost : Fails old new (message_lines line messages) → LostAt l t before (seen failures out new) from
+  messages_lost fails = record {
     comes = reached.comes;
     goes_on = means.goes_on;
     text = reached.text;
@@ -187,18 +189,12 @@ module _ (l : Limits) (t : Tape) (before : Seen) (failures : ℕ) (out old new :
     fault = omega (arith, reached.faults.err, fails.fault);
   }
 
--- an effect without messages
-pub effect_quiet : (l : Limits) (t : Tape) (before : Seen) (failures : ℕ) (out err : Sunk) (from s : State) (h : PageHistory) (line : ℕ) (effect : Effect) (rest : List PageEvent)
-    → Reaches l t before (seen failures out err) from → Means l from s h line effect rest → effect.messages ≡ []
-    → Reaches l t before (seen failures out err) (acting s (effect.events ++ rest) h)
-effect_quiet l t before failures out err from s h line effect rest reached means quiet =
-    effect_told l t before failures out err err from s h line effect rest reached means (rw quiet (Writes-nothing err))
-
--- what was performed of an effect was done of it
+-- what was performed of what an item means was done of it
 pub does_events : (l : Limits) (t : Tape) (before now : Seen) (from s : State) (rest : List PageEvent) (r : Result (Unit {0}) Halt) (env : Env)
     → Performs l t before now s rest r env → Does l t before now from s rest r env
 does_events l t before now from s rest (Ok u) env p = p
 does_events l t before now from s rest (Err (Limited limit)) env p = p
+does_events l t before now from s rest (Err (Refused limit)) env p = p
 does_events l t before now from s rest (Err Output) env p = p
 does_events l t before now from s rest (Err Messages) env p = absurd p
 
@@ -206,34 +202,14 @@ does_events l t before now from s rest (Err Messages) env p = absurd p
 pub performs_halted : (l : Limits) (t : Tape) (before now : Seen) (s : State) (rest left : List PageEvent) (halt : Halt) (env then : Env)
     → Performs l t before now s rest (Err halt) env → Performs l t before now s left (Err halt) then
 performs_halted l t before now s rest left (Limited limit) env then p = p
+performs_halted l t before now s rest left (Refused limit) env then p = p
 performs_halted l t before now s rest left Output env then p = p
 performs_halted l t before now s rest left Messages env then p = p
 
--- nor does it for an effect
+-- nor does it for what an item means
 pub does_halted : (l : Limits) (t : Tape) (before now : Seen) (from s : State) (rest left : List PageEvent) (halt : Halt) (env then : Env)
     → Does l t before now from s rest (Err halt) env → Does l t before now from s left (Err halt) then
 does_halted l t before now from s rest left (Limited limit) env then p = p
+does_halted l t before now from s rest left (Refused limit) env then p = p
 does_halted l t before now from s rest left Output env then p = p
 does_halted l t before now from s rest left Messages env then p = p
-
--- an effect with some events more means the effect, and these in front of the rest
-pub means_less : (l : Limits) (from s : State) (h : PageHistory) (line : ℕ) (effect : Effect) (more rest : List PageEvent)
-    → Means l from s h line (with_events effect more) rest → Means l from s h line effect (more ++ rest)
-means_less l from s h line effect more rest means = record {
-  opens = rw (← append_assoc effect.events more rest) means.opens;
-  goes_on = means.goes_on;
-  wrote = means.wrote;
-  said = means.said;
-}
-
--- what means nothing is done at once
-pub does_nothing : (line : ℕ) (effect : Settings → Effect) (old new : Formatter) (told : Sinks)
-    → ((s : Settings) → effect s ≡ doing []) → new.env ≡ old.env → DoesEffect line effect old new told told (Ok tt)
-does_nothing line effect old new told nothing same = record {
-  does = λ l t before failures from s h rest stood reached means.
-      let P : Effect → Type 0 = λ e. Means l from s h line e rest in record {
-        history = h;
-        reaches = effect_quiet l t before failures told.out told.err from s h line (doing []) rest reached (subst P (nothing (settings_after (text_of h))) means) refl;
-        stands = rw same stood;
-      };
-}

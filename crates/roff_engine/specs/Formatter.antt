@@ -1,3 +1,2 @@
 -- What the code of the formatter does, as the definition has it.
-pub mod ReadsAs
 pub mod Performing

@@ -1,15 +1,14 @@
 //! The engine: a whole run, from a source to its sinks.
 
 ghost use Rattle.std.specs.Prelude.{◌≡◌, [], IfOk};
-ghost use Rattle.roff_engine.specs.Clauses.{Stands, Limits, Start, Line, Runs, seen};
+ghost use Rattle.roff_engine.specs.Clauses.{Stands, Limits, Runs, seen, IsFresh};
 
 use crate::formatter::Formatter;
-use crate::meter::Meter;
 use crate::running::Running;
 use crate::sink::ByteSink;
-use crate::status::Status;
 use roff_num::Limits;
-use roff_scan::ByteSource;
+use roff_run::{PageEvent, Status};
+use roff_scan::{ByteSource, Unread};
 use std::alloc::{AllocError, Global};
 use std::marker::Model;
 
@@ -22,6 +21,7 @@ pub struct Start {}
 pub struct Engine {
     limits: Limits,
     formatter: Formatter,
+    unread: Unread<PageEvent>,
 }
 
 impl Model for Engine {
@@ -30,7 +30,7 @@ impl Model for Engine {
     ghost view = { λ e. e.limits };
 
     ghost invariant = { λ e.
-        Stands e.limits.line [] e.formatter.env × (e.formatter.reading ≡ Line Start) };
+        Stands e.limits.line [] e.formatter.env × IsFresh e.limits e.formatter e.unread };
 }
 
 impl Engine {
@@ -44,7 +44,8 @@ impl Engine {
     {
         Ok(Engine {
             limits,
-            formatter: Formatter::new(alloc, limits.line)?,
+            formatter: Formatter::new(alloc, limits.line, limits.names)?,
+            unread: Unread::new(alloc, limits)?,
         })
     }
 
@@ -61,11 +62,15 @@ impl Engine {
             (seen (S.failures source.old) (O.sunk out.old) (E.sunk err.old))
             (seen (S.failures source.new) (O.sunk out.new) (E.sunk err.new)) }
     {
-        let Engine { limits, formatter } = self;
+        let Engine {
+            limits,
+            formatter,
+            unread,
+        } = self;
         let mut running = Running {
             limits,
             formatter,
-            meter: Meter::new(limits.bytes),
+            unread,
         };
         loop {
             if let Err(status) = running.turn(source, out, err) {

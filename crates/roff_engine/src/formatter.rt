@@ -1,18 +1,15 @@
-//! The formatter: what each byte of the input does.
+//! The formatter: what each item of the input does.
 
-ghost use Rattle.std.specs.Prelude.{◌≡◌, ℕ, ◌+◌, ◌<◌, ◌≤◌, ◌^◌, [], ◌∷◌, IfOk, OnOk, IsOkUnless, option_map};
-ghost use Rattle.roff_engine.specs.Clauses.{option_to_list, finished_of, Stands, Print, WordEnd, LineEnd, Break, Settings, Arguments, arguments_read, KeepsFirst, message_lines, finished_bytes, DoesEffect, PerformsEvents, PerformsOnly, closing_events, sinks, with_events, Read, argument_taking, end_effect, kept_taking, knowing, taking, ReadsAs, leading_behind, leading_of, part_of, Text, Space, request_effect, Puts, Sunk};
+ghost use Rattle.std.specs.Prelude.{◌≡◌, [], ◌∷◌, IfOk, IsOkUnless, option_map};
+ghost use Rattle.roff_engine.specs.Clauses.{option_to_list, finished_of, fresh_reader, Stands, Print, WordEnd, LineEnd, Break, message_lines, finished_bytes, DoesMeaning, DoesTaking, PerformsOnly, closing_events, sinks, end_taking, half_ended, interrupted, taking, Text, Space, Puts, Sunk};
 
-use crate::arguments::FirstArgument;
 use crate::block::Block;
-use crate::event::PageEvent;
 use crate::halt::Halt;
-use crate::message::{Message, report};
-use crate::reading::{LinePart, Reading};
-use crate::request::{Known, Request};
+use crate::report::report;
 use crate::sink::ByteSink;
 use roff_lines::{Env, Event, Glyph, Line};
-use roff_scan::is_dropped;
+use roff_run::{Meaning, Message, PageEvent, Reader};
+use roff_scan::Unread;
 use std::alloc::{AllocError, Global};
 
 /// What finishes the last line.
@@ -21,172 +18,140 @@ const CLOSING: [PageEvent; 2] = [
     PageEvent::Text(Event::Break),
 ];
 
-/// What is being read, the environment, and the block through which lines are written.
+/// What a blank behind a glyph means.
+const GAP: [PageEvent; 2] = [
+    PageEvent::Text(Event::WordEnd),
+    PageEvent::Text(Event::Gap(1)),
+];
+
+/// What is read, the environment, and the block through which lines are written.
 #[derive(Drop)]
 pub(crate) struct Formatter {
-    reading: Reading,
-    argument: FirstArgument,
+    reader: Reader,
     env: Env,
     block: Block,
 }
 
 impl Formatter {
-    /// A formatter before the first line, whose pending line may have `line_cap` bytes.
-    pub(crate) fn new(alloc: Global, line_cap: u32) -> Result<Self, AllocError>
+    /// A formatter before the first line, with room for a pending line of `line_cap` bytes and for
+    /// `names_cap` registers.
+    pub(crate) fn new(alloc: Global, line_cap: u32, names_cap: u32) -> Result<Self, AllocError>
         ensures stands { IfOk result (λ f. Stands line_cap [] f.env) }
-        ensures reading { IfOk result (λ f. f.reading ≡ Reading.Line LinePart.Start) }
+        ensures reader { IfOk result (λ f. f.reader ≡ fresh_reader names_cap) }
     {
         Ok(Formatter {
-            reading: Reading::Line(LinePart::Start),
-            argument: FirstArgument::new(),
+            reader: Reader::new(alloc, names_cap)?,
             env: Env::new(alloc, line_cap)?,
             block: Block::new(alloc)?,
         })
     }
 
-    /// Takes a byte, which stands on this line of the input.
+    /// Something that isn't a byte of the line stands in front.
+    pub(crate) fn interrupt(&self, unread: &mut Unread<PageEvent>)
+        ensures { unread.new
+            ≡ record unread.old { input = interrupted self.now.reader.reading unread.old.input } }
+    {
+        self.reader.interrupt(unread);
+    }
+
+    /// Takes a byte that was taken of the unread input.
+    #[inline(always)]
     pub(crate) fn take<O: ByteSink, E: ByteSink>(
         &mut self,
         byte: u8,
-        line: u32,
+        unread: &mut Unread<PageEvent>,
         out: &mut O,
         err: &mut E,
     ) -> Result<(), Halt>
-        requires { leading_behind self.old.reading + 1 < 2 ^ 32 }
-        ensures does { (r : Read) → ReadsAs r self.old.reading self.old.argument →
-            DoesEffect line (λ s. (taking s r byte).effect) self.old self.new
+        ensures { DoesTaking (λ k. taking k self.old.reader.reading unread.old.input byte) []
+            self.old self.new unread.old unread.new
             (sinks (O.sunk out.old) (E.sunk err.old))
             (sinks (O.sunk out.new) (E.sunk err.new)) result }
-        ensures reads { (s : Settings) (r : Read) → ReadsAs r self.old.reading self.old.argument →
-            OnOk result (ReadsAs (taking s r byte).reading self.new.reading self.new.argument) }
-        ensures leading { leading_behind self.new.reading ≤ leading_behind self.old.reading + 1 }
     {
-        if let Reading::Line(part) = self.reading
-            && part.goes_on_with(byte)
-        {
+        if self.reader.goes_on_with(byte, unread) {
             return self.glyph(Glyph::Printed(byte));
         }
-        if is_dropped(byte) {
-            self.argument.take_dropped();
-            return Ok(());
+        if self.reader.goes_on_with_gap(byte, unread) {
+            return self.perform_all(&GAP, out);
         }
-        match self.reading {
-            Reading::Line(part) => self.take_part(part, byte, out),
-            Reading::Arguments { breaks, request } => {
-                self.take_argument(breaks, request, byte, line, out, err)
-            }
+        self.take_as_read(byte, unread, out, err)
+    }
+
+    /// Takes a byte by what the reader makes of it.
+    #[inline(never)]
+    fn take_as_read<O: ByteSink, E: ByteSink>(
+        &mut self,
+        byte: u8,
+        unread: &mut Unread<PageEvent>,
+        out: &mut O,
+        err: &mut E,
+    ) -> Result<(), Halt>
+        ensures { DoesTaking (λ k. taking k self.old.reader.reading unread.old.input byte) []
+            self.old self.new unread.old unread.new
+            (sinks (O.sunk out.old) (E.sunk err.old))
+            (sinks (O.sunk out.new) (E.sunk err.new)) result }
+    {
+        match self.reader.read(byte, &self.env, unread) {
+            Ok(meaning) => self.act(meaning, unread.line(), out, err),
+            Err(limit) => Err(Halt::Refused(limit)),
+        }
+    }
+
+    /// Ends what is half read, before a newline that stays or at the end of the input.
+    pub(crate) fn take_half_end<O: ByteSink, E: ByteSink>(
+        &mut self,
+        unread: &mut Unread<PageEvent>,
+        out: &mut O,
+        err: &mut E,
+    ) -> Result<(), Halt>
+        ensures { DoesTaking (λ k. half_ended k self.old.reader.reading unread.old.input) []
+            self.old self.new unread.old unread.new
+            (sinks (O.sunk out.old) (E.sunk err.old))
+            (sinks (O.sunk out.new) (E.sunk err.new)) result }
+    {
+        match self.reader.end_half(&self.env, unread) {
+            Ok(meaning) => self.act(meaning, unread.line(), out, err),
+            Err(limit) => Err(Halt::Refused(limit)),
         }
     }
 
     /// The end of the input: an unfinished line ends, and the pending line is placed.
     pub(crate) fn finish<O: ByteSink, E: ByteSink>(
         &mut self,
-        line: u32,
+        unread: &mut Unread<PageEvent>,
         out: &mut O,
         err: &mut E,
     ) -> Result<(), Halt>
-        ensures does { (r : Read) → ReadsAs r self.old.reading self.old.argument →
-            DoesEffect line (λ s. with_events (end_effect s r) closing_events) self.old self.new
+        ensures { DoesTaking (λ k. end_taking k self.old.reader.reading unread.old.input) closing_events
+            self.old self.new unread.old unread.new
             (sinks (O.sunk out.old) (E.sunk err.old))
             (sinks (O.sunk out.new) (E.sunk err.new)) result }
-        ensures reading { self.new.reading ≡ self.old.reading }
     {
-        match self.end_unfinished(line, out, err) {
-            Ok(()) => self.perform_all(&CLOSING, out),
-            Err(halt) => Err(halt),
+        match self.reader.end_line_of_input(&self.env, unread) {
+            Ok(meaning) => match self.act(meaning, unread.line(), out, err) {
+                Ok(()) => self.perform_all(&CLOSING, out),
+                Err(halt) => Err(halt),
+            },
+            Err(limit) => Err(Halt::Refused(limit)),
         }
     }
 
-    /// Ends an unfinished line.
-    fn end_unfinished<O: ByteSink, E: ByteSink>(
+    /// Does what was meant on this line of the input: its message is told, and then its events are
+    /// performed.
+    fn act<O: ByteSink, E: ByteSink>(
         &mut self,
+        meaning: Meaning,
         line: u32,
         out: &mut O,
         err: &mut E,
     ) -> Result<(), Halt>
-        ensures does { (r : Read) → ReadsAs r self.old.reading self.old.argument →
-            DoesEffect line (λ s. end_effect s r) self.old self.new
-            (sinks (O.sunk out.old) (E.sunk err.old))
-            (sinks (O.sunk out.new) (E.sunk err.new)) result }
-        ensures reading { self.new.reading ≡ self.old.reading }
-    {
-        match self.reading {
-            Reading::Line(part) => self.perform_all(&part.end(), out),
-            Reading::Arguments { breaks, request } => self.obey(breaks, request, line, out, err),
-        }
-    }
-
-    /// Takes a byte of a line without a request.
-    fn take_part<O: ByteSink>(&mut self, part: LinePart, byte: u8, out: &mut O) -> Result<(), Halt>
-        requires { leading_of part + 1 < 2 ^ 32 }
-        ensures performs { (s : Settings) →
-            PerformsEvents (kept_taking s (part_of part) byte).effect.events
-            self.old.env self.new.env
-            (O.sunk out.old) (O.sunk out.new) result }
-        ensures silent { (s : Settings) → (kept_taking s (part_of part) byte).effect.messages ≡ [] }
-        ensures reads { (s : Settings) →
-            ReadsAs (kept_taking s (part_of part) byte).reading
-            self.new.reading self.new.argument }
-        ensures leading { leading_behind self.new.reading ≤ leading_of part + 1 }
-    {
-        let taking = part.taking(byte);
-        self.argument = FirstArgument::new();
-        self.reading = taking.reading;
-        self.perform_all(&taking.events, out)
-    }
-
-    /// Takes a byte behind a request's name, on this line of the input.
-    fn take_argument<O: ByteSink, E: ByteSink>(
-        &mut self,
-        breaks: bool,
-        request: Request,
-        byte: u8,
-        line: u32,
-        out: &mut O,
-        err: &mut E,
-    ) -> Result<(), Halt>
-        requires { self.old.reading ≡ Reading.Arguments breaks request }
-        ensures does { (a : Arguments) → KeepsFirst a self.old.argument →
-            DoesEffect line (λ s. (argument_taking s breaks request a byte).effect)
+        ensures { DoesMeaning line (option_to_list meaning.message) meaning.events.items
             self.old self.new
             (sinks (O.sunk out.old) (E.sunk err.old))
             (sinks (O.sunk out.new) (E.sunk err.new)) result }
-        ensures reads { (s : Settings) (a : Arguments) → KeepsFirst a self.old.argument →
-            ReadsAs (argument_taking s breaks request a byte).reading
-            self.new.reading self.new.argument }
-        ensures leading { leading_behind self.new.reading ≡ 0 }
     {
-        if byte != b'\n' {
-            self.argument.take(byte);
-            return Ok(());
-        }
-        self.reading = Reading::Line(LinePart::Start);
-        self.obey(breaks, request, line, out, err)
-    }
-
-    /// Obeys a request of this line of the input, with the argument that was read.
-    fn obey<O: ByteSink, E: ByteSink>(
-        &mut self,
-        breaks: bool,
-        request: Request,
-        line: u32,
-        out: &mut O,
-        err: &mut E,
-    ) -> Result<(), Halt>
-        ensures does { (a : Arguments) → KeepsFirst a self.old.argument →
-            DoesEffect line (λ s. request_effect (knowing s) breaks request (arguments_read a))
-            self.old self.new
-            (sinks (O.sunk out.old) (E.sunk err.old))
-            (sinks (O.sunk out.new) (E.sunk err.new)) result }
-        ensures reading { self.new.reading ≡ self.old.reading }
-        ensures argument { self.new.argument ≡ self.old.argument }
-    {
-        let known = Known {
-            settings: self.env.settings(),
-        };
-        let effect = request.effect(breaks, known, self.argument.read());
-        match tell(effect.message, line, err) {
-            Ok(()) => self.perform_all(&effect.events, out),
+        match tell(meaning.message, line, err) {
+            Ok(()) => self.perform_all(&meaning.events, out),
             Err(halt) => Err(halt),
         }
     }
@@ -207,7 +172,8 @@ impl Formatter {
     }
 
     /// Performs an event.
-    fn perform<O: ByteSink>(&mut self, event: PageEvent, out: &mut O) -> Result<(), Halt>
+    #[inline(always)]
+    pub(crate) fn perform<O: ByteSink>(&mut self, event: PageEvent, out: &mut O) -> Result<(), Halt>
         ensures { PerformsOnly (event ∷ []) self.old self.new
             (O.sunk out.old) (O.sunk out.new) result }
     {

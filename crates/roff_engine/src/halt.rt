@@ -3,16 +3,18 @@
 ghost use Rattle.std.specs.Prelude.{ℕ};
 ghost use Rattle.roff_engine.specs.Clauses.{Tape, Outcome, Seen, seen, Halts, Sunk};
 
-use crate::message::{Message, report};
+use crate::report::report;
 use crate::sink::ByteSink;
-use crate::status::Status;
 use roff_num::{Limit, Limits};
+use roff_run::{Message, Status};
 
 /// What ends a run early.
 #[derive(Clone, Copy, Debug, PartialEq, Eq)]
 pub(crate) enum Halt {
-    /// A limit would be passed.
+    /// An event would pass a limit; the item that meant it was taken.
     Limit(Limit),
+    /// An item would pass a limit, and so isn't taken.
+    Refused(Limit),
     /// The output failed.
     Output,
     /// The message sink failed.
@@ -27,7 +29,7 @@ impl Halt {
             → Outcome limits t left result before (seen failures out (E.sunk err.new)) }
     {
         match self {
-            Halt::Limit(limit) => {
+            Halt::Limit(limit) | Halt::Refused(limit) => {
                 let message = Message::LimitReached(limit, limits.value(limit));
                 match report(message, line, err) {
                     Ok(()) => Status::Limit(limit),

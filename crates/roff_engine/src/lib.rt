@@ -1,22 +1,15 @@
-//! The formatter: requests, the run from a source to its sinks, and laws over whole runs.
+//! The formatter over its devices: the run from a source to its sinks, and what runs tell about each other.
 #![tactic(auto)]
 
-mod arguments;
 mod block;
 mod engine;
-mod event;
 mod formatter;
 mod halt;
 pub mod laws;
-mod message;
-mod meter;
-mod number;
-mod reading;
-mod request;
+mod report;
 mod running;
 mod sink;
-mod status;
 
 pub use engine::{Engine, Start};
+pub use roff_run::Status;
 pub use sink::{ByteSink, SinkFault, WriteSink};
-pub use status::Status;

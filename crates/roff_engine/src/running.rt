@@ -1,96 +1,252 @@
-//! A run under way: what each item of the source does.
+//! A run under way: what each item of the input does.
 
-ghost use Rattle.std.specs.Prelude.{◌≡◌, ℕ, ◌+◌, ◌<◌, ◌≤◌, Err, OnOk};
-ghost use Rattle.roff_scan.specs.Tape.{Answer, Answers, Ended, Gives, Ends, OneByte};
-ghost use Rattle.roff_engine.specs.Engine.Outcome.{seen};
-ghost use Rattle.roff_engine.specs.Formatter.ReadsAs.{leading_behind};
+ghost use Rattle.std.specs.Prelude.{◌≡◌, ◌≤◌, ℕ, length, true, None, Result, Err, IsOkUnless, OnOk};
+ghost use Rattle.roff_run.specs.Run.{ahead_taken, awaited, byte_taken, end_met, half_ends, in_front_taken, step};
+ghost use Rattle.roff_scan.specs.Halves.{newline_stays};
+ghost use Rattle.roff_scan.specs.Input.{DoAhead};
+ghost use Rattle.roff_scan.specs.Unread.{seen_ahead};
+ghost use Rattle.roff_engine.specs.Clauses.{Outcome, Sunk, Tape, Puts, Seen, seen, message_line, ReadFailed, Device};
 
 use crate::formatter::Formatter;
 use crate::halt::Halt;
-use crate::message::{Message, report};
-use crate::meter::Meter;
-use crate::sink::ByteSink;
-use crate::status::Status;
+use crate::report::report;
+use crate::sink::{ByteSink, SinkFault};
 use roff_num::Limits;
-use roff_scan::{ByteSource, Taken};
+use roff_run::{Message, PageEvent, Status};
+use roff_scan::{ByteSource, Item, Note, Sight, Unread};
 
 /// A run under way.
 #[derive(Drop)]
 pub(crate) struct Running {
     pub(crate) limits: Limits,
     pub(crate) formatter: Formatter,
-    pub(crate) meter: Meter,
-    ghost within: { leading_behind formatter.reading ≤ meter.charge },
+    pub(crate) unread: Unread<PageEvent>,
 }
 
 impl Running {
-    ghost use Rattle.roff_engine.specs.Running.Turning.{Turns, bytes_to_come};
+    ghost use Rattle.roff_engine.specs.Running.Turning.{Acts, Halts, TurnsBy, input_ends, line_told};
 
-    /// Takes an item of the source, or its ending. An `Err` is the status of a run that ended.
+    /// Takes an item of the input, or ends what is half read. An `Err` is the status of a run that
+    /// ended.
+    #[inline(always)]
     pub(crate) fn turn<S: ByteSource, O: ByteSink, E: ByteSink>(
         &mut self,
         source: &mut S,
         out: &mut O,
         err: &mut E,
     ) -> Result<(), Status>
-        // It goes on, or ends, as the run of the definition over every tape that begins with the answer.
-        ensures turns { (a : Answer) × Answers (S.gives source.old) (S.gives source.new) a
-            × Turns a self.old self.new
+        ensures { TurnsBy (step self.old.limits)
+            (S.gives source.old) (S.gives source.new) (S.notes source.old) (S.notes source.new)
+            self.old self.new
             (seen (S.failures source.old) (O.sunk out.old) (E.sunk err.old))
             (seen (S.failures source.new) (O.sunk out.new) (E.sunk err.new)) result }
-        ensures progress { OnOk result (bytes_to_come self.new.meter + S.notes source.new
-            < bytes_to_come self.old.meter + S.notes source.old) }
     {
-        match source.next_byte() {
-            Taken::Byte(byte) => self.take(byte, out, err),
-            Taken::Note(note) => match err.put(&note) {
-                Ok(()) => Ok(()),
-                Err(_) => Err(Status::Device),
-            },
-            Taken::End => Err(self.finish(out, err)),
-            Taken::Fault => {
-                let _ = report(Message::ReadFailed, self.meter.line(), err);
-                Err(Status::Device)
-            }
-            Taken::Stop(limit) => Err(Status::Limit(limit)),
+        if self.unread.newline_stays() {
+            self.turn_waiting(source, out, err)
+        } else {
+            self.turn_in_front(source, out, err)
         }
     }
 
-    /// Takes a byte. An `Err` is the status of a run that ended.
-    fn take<O: ByteSink, E: ByteSink>(
+    /// The same where what is half read waits for a byte: a newline stays, and ends it.
+    #[inline(never)]
+    fn turn_waiting<S: ByteSource, O: ByteSink, E: ByteSink>(
         &mut self,
-        byte: u8,
+        source: &mut S,
         out: &mut O,
         err: &mut E,
     ) -> Result<(), Status>
-        ensures turns { (failures : ℕ) → Turns (Gives (OneByte byte)) self.old self.new
-            (seen failures (O.sunk out.old) (E.sunk err.old))
-            (seen failures (O.sunk out.new) (E.sunk err.new)) result }
-        ensures progress { OnOk result
-            (bytes_to_come self.new.meter < bytes_to_come self.old.meter) }
+        requires { newline_stays self.old.unread.input.half ≡ true }
+        ensures { TurnsBy (λ s. awaited self.old.limits (seen_ahead s.input.ahead) s)
+            (S.gives source.old) (S.gives source.new) (S.notes source.old) (S.notes source.new)
+            self.old self.new
+            (seen (S.failures source.old) (O.sunk out.old) (E.sunk err.old))
+            (seen (S.failures source.new) (O.sunk out.new) (E.sunk err.new)) result }
     {
-        match self.meter.count(byte) {
-            Err(limit) => Err(Halt::Limit(limit).status(self.limits, self.meter.line(), err)),
-            Ok(()) => {
-                let line = self.meter.line();
-                match self.formatter.take(byte, line, out, err) {
-                    Err(halt) => Err(halt.status(self.limits, line, err)),
-                    Ok(()) => Ok(()),
-                }
-            }
+        match self.unread.look(source) {
+            Sight::Byte(b'\n') => return self.end_half(out, err),
+            Sight::Note(note) => return tell_note(&note, err),
+            Sight::Fault => return Err(self.source_failed(err)),
+            Sight::Stop(limit) => return Err(Status::Limit(limit)),
+            Sight::Byte(_) => {}
+            Sight::Nothing => {}
+            Sight::SourceEnd => {}
+        }
+        self.turn_in_front(source, out, err)
+    }
+
+    /// Takes the item in front, whatever is half read: most often a byte that stands ready.
+    #[inline(always)]
+    fn turn_in_front<S: ByteSource, O: ByteSink, E: ByteSink>(
+        &mut self,
+        source: &mut S,
+        out: &mut O,
+        err: &mut E,
+    ) -> Result<(), Status>
+        ensures { TurnsBy (λ s. in_front_taken self.old.limits s.input.ahead s)
+            (S.gives source.old) (S.gives source.new) (S.notes source.old) (S.notes source.new)
+            self.old self.new
+            (seen (S.failures source.old) (O.sunk out.old) (E.sunk err.old))
+            (seen (S.failures source.new) (O.sunk out.new) (E.sunk err.new)) result }
+    {
+        let line = self.unread.line();
+        match self.unread.take_ready(source) {
+            Some(byte) => self.take(byte, line, out, err),
+            None => self.turn_item(source, out, err),
         }
     }
 
-    /// The end of the input: the status of the run.
+    /// Takes the item in front, whatever it is.
+    #[inline(never)]
+    fn turn_item<S: ByteSource, O: ByteSink, E: ByteSink>(
+        &mut self,
+        source: &mut S,
+        out: &mut O,
+        err: &mut E,
+    ) -> Result<(), Status>
+        ensures { TurnsBy (λ s. in_front_taken self.old.limits s.input.ahead s)
+            (S.gives source.old) (S.gives source.new) (S.notes source.old) (S.notes source.new)
+            self.old self.new
+            (seen (S.failures source.old) (O.sunk out.old) (E.sunk err.old))
+            (seen (S.failures source.new) (O.sunk out.new) (E.sunk err.new)) result }
+    {
+        let line = self.unread.line();
+        match self.unread.take(source) {
+            Item::Byte(byte) => self.take(byte, line, out, err),
+            Item::End => Ok(()),
+            Item::Do(event) => self.perform(event, line, out, err),
+            Item::Note(note) => tell_note(&note, err),
+            Item::SourceEnd => self.end_input(out, err),
+            Item::Fault => Err(self.source_failed(err)),
+            Item::Stop(limit) => Err(Status::Limit(limit)),
+            Item::Refused(limit) => Err(self.halted(Halt::Refused(limit), line, line, err)),
+        }
+    }
+
+    /// Takes a byte; the byte before it stood on this line.
+    #[inline(always)]
+    fn take<O: ByteSink, E: ByteSink>(
+        &mut self,
+        byte: u8,
+        line_before: u32,
+        out: &mut O,
+        err: &mut E,
+    ) -> Result<(), Status>
+        ensures { (failures : ℕ) → Acts line_before (byte_taken byte) self.old self.new
+            (seen failures (O.sunk out.old) (E.sunk err.old))
+            (seen failures (O.sunk out.new) (E.sunk err.new)) result }
+    {
+        let line = self.unread.line();
+        match self.formatter.take(byte, &mut self.unread, out, err) {
+            Ok(()) => Ok(()),
+            Err(halt) => Err(self.halted(halt, line_before, line, err)),
+        }
+    }
+
+    /// Ends what is half read, before what stays.
+    fn end_half<O: ByteSink, E: ByteSink>(&mut self, out: &mut O, err: &mut E) -> Result<(), Status>
+        ensures { (failures : ℕ) → Acts self.old.unread.input.line half_ends self.old self.new
+            (seen failures (O.sunk out.old) (E.sunk err.old))
+            (seen failures (O.sunk out.new) (E.sunk err.new)) result }
+    {
+        let line = self.unread.line();
+        match self.formatter.take_half_end(&mut self.unread, out, err) {
+            Ok(()) => Ok(()),
+            Err(halt) => Err(self.halted(halt, line, line, err)),
+        }
+    }
+
+    /// Performs an event that was put back.
+    fn perform<O: ByteSink, E: ByteSink>(
+        &mut self,
+        event: PageEvent,
+        line_before: u32,
+        out: &mut O,
+        err: &mut E,
+    ) -> Result<(), Status>
+        ensures { (failures : ℕ) → Acts line_before (ahead_taken (DoAhead event)) self.old self.new
+            (seen failures (O.sunk out.old) (E.sunk err.old))
+            (seen failures (O.sunk out.new) (E.sunk err.new)) result }
+    {
+        let line = self.unread.line();
+        self.formatter.interrupt(&mut self.unread);
+        match self.formatter.perform(event, out) {
+            Ok(()) => Ok(()),
+            Err(halt) => Err(self.halted(halt, line_before, line, err)),
+        }
+    }
+
+    /// The end of the input: what is half read ends first, and then the run.
+    #[inline(never)]
+    fn end_input<O: ByteSink, E: ByteSink>(
+        &mut self,
+        out: &mut O,
+        err: &mut E,
+    ) -> Result<(), Status>
+        ensures acts { self.old.unread.looked ≡ None → (failures : ℕ)
+            → Acts self.old.unread.input.line input_ends self.old self.new
+            (seen failures (O.sunk out.old) (E.sunk err.old))
+            (seen failures (O.sunk out.new) (E.sunk err.new)) result }
+        // It goes on only where something was half read.
+        ensures half { OnOk result (1 ≤ length self.old.unread.input.half) }
+    {
+        if self.unread.is_half_read() {
+            self.end_half(out, err)
+        } else {
+            Err(self.finish(out, err))
+        }
+    }
+
+    /// Ends the run, with nothing half read: its status.
     fn finish<O: ByteSink, E: ByteSink>(&mut self, out: &mut O, err: &mut E) -> Status
-        ensures { (failures : ℕ) → Turns (Ends Ended) self.old self.new
+        ensures { self.old.unread.looked ≡ None → (failures : ℕ)
+            → Acts self.old.unread.input.line end_met self.old self.new
             (seen failures (O.sunk out.old) (E.sunk err.old))
             (seen failures (O.sunk out.new) (E.sunk err.new)) (Err result) }
     {
-        let line = self.meter.line();
-        match self.formatter.finish(line, out, err) {
+        let line = self.unread.line();
+        match self.formatter.finish(&mut self.unread, out, err) {
             Ok(()) => Status::Done,
-            Err(halt) => halt.status(self.limits, line, err),
+            Err(halt) => self.halted(halt, line, line, err),
         }
+    }
+
+    /// How a run ends that was halted. The byte before its last item stood on the first line, and
+    /// the last byte taken stands on the second.
+    #[inline(never)]
+    fn halted<E: ByteSink>(&self, halt: Halt, line_before: u32, line: u32, err: &mut E) -> Status
+        ensures { (t left : Tape) (start : Seen) (failures : ℕ) (out : Sunk)
+            → Halts self.now.limits t left (line_told halt line_before line) halt
+            start (seen failures out (E.sunk err.old))
+            → Outcome self.now.limits t left result start (seen failures out (E.sunk err.new)) }
+    {
+        let told = match halt {
+            Halt::Refused(_) => line_before,
+            _ => line,
+        };
+        halt.status(self.limits, told, err)
+    }
+
+    /// The source failed: the status of the run.
+    #[inline(never)]
+    fn source_failed<E: ByteSink>(&self, err: &mut E) -> Status
+        ensures status { result ≡ Device }
+        ensures report { (r : Result (Unit {0}) SinkFault) × Puts (E.sunk err.old) (E.sunk err.new)
+            (message_line self.now.unread.input.line ReadFailed) r }
+    {
+        let _ = report(Message::ReadFailed, self.unread.line(), err);
+        Status::Device
+    }
+}
+
+/// Writes a message of the source's.
+#[inline(never)]
+fn tell_note<E: ByteSink>(note: &Note, err: &mut E) -> Result<(), Status>
+    ensures puts { Puts (E.sunk err.old) (E.sunk err.new) note.now.items result }
+    ensures status { IsOkUnless result Device }
+{
+    match err.put(note) {
+        Ok(()) => Ok(()),
+        Err(_) => Err(Status::Device),
     }
 }

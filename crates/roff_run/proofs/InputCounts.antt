@@ -1,16 +1,14 @@
 -- What the calls of the unread input leave of the counts that limits are on.
-use Rattle.std.proofs.Common.{◌≡◌, ℕ, ◌+◌, ◌≤◌, Bool, true, false, cond, List, [], ◌∷◌, ◌++◌, length, take, drop, Option, Some, None, refl, sym, subst, ap, ◌∙◌, arith}
-use Rattle.std.specs.Prelude.{nat_lt, if◌then◌else◌, reverse, filter}
+use Rattle.std.proofs.Common.{◌≡◌, ℕ, ◌+◌, ◌≤◌, Bool, true, false, List, [], ◌∷◌, length, Option, Some, None, refl, sym, subst, ap, ◌∙◌, arith}
+use Rattle.std.specs.Prelude.{nat_lt, if◌then◌else◌}
 use Rattle.std.proofs.lemmas.Bool.{le-ltb, ltb-false}
-use Rattle.std.proofs.lemmas.List.{reverse-append, length-reverse, take-append-drop}
 use Rattle.roff_num.specs.declared.limit.Limit.TheVariants.{Stack, Depth, Names}
 use Rattle.roff_num.specs.declared.limits.Limits.{Limits}
-use Rattle.roff_scan.specs.Arguments.{Arguments, held, total_length, has_byte, only_kept, settled, settled_at, kept, kept_behind, kept_by_place, no_arguments}
+use Rattle.roff_scan.specs.Arguments.{held, settled, no_arguments}
 use Rattle.roff_scan.specs.Input.{Ahead, ByteAhead, FreeAhead, EndAhead, DoAhead, counting, item_taken, pushed, depth, bytes_ahead, ends_ahead}
 use Rattle.roff_scan.specs.Tape.{Answer, Gives, Ends, OneByte, OneNote}
 use Rattle.roff_scan.specs.Unread.{Unread, Shown, taking, taking_answer, answer_behind, input_refusal}
-use Rattle.roff_scan.specs.declared.arguments.Place.{Place}
-use Rattle.roff_scan.specs.declared.arguments.Place.TheVariants.{Between, InPlain, InQuotes, BehindQuote}
+use Rattle.roff_scan.proofs.KeptArguments.{held-only_kept, held-settled}
 use Rattle.roff_run.specs.Reading.{PageInput, interrupted, settling}
 use Rattle.roff_run.specs.Registers.{AllRegisters}
 use Rattle.roff_run.specs.Requests.{PageEvent}
@@ -76,55 +74,7 @@ NoMore-taking_of (item ∷ items) a i looked limits =
 pub NoMore-taking : (a : Answer) (u : Unread PageEvent) → NoMore (taking a u).1.input u.input
 NoMore-taking a u = NoMore-taking_of u.input.ahead a u.input u.looked u.limits
 
--- the bytes of some texts and of others
-total_length-append : (xs ys : List (List ℕ)) → total_length (xs ++ ys) ≡ total_length xs + total_length ys
-total_length-append [] ys = omega arith
-total_length-append (x ∷ xs) ys = omega (arith, total_length-append xs ys)
-
-total_length-reverse : (xs : List (List ℕ)) → total_length (reverse xs) ≡ total_length xs
-total_length-reverse [] = refl
-total_length-reverse (x ∷ xs) =
-    let split : total_length (reverse xs ++ x ∷ []) ≡ total_length (reverse xs) + total_length (x ∷ []) = total_length-append (reverse xs) (x ∷ []) in
-    ap total_length (reverse-append (x ∷ []) xs) ∙ omega (arith, split, total_length-reverse xs)
-
--- a text without a byte adds none
-no_byte : (x : List ℕ) → has_byte x ≡ false → length x ≡ 0
-no_byte [] none = refl
-no_byte (b ∷ text) none = cc
-
-with_byte_or_not : (x : List ℕ) (rest : List (List ℕ)) (c : Bool) → has_byte x ≡ c → total_length (cond c (x ∷ rest) rest) ≡ length x + total_length rest
-with_byte_or_not x rest true is = refl
-with_byte_or_not x rest false is = omega (arith, no_byte x is)
-
-total_length-has_byte : (xs : List (List ℕ)) → total_length (filter has_byte xs) ≡ total_length xs
-total_length-has_byte [] = refl
-total_length-has_byte (x ∷ xs) =
-    with_byte_or_not x (filter has_byte xs) (has_byte x) refl ∙ ap (λ n. length x + n) (total_length-has_byte xs)
-
--- what isn't kept has no byte
-total_length-kept : (n : ℕ) (xs : List (List ℕ)) → total_length (kept_behind n xs) ≡ total_length xs
-total_length-kept n xs =
-    let of_kept : total_length (kept_behind n xs) ≡ total_length (take n xs) + total_length (filter has_byte (drop n xs)) =
-    total_length-append (take n xs) (filter has_byte (drop n xs)) in
-    let of_all : total_length (take n xs ++ drop n xs) ≡ total_length (take n xs) + total_length (drop n xs) = total_length-append (take n xs) (drop n xs) in
-    let all : total_length (take n xs ++ drop n xs) ≡ total_length xs = ap total_length (take-append-drop n xs) in
-    omega (arith, of_kept, of_all, all, total_length-has_byte (drop n xs))
-
-pub held-only_kept : (a : Arguments) → held (only_kept a) ≡ held a
-held-only_kept a =
-    ap (λ n. n + length a.begun)
-    (total_length-reverse (kept (reverse a.whole)) ∙ total_length-kept kept_by_place (reverse a.whole) ∙ total_length-reverse a.whole)
-
-held-settled_at : (place : Place) (a : Arguments) → held (settled_at place a) ≡ held a
-held-settled_at Between a = refl
-held-settled_at InPlain a = refl
-held-settled_at InQuotes a = refl
-held-settled_at BehindQuote a = omega (arith, length-reverse a.begun)
-
 -- where no quote follows, as many bytes are held
-pub held-settled : (a : Arguments) → held (settled a) ≡ held a
-held-settled a = held-settled_at a.place a
-
 pub pushed-settling : (i : PageInput) → pushed (settling i) ≡ pushed i
 pushed-settling i = ap (λ n. bytes_ahead i.ahead + n) (held-only_kept (settled i.arguments) ∙ held-settled i.arguments)
 

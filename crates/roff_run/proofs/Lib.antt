@@ -18,6 +18,9 @@ pub mod RegisterLaws
 pub mod Numbering
 pub mod InputCounts
 pub mod TurnsToCome
+pub mod TakesAs
+pub mod Obeying
+pub mod RemovedRegisters
 pub mod InFront
 pub mod Interpolation
 pub mod QuotedArguments

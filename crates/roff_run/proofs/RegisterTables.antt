@@ -16,7 +16,7 @@ use Rattle.roff_store.specs.Named.{Table, entry_of, with_entry, has_room, put_in
 use Rattle.roff_store.specs.Registers.{Call, Registers, after as after_call, register_of, with_setting, with_format}
 use Rattle.roff_store.specs.declared.register.Register.{Register}
 use Rattle.roff_run.specs.declared.registers.Query.{Query}
-use Rattle.roff_run.specs.Registers.{AllRegisters, Known, Change, SetTo, FormatAs, answer, greatest_number, is_page, is_read_only, query_of, text_asked, text_of_register}
+use Rattle.roff_run.specs.Registers.{AllRegisters, Known, Change, SetTo, FormatAs, answer, greatest_number, is_page, is_read_only, query_of, text_asked, text_of_register, value_asked, value_in_force}
 use Rattle.roff_run.specs.Registers.Capped.{Capped, admitted, after, is_past_cap, with_change}
 use Rattle.roff_run.specs.Registers.Kept.{IsCounted, capped_of}
 
@@ -112,3 +112,9 @@ pub text_of-read_only : (k : Known) (name : List ℕ) (query : Query) (n : ℕ) 
     → n ≡ min (answer k query) greatest_number → n < 2 ^ 64 → register_text (Decimal 1) (pos n) ≡ text_of_register k name
 text_of-read_only k name query n asked known small =
     plain_decimal n small ∙ ap decimal known ∙ ap (λ (asked : Option Query). text_asked asked k name) (sym asked)
+
+-- the value of a read-only register
+pub value_of-read_only : (k : Known) (name : List ℕ) (query : Query) (n : ℕ) → query_of name ≡ Some query
+    → n ≡ min (answer k query) greatest_number → (let value : Num = record { 0 = pos n } in value) ≡ value_in_force k name
+value_of-read_only k name query n asked known =
+    ap (λ (n : ℕ). (let value : Num = record { 0 = pos n } in value)) known ∙ ap (λ (asked : Option Query). value_asked asked k name) (sym asked)

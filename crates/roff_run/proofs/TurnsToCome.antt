@@ -27,22 +27,8 @@ use Rattle.roff_run.specs.declared.reading.TextLine.{TextLine}
 use Rattle.roff_run.specs.declared.request.LineReading.{LineReading}
 use Rattle.roff_run.specs.declared.request.LineReading.TheVariants.{ByArguments}
 use Rattle.roff_run.specs.declared.request.Request.{Request}
+use Rattle.roff_run.specs.TurnsToCome.{free_ahead, turns_within, turns_to_come}
 use Rattle.roff_run.proofs.InputCounts.{one_of}
-
--- the bytes ahead that cost nothing
-abbrev pub free_ahead : List (Ahead PageEvent) → ℕ
-free_ahead [] = 0
-free_ahead (ByteAhead b ∷ items) = free_ahead items
-free_ahead (FreeAhead b ∷ items) = free_ahead items + 1
-free_ahead (EndAhead ∷ items) = free_ahead items
-free_ahead (DoAhead event ∷ items) = free_ahead items
-
--- what falls with each turn that takes an item, within so many bytes: each item is paid for or free, and may begin one reading
-abbrev pub turns_within : ℕ → PageInput → ℕ
-turns_within bytes i = 2 * (bytes - i.charge) + 2 * free_ahead i.ahead + length i.half
-
-abbrev pub turns_to_come : Unread PageEvent → ℕ
-turns_to_come u = turns_within u.limits.bytes u.input
 
 -- a call took a byte, the end of a text, or an event
 abbrev pub IsTaken : Shown PageEvent → Type 0

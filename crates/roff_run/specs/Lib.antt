@@ -19,3 +19,6 @@ pub mod Quoting
 pub mod ResultLaws
 pub mod Taken
 pub mod Statuses
+pub mod Reader
+pub mod Clauses
+pub mod TurnsToCome

@@ -132,7 +132,8 @@ pub fn cut()
     ensures same_result { SameResultBeforeTheFault }
 {}
 
-/// No run takes more bytes, or has a longer pending line, than its limits say.
+/// No run takes more bytes, has a longer pending line, more inserted bytes or texts, or more registers than
+/// its limits say.
 pub fn bounds()
     ensures { NoLimitIsPassed }
 {}

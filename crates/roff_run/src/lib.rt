@@ -7,6 +7,7 @@ pub mod interpolation_laws;
 pub mod laws;
 mod message;
 mod number;
+mod reader;
 mod reading;
 pub mod register_laws;
 mod registers;
@@ -15,4 +16,5 @@ mod status;
 
 pub use event::{Events, PageEvent};
 pub use message::{Message, MessageLine};
+pub use reader::{Meaning, Reader};
 pub use status::Status;

@@ -13,7 +13,7 @@ use roff_num::Limit;
 pub enum Message {
     /// A limit of this value stopped the run.
     LimitReached(Limit, u32),
-    /// An argument that should be a number isn't one, or is out of range.
+    /// An argument that should be a number isn't one, or is out of range; or a register's step is.
     BadNumber,
     /// An argument that should be a format isn't one.
     BadFormat,

@@ -2,13 +2,13 @@
 
 ghost use Rattle.std.specs.Prelude.{◌≡◌, ℕ, ◌≤◌, ◌++◌, ◌∷◌, ◌==◌, ◌||◌, [], length, true, min};
 ghost use Rattle.roff_scan.specs.Bytes.{is_silent, newline};
-ghost use Rattle.roff_lines.specs.declared.event.Event.TheVariants.{Print};
+ghost use Rattle.roff_lines.specs.declared.event.Event.TheVariants.{Gap, Print, WordEnd};
 ghost use Rattle.roff_lines.specs.declared.glyph.Glyph.TheVariants.{Printed};
-ghost use Rattle.roff_run.specs.Reading.{PageInput, behind_name, going_on, kept_taking, dropped_taking, ends_name, escape_taking, fresh_line, glyph_taking, blank_taking, leading_blank_events, leading_glyph, most_leading, other_taking, text_line_end, text_taking};
+ghost use Rattle.roff_run.specs.Reading.{PageInput, behind_name, going_on, kept_taking, dropped_taking, ends_name, escape_taking, fresh_line, glyph_taking, blank_taking, leading_blank_events, leading_glyph, meaning_events, most_leading, other_taking, taking, text_line_end, text_taking};
 ghost use Rattle.roff_run.specs.Requests.{Text, row_of};
 ghost use Rattle.roff_run.specs.TextLine.Stepping.{step_at};
 ghost use Rattle.roff_run.specs.Registers.{Known};
-ghost use Rattle.roff_run.specs.declared.reading.Reading.TheVariants.{Control as BehindControl, Name as InName};
+ghost use Rattle.roff_run.specs.declared.reading.Reading.TheVariants.{Control as BehindControl, Name as InName, Text as InText};
 
 use crate::event::{Events, PageEvent};
 use crate::request::{LineReading, Request};
@@ -120,10 +120,20 @@ impl TextLine {
 
     /// Whether a byte is a glyph behind another on the line, and does nothing else. Most are.
     pub(crate) fn goes_on_with(self, byte: u8) -> bool
-        ensures { result ≡ true → (i : PageInput)
-            → text_taking i self byte ≡ glyph_taking i self (Printed byte) }
+        ensures { result ≡ true → (k : Known) (i : PageInput) → i.half ≡ []
+            → taking k (InText self) i byte
+            ≡ meaning_events i (InText self) (Text (Print (Printed byte)) ∷ []) }
     {
         self.has_glyph && self.leading == 0 && byte > b' ' && byte != 127 && byte != b'\\'
+    }
+
+    /// Whether a byte is a gap behind a glyph on the line, and does nothing else.
+    pub(crate) fn goes_on_with_gap(self, byte: u8) -> bool
+        ensures { result ≡ true → (k : Known) (i : PageInput) → i.half ≡ []
+            → taking k (InText self) i byte
+            ≡ meaning_events i (InText self) (Text WordEnd ∷ Text (Gap 1) ∷ []) }
+    {
+        self.has_glyph && byte == b' '
     }
 
     /// The events of the line's end: a line of blanks alone is a break and a blank line.

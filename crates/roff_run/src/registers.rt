@@ -100,7 +100,7 @@ impl Model for RunRegisters {
 }
 
 impl RunRegisters {
-    ghost use Rattle.roff_run.specs.Registers.{Remove, SetTo, FormatAs, StepBy, changed_by_all, is_page, known_behind, no_registers, settable, step_changes, step_messages, text_of_register};
+    ghost use Rattle.roff_run.specs.Registers.{Remove, SetTo, FormatAs, StepBy, changed_by_all, is_page, known_behind, no_registers, settable, step_changes, step_messages, text_of_register, value_in_force};
     ghost use Rattle.roff_run.specs.Registers.Capped.{admitted, after, with_change};
     ghost use Rattle.roff_run.specs.Registers.Coded.{change_of, known_of};
 
@@ -135,6 +135,16 @@ impl RunRegisters {
                 let register = self.settable(name);
                 written(register.value, register.format)
             }
+        }
+    }
+
+    /// The value in force under a name, of a read-only register too.
+    pub(crate) fn value_in_force(&self, name: &Name, facts: Facts) -> Num
+        ensures { result ≡ value_in_force (known_of facts self.now.all) name.now }
+    {
+        match query_of(name) {
+            Some(query) => Num(query.answer(facts) as i32),
+            None => self.settable(name).value,
         }
     }
 

@@ -14,7 +14,7 @@ mod spacing;
 
 use LineReading::ByArguments;
 pub(crate) use effects::{Changes, Done, Effect, Known};
-pub(crate) use numbering::register_named;
+pub(crate) use numbering::{name_given, register_named};
 use roff_lines::Param;
 
 /// A request.

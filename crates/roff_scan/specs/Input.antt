@@ -73,7 +73,7 @@ frees_ahead (FreeAhead b ∷ items) = frees_ahead items + 1
 frees_ahead (EndAhead ∷ items) = frees_ahead items
 frees_ahead (DoAhead event ∷ items) = frees_ahead items
 
--- for so many events put back there is room, by the limit on the depth: three before each end, and three before none
+-- for so many events put back there is room, by the limit on the depth: three before each end, and three behind the last
 abbrev pub most_events : ℕ → ℕ
 most_events most_texts = 3 * (most_texts + 1)
 

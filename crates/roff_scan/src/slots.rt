@@ -90,7 +90,8 @@ impl<E: Copy> Slots<E> {
 
     /// Nothing stands ahead; there is room for so many unread bytes and texts.
     pub(crate) fn new(alloc: Global, stack: u32, depth: u32) -> Result<Self, AllocError>
-        ensures { IfOk result (λ s. s ≡ record { ahead = []; most_bytes = stack; most_texts = depth }) }
+        ensures { IfOk result
+            (λ s. s ≡ record { ahead = []; most_bytes = stack; most_texts = depth }) }
     {
         let most_bytes = stack as usize;
         let most_texts = depth as usize;

@@ -1,8 +1,8 @@
 //! Sources: what a run reads from.
 
-ghost use Rattle.std.specs.Prelude.{◌≡◌, ℕ, ◌<◌, ◌≤◌, None, vec_len, IfOk};
+ghost use Rattle.std.specs.Prelude.{◌≡◌, ℕ, ◌<◌, ◌≤◌, None, vec_len, IfOk, IfSome};
 ghost use Rattle.roff_scan.specs.ReadSource.Given.{given_by};
-ghost use Rattle.roff_scan.specs.Tape.{Tape, Answers, Failed, Gives, Ends, OneNote, answer_of, Rises};
+ghost use Rattle.roff_scan.specs.Tape.{Tape, Answers, Failed, Gives, Ends, OneByte, OneNote, answer_of, Rises};
 
 use arrayvec::ArrayVec;
 use roff_num::Limit;
@@ -51,6 +51,15 @@ pub trait ByteSource {
         ensures failures { failures self.old ≤ failures self.new }
         ensures fault { answer_of result ≡ Ends Failed
             → Rises (failures self.old) (failures self.new) };
+
+    /// The next byte, where one stands ready. Otherwise nothing happens, and
+    /// [`next_byte`](ByteSource::next_byte) tells what comes.
+    fn ready_byte(&mut self) -> Option<u8>
+        ensures gives { IfSome result (λ b.
+            Answers (gives self.old) (gives self.new) (Gives (OneByte b))) }
+        ensures kept { result ≡ None → self.new ≡ self.old }
+        ensures notes { notes self.new ≤ notes self.old }
+        ensures failures { failures self.old ≤ failures self.new };
 }
 
 /// How many bytes a [`ReadSource`] asks its reader for.
@@ -118,7 +127,27 @@ impl<R: Read + Drop> ReadSource<R> {
         })
     }
 
+    /// The next byte of the block, if one is left.
+    #[inline(always)]
+    fn block_byte(&mut self) -> Option<u8>
+        requires open { ending_given self.old ≡ None }
+        ensures gives { IfSome result (λ b.
+            Answers (may_give R.remaining self.old) (may_give R.remaining self.new)
+            (Gives (OneByte b))) }
+        ensures kept { result ≡ None → self.new ≡ self.old }
+        ensures taken { result ≡ None → self.old.len ≤ self.old.next }
+        ensures failures { self.new.failures ≡ self.old.failures }
+    {
+        if self.next >= self.len {
+            return None;
+        }
+        let byte = self.block[self.next];
+        self.next += 1;
+        Some(byte)
+    }
+
     /// Reads the next block, by one read, and answers its first byte. Every error is a fault.
+    #[inline(never)]
     fn next_block(&mut self) -> Taken
         requires open { ending_given self.old ≡ None }
         requires taken { self.old.len ≤ self.old.next }
@@ -156,22 +185,27 @@ impl<R: Read + Drop> ByteSource for ReadSource<R> {
 
     ghost failures = { λ s. s.failures };
 
+    #[inline(always)]
     fn next_byte(&mut self) -> Taken {
         match self.reach {
-            Reach::Open => {
-                if self.next < self.len {
-                    let byte = self.block[self.next];
-                    self.next += 1;
-                    Taken::Byte(byte)
-                } else {
-                    self.next_block()
-                }
-            }
+            Reach::Open => match self.block_byte() {
+                Some(byte) => Taken::Byte(byte),
+                None => self.next_block(),
+            },
             Reach::Ended => Taken::End,
             Reach::Failed => {
                 self.failures = self.failures.saturating_add(1);
                 Taken::Fault
             }
+        }
+    }
+
+    #[inline(always)]
+    fn ready_byte(&mut self) -> Option<u8> {
+        match self.reach {
+            Reach::Open => self.block_byte(),
+            Reach::Ended => None,
+            Reach::Failed => None,
         }
     }
 }

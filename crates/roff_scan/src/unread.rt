@@ -3,9 +3,9 @@
 ghost use Rattle.roff_scan.specs.Arguments.{with_unit, settled, finished};
 ghost use Rattle.roff_scan.specs.ArgumentList.{listed};
 ghost use Rattle.roff_scan.specs.Halves.{byte_read, reading_ended, newline_stays};
-ghost use Rattle.std.specs.Prelude.{reverse, true, false, ◌≡◌, ◌+◌, ◌<◌, ◌≤◌, length, IfOk};
+ghost use Rattle.std.specs.Prelude.{reverse, true, false, not, ◌≡◌, ◌==◌, ◌+◌, ◌<◌, ◌≤◌, length, None, IfOk, IfSome};
 ghost use Rattle.roff_scan.specs.Tape.{Answer, OneByte, OneNote, Gives, Failed, Rises};
-ghost use Rattle.roff_scan.specs.Input.{is_none_ahead, events_ahead, frees_ahead, most_events, most_frees, pushed, depth, pushing, putting_back, freeing, with_arguments, without_arguments};
+ghost use Rattle.roff_scan.specs.Input.{is_none_ahead, counting, events_ahead, frees_ahead, most_events, most_frees, pushed, depth, pushing, putting_back, freeing, with_arguments, without_arguments};
 
 use crate::arguments::{ArgumentList, ArgumentTexts};
 use crate::half::{CopyUnit, Read};
@@ -83,7 +83,7 @@ impl<E> Model for Unread<E> {
 }
 
 impl<E: Copy> Unread<E> {
-    ghost use Rattle.roff_scan.specs.Unread.{initial_unread, is_bare, IsWithin, Shown, shown, ShowsNote, ShowsEnding, sighted, SeesNote, SeesEnding, taking, taking_answer, changing, reading};
+    ghost use Rattle.roff_scan.specs.Unread.{initial_unread, is_bare, IsWithin, Shown, shown, ShowsByte, ShowsNote, ShowsEnding, sighted, SeesNote, SeesEnding, taking, taking_answer, changing, reading};
     ghost use Rattle.roff_scan.specs.Unread.Calls.{Takes, Looks};
 
     /// The input before anything is read.
@@ -177,6 +177,30 @@ impl<E: Copy> Unread<E> {
         }
     }
 
+    /// Takes a byte of the source that stands ready, if nothing is ahead, none was looked at and the
+    /// limit on bytes allows it. Otherwise nothing happens, and [`take`](Unread::take) tells what is
+    /// in front. Most bytes are taken so.
+    #[inline(always)]
+    pub fn take_ready<S: ByteSource>(&mut self, source: &mut S) -> Option<u8>
+        ensures takes { IfSome result (λ b.
+            Takes (S.gives source.old) (S.gives source.new) self.old self.new (ShowsByte b)) }
+        ensures kept { result ≡ None → (self.new ≡ self.old) × (source.new ≡ source.old) }
+        ensures notes { S.notes source.new ≤ S.notes source.old }
+        ensures failures { S.failures source.old ≤ S.failures source.new }
+        ensures within { IsWithin self.new }
+    {
+        if !self.slots.is_empty() || self.looked.is_some() || self.charge >= self.limits.bytes {
+            return None;
+        }
+        match source.ready_byte() {
+            None => None,
+            Some(byte) => {
+                self.count(byte);
+                Some(byte)
+            }
+        }
+    }
+
     /// Takes a byte of the source. It stays looked at if the limit on bytes refuses it.
     #[inline(always)]
     fn take_byte(&mut self, byte: u8) -> Item<E>
@@ -187,13 +211,24 @@ impl<E: Copy> Unread<E> {
             self.looked = Some(byte);
             return Item::Refused(Limit::Bytes);
         }
+        self.count(byte);
+        Item::Byte(byte)
+    }
+
+    /// Counts a byte of the source, which isn't looked at any more.
+    #[inline(always)]
+    fn count(&mut self, byte: u8)
+        requires { self.old.input.charge < self.old.limits.bytes }
+        ensures counts { self.new
+            ≡ record self.old { input = counting byte self.old.input; looked = None } }
+        ensures within { IsWithin self.new }
+    {
         self.looked = None;
         self.line = self.newlines + 1;
         self.charge += 1;
         if byte == b'\n' {
             self.newlines += 1;
         }
-        Item::Byte(byte)
     }
 
     /// Takes the front item ahead.
@@ -215,6 +250,7 @@ impl<E: Copy> Unread<E> {
 
     /// Looks at the first byte behind any ends of texts. The source is asked where none stands
     /// ahead and no byte was looked at.
+    #[inline(never)]
     pub fn look<S: ByteSource>(&mut self, source: &mut S) -> Sight
         ensures looks { Looks (S.gives source.old) (S.gives source.new) self.old self.new
             (sighted result) }
@@ -279,6 +315,13 @@ impl<E: Copy> Unread<E> {
         ensures within { IsWithin self.new }
     {
         self.slots.free(bytes);
+    }
+
+    /// Whether something is half read.
+    pub fn is_half_read(&self) -> bool
+        ensures { result ≡ not (length self.now.input.half == 0) }
+    {
+        !self.half.is_empty()
     }
 
     /// Whether a newline stays, and ends the reading on top.

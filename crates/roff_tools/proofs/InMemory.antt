@@ -6,9 +6,9 @@ use Rattle.roff_num.specs.Lists.{IsBeginning}
 use Rattle.roff_num.specs.declared.limits.Limits.{Limits}
 use Rattle.roff_engine.specs.Engine.Outcome.{Outcome, Runs, Seen, seen}
 use Rattle.roff_engine.specs.Outcomes.{Gives, GivesAll, HadNoFault}
-use Rattle.roff_engine.specs.Results.{output_of, messages_of, status_of}
+use Rattle.roff_run.specs.Results.{output_of, messages_of, status_of}
 use Rattle.roff_engine.specs.Sinks.{AppendsFront}
-use Rattle.roff_engine.specs.declared.status.Status.{Status}
+use Rattle.roff_run.specs.declared.status.Status.{Status}
 use Rattle.roff_engine.proofs.Outcomes.{each_outcome_gives}
 use Rattle.roff_scan.specs.Tape.{Tape}
 use Rattle.roff_tools.specs.Memory.{kept_by, room_of, tape_of}

@@ -4,7 +4,7 @@ use Rattle.roff_num.specs.declared.limits.Limits.{Limits}
 use Rattle.roff_scan.specs.declared.source.ReadSource.{ReadSource}
 use Rattle.roff_scan.specs.ReadSource.Reach.{ending_given, may_give, unread}
 use Rattle.roff_engine.specs.declared.engine.Start.{Start}
-use Rattle.roff_engine.specs.declared.status.Status.{Status}
+use Rattle.roff_run.specs.declared.status.Status.{Status}
 use Rattle.roff_engine.specs.Engine.Outcome.{Runs, seen}
 use Rattle.roff_engine.specs.Sinks.{Sunk}
 use Rattle.roff_tools.specs.RunOver.{RunsOver, limits_of}

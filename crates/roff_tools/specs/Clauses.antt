@@ -6,7 +6,7 @@ pub use Rattle.clap.specs.declared.error.ErrorKind.TheVariants.{ArgumentConflict
 pub use Rattle.roff_num.specs.Clauses.{default_limits}
 pub use Rattle.roff_num.specs.Lists.{IsBeginning}
 pub use Rattle.roff_engine.specs.Engine.Outcome.{Runs, seen}
-pub use Rattle.roff_engine.specs.Results.{messages_of, output_of}
+pub use Rattle.roff_run.specs.Results.{messages_of, output_of}
 pub use Rattle.roff_tools.specs.CommandLine.{AreMistaken, AskForHelp, Asks, AsksFor, EachOptionSetsItsLimit, file_operand, limit_option, limits_asked_by, limits_set, nroff_app, roff_app}
 pub use Rattle.roff_tools.specs.CommandRows.{asked, fault, formats, limited, numbered}
 pub use Rattle.roff_tools.specs.Exit.{exit_after, exit_flushed, exit_number}

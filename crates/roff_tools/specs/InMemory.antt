@@ -1,7 +1,7 @@
 -- What a run in memory gives of the definition's result.
 use Rattle.std.specs.Prelude.{◌≡◌, Some}
 use Rattle.roff_num.specs.declared.limits.Limits.{Limits}
-use Rattle.roff_engine.specs.Results.{output_of, messages_of, status_of}
+use Rattle.roff_run.specs.Results.{output_of, messages_of, status_of}
 use Rattle.roff_scan.specs.Tape.{Tape}
 use Rattle.roff_tools.specs.declared.in_memory.Formatted.{Formatted}
 

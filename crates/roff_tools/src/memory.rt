@@ -67,6 +67,16 @@ impl ByteSource for MemSource<'_> {
             None => Taken::End,
         }
     }
+
+    fn ready_byte(&mut self) -> Option<u8> {
+        match self.rest.split_first() {
+            Some((byte, rest)) => {
+                self.rest = rest;
+                Some(*byte)
+            }
+            None => None,
+        }
+    }
 }
 
 /// A sink that keeps the first bytes, up to its capacity, and then fails.

@@ -1,14 +1,14 @@
 -- How a run of the code stands to the run of the definition.
-use Rattle.std.specs.Prelude.{◌≡◌, ◌⊎◌, ℕ, ◌≤◌, List, [], ◌∷◌, ◌++◌, Option, Some, None, if◌then◌else◌}
+use Rattle.std.specs.Prelude.{◌≡◌, ◌⊎◌, ℕ, ◌≤◌, List, ◌++◌, Option, Some, None}
 use Rattle.std.specs.Io.KnownBytes.{Appends}
-use Rattle.roff_num.specs.declared.limit.Limit.TheVariants.{Bytes}
+use Rattle.roff_num.specs.declared.limit.Limit.{Limit}
 use Rattle.roff_num.specs.declared.limits.Limits.{Limits}
 use Rattle.roff_scan.specs.Tape.{Tape, Item, Rises, Took, behind_front, items_then}
-use Rattle.roff_engine.specs.declared.status.Status.{Status}
-use Rattle.roff_engine.specs.declared.status.Status.TheVariants.{Device, Limit as Limited}
-use Rattle.roff_engine.specs.declared.message.Message.TheVariants.{WriteFailed}
-use Rattle.roff_engine.specs.Messages.{message_line}
-use Rattle.roff_engine.specs.Run.{State, Leads, initial, step, output, reported}
+use Rattle.roff_run.specs.declared.status.Status.{Status}
+use Rattle.roff_run.specs.declared.status.Status.TheVariants.{Device, Limit as Limited}
+use Rattle.roff_run.specs.declared.message.Message.TheVariants.{WriteFailed}
+use Rattle.roff_run.specs.Messages.{message_line}
+use Rattle.roff_run.specs.Run.{State, Leads, initial, step, output, reported}
 use Rattle.roff_engine.specs.Sinks.{Sunk}
 
 -- what the devices of a run have seen: how many faults the source has had, and what the sinks tell
@@ -34,10 +34,9 @@ pub record AppendsBetween (old new : Option (List ℕ)) (least most : List ℕ) 
   pub split : most ≡ least ++ (front ++ back)
   pub written : Appends old new (least ++ front)
 
--- what the step from a state leaves of the source: it takes what it looks at, and looks where nothing is to be
--- done first
-abbrev pub left_behind : State → Tape
-left_behind s = elim s.to_do [ [] ↦ if s.is_closing then s.tape else behind_front s.tape | e ∷ rest ↦ s.tape ]
+-- what is left of a source whose tape this would be: all of it, or all but the item in front, which was looked at
+abbrev pub IsLeftOf : Tape → Tape → Type 0
+IsLeftOf left tape = (left ≡ tape) ⊎ (left ≡ behind_front tape)
 
 -- the run of the definition comes to this state, and what it wrote and reported until then was
 -- written and reported
@@ -47,13 +46,13 @@ pub record Reaches (l : Limits) (t : Tape) (before now : Seen) (s : State) : Typ
   pub messages : Appends before.err.contents now.err.contents (reported s)
   pub faults : NoFewerFaults before now
 
--- The run ended by itself, with all of it written and reported, and left the tape of its last state; at the limit
--- on bytes without the byte that was looked at. If by a fault, the source's: its count rose.
+-- The run ended by itself, with all of it written and reported, and left the tape of its last state; at a limit
+-- perhaps without the item in front, which was looked at. If by a fault, the source's: its count rose.
 pub record Completes (l : Limits) (t left : Tape) (status : Status) (before now : Seen) : Type 0 where
   pub state : State
   pub reaches : Reaches l t before now state
   pub ended : state.ended ≡ Some status
-  pub rest : (left ≡ state.tape) ⊎ ((status ≡ Limited Bytes) × (left ≡ behind_front state.tape))
+  pub rest : (left ≡ state.tape) ⊎ ((limit : Limit) × (status ≡ Limited limit) × (left ≡ behind_front state.tape))
   pub fault : status ≡ Device → Rises before.failures now.failures
 
 -- The output failed in the step that the run made from this state: what was written begins with the text
@@ -70,8 +69,8 @@ pub record OutputFails (l : Limits) (t left : Tape) (status : Status) (before no
   pub is_device : status ≡ Device
   pub state : State
   pub stops : OutputStops l t before now state
-  pub rest : left ≡ left_behind state
-  pub messages : let told = reported state ++ message_line state.line WriteFailed in
+  pub rest : IsLeftOf left state.tape
+  pub messages : let told = reported state ++ message_line state.input.line WriteFailed in
       Appends before.err.contents now.err.contents told
       ⊎ (AppendsBetween before.err.contents now.err.contents (reported state) told
       × Rises before.err.failures now.err.failures)
@@ -87,7 +86,7 @@ pub record MessagesFail (l : Limits) (t left : Tape) (status : Status) (before n
   pub text : Appends before.out.contents now.out.contents (output state)
   pub messages : AppendsBetween before.err.contents now.err.contents (reported state) (reported (step l state))
   pub fault : Rises before.err.failures now.err.failures
-  pub rest : left ≡ left_behind state
+  pub rest : IsLeftOf left (step l state).tape
 
 -- a run over a tape, of which this is left, comes to one of these
 abbrev pub Outcome : Limits → Tape → Tape → Status → Seen → Seen → Type 0

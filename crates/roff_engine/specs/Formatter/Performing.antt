@@ -1,22 +1,26 @@
 -- How far the code performs events, over the states of the definition.
-use Rattle.std.specs.Prelude.{◌≡◌, ℕ, List, [], ◌∷◌, ◌++◌, None, Result, Ok, Err}
+use Rattle.std.specs.Prelude.{◌≡◌, ℕ, Bool, List, [], ◌∷◌, ◌++◌, None, Result, Ok, Err, OnOk}
 use Rattle.std.specs.Io.KnownBytes.{Appends}
 use Rattle.roff_num.specs.declared.limit.Limit.{Limit}
 use Rattle.roff_num.specs.declared.limits.Limits.{Limits}
 use Rattle.roff_scan.specs.Tape.{Tape, Rises}
 use Rattle.roff_lines.specs.declared.env.Env.{Env}
 use Rattle.roff_lines.specs.declared.event.Event.TheVariants.{WordEnd, Break}
-use Rattle.roff_lines.specs.declared.settings.Settings.{Settings}
 use Rattle.roff_lines.specs.Env.Stands.{Stands}
-use Rattle.roff_lines.specs.Events.{settings_after}
 use Rattle.roff_engine.specs.declared.formatter.Formatter.{Formatter}
 use Rattle.roff_engine.specs.declared.halt.Halt.{Halt}
-use Rattle.roff_engine.specs.declared.halt.Halt.TheVariants.{Limit as Limited, Output, Messages}
+use Rattle.roff_engine.specs.declared.halt.Halt.TheVariants.{Limit as Limited, Refused, Output, Messages}
 use Rattle.roff_engine.specs.Engine.Outcome.{Seen, AppendsBetween, NoFewerFaults, OutputStops, Reaches, seen}
-use Rattle.roff_engine.specs.Messages.{message_lines}
-use Rattle.roff_engine.specs.Output.{PageHistory, text_of, written}
-use Rattle.roff_engine.specs.Requests.{PageEvent, Text, Effect}
-use Rattle.roff_engine.specs.Run.{State, Leads, initial, step, stopped_by, output, reported}
+use Rattle.roff_run.specs.Messages.{message_lines}
+use Rattle.roff_run.specs.Output.{PageHistory, text_of, written}
+use Rattle.roff_run.specs.Reading.{PageInput, Taking}
+use Rattle.roff_run.specs.Registers.{AllRegisters, Known}
+use Rattle.roff_run.specs.declared.event.PageEvent.{PageEvent}
+use Rattle.roff_run.specs.declared.event.PageEvent.TheVariants.{Text}
+use Rattle.roff_run.specs.declared.message.Message.{Message}
+use Rattle.roff_run.specs.declared.reading.Reading.{Reading}
+use Rattle.roff_run.specs.Run.{State, Leads, initial, step, stopped_by, made, taken_as, known_at, output, reported}
+use Rattle.roff_run.specs.Reader.Taken.{Became, IsReady, PageUnread}
 use Rattle.roff_engine.specs.Sinks.{Sunk}
 
 -- the same state going on, with these events to do behind this history
@@ -52,6 +56,7 @@ Performs l t before now s rest (Ok done) env = AllPerformed l t before now s res
 Performs l t before now s rest (Err (Limited limit)) env = StoppedAt l t before now s limit
 Performs l t before now s rest (Err Output) env = FailedAt l t before now s
 Performs l t before now s rest (Err Messages) env = ⊥
+Performs l t before now s rest (Err (Refused limit)) env = ⊥
 
 -- An environment and a sink performed some events, as far as the answer says: for each state of a run that has
 -- these events in front of others to do.
@@ -63,16 +68,15 @@ pub record PerformsEvents (events : List PageEvent) (old new : Env) (out_old out
 -- a formatter did that, and changed nothing else: what is read stays as it was
 pub record PerformsOnly (events : List PageEvent) (old new : Formatter) (out_old out_new : Sunk) (result : Result (Unit {0}) Halt) : Type 0 where
   pub events_performed : PerformsEvents events old.env new.env out_old out_new result
-  pub reading : new.reading ≡ old.reading
-  pub argument : new.argument ≡ old.argument
+  pub reader : new.reader ≡ old.reader
 
--- One step from a state takes an item that means this effect: its messages are told on this line, and its events
--- stand in front of others to do, behind this history.
-pub record Means (l : Limits) (from s : State) (h : PageHistory) (line : ℕ) (effect : Effect) (rest : List PageEvent) : Type 0 where
-  pub opens : step l from ≡ acting s (effect.events ++ rest) h
+-- One step from a state takes an item that means these messages, which are told on this line, and these events,
+-- which stand in front of others to do, behind this history.
+pub record Means (l : Limits) (from s : State) (h : PageHistory) (line : ℕ) (messages : List Message) (events rest : List PageEvent) : Type 0 where
+  pub opens : step l from ≡ acting s (events ++ rest) h
   pub goes_on : from.ended ≡ None
   pub wrote : output from ≡ written h
-  pub said : reported s ≡ reported from ++ message_lines line effect.messages
+  pub said : reported s ≡ reported from ++ message_lines line messages
 
 -- the message sink failed in the step from this state
 pub record LostAt (l : Limits) (t : Tape) (before now : Seen) (from : State) : Type 0 where
@@ -96,17 +100,60 @@ pub record Sinks : Type 0 where
 abbrev pub sinks : Sunk → Sunk → Sinks
 sinks out err = record { out = out; err = err }
 
--- A formatter did an effect, which may depend on what is in force, as far as it answers: for each state of a run
--- whose next step means the effect.
-pub record DoesEffect (line : ℕ) (effect : Settings → Effect) (old new : Formatter) (told_old told_new : Sinks) (result : Result (Unit {0}) Halt) : Type 0 where
+-- A formatter did what an item means, as far as it answers: for each state of a run whose next step means that.
+pub record DoesMeaning (line : ℕ) (messages : List Message) (events : List PageEvent) (old new : Formatter) (told_old told_new : Sinks) (result : Result (Unit {0}) Halt) : Type 0 where
   pub does : (l : Limits) (t : Tape) (before : Seen) (failures : ℕ) (from s : State) (h : PageHistory) (rest : List PageEvent)
       → Stands l.line (text_of h) old.env → Reaches l t before (seen failures told_old.out told_old.err) from
-      → Means l from s h line (effect (settings_after (text_of h))) rest
+      → Means l from s h line messages events rest
       → Does l t before (seen failures told_new.out told_new.err) from s rest result new.env
+  pub reader : new.reader ≡ old.reader
 
--- an effect with some events more
-abbrev pub with_events : Effect → List PageEvent → Effect
-with_events effect events = record effect { events = effect.events ++ events }
+-- a state of a run that hasn't ended, by all that it has
+abbrev pub going : Tape → PageInput → Reading → AllRegisters → PageHistory → List ℕ → Bool → List PageEvent → State
+going tape i reading rs h messages is_closing to_do = record {
+  tape = tape;
+  input = i;
+  reading = reading;
+  registers = rs;
+  to_do = to_do;
+  history = h;
+  messages = messages;
+  is_closing = is_closing;
+  ended = None;
+  last_message = [];
+}
+
+-- One step from a state leads to another, unless a count would be above its limit there; nothing was written or
+-- reported since that the state itself had not.
+pub record Opens (l : Limits) (from done : State) (h : PageHistory) (messages : List ℕ) : Type 0 where
+  pub opens : step l from ≡ made l from done
+  pub goes_on : from.ended ≡ None
+  pub wrote : output from ≡ written h
+  pub said : reported from ≡ messages
+
+-- a limit refuses the step from this state
+pub record RefusedAt (l : Limits) (t : Tape) (before now : Seen) (from : State) (limit : Limit) : Type 0 where
+  pub reaches : Reaches l t before now from
+  pub goes_on : from.ended ≡ None
+  pub stops : step l from ≡ stopped_by l limit from
+
+-- how far the code did a taking, from this state to that, by its answer
+abbrev pub Did : Limits → Tape → Seen → Seen → State → State → List PageEvent → Result (Unit {0}) Halt → Env → Type 0
+Did l t before now from done rest (Err (Refused limit)) env = RefusedAt l t before now from limit
+Did l t before now from done rest result env = Does l t before now from done rest result env
+
+-- The code did what the definition takes, and performed some events more, as far as it answers: for each state of a
+-- run from which one step leads to the taking's, with these events and others to do behind its own.
+pub record DoesTaking (t : Known → Taking) (more : List PageEvent) (old new : Formatter) (before behind : PageUnread) (told_old told_new : Sinks) (result : Result (Unit {0}) Halt) : Type 0 where
+  pub became : (cap : ℕ) (h : PageHistory) → Stands cap (text_of h) old.env → IsReady old.reader.registers before
+      → OnOk result (Became (t (known_at h old.reader.registers.all before.input)) old.reader.registers new.reader before behind)
+  pub does : (t0 : Tape) (start : Seen) (failures : ℕ) (from : State) (tape : Tape) (h : PageHistory) (messages : List ℕ) (is_closing : Bool) (rest : List PageEvent)
+      → Stands before.limits.line (text_of h) old.env → IsReady old.reader.registers before
+      → Reaches before.limits t0 start (seen failures told_old.out told_old.err) from
+      → let known : Known = known_at h old.reader.registers.all before.input in
+      let state : State = going tape before.input old.reader.reading old.reader.registers.all h messages is_closing (more ++ rest) in
+      Opens before.limits from (taken_as (t known) state) h messages
+      → Did before.limits t0 start (seen failures told_new.out told_new.err) from (taken_as (t known) state) rest result new.env
 
 -- the events that finish the last line
 abbrev pub closing_events : List PageEvent

@@ -1,49 +1,49 @@
 -- How far a run of the code has come, as a run of the definition.
-use Rattle.std.specs.Prelude.{◌≡◌, ◌⊎◌, ℕ, ◌-◌, false, List, [], ◌++◌, None, Result, Ok, Err, OnOk}
+use Rattle.std.specs.Prelude.{◌≡◌, ◌⊎◌, ℕ, ◌+◌, ◌<◌, true, false, List, [], ◌∷◌, None, OnOk, Result, Ok, Err}
 use Rattle.std.specs.Io.KnownBytes.{Appends}
 use Rattle.roff_num.specs.declared.limit.Limit.{Limit}
-use Rattle.roff_num.specs.declared.limit.Limit.TheVariants.{Bytes}
-use Rattle.roff_scan.specs.Tape.{Tape, Answer, Item, IsItem, front, behind_front, items_then}
-use Rattle.roff_lines.specs.Env.Stands.{Stands}
-use Rattle.roff_engine.specs.declared.running.Running.{Running as Coded}
-use Rattle.roff_engine.specs.declared.status.Status.{Status}
-use Rattle.roff_engine.specs.declared.status.Status.TheVariants.{Device}
-use Rattle.roff_engine.specs.declared.halt.Halt.{Halt}
-use Rattle.roff_engine.specs.declared.halt.Halt.TheVariants.{Limit as Limited, Output, Messages}
-use Rattle.roff_engine.specs.declared.meter.Meter.{Meter}
 use Rattle.roff_num.specs.declared.limits.Limits.{Limits}
-use Rattle.roff_engine.specs.Engine.Outcome.{Seen, NoFewerFaults, left_behind, Reaches, OutputStops, MessagesFail, Outcome}
-use Rattle.roff_engine.specs.Output.{PageHistory, text_of}
-use Rattle.roff_engine.specs.Reading.{Reading}
-use Rattle.roff_engine.specs.Formatter.ReadsAs.{ReadsAs}
-use Rattle.roff_engine.specs.Run.{State, step, stopped_by, reported}
+use Rattle.roff_scan.specs.Tape.{Tape, Item, items_then}
+use Rattle.roff_scan.specs.Unread.{asks_to_take, initial_unread, looked_then}
+use Rattle.roff_lines.specs.Env.Stands.{Stands}
+use Rattle.roff_engine.specs.declared.formatter.Formatter.{Formatter}
+use Rattle.roff_engine.specs.declared.running.Running.{Running as Coded}
+use Rattle.roff_run.specs.declared.status.Status.{Status}
+use Rattle.roff_run.specs.declared.status.Status.TheVariants.{Device}
+use Rattle.roff_engine.specs.declared.halt.Halt.{Halt}
+use Rattle.roff_engine.specs.declared.halt.Halt.TheVariants.{Limit as Limited, Refused, Output, Messages}
+use Rattle.roff_engine.specs.Engine.Outcome.{Seen, NoFewerFaults, IsLeftOf, Reaches, OutputStops, MessagesFail, Outcome}
+use Rattle.roff_engine.specs.Formatter.Performing.{Opens, going}
+use Rattle.roff_run.specs.Reader.State.{fresh_reader}
+use Rattle.roff_run.specs.Reader.Taken.{IsReady, PageUnread}
+use Rattle.roff_run.specs.TurnsToCome.{turns_to_come}
+use Rattle.roff_run.specs.Output.{PageHistory, text_of}
+use Rattle.roff_run.specs.Run.{State, end_met, half_ends, step, stopped_by, reported}
 
--- the state of a run that reads on, behind so much of its input
-abbrev pub reading_on : Tape → Reading → PageHistory → Meter → List ℕ → State
-reading_on tape reading h m messages = record {
-  tape = tape;
-  reading = reading;
-  to_do = [];
-  history = h;
-  charge = m.charge;
-  newlines = m.newlines;
-  line = m.line;
-  messages = messages;
-  is_closing = false;
-  ended = None;
-  last_message = [];
-}
+-- the state of a run that reads on, where the source still gives this tape
+abbrev pub state_at : Tape → Coded → PageHistory → List ℕ → State
+state_at tape run h messages =
+    going (looked_then run.unread.looked tape) run.unread.input run.formatter.reader.reading run.formatter.reader.registers.all h messages false []
 
--- The run of the code over the tape t has come as far as one of the definition that reads on, with this
--- tape to come: it stands for its history and reads what it reads.
-pub record IsAt (t tape : Tape) (before now : Seen) (run : Coded) : Type 0 where
-  pub reading : Reading
+-- the end of the input: what is half read ends first, one after another
+abbrev pub input_ends : State → State
+input_ends s = elim s.input.half [ [] ↦ end_met s | first ∷ others ↦ half_ends s ]
+
+-- a step of the definition does this from the state that the run of the code is at
+abbrev pub StepDoes : (State → State) → Tape → Coded → PageHistory → List ℕ → Type 0
+StepDoes does tape run history messages =
+    let state : State = state_at tape run history messages in
+    step run.limits state ≡ does state
+
+-- The run of the code over the tape t has come as far as one of the definition that reads on, with this tape to come
+-- of the source: it stands for its history, and reads what it reads.
+pub record IsAt (t tape : Tape) (start now : Seen) (run : Coded) : Type 0 where
   pub history : PageHistory
   pub messages : List ℕ
-  pub reaches : Reaches run.limits t before now (reading_on tape reading history run.meter messages)
+  pub reaches : Reaches run.limits t start now (state_at tape run history messages)
   pub stands : Stands run.limits.line (text_of history) run.formatter.env
-  pub reads : ReadsAs reading run.formatter.reading run.formatter.argument
-  pub cap : run.meter.limit ≡ run.limits.bytes
+  pub ready : IsReady run.formatter.reader.registers run.unread
+  pub limits : run.unread.limits ≡ run.limits
 
 -- the definition stops at a limit in the step behind a state of this line
 pub record LimitStops (l : Limits) (t left : Tape) (line : ℕ) (limit : Limit) (before now : Seen) : Type 0 where
@@ -51,10 +51,9 @@ pub record LimitStops (l : Limits) (t left : Tape) (line : ℕ) (limit : Limit) 
   pub reaches : Reaches l t before now state
   pub goes_on : state.ended ≡ None
   pub stops : step l state ≡ stopped_by l limit state
-  pub rest : (left ≡ state.tape) ⊎ ((limit ≡ Bytes) × (left ≡ behind_front state.tape))
-  pub left_is : left ≡ left_behind state
+  pub rest : IsLeftOf left state.tape
   pub quiet : state.last_message ≡ []
-  pub line_is : state.line ≡ line
+  pub line_is : state.input.line ≡ line
 
 -- the output failed in the step behind a state of this line
 pub record OutputStopsAt (l : Limits) (t left : Tape) (line : ℕ) (before now : Seen) : Type 0 where
@@ -62,35 +61,74 @@ pub record OutputStopsAt (l : Limits) (t left : Tape) (line : ℕ) (before now :
   pub stops : OutputStops l t before now state
   pub messages : Appends before.err.contents now.err.contents (reported state)
   pub faults : NoFewerFaults before now
-  pub rest : left ≡ left_behind state
-  pub line_is : state.line ≡ line
+  pub rest : IsLeftOf left state.tape
+  pub line_is : state.input.line ≡ line
+
+-- The line of a message that tells why a run can't go on: a refused item isn't taken, and the byte before it stood on
+-- the first line; the last byte taken stood on the second.
+abbrev pub line_told : Halt → ℕ → ℕ → ℕ
+line_told (Refused limit) line_before line = line_before
+line_told (_) line_before line = line
 
 -- why the run can't go on, before that is reported
 abbrev pub Halts : Limits → Tape → Tape → ℕ → Halt → Seen → Seen → Type 0
 Halts l t left line (Limited limit) before now = LimitStops l t left line limit before now
+Halts l t left line (Refused limit) before now = LimitStops l t left line limit before now
 Halts l t left line Output before now = OutputStopsAt l t left line before now
 Halts l t left line Messages before now = MessagesFail l t left Device before now
 
--- the run goes on behind an answer, with this tape to come, or it ended, with this tape left
+-- the run goes on, with this tape to come, or it ended, with this tape left
 abbrev pub Continues : Tape → Tape → Seen → Seen → Result (Unit {0}) Status → Coded → Type 0
-Continues t tape before now (Ok done) run = IsAt t tape before now run
-Continues t tape before now (Err status) run = Outcome run.limits t tape status before now
+Continues t tape start now (Ok done) run = IsAt t tape start now run
+Continues t tape start now (Err status) run = Outcome run.limits t tape status start now
 
--- behind an answer the run goes on or has ended, whatever the tape is that begins with the answer; it goes
--- on behind an item alone
-pub record Turns (a : Answer) (old new : Coded) (now behind : Seen) (r : Result (Unit {0}) Status) : Type 0 where
-  pub goes_on : OnOk r (IsItem a)
+-- The code took an item, and stands behind it; the definition stands before it, at this state, and a step of it
+-- leads to what is done with the item. The byte before stood on this line.
+pub record TookFrom (t tape : Tape) (start now : Seen) (line : ℕ) (does : State → State) (from : State) (run : Coded) : Type 0 where
+  pub history : PageHistory
+  pub messages : List ℕ
+  pub reaches : Reaches run.limits t start now from
+  pub opens : Opens run.limits from (does (state_at tape run history messages)) history messages
+  pub stands : Stands run.limits.line (text_of history) run.formatter.env
+  pub ready : IsReady run.formatter.reader.registers run.unread
+  pub limits : run.unread.limits ≡ run.limits
+  pub quiet : from.last_message ≡ []
+  pub line_is : from.input.line ≡ line
+  pub rest : IsLeftOf tape from.tape
+
+-- The code did what is to be done with an item that it took, or has ended: for each state from which a step of the
+-- definition leads to that. Where it goes on, the input is the definition's.
+pub record Acts (line : ℕ) (does : State → State) (old new : Coded) (now behind : Seen) (r : Result (Unit {0}) Status) : Type 0 where
   pub limits : new.limits ≡ old.limits
-  pub turns : (t tape : Tape) (before : Seen) → front tape ≡ a → IsAt t tape before now old
-      → Continues t (behind_front tape) before behind r new
+  pub acts : (t tape : Tape) (start : Seen) (from : State) → TookFrom t tape start now line does from old → Continues t tape start behind r new
+  pub input : (t tape : Tape) (start : Seen) (from : State) → (took : TookFrom t tape start now line does from old)
+      → OnOk r (new.unread.input ≡ (does (state_at tape old took.history took.messages)).input)
+
+-- the run asks its source next, or there is a tape that the source may give
+abbrev pub HasTape : Coded → (Tape → Type 0) → Type 0
+HasTape run gives = (asks_to_take run.unread ≡ true) ⊎ ((tape : Tape) × gives tape)
+
+-- The run took items of its source, and goes on or has ended, whatever the source may still give, where a step of the
+-- definition does this; it goes on only so many times, and each message of the source's is one.
+pub record TurnsBy (does : State → State) (gave gives : Tape → Type 0) (noted notes : ℕ) (old new : Coded) (now behind : Seen) (r : Result (Unit {0}) Status) : Type 0 where
+  pub limits : new.limits ≡ old.limits
+  pub taken : List Item
+  pub before : (tape : Tape) → gives tape → gave (items_then taken tape)
+  pub some : HasTape old gave → (tape : Tape) × gives tape
+  pub turns : (t tape : Tape) (start : Seen) → gives tape → (at : IsAt t (items_then taken tape) start now old)
+      → StepDoes does (items_then taken tape) old at.history at.messages → Continues t tape start behind r new
+  pub falls : (t tape : Tape) (start : Seen) → gives tape → (at : IsAt t (items_then taken tape) start now old)
+      → StepDoes does (items_then taken tape) old at.history at.messages → OnOk r (turns_to_come new.unread + notes < turns_to_come old.unread + noted)
 
 -- The run of the code has come so far, over a source that might have given the tapes `old` and may now give
 -- the tapes `new`: it took items, and whatever may still come, it is at its place in the run over all of these.
 pub record HasCome (old new : Tape → Type 0) (start now : Seen) (run : Coded) : Type 0 where
   pub taken : List Item
   pub before : (tape : Tape) → new tape → old (items_then taken tape)
+  pub some : HasTape run new
   pub at : (tape : Tape) → new tape → IsAt (items_then taken tape) tape start now run
 
--- bytes that may still be taken
-abbrev pub bytes_to_come : Meter → ℕ
-bytes_to_come m = m.limit - m.charge
+-- before the first item: nothing is read, set or ahead
+pub record IsFresh (l : Limits) (f : Formatter) (u : PageUnread) : Type 0 where
+  pub reader : f.reader ≡ fresh_reader l.names
+  pub unread : u ≡ initial_unread l

@@ -1,6 +1,7 @@
 use Rattle.std.proofs.Common.{◌≡◌, ◌+◌}
 use Rattle.roff_engine.specs.Engine.Outcome.{seen}
-use Rattle.roff_engine.specs.Running.Turning.{HasCome, bytes_to_come}
+use Rattle.roff_engine.specs.Running.Turning.{HasCome}
+use Rattle.roff_run.specs.TurnsToCome.{turns_to_come}
 use Rattle.roff_engine.proofs.engine.Engine.format.Given as goal
 
 abbrev pub invariant-loop-status : goal.invariant-loop-status
@@ -12,4 +13,4 @@ invariant-loop-status g l = record {
 }
 
 abbrev pub decreases-loop-status : goal.decreases-loop-status
-decreases-loop-status g l = bytes_to_come l.running.meter + g.S.ByteSource.notes l.source
+decreases-loop-status g l = turns_to_come l.running.unread + g.S.ByteSource.notes l.source

@@ -1,24 +1,16 @@
-use Rattle.roff_lines.specs.Events.{settings_after}
-use Rattle.std.proofs.Common.{◌++◌}
-use Rattle.roff_engine.specs.Output.{text_of}
+use Rattle.std.proofs.Common.{refl}
+use Rattle.roff_run.specs.Reading.{end_taking}
 use Rattle.roff_engine.specs.Formatter.Performing.{closing_events}
-use Rattle.roff_engine.specs.Reading.{end_effect}
-use Rattle.roff_engine.proofs.Performed.{does_events, does_halted, means_less}
+use Rattle.roff_engine.proofs.DoesTakings.{refused_taking, taking_done_and_more, taking_halted}
 use Rattle.roff_engine.proofs.formatter.Formatter.finish.Goals as goal
 
-pub returns-in-Ok-clause-does : goal.returns-in-Ok-clause-does
-returns-in-Ok-clause-does g c = λ r reads. record {
-  does = λ l t before failures from s h rest stood reached means.
-      let first = (c.in-Ok.ensures.does r reads).does l t before failures from s h (closing_events ++ rest) stood reached
-      (means_less l from s h c.args.line (end_effect (settings_after (text_of h)) r) closing_events rest means) in
-      does_events l t before _ from s rest c.perform_all.result _
-      (c.perform_all.ensures.events_performed.performs l t before failures _ s first.history rest first.stands first.reaches);
-}
+pub returns-in-Ok-act : goal.returns-in-Ok-act
+returns-in-Ok-act g c =
+    taking_done_and_more (λ k. end_taking k c.args.self.now.reader.reading c.args.unread.now.input) _ _ _ _ c.in-Ok.meaning c.in-Ok.ensures refl c.line.result c.line.ensures closing_events _ _ _ _ _ _ c.perform_all.result c.in-Ok-act.ensures c.perform_all.ensures
 
-pub returns-in-Err-clause-does : goal.returns-in-Err-clause-does
-returns-in-Err-clause-does g c = λ r reads. record {
-  does = λ l t before failures from s h rest stood reached means.
-      does_halted l t before _ from s (closing_events ++ rest) rest c.in-Err.halt _ _
-      ((c.in-Err.ensures.does r reads).does l t before failures from s h (closing_events ++ rest) stood reached
-      (means_less l from s h c.args.line (end_effect (settings_after (text_of h)) r) closing_events rest means));
-}
+pub returns-in-Err-act : goal.returns-in-Err-act
+returns-in-Err-act g c =
+    taking_halted (λ k. end_taking k c.args.self.now.reader.reading c.args.unread.now.input) _ _ _ _ c.in-Ok.meaning c.in-Ok.ensures refl c.line.result c.line.ensures closing_events _ _ _ c.in-Err-act.halt c.in-Err-act.ensures
+
+pub returns-in-Err : goal.returns-in-Err
+returns-in-Err g c = refused_taking _ _ _ _ _ _ _ c.in-Err.limit c.in-Err.ensures

@@ -1,14 +1,14 @@
 use Rattle.std.proofs.Common.{rules, refl, ◌≡◌}
 use Rattle.roff_num.specs.declared.limit.Limit.TheVariants.{Line}
 use Rattle.roff_lines.specs.declared.event.Event.TheVariants.{Print}
-use Rattle.roff_engine.specs.Output.{text_of}
-use Rattle.roff_engine.specs.Requests.{Text}
+use Rattle.roff_run.specs.Output.{text_of}
+use Rattle.roff_run.specs.declared.event.PageEvent.TheVariants.{Text}
 use Rattle.roff_engine.proofs.Performed.{event_stopped, text_changes_only, text_refused}
 use Rattle.roff_engine.proofs.formatter.Formatter.glyph.Goals as goal
 
 pub returns-in-Ok : goal.returns-in-Ok
 returns-in-Ok c = λ told. text_changes_only (Print c.args.glyph) _ _ told
-    (λ l h stood. c.in-Ok.ensures.stands l.line (text_of h) stood) (λ h. refl) (search rules) (search rules)
+    (λ l h stood. c.in-Ok.ensures.stands l.line (text_of h) stood) (λ h. refl) (search rules)
 
 pub returns-in-Err : goal.returns-in-Err
 returns-in-Err c = λ told. record {
@@ -18,6 +18,5 @@ returns-in-Err c = λ told. record {
         rw is_line (event_stopped l t before failures err s h (Text (Print c.args.glyph)) rest told reached Line
         (text_refused l h (Print c.args.glyph) ((c.in-Err.ensures.limit l.line (text_of h) stood).0 refl)));
   };
-  reading = search rules;
-  argument = search rules;
+  reader = search rules;
 }

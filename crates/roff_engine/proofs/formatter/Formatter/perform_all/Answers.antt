@@ -6,8 +6,7 @@ use Rattle.roff_engine.proofs.formatter.Formatter.perform_all.Goals as goal
 pub loop-event-init : goal.loop-event-init
 loop-event-init g c = record {
   performed = λ k t before failures err s h rest stood reached. record { history = h; reaches = reached; stands = stood };
-  reading = search rules;
-  argument = search rules;
+  reader = search rules;
 }
 
 pub loop-event-preserved : goal.loop-event-preserved
@@ -17,8 +16,7 @@ loop-event-preserved g c =
       performed = λ k t before failures err s h rest stood reached.
           let now = so_far.performed k t before failures err s h rest stood reached in
           c.in-Ok.ensures.events_performed.performs k t before failures err s now.history (c.in-Some.others.now ++ rest) now.stands (rw opened at now.reaches);
-      reading = c.perform.ensures.reading ∙ so_far.reading;
-      argument = c.perform.ensures.argument ∙ so_far.argument;
+      reader = c.perform.ensures.reader ∙ so_far.reader;
     }
 
 pub returns-in-Err : goal.returns-in-Err
@@ -31,8 +29,7 @@ returns-in-Err g c =
             performs_halted l t before _ s (c.in-Some.others.now ++ rest) rest c.in-Err.halt _ _
             (c.in-Err.ensures.events_performed.performs l t before failures err s now.history (c.in-Some.others.now ++ rest) now.stands (rw opened at now.reaches));
       };
-      reading = c.perform.ensures.reading ∙ so_far.reading;
-      argument = c.perform.ensures.argument ∙ so_far.argument;
+      reader = c.perform.ensures.reader ∙ so_far.reader;
     }
 
 pub returns : goal.returns
@@ -42,6 +39,5 @@ returns g c =
       events_performed = record {
         performs = λ l t before failures err s h rest stood reached. rw closed at (so_far.performed l t before failures err s h rest stood reached);
       };
-      reading = so_far.reading;
-      argument = so_far.argument;
+      reader = so_far.reader;
     }

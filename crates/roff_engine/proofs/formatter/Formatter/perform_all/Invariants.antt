@@ -4,9 +4,9 @@ use Rattle.roff_scan.specs.Tape.{Tape}
 use Rattle.roff_lines.specs.Env.Stands.{Stands}
 use Rattle.roff_engine.specs.Engine.Outcome.{Reaches, Seen, seen}
 use Rattle.roff_engine.specs.Formatter.Performing.{AllPerformed, acting}
-use Rattle.roff_engine.specs.Output.{PageHistory, text_of}
-use Rattle.roff_engine.specs.Requests.{PageEvent}
-use Rattle.roff_engine.specs.Run.{State}
+use Rattle.roff_run.specs.Output.{PageHistory, text_of}
+use Rattle.roff_run.specs.declared.event.PageEvent.{PageEvent}
+use Rattle.roff_run.specs.Run.{State}
 use Rattle.roff_engine.specs.Sinks.{Sunk}
 use Rattle.roff_engine.proofs.formatter.Formatter.perform_all.Given as goal
 
@@ -16,8 +16,7 @@ invariant-loop-event g l = record {
       → Stands k.line (text_of h) l.initial.self.env
       → Reaches k t before (seen failures (g.O.ByteSink.sunk l.initial.out) err) (acting s (l.events ++ rest) h)
       → AllPerformed k t before (seen failures (g.O.ByteSink.sunk l.out) err) s (l.rest ++ rest) l.self.env;
-  reading : l.self.reading ≡ l.initial.self.reading;
-  argument : l.self.argument ≡ l.initial.self.argument;
+  reader : l.self.reader ≡ l.initial.self.reader;
 }
 
 abbrev pub decreases-loop-event : goal.decreases-loop-event

@@ -1,30 +1,22 @@
-use Rattle.std.proofs.Common.{refl, inl}
-use Rattle.roff_engine.proofs.Items.{end_done, end_halted, end_means}
+use Rattle.std.proofs.Common.{true, refl}
+use Rattle.roff_run.specs.Run.{end_met}
+use Rattle.roff_run.specs.Reading.{end_taking}
+use Rattle.roff_run.specs.Registers.{Known}
+use Rattle.roff_run.proofs.Keeping.{Keeps-end_taking}
+use Rattle.roff_engine.specs.Formatter.Performing.{closing_events}
+use Rattle.roff_engine.proofs.Acting.{finished_acts, halted_acts}
 use Rattle.roff_engine.proofs.running.Running.finish.Goals as goal
 
 pub returns-in-Ok : goal.returns-in-Ok
-returns-in-Ok g c = λ failures. record {
-  goes_on = tt;
-  limits = refl;
-  turns = λ t tape before ends at.
-      let l = c.args.self.now.limits in
-      let h = at.history in
-      let m = c.args.self.now.meter in
-      let means = end_means l tape at.reading h at.messages m c.line-line.result ends c.line-line.ensures in
-      let does = (c.in-Ok.ensures.does at.reading at.reads).does l t before failures _ _ h _ at.stands at.reaches means in
-      inl (end_done l tape at.reading h at.messages m t before _ _ ends does);
-}
+returns-in-Ok g c = λ none failures.
+    let old = c.args.self.now in
+    finished_acts (λ (k : Known). end_taking k old.formatter.reader.reading old.unread.input)
+    end_met closing_events _ old _ failures (λ tape h messages. refl) refl none c.in-Ok.ensures
 
 pub returns-in-Err : goal.returns-in-Err
-returns-in-Err g c = λ failures. record {
-  goes_on = tt;
-  limits = refl;
-  turns = λ t tape before ends at.
-      let l = c.args.self.now.limits in
-      let h = at.history in
-      let m = c.args.self.now.meter in
-      let means = end_means l tape at.reading h at.messages m c.line-line.result ends c.line-line.ensures in
-      let does = (c.in-Err.ensures.does at.reading at.reads).does l t before failures _ _ h _ at.stands at.reaches means in
-      c.status.ensures t _ before failures _
-      (rw c.line-line.ensures (end_halted l tape at.reading h at.messages m t before _ c.in-Err.halt _ ends does));
-}
+returns-in-Err g c = λ none failures.
+    let old = c.args.self.now in
+    halted_acts (λ (k : Known). end_taking k old.formatter.reader.reading old.unread.input)
+    end_met true closing_events _ old (λ tape h messages. refl) _ failures c.in-Err.halt _ _ old.unread.input.line refl
+    (λ k. (Keeps-end_taking k old.formatter.reader.reading old.unread.input).line)
+    c.in-Err.ensures (λ t left start halts. c.halted.ensures t left start failures _ (rw c.line-line.ensures halts))

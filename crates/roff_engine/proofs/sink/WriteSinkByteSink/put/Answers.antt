@@ -1,4 +1,4 @@
-use Rattle.std.proofs.Common.{◌++◌, take, arith, append_assoc}
+use Rattle.std.proofs.Common.{◌++◌, take, append_assoc}
 use Rattle.std.proofs.lemmas.List.{take-append-drop}
 use Rattle.roff_engine.proofs.Appending.{Writes-append}
 use Rattle.roff_engine.proofs.sink.WriteSinkByteSink.put.Goals as goal

@@ -1,0 +1,364 @@
+-- What the code does with an item that it took, as a step of the definition.
+use Rattle.std.proofs.Common.{◌≡◌, ℕ, ◌+◌, Bool, true, false, List, [], ◌∷◌, ◌++◌, length, Option, Some, None, Result, Ok, Err, OnOk, inl, inr, refl, subst, sym, ap, append-nil, ◌∙◌}
+use Rattle.std.proofs.Math.Dec.{eqb-suc-zero}
+use Rattle.std.specs.Prelude.{not, ◌==◌}
+use Rattle.roff_lines.specs.declared.env.Env.{Env}
+use Rattle.roff_lines.specs.Env.Stands.{Stands}
+use Rattle.roff_num.specs.declared.limit.Limit.{Limit}
+use Rattle.roff_num.specs.declared.limit.Limit.TheVariants.{Names, Stack, Depth}
+use Rattle.roff_num.specs.declared.limits.Limits.{Limits}
+use Rattle.roff_scan.specs.Arguments.{settled}
+use Rattle.roff_scan.specs.Halves.{reading_ended}
+use Rattle.roff_scan.specs.Input.{DoAhead, bytes_ahead, depth}
+use Rattle.roff_scan.specs.Tape.{Tape}
+use Rattle.roff_scan.specs.Unread.{looked_then}
+use Rattle.roff_scan.specs.declared.half.Half.{Half}
+use Rattle.roff_engine.specs.declared.formatter.Formatter.{Formatter}
+use Rattle.roff_engine.specs.declared.halt.Halt.{Halt}
+use Rattle.roff_engine.specs.declared.halt.Halt.TheVariants.{Limit as Limited, Refused, Output, Messages}
+use Rattle.roff_engine.specs.declared.running.Running.{Running as Coded}
+use Rattle.roff_engine.specs.Engine.Outcome.{Seen, IsLeftOf, Reaches, Outcome, seen}
+use Rattle.roff_engine.specs.Formatter.Performing.{AllPerformed, Did, DoesTaking, Opens, Performs, PerformsOnly, acting, going, sinks}
+use Rattle.roff_engine.specs.Running.Turning.{Acts, Halts, IsAt, TookFrom, input_ends, line_told, state_at}
+use Rattle.roff_engine.specs.Sinks.{Sunk}
+use Rattle.roff_run.specs.Output.{PageHistory, text_of}
+use Rattle.roff_run.specs.Reader.State.{ReaderState}
+use Rattle.roff_run.specs.Reader.Taken.{Became, IsReady, PageUnread}
+use Rattle.roff_run.specs.Reading.{PageInput, Taking, arguments_read_on, beginning_read, going_on, half_ended, interrupted, text_read}
+use Rattle.roff_run.specs.Registers.{AllRegisters, Known}
+use Rattle.roff_run.specs.Run.{State, initial, ahead_taken, counts_in, end_met, ending_as, half_ends, known_at, made, step, taken_as, unless_refused, first_passed, grown}
+use Rattle.roff_run.specs.declared.event.PageEvent.{PageEvent}
+use Rattle.roff_run.specs.declared.reading.Reading.{Reading}
+use Rattle.roff_run.specs.declared.reading.Reading.TheVariants.{LineStart, Text as InText, Control, Name, Arguments as InArguments, Dropped}
+use Rattle.roff_run.specs.declared.status.Status.{Status}
+use Rattle.roff_run.specs.declared.status.Status.TheVariants.{Done}
+use Rattle.roff_run.proofs.Keeping.{Keeps-half_ended, Keeps-interrupted}
+use Rattle.roff_run.proofs.Leads.{Leads-to}
+use Rattle.roff_scan.proofs.KeptArguments.{held-only_kept, held-settled}
+
+-- a tape is what is left of itself behind a byte that was looked at
+pub IsLeftOf-looked_then : (looked : Option ℕ) (tape : Tape) → IsLeftOf tape (looked_then looked tape)
+IsLeftOf-looked_then None tape = inl refl
+IsLeftOf-looked_then (Some b) tape = inr refl
+
+-- a halt that refused no item is told on the line of the last byte taken
+pub line_told-taken : (halt : Halt) (line_before line : ℕ) → ((limit : Limit) → halt ≡ Refused limit → ⊥) → line_told halt line_before line ≡ line
+line_told-taken (Limited limit) line_before line taken = refl
+line_told-taken (Refused limit) line_before line taken = absurd (taken limit refl)
+line_told-taken Output line_before line taken = refl
+line_told-taken Messages line_before line taken = refl
+
+-- what is left of the tape of either state, by whether a limit refuses the step
+left-unless_refused : (l : Limits) (o : Option Limit) (left : Tape) (from done : State)
+    → IsLeftOf left from.tape → IsLeftOf left done.tape → IsLeftOf left (unless_refused l o from done).tape
+left-unless_refused l None left from done before behind = behind
+left-unless_refused l (Some limit) left from done before behind = before
+
+-- one step from a state leads to a taking's, unless a limit refuses it
+module _ (l : Limits) (t left : Tape) (line_before line : ℕ) (start now : Seen) (from done : State) (opens : step l from ≡ made l from done)
+    (left_before : IsLeftOf left from.tape) (quiet_before : from.last_message ≡ []) (line_before_is : from.input.line ≡ line_before)
+    (left_behind : IsLeftOf left done.tape) (quiet : done.last_message ≡ []) (line_is : done.input.line ≡ line) where
+  -- what the code could not do of it halts the run
+  did_halt : (rest : List PageEvent) (halt : Halt) (env : Env) → Did l t start now from done rest (Err halt) env
+      → Halts l t left (line_told halt line_before line) halt start now
+  did_halt rest (Refused limit) env did = record {
+    state = from;
+    reaches = did.reaches;
+    goes_on = did.goes_on;
+    stops = did.stops;
+    rest = left_before;
+    quiet = quiet_before;
+    line_is = line_before_is;
+  }
+  did_halt rest (Limited limit) env did = record {
+    state = acting done (did.next ∷ did.to_do) did.history;
+    reaches = did.reaches;
+    goes_on = refl;
+    stops = did.stops;
+    rest = left_behind;
+    quiet = quiet;
+    line_is = line_is;
+  }
+  did_halt rest Output env did = record {
+    state = acting done (did.next ∷ did.to_do) did.history;
+    stops = did.stops;
+    messages = did.messages;
+    faults = did.faults;
+    rest = left_behind;
+    line_is = line_is;
+  }
+  did_halt rest Messages env did = record {
+    is_device = refl;
+    state = from;
+    comes = did.comes;
+    goes_on = did.goes_on;
+    text = did.text;
+    messages = did.messages;
+    fault = did.fault;
+    rest = subst (λ (s : State). IsLeftOf left s.tape) (sym opens) (left-unless_refused l (first_passed l (grown done)) left from done left_before left_behind);
+  }
+
+-- the state of the definition in which an item was taken, at the input's end with the last line to finish
+abbrev pub ready_to_take : Tape → Coded → PageHistory → List ℕ → Bool → List PageEvent → State
+ready_to_take tape run h messages is_closing more =
+    going (looked_then run.unread.looked tape) run.unread.input run.formatter.reader.reading run.formatter.reader.registers.all h messages is_closing (more ++ [])
+
+-- what is taken, as the definition has it of a run that has performed this
+abbrev pub taken_of : (Known → Taking) → Coded → PageHistory → Taking
+taken_of f run h = f (known_at h run.formatter.reader.registers.all run.unread.input)
+
+-- what is done with the item is this taking, at the input's end where it closes, with more to perform
+abbrev pub IsTaking : (Known → Taking) → (State → State) → Bool → List PageEvent → Coded → Type 0
+IsTaking f does is_closing more run =
+    (tape : Tape) (h : PageHistory) (messages : List ℕ)
+    → does (state_at tape run h messages) ≡ taken_as (taken_of f run h) (ready_to_take tape run h messages is_closing more)
+
+-- the run goes on at the state behind a taking
+IsAt-behind : (t tape : Tape) (start now : Seen) (old new : Coded) (taken : Taking) (h : PageHistory) (messages : List ℕ) (more : List PageEvent)
+    → Became taken old.formatter.reader.registers new.formatter.reader old.unread new.unread
+    → new.limits ≡ old.limits → old.unread.limits ≡ old.limits → IsReady old.formatter.reader.registers old.unread
+    → AllPerformed old.limits t start now (taken_as taken (ready_to_take tape old h messages false more)) [] new.formatter.env
+    → IsAt t tape start now new
+IsAt-behind t tape start now old new taken h messages more became limits kept ready performed = record {
+  history = performed.history;
+  messages = (taken_as taken (state_at tape old h messages)).messages;
+  reaches = rw (limits, became.input, became.reading, became.registers) performed.reaches;
+  stands = rw limits performed.stands;
+  ready = record {
+    cap = rw (became.registers, became.input) ready.cap;
+    within = rw (became.registers, became.input) became.within;
+  };
+  limits = rw (became.input, limits) kept;
+}
+
+-- The code takes what the definition does.
+module _ (f : Known → Taking) (does : State → State) (is_closing : Bool) (more : List PageEvent) (line : ℕ) (old : Coded) (meant : IsTaking f does is_closing more old) where
+  -- the state behind the taking
+  abbrev done : Tape → PageHistory → List ℕ → State
+  done tape h messages = taken_as (taken_of f old h) (ready_to_take tape old h messages is_closing more)
+
+  -- a step leads there
+  opened : {t tape : Tape} {start now : Seen} {from : State} → (took : TookFrom t tape start now line does from old)
+      → Opens old.limits from (done tape took.history took.messages) took.history took.messages
+  opened {t} {tape} {start} {now} {from} took =
+      subst (λ (s : State). Opens old.limits from s took.history took.messages) (meant tape took.history took.messages) took.opens
+
+  -- how far it came
+  did : {out_old err_old out_new err_new : Sunk} (formatter : Formatter) (unread : PageUnread) (r : Result (Unit {0}) Halt)
+      → DoesTaking f more old.formatter formatter old.unread unread (sinks out_old err_old) (sinks out_new err_new) r
+      → (t tape : Tape) (start : Seen) (failures : ℕ) (from : State)
+      → (took : TookFrom t tape start (seen failures out_old err_old) line does from old)
+      → Did old.limits t start (seen failures out_new err_new) from (done tape took.history took.messages) [] r formatter.env
+  did {out_old} {err_old} {out_new} {err_new} formatter unread r takes t tape start failures from took =
+      let h : PageHistory = took.history in
+      let P : Limits → Type 0 = λ l. Stands l.line (text_of h) old.formatter.env
+      → Reaches l t start (seen failures out_old err_old) from
+      → Opens l from (done tape h took.messages) h took.messages
+      → Did l t start (seen failures out_new err_new) from (done tape h took.messages) [] r formatter.env in
+      subst P took.limits
+      (λ stands reaches opens. takes.does t start failures from (looked_then old.unread.looked tape) h took.messages is_closing [] stands took.ready reaches opens)
+      took.stands took.reaches (opened took)
+
+  -- what the code could not do of it halts the run
+  pub halted_acts : {out_old err_old out_new err_new : Sunk} (new : Coded) (failures : ℕ) (halt : Halt) (status : Status) (behind : Seen) (line_behind : ℕ)
+      → new.limits ≡ old.limits → ((k : Known) → (f k).input.line ≡ line_behind)
+      → DoesTaking f more old.formatter new.formatter old.unread new.unread (sinks out_old err_old) (sinks out_new err_new) (Err halt)
+      → ((t left : Tape) (start : Seen) → Halts old.limits t left (line_told halt line line_behind) halt start (seen failures out_new err_new)
+      → Outcome old.limits t left status start behind)
+      → Acts line does old new (seen failures out_old err_old) behind (Err status)
+  halted_acts {out_old} {err_old} {out_new} {err_new} new failures halt status behind line_behind limits line_is takes ends = record {
+    limits = limits;
+    acts = λ t tape start from took.
+        let state : State = done tape took.history took.messages in
+        let halts : Halts old.limits t tape (line_told halt line line_behind) halt start (seen failures out_new err_new) =
+        did_halt old.limits t tape line line_behind start _ from state
+        (opened took).opens took.rest took.quiet took.line_is
+        (IsLeftOf-looked_then old.unread.looked tape) refl (line_is (known_at took.history old.formatter.reader.registers.all old.unread.input))
+        [] halt new.formatter.env (did new.formatter new.unread (Err halt) takes t tape start failures from took) in
+        rw limits (ends t tape start halts);
+    input = λ t tape start from took. tt;
+  }
+
+-- what the code takes and does goes on behind it
+pub taking_acts : {out_old err_old out_new err_new : Sunk} (f : Known → Taking) (does : State → State) (more : List PageEvent) (line : ℕ) (old new : Coded) (failures : ℕ)
+    → IsTaking f does false more old
+    → new.limits ≡ old.limits
+    → DoesTaking f more old.formatter new.formatter old.unread new.unread (sinks out_old err_old) (sinks out_new err_new) (Ok tt)
+    → Acts line does old new (seen failures out_old err_old) (seen failures out_new err_new) (Ok tt)
+taking_acts {out_old} {err_old} {out_new} {err_new} f does more line old new failures meant limits takes = record {
+  limits = limits;
+  acts = λ t tape start from took.
+      IsAt-behind t tape start _ old new (taken_of f old took.history) took.history took.messages more
+      (takes.became old.limits.line took.history took.stands took.ready) limits took.limits took.ready
+      (did f does false more line old meant new.formatter new.unread (Ok tt) takes t tape start failures from took);
+  input = λ t tape start from took.
+      ap (λ (u : PageUnread). u.input) (takes.became old.limits.line took.history took.stands took.ready).input
+      ∙ sym (ap (λ (s : State). s.input) (meant tape took.history took.messages));
+}
+
+-- all is done at the input's end: one step more ends the run
+pub finished_acts : {out_old err_old out_new err_new : Sunk} (f : Known → Taking) (does : State → State) (more : List PageEvent) (line : ℕ) (old new : Coded) (failures : ℕ)
+    → IsTaking f does true more old
+    → new.limits ≡ old.limits → old.unread.looked ≡ None
+    → DoesTaking f more old.formatter new.formatter old.unread new.unread (sinks out_old err_old) (sinks out_new err_new) (Ok tt)
+    → Acts line does old new (seen failures out_old err_old) (seen failures out_new err_new) (Err Done)
+finished_acts {out_old} {err_old} {out_new} {err_new} f does more line old new failures meant limits none takes = record {
+  limits = limits;
+  acts = λ t tape start from took.
+      let taken : Taking = taken_of f old took.history in
+      let state : State = taken_as taken (ready_to_take tape old took.history took.messages true more) in
+      let performed : AllPerformed old.limits t start (seen failures out_new err_new) state [] new.formatter.env =
+      did f does true more line old meant new.formatter new.unread (Ok tt) takes t tape start failures from took in
+      inl (record {
+        state = ending_as Done (acting state [] performed.history);
+        reaches = rw limits (record {
+          comes = Leads-to old.limits (initial t) (acting state [] performed.history) _ performed.reaches.comes refl;
+          text = performed.reaches.text;
+          messages = performed.reaches.messages;
+          faults = performed.reaches.faults;
+        });
+        ended = refl;
+        rest = inl (sym (ap (λ (looked : Option ℕ). looked_then looked tape) none));
+        fault = λ wrong. cc;
+      });
+  input = λ t tape start from took. tt;
+}
+
+-- a step that leads to one thing leads to another that is the same
+abbrev TookFrom-as : (does other : State → State) (line : ℕ) (old : Coded) (t tape : Tape) (start now : Seen) (from : State)
+    → ((tape : Tape) (h : PageHistory) (messages : List ℕ) → does (state_at tape old h messages) ≡ other (state_at tape old h messages))
+    → TookFrom t tape start now line does from old → TookFrom t tape start now line other from old
+TookFrom-as does other line old t tape start now from same took = record {
+  history = took.history;
+  messages = took.messages;
+  reaches = took.reaches;
+  opens = subst (λ (s : State). Opens old.limits from s took.history took.messages) (same tape took.history took.messages) took.opens;
+  stands = took.stands;
+  ready = took.ready;
+  limits = took.limits;
+  quiet = took.quiet;
+  line_is = took.line_is;
+  rest = took.rest;
+}
+
+-- acting as one thing is acting as another that does the same to the state the run is at
+pub Acts-as : (does other : State → State) (line : ℕ) (old new : Coded) (now behind : Seen) (r : Result (Unit {0}) Status)
+    → ((tape : Tape) (h : PageHistory) (messages : List ℕ) → does (state_at tape old h messages) ≡ other (state_at tape old h messages))
+    → Acts line other old new now behind r → Acts line does old new now behind r
+Acts-as does other line old new now behind r same acts = record {
+  limits = acts.limits;
+  acts = λ t tape start from took. acts.acts t tape start from (TookFrom-as does other line old t tape start now from same took);
+  input = λ t tape start from took.
+      subst (λ (s : State). OnOk r (new.unread.input ≡ s.input)) (sym (same tape took.history took.messages))
+      (acts.input t tape start from (TookFrom-as does other line old t tape start now from same took));
+}
+
+-- the line stays where a half read item ends with nothing half read
+line-nothing_ended : (k : Known) (reading : Reading) (i : PageInput) → i.half ≡ [] → (half_ended k reading i).input.line ≡ i.line
+line-nothing_ended k LineStart i none = subst (λ (half : List Half). (beginning_read k i (reading_ended true half)).input.line ≡ i.line) (sym none) refl
+line-nothing_ended k (InText line) i none = subst (λ (half : List Half). (text_read k i line (reading_ended true half)).input.line ≡ i.line) (sym none) refl
+line-nothing_ended k (Control breaks) i none = refl
+line-nothing_ended k (Name breaks byte) i none = refl
+line-nothing_ended k (InArguments breaks request) i none =
+    subst (λ (half : List Half). (arguments_read_on k i breaks request (reading_ended false half)).input.line ≡ i.line) (sym none) refl
+line-nothing_ended k Dropped i none = refl
+
+-- the line stays where what is half read ends
+pub line-half_ended : (k : Known) (reading : Reading) (i : PageInput) → (half_ended k reading i).input.line ≡ i.line
+line-half_ended k reading i =
+    let by : (half : List Half) → i.half ≡ half → (half_ended k reading i).input.line ≡ i.line = λ half. elim half as (λ h. i.half ≡ h → (half_ended k reading i).input.line ≡ i.line) [
+      | [] ↦ λ is. line-nothing_ended k reading i is
+      | first ∷ others ↦ λ is. (Keeps-half_ended k reading i first others is).line
+    ] in
+    by i.half refl
+
+-- nothing that is counted grows where no quote follows the quote before
+counts_in-interrupted : (rs : AllRegisters) (reading : Reading) (i : PageInput) → counts_in rs (interrupted reading i) ≡ counts_in rs i
+counts_in-interrupted rs LineStart i = refl
+counts_in-interrupted rs (InText line) i = refl
+counts_in-interrupted rs (Control breaks) i = refl
+counts_in-interrupted rs (Name breaks byte) i = refl
+counts_in-interrupted rs (InArguments breaks request) i =
+    ap (λ bytes. (Names, length rs.named) ∷ (Stack, bytes_ahead i.ahead + bytes) ∷ (Depth, depth i) ∷ []) (held-only_kept (settled i.arguments) ∙ held-settled i.arguments)
+counts_in-interrupted rs Dropped i = refl
+
+-- so no limit refuses what it didn't refuse before
+within-interrupted : (l : Limits) (rs : AllRegisters) (reading : Reading) (i : PageInput)
+    → first_passed l (counts_in rs i) ≡ None → first_passed l (counts_in rs (interrupted reading i)) ≡ None
+within-interrupted l rs reading i within = ap (first_passed l) (counts_in-interrupted rs reading i) ∙ within
+
+-- an event that was put back does as the taking of nothing, with that event to perform
+abbrev pub event_taking : Reading → PageInput → Known → Taking
+event_taking reading i k = going_on (interrupted reading i) reading
+
+-- what is performed of it, by the answer
+Did-performed : (l : Limits) (t : Tape) (start now : Seen) (from done : State) (rest : List PageEvent) (r : Result (Unit {0}) Halt) (env : Env)
+    → Performs l t start now done rest r env → Did l t start now from done rest r env
+Did-performed l t start now from done rest (Ok u) env p = p
+Did-performed l t start now from done rest (Err (Limited limit)) env p = p
+Did-performed l t start now from done rest (Err Output) env p = p
+Did-performed l t start now from done rest (Err Messages) env p = absurd p
+Did-performed l t start now from done rest (Err (Refused limit)) env p = absurd p
+
+-- a fact is one of an answer that goes on
+OnOk-fact : {A F : Type 0} (r : Result A F) (P : Type 0) → P → OnOk r P
+OnOk-fact (Ok x) P fact = fact
+OnOk-fact (Err e) P fact = tt
+
+-- what is performed of an event that was put back is done of its taking
+pub event_does : (event : PageEvent) (old new : Formatter) (before behind : PageUnread) (out_old out_new err : Sunk) (r : Result (Unit {0}) Halt)
+    → behind ≡ record before { input = interrupted old.reader.reading before.input }
+    → PerformsOnly (event ∷ []) old new out_old out_new r
+    → DoesTaking (event_taking old.reader.reading before.input) (event ∷ []) old new before behind (sinks out_old err) (sinks out_new err) r
+event_does event old new before behind out_old out_new err r input performs = record {
+  became = λ cap h stands ready. OnOk-fact r _ (record {
+    input = input;
+    reading = ap (λ (s : ReaderState). s.reading) performs.reader;
+    registers = ap (λ (s : ReaderState). s.registers) performs.reader;
+    within = within-interrupted before.limits old.reader.registers.all old.reader.reading before.input ready.within;
+  });
+  does = λ t0 start failures from tape h messages is_closing rest stands ready reaches opens.
+      let done : State =
+      taken_as (event_taking old.reader.reading before.input (known_at h old.reader.registers.all before.input))
+      (going tape before.input old.reader.reading old.reader.registers.all h messages is_closing (event ∷ rest)) in
+      let allowed : first_passed before.limits (grown done) ≡ None =
+      within-interrupted before.limits old.reader.registers.all old.reader.reading before.input ready.within in
+      let step_is : step before.limits from ≡ done = opens.opens ∙ ap (λ (o : Option Limit). unless_refused before.limits o from done) allowed in
+      Did-performed before.limits t0 start _ from done rest r new.env
+      (performs.events_performed.performs before.limits t0 start failures err done h rest stands (record {
+        comes = Leads-to before.limits (initial t0) from done reaches.comes step_is;
+        text = rw (← opens.wrote) reaches.text;
+        messages = rw (append-nil (messages ++ []), append-nil messages, ← opens.said) reaches.messages;
+        faults = reaches.faults;
+      }));
+}
+
+-- that an event was put back is that taking
+pub event_meant : (event : PageEvent) (old : Coded)
+    → IsTaking (event_taking old.formatter.reader.reading old.unread.input) (ahead_taken (DoAhead event)) false (event ∷ []) old
+event_meant event old tape h messages =
+    ap (λ (told : List ℕ). record (ahead_taken (DoAhead event) (state_at tape old h messages)) { messages = told }) (sym (append-nil messages))
+
+-- the line stays where no quote follows
+pub line-interrupted : (reading : Reading) (i : PageInput) → (interrupted reading i).line ≡ i.line
+line-interrupted reading i = (Keeps-interrupted reading i).line
+
+-- one of two, by whether something is half read
+by_half : {A : Type 0} (half : List Half) (none some : A) → not (length half == 0) ≡ true
+    → (elim half as (λ _. A) [ [] ↦ none | first ∷ others ↦ some ]) ≡ some
+by_half [] none some is = cc
+by_half (first ∷ others) none some is = refl
+
+-- and by whether nothing is
+by_no_half : {A : Type 0} (half : List Half) (none some : A) → not (length half == 0) ≡ false
+    → (elim half as (λ _. A) [ [] ↦ none | first ∷ others ↦ some ]) ≡ none
+by_no_half [] none some is = refl
+by_no_half (first ∷ others) none some is = cc (eqb-suc-zero (length others))
+
+-- at the input's end what is half read ends, if something is
+pub input_ends-half : (s : State) → not (length s.input.half == 0) ≡ true → input_ends s ≡ half_ends s
+input_ends-half s is = by_half s.input.half (end_met s) (half_ends s) is
+
+-- and else the input's end is met
+pub input_ends-no_half : (s : State) → not (length s.input.half == 0) ≡ false → input_ends s ≡ end_met s
+input_ends-no_half s is = by_no_half s.input.half (end_met s) (half_ends s) is

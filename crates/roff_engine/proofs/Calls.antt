@@ -1,0 +1,179 @@
+-- What the calls of the unread input leave of a run: of its source, its limits and its turns to come.
+use Rattle.std.proofs.Common.{◌≡◌, ◌⊎◌, inl, inr, ℕ, ◌+◌, ◌≤◌, Bool, true, false, List, [], ◌∷◌, Option, Some, None, refl, sym, subst, arith}
+use Rattle.std.specs.Prelude.{nat_lt, is_none, ◌&&◌}
+use Rattle.roff_num.specs.declared.limits.Limits.{Limits}
+use Rattle.roff_scan.specs.Input.{Ahead, ByteAhead, FreeAhead, EndAhead, DoAhead, cost, item_taken}
+use Rattle.roff_scan.specs.Tape.{Tape, Item, Answer, OneByte, OneNote, Gives, Ends, items_then}
+use Rattle.roff_scan.specs.Unread.{Asked, Shown, Sighted, SeesByte, SeesNothing, SeesNote, SeesEnding, asks_to_take, asks_to_look, answer_behind, looked_then, shown_ahead, looking, looking_past, seen_ahead, taking, taking_answer}
+use Rattle.roff_engine.specs.Engine.Outcome.{IsLeftOf}
+use Rattle.roff_run.specs.Reading.{PageInput}
+use Rattle.roff_run.specs.Reader.Taken.{PageUnread}
+use Rattle.roff_run.specs.Registers.{AllRegisters}
+use Rattle.roff_run.specs.declared.event.PageEvent.{PageEvent}
+use Rattle.roff_run.specs.Run.{counts_in, first_passed}
+use Rattle.roff_run.specs.TurnsToCome.{turns_to_come, turns_within}
+use Rattle.roff_run.proofs.InFront.{Given, WasAsked, WasNot, Given-asked, IsEnding, Looks-looking, items_asked, limits-taking}
+use Rattle.roff_run.proofs.InputCounts.{first_passed-taking, one_of}
+
+-- A call took these items of its source, and left this unread input: what is left of the source is what it took from,
+-- but for the item in front, and no count or turn to come is more.
+pub record Leaves (gave gives : Tape → Type 0) (u left : PageUnread) (taken : List Item) : Type 0 where
+  pub before : (t : Tape) → gives t → gave (items_then taken t)
+  pub some : (asks_to_take u ≡ true) ⊎ ((t : Tape) × gave t) → (t : Tape) × gives t
+  pub rest : (t : Tape) → gives t → IsLeftOf t (looked_then u.looked (items_then taken t))
+  pub limits : left.limits ≡ u.limits
+  pub within : (rs : AllRegisters) → first_passed u.limits (counts_in rs u.input) ≡ None → first_passed u.limits (counts_in rs left.input) ≡ None
+  pub turns : turns_to_come left ≤ turns_to_come u
+
+-- what a source may give behind a call, it might have given before it
+before-asked : (gave gives : Tape → Type 0) (asked : Bool) (a : Answer) → Asked gave gives asked a → (t : Tape) → gives t
+    → gave (items_then (items_asked asked a) t)
+before-asked gave gives true (Gives item) answers t may = answers.before t may
+before-asked gave gives true (Ends ending) answers t may = subst gave (sym (answers.final ending refl t may)) (answers.before t may)
+before-asked gave gives false a stays t may = stays.before t may
+
+-- a source that was asked may give something, and so may one that stays, if it might before
+some-asked : (gave gives : Tape → Type 0) (asks asked : Bool) (a : Answer) → (asks ≡ true → asked ≡ true) → Asked gave gives asked a
+    → (asks ≡ true) ⊎ ((t : Tape) × gave t) → (t : Tape) × gives t
+some-asked gave gives asks true a asks_then answers known = (answers.some, answers.some_given)
+some-asked gave gives asks false a asks_then stays (inl is) = let wrong : false ≡ true = asks_then is in cc
+some-asked gave gives asks false a asks_then stays (inr may) = (may.0, stays.after may.0 may.1)
+
+-- what is left behind a call, by whether a byte was looked at
+left_behind : (looked : Option ℕ) (asked : Bool) (a : Answer) (before behind : Tape) → (asked ≡ true → looked ≡ None) → Given a asked before behind
+    → IsLeftOf behind (looked_then looked before)
+left_behind None asked a before behind none (WasAsked t gives) = inr refl
+left_behind (Some b) asked a before behind none (WasAsked t gives) = let wrong : Some b ≡ None = none refl in cc
+left_behind None asked a before behind none (WasNot t) = inl refl
+left_behind (Some b) asked a before behind none (WasNot t) = inr refl
+
+-- a source is asked only if no byte was looked at
+asked-to_take : (ahead : List (Ahead PageEvent)) (i : PageInput) (looked : Option ℕ) (limits : Limits)
+    → let u : PageUnread = record { input = record i { ahead = ahead }; looked = looked; limits = limits } in asks_to_take u ≡ true → looked ≡ None
+asked-to_take [] i None limits asks = refl
+asked-to_take [] i (Some b) limits asks = cc
+asked-to_take (item ∷ items) i looked limits asks = cc
+
+asked-to_look : (sight : Option Sighted) (looked : Option ℕ) → is_none sight && is_none looked ≡ true → looked ≡ None
+asked-to_look None None asks = refl
+asked-to_look None (Some b) asks = cc
+asked-to_look (Some sight) looked asks = cc
+
+-- one that is asked for the item in front is asked for what is seen
+asks-both : (ahead : List (Ahead PageEvent)) (i : PageInput) (looked : Option ℕ) (limits : Limits)
+    → let u : PageUnread = record { input = record i { ahead = ahead }; looked = looked; limits = limits } in asks_to_take u ≡ true → asks_to_look u ≡ true
+asks-both [] i looked limits asks = asks
+asks-both (item ∷ items) i looked limits asks = cc
+
+-- no more turns are to come behind a call
+abbrev NoMoreTurns : PageUnread → Shown PageEvent × PageUnread → Type 0
+NoMoreTurns u call = turns_to_come call.1 ≤ turns_to_come u
+
+turns-item : (item : Ahead PageEvent) (items : List (Ahead PageEvent)) (bytes : ℕ) (i : PageInput)
+    → turns_within bytes (item_taken item items i) ≤ turns_within bytes (record i { ahead = item ∷ items })
+turns-item (ByteAhead b) items bytes i = omega arith
+turns-item (FreeAhead b) items bytes i = omega arith
+turns-item EndAhead items bytes i = omega arith
+turns-item (DoAhead event) items bytes i = omega arith
+
+turns-answer : (a : Answer) (u : PageUnread) → NoMoreTurns u (taking_answer a u)
+turns-answer (Gives (OneByte b)) u = one_of (NoMoreTurns u) (nat_lt u.limits.bytes (u.input.charge + 1)) _ _ (omega arith) (omega arith)
+turns-answer (Gives (OneNote message)) u = omega arith
+turns-answer (Ends ending) u = omega arith
+
+turns-taking : (ahead : List (Ahead PageEvent)) (a : Answer) (i : PageInput) (looked : Option ℕ) (limits : Limits)
+    → let u : PageUnread = record { input = record i { ahead = ahead }; looked = looked; limits = limits } in NoMoreTurns u (taking a u)
+turns-taking [] a i looked limits = turns-answer (answer_behind looked a) (record { input = record i { ahead = [] }; looked = looked; limits = limits })
+turns-taking (item ∷ items) a i looked limits =
+    let u : PageUnread = record { input = record i { ahead = item ∷ items }; looked = looked; limits = limits } in
+    one_of (NoMoreTurns u) (nat_lt limits.bytes (i.charge + cost item)) _ _ (omega arith) (turns-item item items limits.bytes u.input)
+
+-- the call that takes the item in front
+pub Leaves-takes : (gave gives : Tape → Type 0) (u : PageUnread) (a : Answer) → Asked gave gives (asks_to_take u) a
+    → Leaves gave gives u (taking a u).1 (items_asked (asks_to_take u) a)
+Leaves-takes gave gives u a asked = record {
+  before = before-asked gave gives (asks_to_take u) a asked;
+  some = some-asked gave gives (asks_to_take u) (asks_to_take u) a (λ is. is) asked;
+  rest = λ t may.
+      left_behind u.looked (asks_to_take u) a _ t (asked-to_take u.input.ahead u.input u.looked u.limits) (Given-asked gave gives (asks_to_take u) a asked t may);
+  limits = limits-taking a u;
+  within = λ rs none. first_passed-taking u.limits rs a u none;
+  turns = turns-taking u.input.ahead a u.input u.looked u.limits;
+}
+
+-- the call that looks ahead
+pub Leaves-looks : (gave gives : Tape → Type 0) (u : PageUnread) (a : Answer) → Asked gave gives (asks_to_look u) a
+    → Leaves gave gives u (looking a u).1 (items_asked (asks_to_look u) a)
+Leaves-looks gave gives u a asked =
+    let same = Looks-looking a u in record {
+      before = before-asked gave gives (asks_to_look u) a asked;
+      some = some-asked gave gives (asks_to_take u) (asks_to_look u) a (asks-both u.input.ahead u.input u.looked u.limits) asked;
+      rest = λ t may.
+          left_behind u.looked (asks_to_look u) a _ t (asked-to_look (seen_ahead u.input.ahead) u.looked) (Given-asked gave gives (asks_to_look u) a asked t may);
+      limits = same.limits;
+      within = λ rs none. subst (λ (i : PageInput). first_passed u.limits (counts_in rs i) ≡ None) (sym same.input) none;
+      turns = rw (same.limits, same.input) (omega arith);
+    }
+
+-- the source was asked, with nothing ahead of it, and its items end: nothing was taken
+pub record EndsThere (u left : PageUnread) (taken : List Item) : Type 0 where
+  pub looked : u.looked ≡ None
+  pub taken_is : taken ≡ []
+  pub same : left ≡ u
+
+-- a call that shows an ending
+abbrev TakesEnding : PageUnread → List Item → Shown PageEvent × PageUnread → Type 0
+TakesEnding u taken call = IsEnding call.0 → EndsThere u call.1 taken
+
+no_ending_ahead : (item : Ahead PageEvent) → IsEnding (shown_ahead item) → ⊥
+no_ending_ahead (ByteAhead b) is = is
+no_ending_ahead (FreeAhead b) is = is
+no_ending_ahead EndAhead is = is
+no_ending_ahead (DoAhead event) is = is
+
+ends-byte : (b : ℕ) (u : PageUnread) (taken : List Item) → TakesEnding u taken (taking_answer (Gives (OneByte b)) u)
+ends-byte b u taken = one_of (TakesEnding u taken) (nat_lt u.limits.bytes (u.input.charge + 1)) _ _ (λ is. absurd is) (λ is. absurd is)
+
+ends-taking : (ahead : List (Ahead PageEvent)) (a : Answer) (i : PageInput) (looked : Option ℕ) (limits : Limits)
+    → let u : PageUnread = record { input = record i { ahead = ahead }; looked = looked; limits = limits } in
+    TakesEnding u (items_asked (asks_to_take u) a) (taking a u)
+ends-taking [] (Gives (OneByte b)) i None limits = ends-byte b (record { input = record i { ahead = [] }; looked = None; limits = limits }) _
+ends-taking [] (Gives (OneNote message)) i None limits = λ is. absurd is
+ends-taking [] (Ends ending) i None limits = λ is. record { looked = refl; taken_is = refl; same = refl }
+ends-taking [] a i (Some b) limits = ends-byte b (record { input = record i { ahead = [] }; looked = Some b; limits = limits }) _
+ends-taking (item ∷ items) a i looked limits =
+    let u : PageUnread = record { input = record i { ahead = item ∷ items }; looked = looked; limits = limits } in
+    one_of (TakesEnding u _) (nat_lt limits.bytes (i.charge + cost item)) _ _ (λ is. absurd is) (λ is. absurd (no_ending_ahead item is))
+
+-- the source's items end behind the call that takes the item in front
+pub EndsThere-takes : (u : PageUnread) (a : Answer) → IsEnding (taking a u).0 → EndsThere u (taking a u).1 (items_asked (asks_to_take u) a)
+EndsThere-takes u a is = ends-taking u.input.ahead a u.input u.looked u.limits is
+
+-- an ending is seen
+abbrev pub IsEndingSeen : Sighted → Type 0
+IsEndingSeen (SeesByte b) = ⊥
+IsEndingSeen SeesNothing = ⊥
+IsEndingSeen (SeesNote message) = ⊥
+IsEndingSeen (SeesEnding ending) = Unit {0}
+
+-- no ending is seen ahead of the source
+no_ending_seen : (items : List (Ahead PageEvent)) (sight : Sighted) → seen_ahead items ≡ Some sight → IsEndingSeen sight → ⊥
+no_ending_seen [] sight is ending = cc
+no_ending_seen (ByteAhead b ∷ items) sight is ending = let same : SeesByte b ≡ sight = cc in subst IsEndingSeen (sym same) ending
+no_ending_seen (FreeAhead b ∷ items) sight is ending = let same : SeesByte b ≡ sight = cc in subst IsEndingSeen (sym same) ending
+no_ending_seen (EndAhead ∷ items) sight is ending = no_ending_seen items sight is ending
+no_ending_seen (DoAhead event ∷ items) sight is ending = let same : SeesNothing ≡ sight = cc in subst IsEndingSeen (sym same) ending
+
+ends-looking : (sight : Option Sighted) (a : Answer) (i : PageInput) (looked : Option ℕ) (limits : Limits)
+    → let u : PageUnread = record { input = i; looked = looked; limits = limits } in
+    ((seen : Sighted) → sight ≡ Some seen → IsEndingSeen seen → ⊥)
+    → IsEndingSeen (looking_past sight a u).0 → EndsThere u (looking_past sight a u).1 (items_asked (is_none sight && is_none looked) a)
+ends-looking None (Gives (OneByte b)) i None limits none is = absurd is
+ends-looking None (Gives (OneNote message)) i None limits none is = absurd is
+ends-looking None (Ends ending) i None limits none is = record { looked = refl; taken_is = refl; same = refl }
+ends-looking None a i (Some b) limits none is = absurd is
+ends-looking (Some seen) a i looked limits none is = absurd (none seen refl is)
+
+-- the source's items end behind the call that looks ahead
+pub EndsThere-looks : (u : PageUnread) (a : Answer) → IsEndingSeen (looking a u).0 → EndsThere u (looking a u).1 (items_asked (asks_to_look u) a)
+EndsThere-looks u a is = ends-looking (seen_ahead u.input.ahead) a u.input u.looked u.limits (no_ending_seen u.input.ahead) is

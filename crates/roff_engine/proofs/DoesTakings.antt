@@ -1,0 +1,152 @@
+-- What the code takes: the definition's step to what a taking means, what was done of it, and limits that refuse it.
+use Rattle.std.proofs.Common.{◌≡◌, ℕ, Bool, List, [], ◌++◌, None, Some, Result, Ok, Err, OnOk, ap, append-nil, refl, sym, ◌∙◌}
+use Rattle.std.specs.Option.{option_to_list}
+use Rattle.roff_num.specs.declared.limit.Limit.{Limit}
+use Rattle.roff_num.specs.declared.limits.Limits.{Limits}
+use Rattle.roff_scan.specs.Tape.{Tape}
+use Rattle.roff_lines.specs.declared.env.Env.{Env}
+use Rattle.roff_lines.specs.Env.Stands.{Stands}
+use Rattle.roff_engine.specs.declared.formatter.Formatter.{Formatter}
+use Rattle.roff_engine.specs.declared.halt.Halt.{Halt}
+use Rattle.roff_engine.specs.declared.halt.Halt.TheVariants.{Limit as Limited, Refused, Output, Messages}
+use Rattle.roff_engine.specs.Engine.Outcome.{Reaches, Seen, seen}
+use Rattle.roff_engine.specs.Formatter.Performing.{Did, Does, DoesMeaning, DoesTaking, Means, Opens, PerformsOnly, RefusedAt, Sinks, acting, going}
+use Rattle.roff_engine.specs.Sinks.{Sunk}
+use Rattle.roff_engine.proofs.Appending.{Writes-nothing}
+use Rattle.roff_engine.proofs.Performed.{does_events, does_halted, messages_told}
+use Rattle.roff_run.specs.Output.{PageHistory, text_of}
+use Rattle.roff_run.specs.Reader.Taken.{Became, IsReady, PageUnread, TakesAs}
+use Rattle.roff_run.specs.Reading.{PageInput, Taking, meaning_events}
+use Rattle.roff_run.specs.Registers.{AllRegisters, Known, changed_by_all}
+use Rattle.roff_run.specs.Run.{State, counts_in, first_passed, known_at, taken_as, unless_refused}
+use Rattle.roff_run.specs.declared.event.PageEvent.{PageEvent}
+use Rattle.roff_run.specs.declared.message.Message.{Message}
+use Rattle.roff_run.specs.declared.reading.Reading.{Reading}
+use Rattle.roff_run.specs.declared.reader.Meaning.{Meaning}
+
+-- what was done of a meaning was done of the taking
+did_does : (l : Limits) (t : Tape) (before now : Seen) (from s : State) (rest : List PageEvent) (r : Result (Unit {0}) Halt) (env : Env)
+    → Does l t before now from s rest r env → Did l t before now from s rest r env
+did_does l t before now from s rest (Ok u) env d = d
+did_does l t before now from s rest (Err (Limited limit)) env d = d
+did_does l t before now from s rest (Err (Refused limit)) env d = absurd d
+did_does l t before now from s rest (Err Output) env d = d
+did_does l t before now from s rest (Err Messages) env d = d
+
+-- what holds of a success anyway
+on_ok : {T E P : Type 0} (r : Result T E) → P → OnOk r P
+on_ok (Ok x) p = p
+on_ok (Err e) p = tt
+
+-- one step from a state leads to what a taking means, unless a count would be above its limit there
+module _ (l : Limits) (from : State) (tape : Tape) (i : PageInput) (reading : Reading) (rs : AllRegisters) (h : PageHistory) (messages : List ℕ) (is_closing : Bool) (to_do : List PageEvent) (t : Taking)
+    (opens : Opens l from (taken_as t (going tape i reading rs h messages is_closing to_do)) h messages) where
+  -- no count is, and the step means what the taking means
+  pub means_taken : (line : ℕ) (told : List Message) (events : List PageEvent) → first_passed l (counts_in (changed_by_all t.effect.changes rs) t.input) ≡ None
+      → line ≡ t.input.line → told ≡ t.effect.messages → events ≡ t.effect.events
+      → Means l from (taken_as t (going tape i reading rs h messages is_closing to_do)) h line told events to_do
+  means_taken line told events within is_line are_messages are_events =
+      let done = taken_as t (going tape i reading rs h messages is_closing to_do) in record {
+        opens = opens.opens ∙ (ap (λ r. unless_refused l r from done) within ∙ ap (λ (es : List PageEvent). acting done (es ++ to_do) h) (sym are_events));
+        goes_on = opens.goes_on;
+        wrote = opens.wrote;
+        said = rw (opens.said, is_line, are_messages, append-nil) refl;
+      }
+
+  -- or one is, and a limit refuses the step
+  pub taking_refused : (t0 : Tape) (start now : Seen) (limit : Limit) → Reaches l t0 start now from
+      → first_passed l (counts_in (changed_by_all t.effect.changes rs) t.input) ≡ Some limit → RefusedAt l t0 start now from limit
+  taking_refused t0 start now limit reached past =
+      let done = taken_as t (going tape i reading rs h messages is_closing to_do) in record {
+        reaches = reached;
+        goes_on = opens.goes_on;
+        stops = opens.opens ∙ ap (λ r. unless_refused l r from done) past;
+      }
+
+-- a limit refused what the code would take
+pub refused_taking : (t : Known → Taking) (more : List PageEvent) (old new : Formatter) (before behind : PageUnread) (told : Sinks) (limit : Limit)
+    → TakesAs t old.env old.reader new.reader before behind (Err limit) → DoesTaking t more old new before behind told told (Err (Refused limit))
+refused_taking t more old new before behind told limit takes = record {
+  became = λ cap h stood ready. tt;
+  does = λ t0 start failures from tape h messages is_closing rest stood ready reached opens.
+      let k = known_at h old.reader.registers.all before.input in
+      taking_refused before.limits from tape before.input old.reader.reading old.reader.registers.all h messages is_closing (more ++ rest) (t k) opens
+      t0 start (seen failures told.out told.err) limit reached (takes.takes before.limits.line h stood ready);
+}
+
+-- the code took something, and has come to what it means
+module _ (t : Known → Taking) (old mid : Formatter) (before behind : PageUnread) (m : Meaning) (takes : TakesAs t old.env old.reader mid.reader before behind (Ok m)) (same : mid.env ≡ old.env)
+    (line : ℕ) (is_line : line ≡ behind.input.line) where
+  -- where something was done of that, it became what it becomes
+  became_taken : (new : Formatter) (r : Result (Unit {0}) Halt) → new.reader ≡ mid.reader
+      → (cap : ℕ) (h : PageHistory) → Stands cap (text_of h) old.env → IsReady old.reader.registers before
+      → OnOk r (Became (t (known_at h old.reader.registers.all before.input)) old.reader.registers new.reader before behind)
+  became_taken new r kept cap h stood ready = on_ok r (rw kept (takes.takes cap h stood ready).became)
+
+  -- what it means was done, as far as it was done
+  done_taken : (new : Formatter) (told_old told_new : Sinks) (r : Result (Unit {0}) Halt) → DoesMeaning line (option_to_list m.message) m.events.items mid new told_old told_new r
+      → (t0 : Tape) (start : Seen) (failures : ℕ) (from : State) (tape : Tape) (h : PageHistory) (messages : List ℕ) (is_closing : Bool) (to_do : List PageEvent)
+      → Stands before.limits.line (text_of h) old.env → IsReady old.reader.registers before
+      → Reaches before.limits t0 start (seen failures told_old.out told_old.err) from
+      → let state : State = taken_as (t (known_at h old.reader.registers.all before.input)) (going tape before.input old.reader.reading old.reader.registers.all h messages is_closing to_do) in
+      Opens before.limits from state h messages → Does before.limits t0 start (seen failures told_new.out told_new.err) from state to_do r new.env
+  done_taken new told_old told_new r done t0 start failures from tape h messages is_closing to_do stood ready reached opens =
+      let k = known_at h old.reader.registers.all before.input in
+      let took = takes.takes before.limits.line h stood ready in
+      done.does before.limits t0 start failures from _ h to_do (rw same stood) reached
+      (means_taken before.limits from tape before.input old.reader.reading old.reader.registers.all h messages is_closing to_do (t k) opens
+      line _ _ took.became.within (is_line ∙ ap (λ (u : PageUnread). u.input.line) took.became.input) took.messages took.events)
+
+  -- it was done, and nothing more was to be done
+  pub taking_done : (new : Formatter) (told_old told_new : Sinks) (r : Result (Unit {0}) Halt) → DoesMeaning line (option_to_list m.message) m.events.items mid new told_old told_new r
+      → DoesTaking t [] old new before behind told_old told_new r
+  taking_done new told_old told_new r done = record {
+    became = became_taken new r done.reader;
+    does = λ t0 start failures from tape h messages is_closing rest stood ready reached opens.
+        did_does before.limits t0 start _ from _ rest r new.env
+        (done_taken new told_old told_new r done t0 start failures from tape h messages is_closing rest stood ready reached opens);
+  }
+
+  -- doing it halted, and so nothing more was done
+  pub taking_halted : (more : List PageEvent) (new : Formatter) (told_old told_new : Sinks) (halt : Halt) → DoesMeaning line (option_to_list m.message) m.events.items mid new told_old told_new (Err halt)
+      → DoesTaking t more old new before behind told_old told_new (Err halt)
+  taking_halted more new told_old told_new halt done = record {
+    became = became_taken new (Err halt) done.reader;
+    does = λ t0 start failures from tape h messages is_closing rest stood ready reached opens.
+        did_does before.limits t0 start _ from _ rest (Err halt) new.env
+        (does_halted before.limits t0 start _ from _ (more ++ rest) rest halt new.env new.env
+        (done_taken new told_old told_new (Err halt) done t0 start failures from tape h messages is_closing (more ++ rest) stood ready reached opens));
+  }
+
+  -- it was done, and then events more were performed
+  pub taking_done_and_more : (more : List PageEvent) (next new : Formatter) (told_old : Sinks) (out_next out_new err_new : Sunk) (r : Result (Unit {0}) Halt)
+      → DoesMeaning line (option_to_list m.message) m.events.items mid next told_old (record { out = out_next; err = err_new }) (Ok tt)
+      → PerformsOnly more next new out_next out_new r → DoesTaking t more old new before behind told_old (record { out = out_new; err = err_new }) r
+  taking_done_and_more more next new told_old out_next out_new err_new r done performed = record {
+    became = became_taken new r (performed.reader ∙ done.reader);
+    does = λ t0 start failures from tape h messages is_closing rest stood ready reached opens.
+        let first = done_taken next told_old (record { out = out_next; err = err_new }) (Ok tt) done t0 start failures from tape h messages is_closing (more ++ rest) stood ready reached opens in
+        did_does before.limits t0 start _ from _ rest r new.env
+        (does_events before.limits t0 start _ from _ rest r new.env
+        (performed.events_performed.performs before.limits t0 start failures err_new _ first.history rest first.stands first.reaches));
+  }
+
+-- events alone were performed, and the input stayed as it was
+pub taking_performed : (t : Known → Taking) (events : List PageEvent) (old new : Formatter) (unread : PageUnread) (out_old out_new err : Sunk) (r : Result (Unit {0}) Halt)
+    → ((k : Known) → t k ≡ meaning_events unread.input old.reader.reading events) → PerformsOnly events old new out_old out_new r
+    → DoesTaking t [] old new unread unread (record { out = out_old; err = err }) (record { out = out_new; err = err }) r
+taking_performed t events old new unread out_old out_new err r is_taking performed = record {
+  became = λ cap h stood ready.
+      let k = known_at h old.reader.registers.all unread.input in
+      on_ok r (rw (is_taking k, performed.reader) (record { input = refl; reading = refl; registers = refl; within = ready.within }));
+  does = λ t0 start failures from tape h messages is_closing rest stood ready reached opens.
+      let k = known_at h old.reader.registers.all unread.input in
+      let read = meaning_events unread.input old.reader.reading events in
+      let state = going tape unread.input old.reader.reading old.reader.registers.all h messages is_closing rest in
+      let opened : Opens unread.limits from (taken_as read state) h messages = rw (is_taking k) at opens in
+      let means = means_taken unread.limits from tape unread.input old.reader.reading old.reader.registers.all h messages is_closing rest read opened unread.input.line [] events ready.within refl refl refl in
+      let told = messages_told unread.limits t0 start failures out_old err err from (taken_as read state) h unread.input.line [] events rest reached means (Writes-nothing err) in
+      rw (is_taking k) (did_does unread.limits t0 start _ from (taken_as read state) rest r new.env
+      (does_events unread.limits t0 start _ from (taken_as read state) rest r new.env
+      (performed.events_performed.performs unread.limits t0 start failures err (taken_as read state) h rest stood told)));
+}

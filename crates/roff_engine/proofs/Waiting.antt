@@ -1,0 +1,192 @@
+-- A turn in which what is half read waits for a byte: what is seen, and what is done with it.
+use Rattle.std.proofs.Common.{◌≡◌, ℕ, ◌+◌, ◌<◌, ◌≤◌, Bool, true, false, List, ◌++◌, length, Result, Err, inr, refl, sym, ap, subst, ◌∙◌, arith, append_assoc}
+use Rattle.std.specs.Prelude.{IsOkUnless, if◌then◌else◌, ◌==◌}
+use Rattle.roff_num.specs.declared.limit.Limit.{Limit}
+use Rattle.roff_num.specs.declared.limits.Limits.{Limits}
+use Rattle.roff_scan.specs.Bytes.{newline}
+use Rattle.roff_scan.specs.Halves.{newline_stays}
+use Rattle.roff_scan.specs.Tape.{Tape, Item, Ended, Failed, Stopped, Rises, items_then}
+use Rattle.roff_scan.specs.Unread.{Sighted, SeesByte, SeesNothing, SeesNote, SeesEnding, asks_to_look, looking, seen_ahead}
+use Rattle.roff_scan.specs.Unread.Calls.{Looks}
+use Rattle.roff_run.specs.declared.message.Message.TheVariants.{ReadFailed}
+use Rattle.roff_run.specs.declared.status.Status.{Status}
+use Rattle.roff_run.specs.declared.status.Status.TheVariants.{Device, Limit as Limited}
+use Rattle.roff_run.specs.Messages.{message_line}
+use Rattle.roff_run.specs.Output.{PageHistory}
+use Rattle.roff_run.specs.Reader.Taken.{PageUnread}
+use Rattle.roff_run.specs.Reading.{PageInput}
+use Rattle.roff_run.specs.Run.{State, awaited, half_ends, in_front_taken, known, made, step}
+use Rattle.roff_run.specs.TurnsToCome.{turns_to_come}
+use Rattle.roff_engine.specs.declared.running.Running.{Running as Coded}
+use Rattle.roff_engine.specs.Engine.Outcome.{Seen, seen}
+use Rattle.roff_engine.specs.Running.Turning.{Acts, IsAt, StepDoes, TurnsBy, state_at}
+use Rattle.roff_engine.specs.Sinks.{Sunk, Puts}
+use Rattle.roff_engine.proofs.Calls.{EndsThere, EndsThere-looks, IsEndingSeen, Leaves, Leaves-looks}
+use Rattle.roff_engine.proofs.Items.{looked_at, moved, note_told, source_failed, source_stopped}
+use Rattle.roff_engine.proofs.Turns.{LeavesFewer, acted, on_ok, on_ok-then, turned, turns_of}
+use Rattle.roff_run.proofs.InFront.{Given-asked, IsNoNote, Looks-looking, items_asked, over_unread, over_unread-looking, seen as seen_step, sighted_step}
+use Rattle.roff_run.proofs.TurnsToCome.{length-newline_stays, turns_within-half_ended}
+
+-- what is seen stays where it is, and the item in front is taken
+abbrev pub GoesInFront : Sighted → Type 0
+GoesInFront (SeesByte b) = b == newline ≡ false
+GoesInFront SeesNothing = Unit {0}
+GoesInFront (SeesNote message) = ⊥
+GoesInFront (SeesEnding Ended) = Unit {0}
+GoesInFront (SeesEnding Failed) = ⊥
+GoesInFront (SeesEnding (Stopped limit)) = ⊥
+
+no_note_in_front : (sight : Sighted) → GoesInFront sight → IsNoNote sight
+no_note_in_front (SeesByte b) goes = tt
+no_note_in_front SeesNothing goes = tt
+no_note_in_front (SeesNote message) goes = goes
+no_note_in_front (SeesEnding ending) goes = tt
+
+-- the step is the one that takes the item in front
+sighted_step-in_front : (l : Limits) (sight : Sighted) (from behind : State) → GoesInFront sight
+    → sighted_step l sight from behind ≡ in_front_taken l behind.input.ahead behind
+sighted_step-in_front l (SeesByte b) from behind goes =
+    ap (λ (c : Bool). if c then made l from (half_ends behind) else in_front_taken l behind.input.ahead behind) goes
+sighted_step-in_front l SeesNothing from behind goes = refl
+sighted_step-in_front l (SeesNote message) from behind goes = absurd goes
+sighted_step-in_front l (SeesEnding Ended) from behind goes = refl
+sighted_step-in_front l (SeesEnding Failed) from behind goes = absurd goes
+sighted_step-in_front l (SeesEnding (Stopped limit)) from behind goes = absurd goes
+
+-- the call that looks ahead
+module _ {gave gives : Tape → Type 0} {left : PageUnread} {sight : Sighted} (old : Coded) (call : Looks gave gives old.unread left sight) where
+  -- what it took
+  abbrev taken : List Item
+  taken = items_asked (asks_to_look old.unread) call.answer
+
+  -- what it leaves is what the definition's call does
+  left_is : looking call.answer old.unread ≡ (sight, left)
+  left_is = sym call.seen
+
+  leaves_look : Leaves gave gives old.unread left taken
+  leaves_look = subst (λ (c : Sighted × PageUnread). Leaves gave gives old.unread c.1 taken) left_is (Leaves-looks gave gives old.unread call.answer call.asked)
+
+  ends_look : IsEndingSeen sight → EndsThere old.unread left taken
+  ends_look = subst (λ (c : Sighted × PageUnread). IsEndingSeen c.0 → EndsThere old.unread c.1 taken) left_is (EndsThere-looks old.unread call.answer)
+
+  -- it leaves the input
+  input_look : left.input ≡ old.unread.input
+  input_look = subst (λ (c : Sighted × PageUnread). c.1.input ≡ old.unread.input) left_is (Looks-looking call.answer old.unread).input
+
+  -- the step is what the look shows
+  sighted_look : (tape : Tape) → gives tape → (h : PageHistory) (ms : List ℕ) → let from : State = state_at (items_then taken tape) old h ms in
+      awaited old.limits (seen_ahead old.unread.input.ahead) from ≡ sighted_step old.limits sight from (state_at tape (moved old left) h ms)
+  sighted_look tape may h ms =
+      let from : State = state_at (items_then taken tape) old h ms in
+      seen_step old.limits old.unread call.answer (items_then taken tape) tape from (Given-asked gave gives (asks_to_look old.unread) call.answer call.asked tape may)
+      ∙ ap (λ (c : Sighted × PageUnread). sighted_step old.limits c.0 from (over_unread c.1 tape from)) left_is
+
+  -- a look that shows no message changes nothing of the state
+  unmoved_look : IsNoNote sight → (tape : Tape) → gives tape → (h : PageHistory) (ms : List ℕ)
+      → state_at tape (moved old left) h ms ≡ state_at (items_then taken tape) old h ms
+  unmoved_look quiet tape may h ms =
+      let from : State = state_at (items_then taken tape) old h ms in
+      let given = Given-asked gave gives (asks_to_look old.unread) call.answer call.asked tape may in
+      subst (λ (c : Sighted × PageUnread). IsNoNote c.0 → over_unread c.1 tape from ≡ from) left_is
+      (over_unread-looking old.unread call.answer (items_then taken tape) tape from given) quiet
+
+-- a turn in which what is half read waits
+abbrev WaitingTurn : (gave gives : Tape → Type 0) → ℕ → ℕ → Coded → Coded → Seen → Seen → Result (Unit {0}) Status → Type 0
+WaitingTurn gave gives noted notes old new now after r =
+    TurnsBy (λ s. awaited old.limits (seen_ahead s.input.ahead) s) gave gives noted notes old new now after r
+
+module _ {gave gives : Tape → Type 0} {left : PageUnread} (old : Coded) (failed failures : ℕ) (out err : Sunk) (noted notes : ℕ) (more : failed ≤ failures) (less : notes ≤ noted) where
+  -- a newline: what is half read ends
+  pub waiting_newline : (b : ℕ) (new : Coded) (after : Seen) (r : Result (Unit {0}) Status) → b ≡ newline → Looks gave gives old.unread left (SeesByte b)
+      → newline_stays old.unread.input.half ≡ true → Acts left.input.line half_ends (moved old left) new (seen failures out err) after r
+      → WaitingTurn gave gives noted notes old new (seen failed out err) after r
+  waiting_newline b new after r is looks stays acts =
+      let call : Looks gave gives old.unread left (SeesByte newline) = subst (λ (b : ℕ). Looks gave gives old.unread left (SeesByte b)) is looks in
+      let leaves = leaves_look old call in
+      let same : left.input ≡ old.unread.input = input_look old call in
+      let fewer : LeavesFewer half_ends old.unread left = λ s is.
+      let some : 1 ≤ length s.input.half = rw (is, same) (length-newline_stays old.unread.input.half stays) in
+      omega (arith, turns_within-half_ended old.unread.limits.bytes (known s) s.reading s.input some, turns_of left old.unread.limits s.input leaves.limits (sym is), leaves.turns) in
+      acted leaves _ noted notes half_ends left.input.line new failed failures out err after r more less (ap (λ (i : PageInput). i.line) same)
+      (λ limits tape may h ms. sighted_look old call tape may h ms) (on_ok r fewer) acts
+
+  -- a message of the source's
+  pub waiting_note : (note : List ℕ) (told : Sunk) (r : Result (Unit {0}) Status) → Looks gave gives old.unread left (SeesNote note) → notes < noted
+      → Puts err told note r → IsOkUnless r Device
+      → WaitingTurn gave gives noted notes old (moved old left) (seen failed out err) (seen failures out told) r
+  waiting_note note told r call fewer puts is =
+      let leaves = leaves_look old call in
+      turned leaves _ noted notes (moved old left) (seen failed out err) (seen failures out told) r refl (λ t tape start may at goes.
+      (note_told leaves failed failures out err more t tape start may at told note r (goes ∙ sighted_look old call tape may at.history at.messages) puts is,
+      on_ok r (omega (arith, fewer, leaves.turns))))
+
+  -- a fault of the source
+  pub waiting_failed : {F : Type 0} (report : Result (Unit {0}) F) (told : Sunk) (status : Status) → Looks gave gives old.unread left (SeesEnding Failed)
+      → status ≡ Device → Rises failed failures → Puts err told (message_line left.input.line ReadFailed) report
+      → WaitingTurn gave gives noted notes old (moved old left) (seen failed out err) (seen failures out told) (Err status)
+  waiting_failed report told status call is rises puts =
+      let leaves = leaves_look old call in
+      turned leaves _ noted notes (moved old left) (seen failed out err) (seen failures out told) (Err status) refl (λ t tape start may at goes.
+      (rw is (source_failed leaves failed failures out err more t tape start may at told left.input.line report (ends_look old call tt) refl
+      (goes ∙ sighted_look old call tape may at.history at.messages) rises puts), tt))
+
+  -- a limit of the source's own
+  pub waiting_stopped : (limit : Limit) → Looks gave gives old.unread left (SeesEnding (Stopped limit))
+      → WaitingTurn gave gives noted notes old (moved old left) (seen failed out err) (seen failures out err) (Err (Limited limit))
+  waiting_stopped limit call =
+      let leaves = leaves_look old call in
+      turned leaves _ noted notes (moved old left) (seen failed out err) (seen failures out err) (Err (Limited limit)) refl (λ t tape start may at goes.
+      (source_stopped leaves failed failures out err more t tape start may at limit (ends_look old call tt) (goes ∙ sighted_look old call tape may at.history at.messages), tt))
+
+-- items, and then others, are both in this order
+pub items_then-append : (first others : List Item) (tape : Tape) → items_then (first ++ others) tape ≡ items_then first (items_then others tape)
+items_then-append first others tape = ap (λ (items : List Item). record { items = items; ending = tape.ending }) (append_assoc first others tape.items)
+
+-- what is seen stays, and a turn follows that takes the item in front
+module _ {gave mid gives : Tape → Type 0} {left : PageUnread} {sight : Sighted} (old : Coded) (call : Looks gave mid old.unread left sight) (goes_on : GoesInFront sight)
+    (failed failures : ℕ) (out err : Sunk) (noted kept notes : ℕ) (new : Coded) (after : Seen) (r : Result (Unit {0}) Status) (more : failed ≤ failures) (less : kept ≤ noted)
+    (turn : TurnsBy (λ s. in_front_taken old.limits s.input.ahead s) mid gives kept notes (moved old left) new (seen failures out err) after r) where
+  -- what both took
+  abbrev both : List Item
+  both = taken old call ++ turn.taken
+
+  -- the run stands before the look, over a tape, and the definition takes its step; and the same behind the look
+  abbrev Stands : Tape → Tape → Seen → Type 0
+  Stands t whole start =
+      (at : IsAt t whole start (seen failed out err) old) × StepDoes (λ s. awaited old.limits (seen_ahead s.input.ahead) s) whole old at.history at.messages
+
+  abbrev StandsBehind : Tape → Tape → Seen → Type 0
+  StandsBehind t whole start =
+      (at : IsAt t whole start (seen failures out err) (moved old left)) × StepDoes (λ s. in_front_taken old.limits s.input.ahead s) whole (moved old left) at.history at.messages
+
+  -- one follows from the other
+  behind_look : (t whole : Tape) (start : Seen) → mid whole → Stands t (items_then (taken old call) whole) start → StandsBehind t whole start
+  behind_look t whole start may stands =
+      let at = stands.0 in
+      let from : State = state_at (items_then (taken old call) whole) old at.history at.messages in
+      let behind : State = state_at whole (moved old left) at.history at.messages in
+      let same : behind ≡ from = unmoved_look old call (no_note_in_front sight goes_on) whole may at.history at.messages in
+      (looked_at (leaves_look old call) failed failures out err more t whole start may at same,
+      ap (λ (s : State). step old.limits s) same ∙ stands.1 ∙ sighted_look old call whole may at.history at.messages
+      ∙ sighted_step-in_front old.limits sight from behind goes_on)
+
+  -- over a tape that begins with what both took
+  stands_behind : (t tape : Tape) (start : Seen) → gives tape → Stands t (items_then both tape) start → StandsBehind t (items_then turn.taken tape) start
+  stands_behind t tape start may stands =
+      let whole : Tape = items_then turn.taken tape in
+      let same : items_then both tape ≡ items_then (taken old call) whole = items_then-append (taken old call) turn.taken tape in
+      behind_look t whole start (turn.before tape may) (subst (λ (u : Tape). Stands t u start) same stands)
+
+  pub waiting_in_front : WaitingTurn gave gives noted notes old new (seen failed out err) after r
+  waiting_in_front = record {
+    limits = turn.limits;
+    taken = both;
+    before = λ tape may. subst gave (sym (items_then-append (taken old call) turn.taken tape)) ((leaves_look old call).before (items_then turn.taken tape) (turn.before tape may));
+    some = λ known. turn.some (inr ((leaves_look old call).some known));
+    turns = λ t tape start may at goes.
+        let behind = stands_behind t tape start may (at, goes) in turn.turns t tape start may behind.0 behind.1;
+    falls = λ t tape start may at goes.
+        let behind = stands_behind t tape start may (at, goes) in
+        on_ok-then r (λ (falls : turns_to_come new.unread + notes < turns_to_come left + kept). omega (arith, falls, less, (leaves_look old call).turns))
+        (turn.falls t tape start may behind.0 behind.1);
+  }

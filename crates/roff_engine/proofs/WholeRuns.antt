@@ -1,0 +1,135 @@
+-- A whole run of the code, turn by turn: each turn is a step of the definition.
+use Rattle.std.proofs.Common.{◌≡◌, ℕ, ◌+◌, ◌<◌, Bool, true, false, List, [], ◌++◌, Some, None, Result, Ok, Err, inl, inr, refl, sym, ap, subst, ◌∙◌, arith}
+use Rattle.std.specs.Prelude.{if◌then◌else◌}
+use Rattle.std.proofs.lemmas.Bool.{le-ltb}
+use Rattle.roff_lines.specs.Env.Stands.{Stands}
+use Rattle.roff_num.specs.declared.limits.Limits.{Limits}
+use Rattle.roff_scan.specs.Halves.{newline_stays}
+use Rattle.roff_scan.specs.Input.{initial_input}
+use Rattle.roff_scan.specs.Tape.{Tape, items_then}
+use Rattle.roff_scan.specs.Unread.{asks_to_take, initial_unread, looked_then, seen_ahead}
+use Rattle.roff_run.specs.declared.status.Status.{Status}
+use Rattle.roff_run.specs.Output.{PageHistory}
+use Rattle.roff_run.specs.Reader.State.{ReaderState, fresh_reader}
+use Rattle.roff_run.specs.Reader.Taken.{IsReady, PageUnread}
+use Rattle.roff_run.specs.Registers.{no_registers}
+use Rattle.roff_run.specs.Run.{State, Leads, awaited, counts_in, first_passed, in_front_taken, initial, step}
+use Rattle.roff_run.specs.TurnsToCome.{turns_to_come}
+use Rattle.roff_engine.specs.declared.running.Running.{Running as Coded}
+use Rattle.roff_engine.specs.Engine.Outcome.{Seen, Outcome, Runs}
+use Rattle.roff_engine.specs.Formatter.Performing.{going}
+use Rattle.roff_engine.specs.Running.Turning.{HasCome, HasTape, IsAt, IsFresh, TurnsBy, state_at}
+use Rattle.roff_engine.proofs.Appending.{Appends-nothing}
+use Rattle.roff_engine.proofs.Waiting.{items_then-append}
+use Rattle.roff_run.proofs.Leads.{Leads-refl}
+
+-- a turn that does what a step does is one
+step_turn : (does : State → State) (gave gives : Tape → Type 0) (noted notes : ℕ) (old new : Coded) (now behind : Seen) (r : Result (Unit {0}) Status)
+    → ((tape : Tape) (h : PageHistory) (ms : List ℕ) → step old.limits (state_at tape old h ms) ≡ does (state_at tape old h ms))
+    → TurnsBy does gave gives noted notes old new now behind r → TurnsBy (step old.limits) gave gives noted notes old new now behind r
+step_turn does gave gives noted notes old new now behind r is turn = record {
+  limits = turn.limits;
+  taken = turn.taken;
+  before = turn.before;
+  some = turn.some;
+  turns = λ t tape start may at goes. turn.turns t tape start may at (is (items_then turn.taken tape) at.history at.messages);
+  falls = λ t tape start may at goes. turn.falls t tape start may at (is (items_then turn.taken tape) at.history at.messages);
+}
+
+module _ (gave gives : Tape → Type 0) (noted notes : ℕ) (old new : Coded) (now behind : Seen) (r : Result (Unit {0}) Status) where
+  -- what is half read waits
+  pub waiting_turn : newline_stays old.unread.input.half ≡ true
+      → TurnsBy (λ s. awaited old.limits (seen_ahead s.input.ahead) s) gave gives noted notes old new now behind r
+      → TurnsBy (step old.limits) gave gives noted notes old new now behind r
+  waiting_turn stays turn =
+      step_turn _ gave gives noted notes old new now behind r (λ tape h ms.
+      let s : State = state_at tape old h ms in
+      ap (λ (c : Bool). if c then awaited old.limits (seen_ahead old.unread.input.ahead) s else in_front_taken old.limits old.unread.input.ahead s) stays)
+      turn
+
+  -- it waits for nothing
+  pub front_turn : newline_stays old.unread.input.half ≡ false
+      → TurnsBy (λ s. in_front_taken old.limits s.input.ahead s) gave gives noted notes old new now behind r
+      → TurnsBy (step old.limits) gave gives noted notes old new now behind r
+  front_turn stays turn =
+      step_turn _ gave gives noted notes old new now behind r (λ tape h ms.
+      let s : State = state_at tape old h ms in
+      ap (λ (c : Bool). if c then awaited old.limits (seen_ahead old.unread.input.ahead) s else in_front_taken old.limits old.unread.input.ahead s) stays)
+      turn
+
+-- where no count is above its limit, none is refused
+none_passed : {A : Type 0} (first second third : A) (a b c : Bool) → a ≡ false → b ≡ false → c ≡ false
+    → (if a then Some first else if b then Some second else if c then Some third else None) ≡ None
+none_passed first second third a b c one two three = rw (one, two, three) refl
+
+-- nor before the first item
+none_passed-fresh : (l : Limits) → first_passed l (counts_in no_registers initial_input) ≡ None
+none_passed-fresh l = none_passed _ _ _ _ _ _ (le-ltb l.names 0 (omega arith)) (le-ltb l.stack 0 (omega arith)) (le-ltb l.depth 0 (omega arith))
+
+-- a run before its first item
+pub starts : (t : Tape) (now : Seen) (run : Coded) → Stands run.limits.line [] run.formatter.env → IsFresh run.limits run.formatter run.unread
+    → IsAt t t now now run
+starts t now run stands fresh =
+    let l : Limits = run.limits in
+    let at : PageUnread → ReaderState → State = λ u r. going (looked_then u.looked t) u.input r.reading r.registers.all [] [] false [] in
+    let is : state_at t run [] [] ≡ initial t =
+    ap (λ (u : PageUnread). at u run.formatter.reader) fresh.unread ∙ ap (λ (r : ReaderState). at (initial_unread l) r) fresh.reader in
+    let P : PageUnread → ReaderState → Type 0 = λ u r. IsReady r.registers u in
+    let first : P (initial_unread l) (fresh_reader l.names) = record { cap = refl; within = none_passed-fresh l } in record {
+      history = [];
+      messages = [];
+      reaches = record {
+        comes = subst (λ (s : State). Leads l (initial t) s) (sym is) (Leads-refl l (initial t));
+        text = Appends-nothing now.out.contents;
+        messages = Appends-nothing now.err.contents;
+        faults = record { source = omega arith; out = omega arith; err = omega arith };
+      };
+      stands = stands;
+      ready = subst (λ (u : PageUnread). P u run.formatter.reader) (sym fresh.unread) (subst (λ (r : ReaderState). P (initial_unread l) r) (sym fresh.reader) first);
+      limits = ap (λ (u : PageUnread). u.limits) fresh.unread;
+    }
+
+-- it asks its source first
+pub HasTape-fresh : (run : Coded) (gives : Tape → Type 0) → IsFresh run.limits run.formatter run.unread → HasTape run gives
+HasTape-fresh run gives fresh = inl (ap (λ (u : PageUnread). asks_to_take u) fresh.unread)
+
+-- behind another turn
+module _ {first old new : Tape → Type 0} (noted notes : ℕ) (start now behind : Seen) (run run_behind : Coded) (come : HasCome first old start now run) where
+  -- it goes on
+  pub goes_on : TurnsBy (step run.limits) old new noted notes run run_behind now behind (Ok tt) → HasCome first new start behind run_behind
+  goes_on turn = record {
+    taken = come.taken ++ turn.taken;
+    before = λ t may. subst first (sym (items_then-append come.taken turn.taken t)) (come.before (items_then turn.taken t) (turn.before t may));
+    some = inr (turn.some come.some);
+    at = λ t may.
+        let tape : Tape = items_then turn.taken t in
+        subst (λ (whole : Tape). IsAt whole t start behind run_behind) (sym (items_then-append come.taken turn.taken t))
+        (turn.turns (items_then come.taken tape) t start may (come.at tape (turn.before t may)) refl);
+  }
+
+  -- and fewer turns are to come
+  pub fewer_to_come : TurnsBy (step run.limits) old new noted notes run run_behind now behind (Ok tt)
+      → turns_to_come run_behind.unread + notes < turns_to_come run.unread + noted
+  fewer_to_come turn =
+      let some = turn.some come.some in
+      let tape : Tape = items_then turn.taken some.0 in
+      turn.falls (items_then come.taken tape) some.0 start some.1 (come.at tape (turn.before some.0 some.1)) refl
+
+  -- or it has ended
+  pub has_ended : (l : Limits) (status : Status) → run.limits ≡ l → TurnsBy (step run.limits) old new noted notes run run_behind now behind (Err status)
+      → Runs l status first new start behind
+  has_ended l status limits turn =
+      let some = turn.some come.some in record {
+        taken = come.taken ++ turn.taken;
+        took = record {
+          before = λ t may. subst first (sym (items_then-append come.taken turn.taken t)) (come.before (items_then turn.taken t) (turn.before t may));
+          some = some.0;
+          some_given = some.1;
+        };
+        outcome = λ t may.
+            let tape : Tape = items_then turn.taken t in
+            let whole : Tape = items_then come.taken tape in
+            let own : Outcome run_behind.limits whole t status start behind = turn.turns whole t start may (come.at tape (turn.before t may)) refl in
+            subst (λ (whole : Tape). Outcome l whole t status start behind) (sym (items_then-append come.taken turn.taken t))
+            (subst (λ (k : Limits). Outcome k whole t status start behind) (turn.limits ∙ limits) own);
+      }

@@ -1,2 +1,0 @@
--- What the code has of the requests, as the definition's.
-pub mod Coded

@@ -1,0 +1,120 @@
+-- A request that is obeyed, and how it changes registers, as the definition takes its line's end.
+use Rattle.std.proofs.Common.{◌≡◌, ℕ, ◌≤◌, Bool, true, false, List, [], ◌∷◌, length, fold, Option, Some, None, Ok, Err, sym, subst, ap, ◌∙◌, arith}
+use Rattle.std.specs.Option.{option_to_list}
+use Rattle.std.proofs.lemmas.Bool.{le-ltb, ltb-false}
+use Rattle.std.specs.Prelude.{reverse, nat_lt, if◌then◌else◌}
+use Rattle.roff_lines.specs.Env.Stands.{Stands}
+use Rattle.roff_lines.specs.declared.env.Env.{Env}
+use Rattle.roff_num.specs.declared.limit.Limit.{Limit}
+use Rattle.roff_num.specs.declared.limit.Limit.TheVariants.{Names}
+use Rattle.roff_scan.specs.Arguments.{finished, no_arguments}
+use Rattle.roff_scan.specs.Input.{with_arguments, without_arguments}
+use Rattle.roff_scan.specs.Unread.{input_refusal}
+use Rattle.roff_store.proofs.Calls.{length-without_entry_le}
+use Rattle.roff_store.specs.Named.{without_entry}
+use Rattle.roff_store.specs.Registers.{Registers}
+use Rattle.roff_run.specs.Output.{PageHistory, text_of}
+use Rattle.roff_run.specs.Reader.State.{ReaderState}
+use Rattle.roff_run.specs.Reader.Taken.{ChangedTo, PageUnread, Refused, TakesAs, Took, behind_changes}
+use Rattle.roff_run.specs.Reading.{PageInput, Taking, arguments_given, line_ended}
+use Rattle.roff_run.specs.Registers.{AllRegisters, Change, Remove, changed_by_all}
+use Rattle.roff_run.specs.Registers.Capped.{Capped, is_past_cap, with_change}
+use Rattle.roff_run.specs.Request.Coded.{changes_of, effect_of}
+use Rattle.roff_run.specs.Requests.{Effect, request_effect}
+use Rattle.roff_run.specs.Run.{counts_in, first_passed, known_at}
+use Rattle.roff_run.specs.declared.message.Message.{Message}
+use Rattle.roff_run.specs.declared.reader.Meaning.{Meaning}
+use Rattle.roff_run.specs.declared.reading.Reading.TheVariants.{LineStart}
+use Rattle.roff_run.specs.declared.request.Request.{Request}
+use Rattle.roff_run.specs.declared.request.effects.Effect.{Effect as CodedEffect}
+use Rattle.roff_run.proofs.InputCounts.{NoMore-released, first_passed-few_names, input_refusal-no_more}
+use Rattle.roff_run.proofs.TakesAs.{few_names}
+
+-- where names go, no more have a register
+length-without : (names : List (List ℕ)) (named : Registers) → length (fold (λ named name. without_entry name named) named names) ≤ length named
+length-without [] named = omega arith
+length-without (name ∷ names) named =
+    let one = length-without_entry_le name named in let others = length-without names (without_entry name named) in omega arith
+
+-- so a removal passes no limit
+pub Changed-removed : (names : List (List ℕ)) (old new : Capped) → new ≡ with_change (Remove names) old → ChangedTo (Remove names ∷ []) old new
+Changed-removed names old new goes = record {
+  registers = goes;
+  within = λ few.
+      ap is_past_cap goes ∙ le-ltb old.cap _ (let fewer = length-without names old.all.named in omega (arith, ltb-false old.cap (length old.all.named) few));
+}
+
+-- what a request was obeyed by: its arguments, and what it means with them
+pub record Obeys (env : Env) (rs : AllRegisters) (u : PageUnread) (breaks : Bool) (request : Request) (e : CodedEffect) (texts : List (List ℕ)) : Type 0 where
+  pub texts_are : texts ≡ reverse u.input.arguments.whole
+  pub effect_is : (cap : ℕ) (h : PageHistory) → Stands cap (text_of h) env
+      → effect_of (reverse u.input.arguments.whole) e ≡ request_effect (known_at h rs u.input) breaks request (reverse u.input.arguments.whole)
+
+-- the input of a line that has ended
+abbrev line_finished : PageUnread → PageUnread
+line_finished u = record u { input = with_arguments (finished u.input.arguments) u.input }
+
+-- the taking of a line that has ended, by what its request means
+abbrev ended_by : PageInput → Effect → Taking
+ended_by i effect = record { input = record i { arguments = no_arguments }; reading = LineStart; effect = effect }
+
+-- whether more names than may have a register, by the unread input's limit
+few_behind : (changes : List Change) (old : Capped) (u : PageUnread) (passes : Bool) → old.cap ≡ u.limits.names
+    → is_past_cap (behind_changes changes old) ≡ passes → nat_lt u.limits.names (length (changed_by_all changes old.all).named) ≡ passes
+few_behind changes old u passes cap is = ap (λ (n : ℕ). nat_lt n (length (changed_by_all changes old.all).named)) (sym cap) ∙ is
+
+-- a request was obeyed, its changes made, and its arguments released
+pub TakesAs-obeyed : (env : Env) (old new : ReaderState) (before mid behind : PageUnread) (breaks : Bool) (request : Request) (e : CodedEffect) (texts : List (List ℕ)) (m : Meaning)
+    → mid ≡ line_finished before → Obeys env old.registers.all mid breaks request e texts
+    → ChangedTo (changes_of texts e.changes) old.registers new.registers
+    → behind ≡ record mid { input = without_arguments mid.input }
+    → new.reading ≡ LineStart → m.message ≡ e.message → m.events ≡ e.events
+    → TakesAs (λ k. line_ended k before.input breaks request) env old new before behind (Ok m)
+TakesAs-obeyed env old new before mid behind breaks request e texts m finishes obeying changed released begins says means = record {
+  takes = λ cap h stands ready.
+      let i : PageInput = before.input in
+      let obeys : Obeys env old.registers.all (line_finished before) breaks request e texts =
+      subst (λ (u : PageUnread). Obeys env old.registers.all u breaks request e texts) finishes obeying in
+      let changes : List Change = changes_of (arguments_given i) e.changes in
+      let registers : new.registers ≡ behind_changes changes old.registers =
+      changed.registers ∙ ap (λ (texts : List (List ℕ)). behind_changes (changes_of texts e.changes) old.registers) obeys.texts_are in
+      let few : is_past_cap old.registers ≡ false =
+      ap (λ (n : ℕ). nat_lt n (length old.registers.all.named)) ready.cap ∙ few_names old.registers before ready in
+      let few_now : nat_lt before.limits.names (length (changed_by_all changes old.registers.all).named) ≡ false =
+      few_behind changes old.registers before false ready.cap (ap is_past_cap (sym registers) ∙ changed.within few) in
+      let none_before : input_refusal before.limits i ≡ None =
+      sym (first_passed-few_names before.limits old.registers.all i (few_names old.registers before ready)) ∙ ready.within in
+      let ended : PageInput = record i { arguments = no_arguments } in
+      subst (λ (effect : Effect). Took (ended_by i effect) old.registers new before behind m) (obeys.effect_is cap h stands)
+      (record {
+        became = record {
+          input = released ∙ ap (λ (u : PageUnread). (let left : PageUnread = record u { input = without_arguments u.input } in left)) finishes;
+          reading = begins;
+          registers = registers;
+          within = first_passed-few_names before.limits (changed_by_all changes old.registers.all) ended few_now
+              ∙ input_refusal-no_more before.limits ended i (NoMore-released i) none_before;
+        };
+        messages = ap (λ (message : Option Message). option_to_list message) says;
+        events = ap (λ (events : _). events.items) means;
+      });
+}
+
+-- or more names than may would have a register
+pub TakesAs-not_obeyed : (env : Env) (old new : ReaderState) (before mid behind : PageUnread) (breaks : Bool) (request : Request) (e : CodedEffect) (texts : List (List ℕ)) (limit : Limit)
+    → mid ≡ line_finished before → Obeys env old.registers.all mid breaks request e texts
+    → Refused (changes_of texts e.changes) old.registers limit
+    → TakesAs (λ k. line_ended k before.input breaks request) env old new before behind (Err limit)
+TakesAs-not_obeyed env old new before mid behind breaks request e texts limit finishes obeying refused = record {
+  takes = λ cap h stands ready.
+      let i : PageInput = before.input in
+      let obeys : Obeys env old.registers.all (line_finished before) breaks request e texts =
+      subst (λ (u : PageUnread). Obeys env old.registers.all u breaks request e texts) finishes obeying in
+      let changes : List Change = changes_of (arguments_given i) e.changes in
+      let past : is_past_cap (behind_changes changes old.registers) ≡ true =
+      ap (λ (texts : List (List ℕ)). is_past_cap (behind_changes (changes_of texts e.changes) old.registers)) (sym obeys.texts_are) ∙ refused.past in
+      let many : nat_lt before.limits.names (length (changed_by_all changes old.registers.all).named) ≡ true =
+      few_behind changes old.registers before true ready.cap past in
+      let ended : PageInput = record i { arguments = no_arguments } in
+      subst (λ (effect : Effect). first_passed before.limits (counts_in (changed_by_all effect.changes old.registers.all) ended) ≡ Some limit) (obeys.effect_is cap h stands)
+      (ap (λ (many : Bool). if many then Some Names else input_refusal before.limits ended) many ∙ ap (λ (l : Limit). Some l) (sym refused.limit_is));
+}

@@ -1,0 +1,265 @@
+-- What the code of the reader takes, piece by piece, as the definition takes it.
+use Rattle.std.proofs.Common.{◌≡◌, ℕ, Bool, true, false, cond, List, [], length, Option, Some, None, Result, Ok, Err, refl, sym, subst, ap, ◌∙◌}
+use Rattle.std.specs.Option.{option_to_list}
+use Rattle.std.specs.Prelude.{nat_lt, ◌&&◌, is_some, if◌then◌else◌}
+use Rattle.roff_lines.specs.Env.Stands.{Stands}
+use Rattle.roff_lines.specs.declared.env.Env.{Env}
+use Rattle.roff_num.specs.declared.limit.Limit.{Limit}
+use Rattle.roff_num.specs.declared.limit.Limit.TheVariants.{Names}
+use Rattle.roff_num.specs.Ranges.{is_in_range}
+use Rattle.roff_scan.specs.Bytes.{is_dropped, newline}
+use Rattle.roff_scan.specs.Halves.{Reads}
+use Rattle.roff_scan.specs.Input.{pushing, with_half}
+use Rattle.roff_scan.specs.Unread.{changing, input_refusal, reading, unless_passed}
+use Rattle.roff_scan.specs.declared.half.Read.{Read}
+use Rattle.roff_store.proofs.Entries.{length-with_entry}
+use Rattle.roff_store.specs.Named.{with_entry, entry_of}
+use Rattle.roff_store.specs.Registers.{Registers, register_of, with_step, next_value}
+use Rattle.roff_store.specs.declared.register.Direction.{Direction}
+use Rattle.roff_store.specs.declared.register.Register.{Register}
+use Rattle.roff_run.specs.Output.{PageHistory, text_of}
+use Rattle.roff_run.specs.Reader.State.{ReaderState}
+use Rattle.roff_run.specs.Reader.Taken.{IsReady, PageUnread, Takes, TakesAs, Took}
+use Rattle.roff_run.specs.Reading.{PageInput, Taking, end_taking, going_on, interpolating, interrupted, kept_taking, meaning_events, settling, taking}
+use Rattle.roff_run.specs.Registers.{AllRegisters, Known, changed_by_all, is_page, is_read_only, known_behind, step_changes, step_messages, stepped_page, text_of_register}
+use Rattle.roff_run.specs.Registers.Capped.{Capped}
+use Rattle.roff_run.specs.Registers.Coded.{known_of}
+use Rattle.roff_run.specs.Requests.{PageEvent}
+use Rattle.roff_run.specs.Run.{counts_in, first_passed, known_at}
+use Rattle.roff_run.specs.declared.message.Message.{Message}
+use Rattle.roff_run.specs.declared.reader.Meaning.{Meaning}
+use Rattle.roff_run.specs.declared.reading.Reading.{Reading}
+use Rattle.roff_run.specs.declared.reading.Reading.TheVariants.{LineStart, Text as InText, Control, Name, Arguments as InArguments, Dropped}
+use Rattle.roff_run.specs.declared.reading.TextStep.{TextStep}
+use Rattle.roff_run.specs.declared.registers.Facts.{Facts}
+use Rattle.roff_run.specs.TextLine.Stepping.{step_at}
+use Rattle.roff_run.proofs.InputCounts.{NoMore-interrupted, NoMore-settling, first_passed-few_names, first_passed-no_more, one_of}
+
+-- what is taken where other units are half read, and something else was read of the line
+Takes-elsewhere : (t : Taking) (old : Capped) (new : ReaderState) (before behind : PageUnread) (i : PageInput) (result : Result Meaning Limit)
+    → Takes t old new (record before { input = i }) behind result → Takes t old new before behind result
+Takes-elsewhere t old new before behind i (Ok m) took = record {
+  became = record {
+    input = took.became.input;
+    reading = took.became.reading;
+    registers = took.became.registers;
+    within = took.became.within;
+  };
+  messages = took.messages;
+  events = took.events;
+}
+Takes-elsewhere t old new before behind i (Err limit) passed = passed
+
+-- what something reads, with what is half read then
+pub TakesAs-read : (t : Known → PageInput → Read → Taking) (r : Reads) (env : Env) (old new : ReaderState) (before mid behind : PageUnread)
+    (found : Read) (result : Result Meaning Limit) → (found, mid) ≡ reading r before
+    → TakesAs (λ k. t k mid.input found) env old new mid behind result
+    → TakesAs (λ k. t k (with_half r.1 before.input) r.0) env old new before behind result
+TakesAs-read t r env old new before mid behind found result reads takes =
+    let half : PageInput = with_half r.1 before.input in
+    let behind_it : PageUnread = record before { input = half } in
+    let moved : TakesAs (λ k. t k half r.0) env old new behind_it behind result =
+    subst (λ (p : Read × PageUnread). TakesAs (λ k. t k p.1.input p.0) env old new p.1 behind result) reads takes in
+    record {
+      takes = λ cap h stands ready. Takes-elsewhere (t (known_at h old.registers.all before.input) half r.0) old.registers new before behind half result
+          (moved.takes cap h stands (record { cap = ready.cap; within = ready.within }));
+    }
+
+-- the same from where something else is read of the line
+pub TakesAs-set : (t : Known → Taking) (env : Env) (old set new : ReaderState) (before behind : PageUnread) (result : Result Meaning Limit)
+    → set.registers ≡ old.registers → TakesAs t env set new before behind result → TakesAs t env old new before behind result
+TakesAs-set t env old set new before behind result same takes = record {
+  takes = λ cap h stands ready.
+      subst (λ (r : Capped). Takes (t (known_at h r.all before.input)) r new before behind result) same
+      (takes.takes cap h stands (subst (λ (r : Capped). IsReady r before) (sym same) ready));
+}
+
+-- what is taken where this is being read
+pub TakesAs-where : (t : Known → Reading → Taking) (place : Reading) (env : Env) (old new : ReaderState) (before behind : PageUnread) (result : Result Meaning Limit)
+    → old.reading ≡ place → TakesAs (λ k. t k place) env old new before behind result → TakesAs (λ k. t k old.reading) env old new before behind result
+TakesAs-where t place env old new before behind result is takes =
+    subst (λ (r : Reading). TakesAs (λ k. t k r) env old new before behind result) (sym is) takes
+
+-- what is taken as one of two that are equal is taken as the other
+pub TakesAs-as : (s t : Known → Taking) (env : Env) (old new : ReaderState) (before behind : PageUnread) (result : Result Meaning Limit)
+    → ((k : Known) → s k ≡ t k) → TakesAs s env old new before behind result → TakesAs t env old new before behind result
+TakesAs-as s t env old new before behind result same takes = record {
+  takes = λ cap h stands ready.
+      subst (λ (taking : Taking). Takes taking old.registers new before behind result) (same (known_at h old.registers.all before.input))
+      (takes.takes cap h stands ready);
+}
+
+-- what is taken once no quote follows the quote before
+pub TakesAs-settled : (t : Known → PageInput → Taking) (env : Env) (old new : ReaderState) (before mid behind : PageUnread) (result : Result Meaning Limit)
+    → mid ≡ record before { input = settling before.input } → TakesAs (λ k. t k mid.input) env old new mid behind result
+    → TakesAs (λ k. t k (settling before.input)) env old new before behind result
+TakesAs-settled t env old new before mid behind result settles takes =
+    let i : PageInput = settling before.input in
+    let moved : TakesAs (λ k. t k i) env old new (record before { input = i }) behind result =
+    subst (λ (u : PageUnread). TakesAs (λ k. t k u.input) env old new u behind result) settles takes in
+    record {
+      takes = λ cap h stands ready.
+          let within = first_passed-no_more before.limits old.registers.all i before.input (NoMore-settling before.input) ready.within in
+          Takes-elsewhere (t (known_at h old.registers.all before.input) i) old.registers new before behind i result
+          (moved.takes cap h stands (record { cap = ready.cap; within = within }));
+    }
+
+-- an input that changed
+passed_none : (refusal : Option Limit) (i : PageInput) (u behind : PageUnread) (done : Unit {0}) → (Ok done, behind) ≡ unless_passed refusal i u
+    → (behind ≡ record u { input = i }) × (refusal ≡ None)
+passed_none None i u behind done is = (ap (λ (answer : Result (Unit {0}) Limit × PageUnread). answer.1) is, refl)
+passed_none (Some limit) i u behind done is =
+    let differs = ap (λ (answer : Result (Unit {0}) Limit × PageUnread). answer.0) is in cc
+
+passed_one : (refusal : Option Limit) (i : PageInput) (u behind : PageUnread) (limit : Limit) → (Err limit, behind) ≡ unless_passed refusal i u → refusal ≡ Some limit
+passed_one None i u behind limit is =
+    let differs = ap (λ (answer : Result (Unit {0}) Limit × PageUnread). answer.0) is in cc
+passed_one (Some other) i u behind limit is =
+    let same = ap (λ (answer : Result (Unit {0}) Limit × PageUnread). answer.0) is in cc
+
+-- a step makes no name a register
+length-stepped : (name : List ℕ) (r : Register) (named : Registers) (has in_range : Bool) → is_some (entry_of name named) ≡ has
+    → length (cond (has && in_range) (with_entry name r named) named) ≡ length named
+length-stepped name r named true true has = rw has at (length-with_entry name r named)
+length-stepped name r named true false has = refl
+length-stepped name r named false in_range has = refl
+
+-- registers with as many names
+abbrev SameNames : AllRegisters → AllRegisters → Type 0
+SameNames before now = length now.named ≡ length before.named
+
+length-step_changes : (step : Option Direction) (name : List ℕ) (rs : AllRegisters) → SameNames rs (changed_by_all (step_changes step name) rs)
+length-step_changes None name rs = refl
+length-step_changes (Some direction) name rs =
+    one_of (SameNames rs) (is_read_only name) _ _ refl
+    (one_of (SameNames rs) (is_page name) (record rs { page = stepped_page direction rs.page }) (record rs { named = with_step direction name rs.named }) refl
+    (length-stepped name _ rs.named (is_some (entry_of name rs.named)) (is_in_range (next_value direction (register_of name rs.named))) refl))
+
+-- no count is above its limit, so no more names than may have a register
+few_names-of : {A : Type 0} (x : A) (rest : Option A) (many : Bool) → (if many then Some x else rest) ≡ None → many ≡ false
+few_names-of x rest true none = cc
+few_names-of x rest false none = refl
+
+pub few_names : (r : Capped) (u : PageUnread) → IsReady r u → nat_lt u.limits.names (length r.all.named) ≡ false
+few_names r u ready = few_names-of Names (input_refusal u.limits u.input) (nat_lt u.limits.names (length r.all.named)) ready.within
+
+-- behind a step the input's counts decide
+passed-stepped : (step : Option Direction) (name : List ℕ) (r : Capped) (u : PageUnread) (i : PageInput) → IsReady r u
+    → first_passed u.limits (counts_in (changed_by_all (step_changes step name) r.all) i) ≡ input_refusal u.limits i
+passed-stepped step name r u i ready =
+    let names : nat_lt u.limits.names (length (changed_by_all (step_changes step name) r.all).named) ≡ false =
+    ap (nat_lt u.limits.names) (length-step_changes step name r.all) ∙ few_names r u ready in
+    first_passed-few_names u.limits (changed_by_all (step_changes step name) r.all) i names
+
+-- what a register's text is, as it is known at a history
+pub record KnowsText (env : Env) (rs : AllRegisters) (i : PageInput) (step : Option Direction) (name text : List ℕ) : Type 0 where
+  pub facts : Facts
+  pub known : (cap : ℕ) (h : PageHistory) (all : AllRegisters) → Stands cap (text_of h) env → known_of facts all ≡ known_at h all i
+  pub text_is : text ≡ text_of_register (known_behind (step_changes step name) (known_of facts rs)) name
+
+text_at : (env : Env) (rs : AllRegisters) (i : PageInput) (step : Option Direction) (name text : List ℕ) → KnowsText env rs i step name text
+    → (cap : ℕ) (h : PageHistory) → Stands cap (text_of h) env
+    → text ≡ text_of_register (known_behind (step_changes step name) (known_at h rs i)) name
+text_at env rs i step name text knows cap h stands =
+    knows.text_is ∙ ap (λ (k : Known). text_of_register (known_behind (step_changes step name) k) name) (knows.known cap h rs stands)
+
+-- a register is read in the place of its escape
+pub TakesAs-interpolated : (env : Env) (old : ReaderState) (registers : Capped) (before behind : PageUnread) (step : Option Direction) (name text : List ℕ) (m : Meaning) (done : Unit {0})
+    → KnowsText env old.registers.all before.input step name text
+    → registers ≡ record old.registers { all = changed_by_all (step_changes step name) old.registers.all }
+    → option_to_list m.message ≡ step_messages step name old.registers.all → m.events.items ≡ []
+    → (Ok done, behind) ≡ changing (pushing text before.input) before
+    → TakesAs (λ k. interpolating k before.input old.reading step name) env old (record { reading = old.reading; registers = registers }) before behind (Ok m)
+TakesAs-interpolated env old registers before behind step name text m done knows changed messages events pushes = record {
+  takes = λ cap h stands ready.
+      let known : text ≡ text_of_register (known_behind (step_changes step name) (known_at h old.registers.all before.input)) name =
+      text_at env old.registers.all before.input step name text knows cap h stands in
+      let passed = passed_none (input_refusal before.limits (pushing text before.input)) (pushing text before.input) before behind done pushes in
+      let new : ReaderState = record { reading = old.reading; registers = registers } in
+      let at : List ℕ → Taking = λ t. record {
+        input = pushing t before.input;
+        reading = old.reading;
+        effect = record { messages = step_messages step name old.registers.all; changes = step_changes step name; events = [] };
+      } in
+      subst (λ (t : List ℕ). Took (at t) old.registers new before behind m) known
+      (record {
+        became = record {
+          input = passed.0;
+          reading = refl;
+          registers = changed;
+          within = passed-stepped step name old.registers before (pushing text before.input) ready ∙ passed.1;
+        };
+        messages = messages;
+        events = events;
+      });
+}
+
+-- or its text doesn't fit
+pub TakesAs-not_interpolated : (env : Env) (old new : ReaderState) (before behind : PageUnread) (step : Option Direction) (name text : List ℕ) (limit : Limit)
+    → KnowsText env old.registers.all before.input step name text
+    → (Err limit, behind) ≡ changing (pushing text before.input) before
+    → TakesAs (λ k. interpolating k before.input old.reading step name) env old new before behind (Err limit)
+TakesAs-not_interpolated env old new before behind step name text limit knows pushes = record {
+  takes = λ cap h stands ready.
+      let known : text ≡ text_of_register (known_behind (step_changes step name) (known_at h old.registers.all before.input)) name =
+      text_at env old.registers.all before.input step name text knows cap h stands in
+      let refused = passed_one (input_refusal before.limits (pushing text before.input)) (pushing text before.input) before behind limit pushes in
+      subst (λ (t : List ℕ). first_passed before.limits (counts_in (changed_by_all (step_changes step name) old.registers.all) (pushing t before.input)) ≡ Some limit) known
+      (passed-stepped step name old.registers before (pushing text before.input) ready ∙ refused);
+}
+
+-- a byte that isn't one of the line is taken
+pub TakesAs-interrupted : (env : Env) (old : ReaderState) (u behind : PageUnread) (m : Meaning) → behind ≡ record u { input = interrupted old.reading u.input }
+    → m.message ≡ None → m.events.items ≡ [] → TakesAs (λ k. going_on (interrupted old.reading u.input) old.reading) env old old u behind (Ok m)
+TakesAs-interrupted env old u behind m came silent none = record {
+  takes = λ cap h stands ready. record {
+    became = record {
+      input = came;
+      reading = refl;
+      registers = refl;
+      within = first_passed-no_more u.limits old.registers.all (interrupted old.reading u.input) u.input (NoMore-interrupted old.reading u.input) ready.within;
+    };
+    messages = ap (λ (message : Option Message). option_to_list message) silent;
+    events = none;
+  };
+}
+
+-- this is read on, and some events are meant
+pub TakesAs-meant : (t : Known → Taking) (behind : Reading) (events : List PageEvent) (env : Env) (old new : ReaderState) (u : PageUnread) (m : Meaning)
+    → ((k : Known) → t k ≡ meaning_events u.input behind events) → new ≡ record old { reading = behind } → m.message ≡ None → m.events.items ≡ events
+    → TakesAs t env old new u u (Ok m)
+TakesAs-meant t behind events env old new u m as_defined came silent means = record {
+  takes = λ cap h stands ready.
+      subst (λ (taking : Taking). Took taking old.registers new u u m) (sym (as_defined (known_at h old.registers.all u.input)))
+      (record {
+        became = record {
+          input = refl;
+          reading = ap (λ (s : ReaderState). s.reading) came;
+          registers = ap (λ (s : ReaderState). s.registers) came;
+          within = ready.within;
+        };
+        messages = ap (λ (message : Option Message). option_to_list message) silent;
+        events = means;
+      });
+}
+
+-- a step of a text line
+pub TakesAs-stepped : (t : PageInput → Taking) (step : TextStep) (env : Env) (old new : ReaderState) (u : PageUnread) (m : Meaning)
+    → ((i : PageInput) → step_at i step ≡ t i) → new ≡ record old { reading = step.reading } → m.message ≡ None → m.events.items ≡ step.events.items
+    → TakesAs (λ k. t u.input) env old new u u (Ok m)
+TakesAs-stepped t step env old new u m as_defined =
+    TakesAs-meant (λ k. t u.input) step.reading step.events.items env old new u m (λ k. sym (as_defined u.input))
+
+-- by whether a byte is dropped
+pub taking-of : (k : Known) (r : Reading) (i : PageInput) (b : ℕ) (c : Bool) → c ≡ is_dropped b
+    → (if c then going_on (interrupted r i) r else kept_taking k r i b) ≡ taking k r i b
+taking-of k r i b c is = ap (λ (dropped : Bool). if dropped then going_on (interrupted r i) r else kept_taking k r i b) is
+
+-- behind a line's beginning the end of the input is a newline
+pub end_taking-newline : (k : Known) (r : Reading) (i : PageInput) → (r ≡ LineStart → ⊥) → kept_taking k r i newline ≡ end_taking k r i
+end_taking-newline k LineStart i begun = absurd (begun refl)
+end_taking-newline k (InText line) i begun = refl
+end_taking-newline k (Control breaks) i begun = refl
+end_taking-newline k (Name breaks first) i begun = refl
+end_taking-newline k (InArguments breaks request) i begun = refl
+end_taking-newline k Dropped i begun = refl

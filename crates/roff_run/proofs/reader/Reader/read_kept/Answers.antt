@@ -1,0 +1,63 @@
+use Rattle.std.proofs.Common.{◌≡◌, [], Ok, true, false, rules}
+use Rattle.roff_scan.specs.Halves.{byte_read}
+use Rattle.roff_run.specs.Reading.{arguments_found, beginning_found, kept_taking, text_found}
+use Rattle.roff_run.specs.declared.reading.Reading.TheVariants.{Arguments as InArguments, Control, Dropped, LineStart, Text as InText}
+use Rattle.roff_run.proofs.TakesAs.{TakesAs-meant, TakesAs-read, TakesAs-where}
+use Rattle.roff_run.proofs.reader.Reader.read_kept.Goals as goal
+
+pub returns-in-LineStart : goal.returns-in-LineStart
+returns-in-LineStart c =
+    let env = c.args.env.now in
+    let old = c.args.self.now in
+    let u = c.args.unread.now in
+    let is : old.reading ≡ LineStart = search rules in
+    TakesAs-where (λ k r. kept_taking k r u.input c.args.byte) LineStart env old c.begin_line.new.self u c.begin_line.new.unread c.begin_line.result is
+    (TakesAs-read beginning_found (byte_read true u.input.half c.args.byte) env old c.begin_line.new.self u c.read_byte-found.new.self c.begin_line.new.unread
+    c.read_byte-found.result c.begin_line.result c.read_byte-found.ensures.reading c.begin_line.ensures)
+
+pub returns-in-Text : goal.returns-in-Text
+returns-in-Text c =
+    let env = c.args.env.now in
+    let old = c.args.self.now in
+    let u = c.args.unread.now in
+    let line = c.in-Text.line in
+    let is : old.reading ≡ InText line = search rules in
+    TakesAs-where (λ k r. kept_taking k r u.input c.args.byte) (InText line) env old c.read_text.new.self u c.read_text.new.unread c.read_text.result is
+    (TakesAs-read (λ k i found. text_found k i line found) (byte_read true u.input.half c.args.byte) env old c.read_text.new.self u
+    c.read_byte-found-in-Text.new.self c.read_text.new.unread c.read_byte-found-in-Text.result c.read_text.result
+    c.read_byte-found-in-Text.ensures.reading c.read_text.ensures)
+
+pub returns-in-Control : goal.returns-in-Control
+returns-in-Control c =
+    let env = c.args.env.now in
+    let old = c.args.self.now in
+    let u = c.args.unread.now in
+    let place = Control c.in-Control.breaks in
+    let is : old.reading ≡ place = search rules in
+    TakesAs-where (λ k r. kept_taking k r u.input c.args.byte) place env old c.read_on.new.self u u (Ok c.read_on.result) is
+    (TakesAs-meant (λ k. kept_taking k place u.input c.args.byte) c.behind_control.result [] env old c.read_on.new.self u c.read_on.result
+    (λ k. c.behind_control.ensures k u.input) c.read_on.ensures.reading c.read_on.ensures.message c.read_on.ensures.events)
+
+pub returns-in-Arguments : goal.returns-in-Arguments
+returns-in-Arguments c =
+    let env = c.args.env.now in
+    let old = c.args.self.now in
+    let u = c.args.unread.now in
+    let breaks = c.in-Arguments.breaks in
+    let request = c.in-Arguments.request in
+    let is : old.reading ≡ InArguments breaks request = search rules in
+    TakesAs-where (λ k r. kept_taking k r u.input c.args.byte) (InArguments breaks request) env old c.read_arguments.new.self u c.read_arguments.new.unread c.read_arguments.result is
+    (TakesAs-read (λ k i found. arguments_found k i breaks request found) (byte_read false u.input.half c.args.byte) env old c.read_arguments.new.self u
+    c.read_byte-found-in-Arguments.new.self c.read_arguments.new.unread c.read_byte-found-in-Arguments.result c.read_arguments.result
+    c.read_byte-found-in-Arguments.ensures.reading c.read_arguments.ensures)
+
+pub returns-in-Dropped : goal.returns-in-Dropped
+returns-in-Dropped c =
+    let env = c.args.env.now in
+    let old = c.args.self.now in
+    let u = c.args.unread.now in
+    let is : old.reading ≡ Dropped = search rules in
+    let done = c.read_on-in-Dropped in
+    TakesAs-where (λ k r. kept_taking k r u.input c.args.byte) Dropped env old done.new.self u u (Ok done.result) is
+    (TakesAs-meant (λ k. kept_taking k Dropped u.input c.args.byte) c.behind_dropped.result [] env old done.new.self u done.result
+    (λ k. c.behind_dropped.ensures u.input) done.ensures.reading done.ensures.message done.ensures.events)

@@ -1,0 +1,15 @@
+-- The words of the clauses in `src/`, each with the file that it stands in.
+pub use Rattle.roff_run.specs.Output.{PageHistory, text_of}
+pub use Rattle.roff_run.specs.Reader.State.{fresh_reader}
+pub use Rattle.roff_run.specs.Reader.Taken.{Changed, PageUnread, TakesAs}
+pub use Rattle.roff_run.specs.Reading.{arguments_found, beginning_found, end_taking, first_taking, going_on, half_ended, holding, interpolating, interrupted, kept_taking, line_ended, meaning_events, taking, text_found, unit_found}
+pub use Rattle.roff_run.specs.Registers.{AllRegisters, Remove, changed_by, value_in_force}
+pub use Rattle.roff_run.specs.Registers.Coded.{known_of}
+pub use Rattle.roff_run.specs.Request.Coded.{changes_of, effect_of, register_named}
+pub use Rattle.roff_run.specs.Requests.{request_effect}
+pub use Rattle.roff_run.specs.Requests.Numbering.{names_given}
+pub use Rattle.roff_run.specs.Run.{known_at}
+pub use Rattle.roff_run.specs.declared.reading.Reading.TheVariants.{LineStart}
+pub use Rattle.roff_lines.specs.Env.Stands.{Stands}
+pub use Rattle.roff_lines.specs.declared.env.Env.{Env}
+pub use Rattle.roff_scan.specs.ArgumentList.{listed}

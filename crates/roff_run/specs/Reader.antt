@@ -1,0 +1,3 @@
+-- What the code reads, as the definition reads it.
+pub mod State
+pub mod Taken

@@ -1,0 +1,482 @@
+//! Reading: what each item of the input means, before it is done.
+
+ghost use Rattle.std.specs.Prelude.{◌≡◌, ℕ, List, [], ◌∷◌, None, true, IfOk, IfSome, Ok, reverse, slice_get};
+ghost use Rattle.std.specs.Option.{option_copied};
+ghost use Rattle.roff_lines.specs.declared.event.Event.TheVariants.{Gap, Print, WordEnd};
+ghost use Rattle.roff_lines.specs.declared.glyph.Glyph.TheVariants.{Printed};
+ghost use Rattle.roff_run.specs.Requests.{Text};
+ghost use Rattle.roff_run.specs.Registers.{Known as KnownOf};
+ghost use Rattle.roff_run.specs.Clauses.{AllRegisters, Changed, Env, LineStart, PageHistory, PageUnread, Remove, Stands, TakesAs, arguments_found, beginning_found, changed_by, changes_of, effect_of, end_taking, first_taking, fresh_reader, going_on, meaning_events, half_ended, holding, interpolating, interrupted, kept_taking, known_at, known_of, line_ended, listed, names_given, register_named, request_effect, taking, text_found, text_of, unit_found, value_in_force};
+
+use crate::event::{Events, PageEvent};
+use crate::message::Message;
+use crate::reading::{Reading, TextLine, TextStep};
+use crate::registers::{Facts, RunRegisters};
+use crate::request::{Changes, Effect, Given, Known, Request, name_given, register_named};
+use roff_lines::Env;
+use roff_num::{Limit, Name, Num};
+use roff_scan::{ArgumentList, CopyUnit, Read, Unread, is_dropped};
+use roff_store::Direction;
+use std::alloc::{AllocError, Global};
+use std::marker::Model;
+
+/// What is being read, and the number registers.
+///
+/// All its memory is reserved as it is made.
+#[derive(Drop)]
+pub struct Reader {
+    reading: Reading,
+    registers: RunRegisters,
+}
+
+/// What an item means: a message, and then events.
+#[derive(Drop)]
+pub struct Meaning {
+    /// The message, which stands on the line of the last byte taken.
+    pub message: Option<Message>,
+    /// The events, in order.
+    pub events: Events,
+}
+
+impl Model for Reader {
+    ghost use Rattle.roff_run.specs.Reader.State.{ReaderState};
+
+    ghost Value = { ReaderState };
+
+    ghost view = { λ r. record { reading = r.reading; registers = r.registers } };
+}
+
+impl Reader {
+    /// At a line's beginning, without registers, with room for so many.
+    pub fn new(alloc: Global, names_cap: u32) -> Result<Self, AllocError>
+        ensures { IfOk result (λ r. r ≡ fresh_reader names_cap) }
+    {
+        Ok(Reader {
+            reading: Reading::LineStart,
+            registers: RunRegisters::new(alloc, names_cap)?,
+        })
+    }
+
+    /// Whether a byte is a glyph behind another on a text line, and does nothing else. Most are.
+    #[inline(always)]
+    pub fn goes_on_with(&self, byte: u8, unread: &Unread<PageEvent>) -> bool
+        ensures { result ≡ true → (k : KnownOf) → taking k self.now.reading unread.now.input byte
+            ≡ meaning_events unread.now.input self.now.reading (Text (Print (Printed byte)) ∷ []) }
+    {
+        match self.reading {
+            Reading::Text(line) => line.goes_on_with(byte) && unread.is_bare(),
+            _ => false,
+        }
+    }
+
+    /// Whether a byte is a gap behind a glyph on a text line, and does nothing else.
+    #[inline(always)]
+    pub fn goes_on_with_gap(&self, byte: u8, unread: &Unread<PageEvent>) -> bool
+        ensures { result ≡ true → (k : KnownOf) → taking k self.now.reading unread.now.input byte
+            ≡ meaning_events unread.now.input self.now.reading
+            (Text WordEnd ∷ Text (Gap 1) ∷ []) }
+    {
+        match self.reading {
+            Reading::Text(line) => line.goes_on_with_gap(byte) && unread.is_bare(),
+            _ => false,
+        }
+    }
+
+    /// What a byte does that was taken: the input behind it, what is read, and what it means.
+    ///
+    /// # Errors
+    ///
+    /// A limit that it would pass; what was changed then is of no more use.
+    pub fn read(
+        &mut self,
+        byte: u8,
+        env: &Env,
+        unread: &mut Unread<PageEvent>,
+    ) -> Result<Meaning, Limit>
+        ensures { TakesAs (λ k. taking k self.old.reading unread.old.input byte)
+            env.now self.old self.new unread.old unread.new result }
+    {
+        if is_dropped(byte) {
+            self.interrupt(unread);
+            return Ok(Meaning::nothing());
+        }
+        self.read_kept(byte, env, unread)
+    }
+
+    /// The same of a byte that isn't dropped.
+    fn read_kept(
+        &mut self,
+        byte: u8,
+        env: &Env,
+        unread: &mut Unread<PageEvent>,
+    ) -> Result<Meaning, Limit>
+        ensures { TakesAs (λ k. kept_taking k self.old.reading unread.old.input byte)
+            env.now self.old self.new unread.old unread.new result }
+    {
+        match self.reading {
+            Reading::LineStart => {
+                let found = unread.read_byte(true, byte);
+                self.begin_line(found, env, unread)
+            }
+            Reading::Text(line) => {
+                let found = unread.read_byte(true, byte);
+                self.read_text(line, found, env, unread)
+            }
+            Reading::Control { breaks } => Ok(self.read_on(Reading::behind_control(breaks, byte))),
+            Reading::Name { breaks, first } => {
+                Ok(self.read_on(Reading::behind_first(breaks, first, byte)))
+            }
+            Reading::Arguments { breaks, request } => {
+                let found = unread.read_byte(false, byte);
+                self.read_arguments(breaks, request, found, env, unread)
+            }
+            Reading::Dropped => Ok(self.read_on(Reading::behind_dropped(byte))),
+        }
+    }
+
+    /// What is half read ends, before a newline that stays or at the end of the input.
+    ///
+    /// # Errors
+    ///
+    /// A limit that it would pass; what was changed then is of no more use.
+    pub fn end_half(&mut self, env: &Env, unread: &mut Unread<PageEvent>) -> Result<Meaning, Limit>
+        ensures { TakesAs (λ k. half_ended k self.old.reading unread.old.input)
+            env.now self.old self.new unread.old unread.new result }
+    {
+        match self.reading {
+            Reading::LineStart => {
+                let found = unread.end_reading(true);
+                self.begin_line(found, env, unread)
+            }
+            Reading::Text(line) => {
+                let found = unread.end_reading(true);
+                self.read_text(line, found, env, unread)
+            }
+            Reading::Arguments { breaks, request } => {
+                let found = unread.end_reading(false);
+                self.read_arguments(breaks, request, found, env, unread)
+            }
+            _ => {
+                let _ = unread.end_reading(true);
+                Ok(Meaning::nothing())
+            }
+        }
+    }
+
+    /// The end of the input: an unfinished line ends.
+    ///
+    /// # Errors
+    ///
+    /// A limit that it would pass; what was changed then is of no more use.
+    pub fn end_line_of_input(
+        &mut self,
+        env: &Env,
+        unread: &mut Unread<PageEvent>,
+    ) -> Result<Meaning, Limit>
+        ensures { TakesAs (λ k. end_taking k self.old.reading unread.old.input)
+            env.now self.old self.new unread.old unread.new result }
+    {
+        match self.reading {
+            Reading::LineStart => Ok(Meaning::nothing()),
+            _ => self.read_kept(b'\n', env, unread),
+        }
+    }
+
+    /// Something that isn't a byte of the line stands in front: no quote follows the quote before it.
+    pub fn interrupt(&self, unread: &mut Unread<PageEvent>)
+        ensures { unread.new
+            ≡ record unread.old { input = interrupted self.now.reading unread.old.input } }
+    {
+        if let Reading::Arguments { .. } = self.reading {
+            unread.settle();
+        }
+    }
+
+    /// This is read on, and nothing is meant.
+    fn read_on(&mut self, reading: Reading) -> Meaning
+        ensures reading { self.new ≡ record self.old { reading = reading } }
+        ensures message { result.message ≡ None }
+        ensures events { result.events.items ≡ [] }
+    {
+        self.reading = reading;
+        Meaning::nothing()
+    }
+
+    /// What something of a text line does.
+    fn step(&mut self, step: TextStep) -> Meaning
+        ensures reading { self.new ≡ record self.old { reading = step.reading } }
+        ensures message { result.message ≡ None }
+        ensures events { result.events.items ≡ step.events.items }
+    {
+        self.reading = step.reading;
+        Meaning {
+            message: None,
+            events: step.events,
+        }
+    }
+
+    /// The first byte of a line: a dot or an apostrophe begins a control line, another a text line.
+    fn begin_with(&mut self, byte: u8) -> Meaning
+        ensures { (env : Env) (u : PageUnread)
+            → TakesAs (λ k. first_taking u.input byte) env self.old self.new u u (Ok result) }
+    {
+        match byte {
+            b'.' => self.read_on(Reading::Control { breaks: true }),
+            b'\'' => self.read_on(Reading::Control { breaks: false }),
+            _ => self.step(TextLine::new().taking(byte)),
+        }
+    }
+
+    /// Something where a line begins.
+    fn begin_line(
+        &mut self,
+        found: Read,
+        env: &Env,
+        unread: &mut Unread<PageEvent>,
+    ) -> Result<Meaning, Limit>
+        ensures { TakesAs (λ k. beginning_found k unread.old.input found)
+            env.now self.old self.new unread.old unread.new result }
+    {
+        match found {
+            Read::GoesOn => Ok(self.read_on(Reading::LineStart)),
+            Read::Unit(CopyUnit::Byte(byte)) => Ok(self.begin_with(byte)),
+            Read::Unit(CopyUnit::Kept(byte)) | Read::Escape(byte) => {
+                Ok(self.step(TextLine::new().escape(byte)))
+            }
+            Read::Asks(step, name) => {
+                self.reading = Reading::LineStart;
+                self.interpolate(step, &name, env, unread)
+            }
+        }
+    }
+
+    /// Something of a text line.
+    fn read_text(
+        &mut self,
+        line: TextLine,
+        found: Read,
+        env: &Env,
+        unread: &mut Unread<PageEvent>,
+    ) -> Result<Meaning, Limit>
+        ensures { TakesAs (λ k. text_found k unread.old.input line found)
+            env.now self.old self.new unread.old unread.new result }
+    {
+        match found {
+            Read::GoesOn => Ok(self.read_on(Reading::Text(line))),
+            Read::Unit(CopyUnit::Byte(byte)) => Ok(self.step(line.taking(byte))),
+            Read::Unit(CopyUnit::Kept(byte)) | Read::Escape(byte) => {
+                Ok(self.step(line.escape(byte)))
+            }
+            Read::Asks(step, name) => {
+                self.reading = Reading::Text(line);
+                self.interpolate(step, &name, env, unread)
+            }
+        }
+    }
+
+    /// Something behind a request's name.
+    fn read_arguments(
+        &mut self,
+        breaks: bool,
+        request: Request,
+        found: Read,
+        env: &Env,
+        unread: &mut Unread<PageEvent>,
+    ) -> Result<Meaning, Limit>
+        ensures { TakesAs (λ k. arguments_found k unread.old.input breaks request found)
+            env.now self.old self.new unread.old unread.new result }
+    {
+        match found {
+            Read::GoesOn => {
+                unread.settle();
+                Ok(self.read_on(Reading::Arguments { breaks, request }))
+            }
+            Read::Unit(unit) => self.read_unit(breaks, request, unit, env, unread),
+            Read::Escape(byte) => {
+                self.read_unit(breaks, request, CopyUnit::Kept(byte), env, unread)
+            }
+            Read::Asks(step, name) => {
+                unread.settle();
+                self.reading = Reading::Arguments { breaks, request };
+                self.interpolate(step, &name, env, unread)
+            }
+        }
+    }
+
+    /// A unit behind a request's name: a newline ends the line, and all else is held.
+    fn read_unit(
+        &mut self,
+        breaks: bool,
+        request: Request,
+        unit: CopyUnit,
+        env: &Env,
+        unread: &mut Unread<PageEvent>,
+    ) -> Result<Meaning, Limit>
+        ensures { TakesAs (λ k. unit_found k unread.old.input breaks request unit)
+            env.now self.old self.new unread.old unread.new result }
+    {
+        match unit {
+            CopyUnit::Byte(b'\n') => self.obey(breaks, request, env, unread),
+            _ => self.hold(unit, Reading::Arguments { breaks, request }, unread),
+        }
+    }
+
+    /// A unit of an argument is held, and this is read on.
+    fn hold(
+        &mut self,
+        unit: CopyUnit,
+        reading: Reading,
+        unread: &mut Unread<PageEvent>,
+    ) -> Result<Meaning, Limit>
+        ensures { (env : Env)
+            → TakesAs (λ k. going_on (holding unit unread.old.input) reading)
+            env self.old self.new unread.old unread.new result }
+    {
+        unread.hold(unit)?;
+        Ok(self.read_on(reading))
+    }
+
+    /// A register is read in the place of its escape: its text is put in front.
+    fn interpolate(
+        &mut self,
+        step: Option<Direction>,
+        name: &Name,
+        env: &Env,
+        unread: &mut Unread<PageEvent>,
+    ) -> Result<Meaning, Limit>
+        ensures { TakesAs (λ k. interpolating k unread.old.input self.old.reading step name.now)
+            env.now self.old self.new unread.old unread.new result }
+    {
+        let facts = facts(env, unread);
+        let given = self.registers.interpolate(step, name, facts);
+        unread.push(&given.text)?;
+        Ok(Meaning {
+            message: given.message,
+            events: Events::new(),
+        })
+    }
+
+    /// The end of a request's line: it is obeyed with the arguments that were read.
+    fn obey(
+        &mut self,
+        breaks: bool,
+        request: Request,
+        env: &Env,
+        unread: &mut Unread<PageEvent>,
+    ) -> Result<Meaning, Limit>
+        ensures { TakesAs (λ k. line_ended k unread.old.input breaks request)
+            env.now self.old self.new unread.old unread.new result }
+    {
+        unread.finish_arguments();
+        let effect = self.effect(breaks, request, env, unread);
+        self.change(effect.changes, unread.arguments())?;
+        unread.begin_arguments();
+        self.reading = Reading::LineStart;
+        Ok(Meaning {
+            message: effect.message,
+            events: effect.events,
+        })
+    }
+
+    /// What a request means with the arguments that were read.
+    fn effect(
+        &self,
+        breaks: bool,
+        request: Request,
+        env: &Env,
+        unread: &Unread<PageEvent>,
+    ) -> Effect
+        ensures { (cap : ℕ) (h : PageHistory) → Stands cap (text_of h) env.now
+            → let as_given = reverse unread.now.input.arguments.whole in
+            effect_of as_given result
+            ≡ request_effect (known_at h self.now.registers.all unread.now.input) breaks request
+            as_given }
+    {
+        let arguments = unread.arguments();
+        let given = Given {
+            first: arguments.get(0),
+            second: arguments.get(1),
+            third: arguments.get(2),
+        };
+        let facts = facts(env, unread);
+        let known = Known {
+            settings: facts.settings,
+            in_force: self.in_force(given.first, facts),
+        };
+        request.effect(breaks, known, given)
+    }
+
+    /// The value in force of the register that a first argument names; 0 if it names none.
+    fn in_force(&self, first: Option<&[u8]>, facts: Facts) -> Num
+        ensures { (as_given : List (List ℕ)) → option_copied first.entry ≡ slice_get as_given 0
+            → IfSome (register_named as_given)
+            (λ name. result ≡ value_in_force (known_of facts self.now.registers.all) name) }
+    {
+        match register_named(first) {
+            Some(name) => self.registers.value_in_force(&name, facts),
+            None => Num(0),
+        }
+    }
+
+    /// Changes registers.
+    ///
+    /// # Errors
+    ///
+    /// The limit on names, if more would have a register.
+    fn change(&mut self, changes: Changes, arguments: ArgumentList<'_>) -> Result<(), Limit>
+        ensures changed { Changed (changes_of (listed arguments.entry) changes)
+            self.old.registers self.new.registers result }
+        ensures reading { self.new.reading ≡ self.old.reading }
+    {
+        match changes {
+            Changes::Nothing => Ok(()),
+            Changes::One(change) => self.registers.apply(&change),
+            Changes::RemoveGiven => {
+                self.remove_given(arguments);
+                Ok(())
+            }
+        }
+    }
+
+    /// Removes the registers that arguments name.
+    fn remove_given(&mut self, arguments: ArgumentList<'_>)
+        ensures { self.new ≡ record self.old {
+          registers = record self.old.registers {
+            all = changed_by (Remove (names_given (listed arguments.entry))) self.old.registers.all;
+          };
+        } }
+    {
+        for index in 0..arguments.len() {
+            if let Some(text) = arguments.get(index) {
+                if let Some(name) = name_given(text) {
+                    self.registers.remove(&name);
+                }
+            }
+        }
+    }
+}
+
+impl Meaning {
+    /// Nothing.
+    fn nothing() -> Self
+        ensures message { result.message ≡ None }
+        ensures events { result.events.items ≡ [] }
+    {
+        Meaning {
+            message: None,
+            events: Events::new(),
+        }
+    }
+}
+
+/// What is known of the run beside its registers.
+fn facts(env: &Env, unread: &Unread<PageEvent>) -> Facts
+    ensures { (cap : ℕ) (h : PageHistory) (all : AllRegisters) → Stands cap (text_of h) env.now
+        → known_of result all ≡ known_at h all unread.now.input }
+{
+    Facts {
+        settings: env.settings(),
+        newlines: unread.newlines(),
+        last_width: env.last_width(),
+    }
+}

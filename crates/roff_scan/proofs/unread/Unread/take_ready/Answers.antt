@@ -1,0 +1,21 @@
+use Rattle.std.proofs.Common.{◌≡◌, ◌+◌, ◌<◌, Bool, false, Option, Some, None, if◌then◌else◌, arith, refl, rules, ap, sym, ◌∙◌}
+use Rattle.std.specs.Prelude.{is_some, nat_lt}
+use Rattle.std.proofs.lemmas.Bool.{le-ltb}
+use Rattle.roff_scan.specs.Tape.{Gives, OneByte}
+use Rattle.roff_scan.specs.Unread.{Shown, ShowsByte, ShowsRefusal, Unread}
+use Rattle.roff_scan.proofs.Asking.{takes_asked}
+use Rattle.roff_scan.proofs.unread.Unread.take_ready.Goals as goal
+
+nothing_looked : {A : Type 0} (looked : Option A) → is_some looked ≡ false → looked ≡ None
+nothing_looked None is = refl
+nothing_looked (Some a) is = cc
+
+pub returns-in-Some-clause-takes : goal.returns-in-Some-clause-takes
+returns-in-Some-clause-takes g c =
+    let now = c.args.self.now in
+    let b = c.in-Some.byte in
+    let below : now.input.charge < now.limits.bytes = search rules in
+    let room : nat_lt now.limits.bytes (now.input.charge + 1) ≡ false = le-ltb now.limits.bytes (now.input.charge + 1) (omega (arith, below)) in
+    takes_asked (g.S.ByteSource.gives c.args.source.now) _ _ _ c.self.view_is _ (g.S.ByteSource.gives c.ready_byte.new.self) (Gives (OneByte b))
+    (sym c.is_empty.ensures ∙ c.if-not-is_empty.false) (nothing_looked c.self.inside.looked (sym c.is_some.ensures ∙ c.if-is_some.false)) c.in-Some.ensures.gives
+    (rw (room, c.count.ensures.counts) refl)
