@@ -3,6 +3,7 @@
 
     bench/make_text.py text MEGABYTES       running text: sentences in lines of 50 to 75 bytes, now and then a blank line
     bench/make_text.py requests MEGABYTES   the same with a request after every 2 to 5 lines
+    bench/make_text.py registers MEGABYTES  the same with a register set after every 2 to 5 lines, and one read in each line
 """
 import random
 import sys
@@ -58,6 +59,19 @@ REQUESTS = [
     ".na",
 ]
 
+# Registers that are set, and the escapes that read them.
+SETTINGS = [
+    ".nr a 1 1",
+    ".nr b \\na+7*2",
+    ".nr c +1",
+    ".nr xy (\\nb-3)/2 5",
+    ".nr xy -1",
+    ".af c i",
+    ".af a 001",
+]
+
+READINGS = ["\\na", "\\nb", "\\nc", "\\n(xy", "\\n+a", "\\n-(xy", "\\n(.l"]
+
 
 class Writer:
     def __init__(self):
@@ -101,20 +115,22 @@ class Writer:
         while length < size:
             lines = self.paragraph()
             if kind == "requests":
-                lines = self.with_requests(lines)
+                lines = self.with_requests(lines, REQUESTS)
+            elif kind == "registers":
+                lines = self.with_requests([f"{line} {self.one_of(READINGS)}" for line in lines], SETTINGS)
             part = "\n".join(lines) + "\n\n"
             parts.append(part)
             length += len(part)
         text = "".join(parts)
         return text[: text.rfind("\n", 0, size) + 1].encode()
 
-    def with_requests(self, lines):
+    def with_requests(self, lines, requests):
         mixed, wait = [], self.between(2, 5)
         for line in lines:
             mixed.append(line)
             wait -= 1
             if wait == 0:
-                mixed.append(self.one_of(REQUESTS))
+                mixed.append(self.one_of(requests))
                 wait = self.between(2, 5)
         return mixed
 
@@ -128,7 +144,7 @@ def write_document(kind, size, file):
 
 
 def main():
-    if len(sys.argv) != 3 or sys.argv[1] not in ("text", "requests"):
+    if len(sys.argv) != 3 or sys.argv[1] not in ("text", "requests", "registers"):
         sys.exit(__doc__.strip())
     write_document(sys.argv[1], int(float(sys.argv[2]) * MEGABYTE), sys.stdout.buffer)
 
