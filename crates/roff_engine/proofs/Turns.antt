@@ -89,9 +89,10 @@ module _ {gave gives : Tape → Type 0} {old : Coded} {left : PageUnread} {taken
       let own : Acts old.unread.input.line doing (moved old left) new (seen failures out err) after r =
       subst (λ (n : ℕ). Acts n doing (moved old left) new (seen failures out err) after r) line_is acts in
       let took_it : TookFrom t tape start (seen failures out err) old.unread.input.line doing from (moved old left) =
-      took leaves failed failures out err more t tape start may at doing (goes ∙ shows at.limits tape may at.history at.messages) in
-      (own.acts t tape start from took_it,
-      fewer_behind doing old.unread.input.line new (seen failures out err) after r less fewer at.limits own t tape start from took_it))
+      took leaves failed failures out err more t tape start may at doing (goes ∙ shows at.limits tape may at.history at.messages) in (
+        own.acts t tape start from took_it,
+        fewer_behind doing old.unread.input.line new (seen failures out err) after r less fewer at.limits own t tape start from took_it,
+      ))
 
 -- as many turns are to come where a quote is settled
 turns-interrupted : (bytes : ℕ) (reading : Reading) (i : PageInput) → turns_within bytes (interrupted reading i) ≡ turns_within bytes i
@@ -190,18 +191,20 @@ module _ {gave gives : Tape → Type 0} {left : PageUnread} (old : Coded) (faile
   -- the end of a text
   pub front_end : Takes gave gives old.unread left ShowsEnd → FrontTurn gave gives noted notes old (moved old left) (seen failed out err) (seen failures out err) (Ok tt)
   front_end call =
-      turned (leaves_front old call) _ noted notes (moved old left) (seen failed out err) (seen failures out err) (Ok tt) refl (λ t tape start may at goes.
-      (end_passed (leaves_front old call) failed failures out err more t tape start may at (goes ∙ shown_front old call at.limits tape may at.history at.messages),
-      omega (arith, less, falls_front old call tt)))
+      turned (leaves_front old call) _ noted notes (moved old left) (seen failed out err) (seen failures out err) (Ok tt) refl (λ t tape start may at goes. (
+        end_passed (leaves_front old call) failed failures out err more t tape start may at (goes ∙ shown_front old call at.limits tape may at.history at.messages),
+        omega (arith, less, falls_front old call tt),
+      ))
 
   -- a message of the source's
   pub front_note : (note : List ℕ) (told : Sunk) (r : Result (Unit {0}) Status) → Takes gave gives old.unread left (ShowsNote note) → notes < noted
       → Puts err told note r → IsOkUnless r Device → FrontTurn gave gives noted notes old (moved old left) (seen failed out err) (seen failures out told) r
   front_note note told r call fewer puts is =
       let leaves = leaves_front old call in
-      turned leaves _ noted notes (moved old left) (seen failed out err) (seen failures out told) r refl (λ t tape start may at goes.
-      (note_told leaves failed failures out err more t tape start may at told note r (goes ∙ shown_front old call at.limits tape may at.history at.messages) puts is,
-      on_ok r (omega (arith, fewer, leaves.turns))))
+      turned leaves _ noted notes (moved old left) (seen failed out err) (seen failures out told) r refl (λ t tape start may at goes. (
+        note_told leaves failed failures out err more t tape start may at told note r (goes ∙ shown_front old call at.limits tape may at.history at.messages) puts is,
+        on_ok r (omega (arith, fewer, leaves.turns)),
+      ))
 
   -- the end of the input
   pub front_ended : (new : Coded) (after : Seen) (r : Result (Unit {0}) Status) → Takes gave gives old.unread left (ShowsEnding Ended)
@@ -228,9 +231,11 @@ module _ {gave gives : Tape → Type 0} {left : PageUnread} (old : Coded) (faile
       → FrontTurn gave gives noted notes old (moved old left) (seen failed out err) (seen failures out told) (Err status)
   front_failed report told status call is rises puts =
       let leaves = leaves_front old call in
-      turned leaves _ noted notes (moved old left) (seen failed out err) (seen failures out told) (Err status) refl (λ t tape start may at goes.
-      (rw is (source_failed leaves failed failures out err more t tape start may at told left.input.line report (ends_front old call tt) refl
-      (goes ∙ shown_front old call at.limits tape may at.history at.messages) rises puts), tt))
+      turned leaves _ noted notes (moved old left) (seen failed out err) (seen failures out told) (Err status) refl (λ t tape start may at goes. (
+        rw is (source_failed leaves failed failures out err more t tape start may at told left.input.line report (ends_front old call tt) refl
+            (goes ∙ shown_front old call at.limits tape may at.history at.messages) rises puts),
+        tt,
+      ))
 
   -- a limit of the source's own
   pub front_stopped : (limit : Limit) → Takes gave gives old.unread left (ShowsEnding (Stopped limit))

@@ -116,9 +116,10 @@ module _ {gave gives : Tape → Type 0} {left : PageUnread} (old : Coded) (faile
       → WaitingTurn gave gives noted notes old (moved old left) (seen failed out err) (seen failures out told) r
   waiting_note note told r call fewer puts is =
       let leaves = leaves_look old call in
-      turned leaves _ noted notes (moved old left) (seen failed out err) (seen failures out told) r refl (λ t tape start may at goes.
-      (note_told leaves failed failures out err more t tape start may at told note r (goes ∙ sighted_look old call tape may at.history at.messages) puts is,
-      on_ok r (omega (arith, fewer, leaves.turns))))
+      turned leaves _ noted notes (moved old left) (seen failed out err) (seen failures out told) r refl (λ t tape start may at goes. (
+        note_told leaves failed failures out err more t tape start may at told note r (goes ∙ sighted_look old call tape may at.history at.messages) puts is,
+        on_ok r (omega (arith, fewer, leaves.turns)),
+      ))
 
   -- a fault of the source
   pub waiting_failed : {F : Type 0} (report : Result (Unit {0}) F) (told : Sunk) (status : Status) → Looks gave gives old.unread left (SeesEnding Failed)
@@ -126,9 +127,11 @@ module _ {gave gives : Tape → Type 0} {left : PageUnread} (old : Coded) (faile
       → WaitingTurn gave gives noted notes old (moved old left) (seen failed out err) (seen failures out told) (Err status)
   waiting_failed report told status call is rises puts =
       let leaves = leaves_look old call in
-      turned leaves _ noted notes (moved old left) (seen failed out err) (seen failures out told) (Err status) refl (λ t tape start may at goes.
-      (rw is (source_failed leaves failed failures out err more t tape start may at told left.input.line report (ends_look old call tt) refl
-      (goes ∙ sighted_look old call tape may at.history at.messages) rises puts), tt))
+      turned leaves _ noted notes (moved old left) (seen failed out err) (seen failures out told) (Err status) refl (λ t tape start may at goes. (
+        rw is (source_failed leaves failed failures out err more t tape start may at told left.input.line report (ends_look old call tt) refl
+            (goes ∙ sighted_look old call tape may at.history at.messages) rises puts),
+        tt,
+      ))
 
   -- a limit of the source's own
   pub waiting_stopped : (limit : Limit) → Looks gave gives old.unread left (SeesEnding (Stopped limit))
@@ -165,10 +168,11 @@ module _ {gave mid gives : Tape → Type 0} {left : PageUnread} {sight : Sighted
       let at = stands.0 in
       let from : State = state_at (items_then (taken old call) whole) old at.history at.messages in
       let behind : State = state_at whole (moved old left) at.history at.messages in
-      let same : behind ≡ from = unmoved_look old call (no_note_in_front sight goes_on) whole may at.history at.messages in
-      (looked_at (leaves_look old call) failed failures out err more t whole start may at same,
-      ap (λ (s : State). step old.limits s) same ∙ stands.1 ∙ sighted_look old call whole may at.history at.messages
-      ∙ sighted_step-in_front old.limits sight from behind goes_on)
+      let same : behind ≡ from = unmoved_look old call (no_note_in_front sight goes_on) whole may at.history at.messages in (
+        looked_at (leaves_look old call) failed failures out err more t whole start may at same,
+        ap (λ (s : State). step old.limits s) same ∙ stands.1 ∙ sighted_look old call whole may at.history at.messages
+            ∙ sighted_step-in_front old.limits sight from behind goes_on,
+      )
 
   -- over a tape that begins with what both took
   stands_behind : (t tape : Tape) (start : Seen) → gives tape → Stands t (items_then both tape) start → StandsBehind t (items_then turn.taken tape) start

@@ -26,7 +26,6 @@ returns-in-Stop g c =
     let shown = c.in-Stop.ensures in
     waiting_stopped c.args.self.now _ _ _ _ _ _ shown.failures shown.notes c.in-Stop.limit shown.looks
 
-
 pub returns : goal.returns
 returns g c =
     let goes_on : GoesInFront (sighted c.look.result) = elim c.match-look.branch [
