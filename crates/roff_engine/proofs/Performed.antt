@@ -1,5 +1,5 @@
 -- Events that are performed, one by one, over the states of the definition.
-use Rattle.std.proofs.Common.{◌≡◌, ◌<◌, ◌≤◌, ℕ, List, [], ◌∷◌, ◌++◌, Option, Some, None, Result, Ok, Err, IsOkUnless, ap, arith, refl, sym}
+use Rattle.std.proofs.Common.{◌∙◌, ◌≡◌, ◌<◌, ◌≤◌, ℕ, List, [], ◌∷◌, ◌++◌, Option, Some, None, Result, Ok, Err, IsOkUnless, ap, arith, refl, sym}
 use Rattle.std.specs.Io.KnownBytes.{Appends}
 use Rattle.std.proofs.lemmas.Bool.{le-ltb, lt-ltb}
 use Rattle.roff_num.specs.declared.limit.Limit.{Limit}
@@ -213,3 +213,28 @@ does_halted l t before now from s rest left (Limited limit) env then p = p
 does_halted l t before now from s rest left (Refused limit) env then p = p
 does_halted l t before now from s rest left Output env then p = p
 does_halted l t before now from s rest left Messages env then p = p
+
+-- two events, of which the first was performed
+pub performs_both : (first second : PageEvent) (old mid new : Formatter) (told told_mid told_new : Sunk) (r : Result (Unit {0}) Halt)
+    → PerformsOnly (first ∷ []) old mid told told_mid (Ok tt) → PerformsOnly (second ∷ []) mid new told_mid told_new r
+    → PerformsOnly (first ∷ second ∷ []) old new told told_new r
+performs_both first second old mid new told told_mid told_new r one other = record {
+  events_performed = record {
+    performs = λ l t before failures err s h rest stood reached.
+        let now = one.events_performed.performs l t before failures err s h (second ∷ rest) stood reached in
+        other.events_performed.performs l t before failures err s now.history rest now.stands now.reaches;
+  };
+  reader = other.reader ∙ one.reader;
+}
+
+-- or in which the code halted
+pub performs_first_halted : (first second : PageEvent) (old new : Formatter) (told told_new : Sunk) (halt : Halt)
+    → PerformsOnly (first ∷ []) old new told told_new (Err halt) → PerformsOnly (first ∷ second ∷ []) old new told told_new (Err halt)
+performs_first_halted first second old new told told_new halt one = record {
+  events_performed = record {
+    performs = λ l t before failures err s h rest stood reached.
+        performs_halted l t before _ s (second ∷ rest) rest halt _ _
+        (one.events_performed.performs l t before failures err s h (second ∷ rest) stood reached);
+  };
+  reader = one.reader;
+}

@@ -12,7 +12,7 @@ pub use Rattle.roff_run.specs.declared.message.Message.TheVariants.{ReadFailed}
 pub use Rattle.roff_run.specs.declared.status.Status.TheVariants.{Device}
 pub use Rattle.roff_lines.specs.Columns.{finished_of}
 pub use Rattle.roff_lines.specs.Env.Stands.{Stands}
-pub use Rattle.roff_lines.specs.declared.event.Event.TheVariants.{Print, WordEnd, LineEnd, Break}
+pub use Rattle.roff_lines.specs.declared.event.Event.TheVariants.{Gap, Print, WordEnd, LineEnd, Break}
 pub use Rattle.roff_num.specs.declared.limits.Limits.{Limits}
 pub use Rattle.roff_scan.specs.Tape.{Tape}
 pub use Rattle.std.specs.Option.{option_to_list}

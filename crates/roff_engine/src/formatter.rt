@@ -1,7 +1,7 @@
 //! The formatter: what each item of the input does.
 
 ghost use Rattle.std.specs.Prelude.{◌≡◌, [], ◌∷◌, IfOk, IsOkUnless, option_map};
-ghost use Rattle.roff_engine.specs.Clauses.{option_to_list, finished_of, fresh_reader, Stands, Print, WordEnd, LineEnd, Break, message_lines, finished_bytes, DoesMeaning, DoesTaking, PerformsOnly, closing_events, sinks, end_taking, half_ended, interrupted, taking, Text, Space, Puts, Sunk};
+ghost use Rattle.roff_engine.specs.Clauses.{option_to_list, finished_of, fresh_reader, Stands, Gap, Print, WordEnd, LineEnd, Break, message_lines, finished_bytes, DoesMeaning, DoesTaking, PerformsOnly, closing_events, sinks, end_taking, half_ended, interrupted, taking, Text, Space, Puts, Sunk};
 
 use crate::block::Block;
 use crate::halt::Halt;
@@ -16,12 +16,6 @@ use std::alloc::{AllocError, Global};
 const CLOSING: [PageEvent; 2] = [
     PageEvent::Text(Event::WordEnd),
     PageEvent::Text(Event::Break),
-];
-
-/// What a blank behind a glyph means.
-const GAP: [PageEvent; 2] = [
-    PageEvent::Text(Event::WordEnd),
-    PageEvent::Text(Event::Gap(1)),
 ];
 
 /// What is read, the environment, and the block through which lines are written.
@@ -72,7 +66,7 @@ impl Formatter {
             return self.glyph(Glyph::Printed(byte));
         }
         if self.reader.goes_on_with_gap(byte, unread) {
-            return self.perform_all(&GAP, out);
+            return self.gap_behind_word(out);
         }
         self.take_as_read(byte, unread, out, err)
     }
@@ -213,6 +207,21 @@ impl Formatter {
         match self.env.glyph(glyph) {
             Ok(()) => Ok(()),
             Err(limit) => Err(Halt::Limit(limit)),
+        }
+    }
+
+    /// Ends the open word, behind which a gap of one blank stands.
+    #[inline(always)]
+    fn gap_behind_word<O: ByteSink>(&mut self, out: &mut O) -> Result<(), Halt>
+        ensures { PerformsOnly (Text WordEnd ∷ Text (Gap 1) ∷ []) self.old self.new
+            (O.sunk out.old) (O.sunk out.new) result }
+    {
+        match self.end_word(out) {
+            Ok(()) => {
+                self.env.gap(1);
+                Ok(())
+            }
+            Err(halt) => Err(halt),
         }
     }
 

@@ -1,6 +1,6 @@
 //! What a finished line writes.
 
-ghost use Rattle.std.specs.Prelude.{◌≡◌, ◌+◌, ◌*◌, ◌/◌, ◌-◌};
+ghost use Rattle.std.specs.Prelude.{◌≡◌, ◌+◌, ◌*◌, ◌/◌, ◌-◌, ◌<◌, ◌^◌};
 ghost use Rattle.roff_lines.specs.Clauses.{finished_of, line_bytes, added_columns, is_blank_mark, without_blanks};
 
 use crate::line::{FURTHER_BLANK, GAP, Line, UNPADDABLE};
@@ -91,11 +91,17 @@ impl Iterator for LineBytes<'_> {
 
 /// The columns that adjusting adds to the next gap, behind so many others.
 fn added_to_gap(passed: u64, spare: u64, gaps: u64) -> u128
+    requires { passed + 1 < 2 ^ 64 }
     ensures { result ≡ added_columns spare gaps (passed + 1) - added_columns spare gaps passed }
 {
     if gaps == 0 {
         return 0;
     }
+    if let Some(product) = (passed + 1).checked_mul(spare) {
+        let before = product.saturating_sub(spare) / gaps;
+        return u128::from((product / gaps).saturating_sub(before));
+    }
+    // The product may be wider than 64 bits.
     let before = u128::from(passed) * u128::from(spare) / u128::from(gaps);
     let behind = (u128::from(passed) + 1) * u128::from(spare) / u128::from(gaps);
     behind.saturating_sub(before)

@@ -13,5 +13,5 @@ returns-then-goes_on_with g c =
 
 pub returns-then-goes_on_with_gap : goal.returns-then-goes_on_with_gap
 returns-then-goes_on_with_gap g c =
-    taking_performed (λ k. taking k c.args.self.now.reader.reading c.args.unread.now.input c.args.byte) (Text WordEnd ∷ Text (Gap 1) ∷ []) _ _ _ _ _ _ c.perform_all.result
-    (c.goes_on_with_gap.ensures c.if-goes_on_with_gap.true) c.perform_all.ensures
+    taking_performed (λ k. taking k c.args.self.now.reader.reading c.args.unread.now.input c.args.byte) (Text WordEnd ∷ Text (Gap 1) ∷ []) _ _ _ _ _ _ c.gap_behind_word.result
+    (c.goes_on_with_gap.ensures c.if-goes_on_with_gap.true) c.gap_behind_word.ensures
