@@ -54,3 +54,12 @@ Fails-held rest all part = record {
 pub HoldsBack-put : {old mid : Sunk} (new : Sunk) {piece held : List ℕ}
     → HoldsBack old mid piece held → Writes mid new held → Writes old new piece
 HoldsBack-put new all rest = rw all.split (Writes-append all.front _ all.writes rest)
+
+-- more of a piece is held back
+pub HoldsBack-keep : {old new : Sunk} {piece held : List ℕ} (more : List ℕ) → HoldsBack old new piece held
+    → HoldsBack old new (piece ++ more) (held ++ more)
+HoldsBack-keep more all = record {
+  front = all.front;
+  split = rw (all.split, append_assoc) refl;
+  writes = all.writes;
+}

@@ -1,6 +1,6 @@
 //! The block through which lines are written.
 
-ghost use Rattle.std.specs.Prelude.{◌≡◌, ◌≤◌, [], ◌∷◌, ◌++◌, replicate, vec_capacity, OnOk, OnErr};
+ghost use Rattle.std.specs.Prelude.{◌≡◌, ◌≤◌, [], ◌∷◌, ◌++◌, length, replicate, vec_capacity, OnOk, OnErr};
 ghost use Rattle.roff_lines.specs.Columns.{finished_of, line_bytes};
 ghost use Rattle.roff_engine.specs.Sinks.{Fails, HoldsBack, Puts};
 
@@ -39,8 +39,11 @@ impl Block {
             (line_bytes (finished_of line.entry)) result }
     {
         let bytes = &mut self.bytes;
-        for byte in LineBytes::of(line) {
+        let mut to_come = LineBytes::of(line);
+        while let Some(byte) = to_come.next() {
             push(bytes, byte, out)?;
+            let glyphs = to_come.take_glyphs(BLOCK - bytes.len());
+            bytes.extend_from_slice(glyphs).unwrap();
         }
         put(bytes, out)
     }
@@ -70,6 +73,7 @@ fn push<O: ByteSink>(bytes: &mut Vec<u8>, byte: u8, out: &mut O) -> Result<(), S
         (HoldsBack (O.sunk out.old) (O.sunk out.new)
         (bytes.old.items ++ byte ∷ []) bytes.new.items) }
     ensures err { OnErr result (Fails (O.sunk out.old) (O.sunk out.new) bytes.old.items) }
+    ensures few { OnOk result (length bytes.new.items ≤ 8192) }
     ensures empty { OnErr result (bytes.new.items ≡ []) }
 {
     if bytes.len() >= BLOCK {

@@ -1,7 +1,7 @@
 //! What a finished line writes.
 
-ghost use Rattle.std.specs.Prelude.{◌≡◌, ◌+◌, ◌*◌, ◌/◌, ◌-◌, ◌<◌, ◌^◌};
-ghost use Rattle.roff_lines.specs.Clauses.{finished_of, line_bytes, added_columns, is_blank_mark, without_blanks};
+ghost use Rattle.std.specs.Prelude.{◌≡◌, ◌+◌, ◌*◌, ◌/◌, ◌-◌, ◌<◌, ◌≤◌, ◌^◌, ◌++◌, ℕ, length, take, drop};
+ghost use Rattle.roff_lines.specs.Clauses.{finished_of, line_bytes, added_columns, is_blank_mark, spread, without_blanks};
 
 use crate::line::{FURTHER_BLANK, GAP, Line, UNPADDABLE};
 use std::marker::Model;
@@ -52,6 +52,19 @@ impl<'a> LineBytes<'a> {
             gaps: line.gaps,
             newlines: u128::from(line.after) + 1,
         }
+    }
+
+    /// Takes the bytes in front that are no blanks, at most so many.
+    pub fn take_glyphs(&mut self, most: usize) -> &'a [u8]
+        ensures taken { result.now ++ self.new ≡ self.old }
+        ensures most { length result.now ≤ most }
+    {
+        if self.blanks > 0 {
+            return &[];
+        }
+        let (glyphs, rest) = self.text.split_at(count_of_glyphs(self.text, most));
+        self.text = rest;
+        glyphs
     }
 }
 
@@ -105,6 +118,24 @@ fn added_to_gap(passed: u64, spare: u64, gaps: u64) -> u128
     let before = u128::from(passed) * u128::from(spare) / u128::from(gaps);
     let behind = (u128::from(passed) + 1) * u128::from(spare) / u128::from(gaps);
     behind.saturating_sub(before)
+}
+
+/// How many bytes in front of a text are no blanks, at most so many: they are written as they stand.
+fn count_of_glyphs(text: &[u8], most: usize) -> usize
+    ensures text { result ≤ length text.now }
+    ensures most { result ≤ most }
+    ensures glyphs { (spare gaps passed : ℕ)
+        → take result text.now ++ spread spare gaps passed (drop result text.now)
+        ≡ spread spare gaps passed text.now }
+{
+    let mut count = 0;
+    while count < most {
+        match text.get(count) {
+            Some(byte) if !is_blank(*byte) => count += 1,
+            _ => break,
+        }
+    }
+    count
 }
 
 /// A text up to its last glyph that is no blank.

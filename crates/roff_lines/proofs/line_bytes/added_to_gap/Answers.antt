@@ -1,5 +1,4 @@
-use Rattle.std.proofs.Common.{rules, ◌≡◌, ◌+◌, ◌*◌, ◌/◌, ◌-◌, ℕ, Bool, false, refl, ◌==◌, ◌∙◌, arith}
-use Rattle.roff_lines.specs.Columns.{added_columns}
+use Rattle.std.proofs.Common.{rules, ◌≡◌, ◌+◌, ◌*◌, ◌-◌, ℕ, false, refl, ◌==◌, ◌∙◌, arith}
 use Rattle.roff_lines.proofs.line_bytes.added_to_gap.Goals as goal
 
 -- one gap less

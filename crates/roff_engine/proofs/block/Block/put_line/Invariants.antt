@@ -1,13 +1,19 @@
-use Rattle.std.proofs.Common.{◌≡◌, ◌≤◌, ◌++◌, vec_capacity}
+use Rattle.std.proofs.Common.{◌≡◌, ◌≤◌, ◌++◌, ℕ, List, length, vec_capacity}
 use Rattle.roff_lines.specs.Columns.{finished_of, line_bytes}
-use Rattle.roff_engine.specs.Sinks.{HoldsBack}
+use Rattle.roff_engine.specs.Sinks.{Sunk, HoldsBack}
 use Rattle.roff_engine.proofs.block.Block.put_line.Given as goal
+
+-- a beginning of a line was written but its end, which is held back, and the rest is to come
+pub record Begun (line to_come held : List ℕ) (old new : Sunk) : Type 0 where
+  pub front : List ℕ
+  pub whole : front ++ to_come ≡ line
+  pub so_far : HoldsBack old new front held
 
 abbrev pub invariant-loop-byte : goal.invariant-loop-byte
 invariant-loop-byte g l = record {
-  can_next : (goal.iterator-loop-byte g).can_next l.byte-iterator;
-  is_finite : (goal.iterator-loop-byte g).is_finite l.byte-iterator;
   room : 8192 ≤ vec_capacity l.bytes;
-  to_come : l.yielded ++ l.byte-iterator ≡ line_bytes (finished_of l.fn.line);
-  so_far : HoldsBack (g.O.ByteSink.sunk l.initial.out) (g.O.ByteSink.sunk l.out) l.yielded l.bytes.items;
+  begun : Begun (line_bytes (finished_of l.fn.line)) l.to_come l.bytes.items (g.O.ByteSink.sunk l.initial.out) (g.O.ByteSink.sunk l.out);
 }
+
+abbrev pub decreases-loop-byte : goal.decreases-loop-byte
+decreases-loop-byte g l = length l.to_come
