@@ -12,6 +12,7 @@ pub mod ResultsOnlyCut
 pub mod Taking
 pub mod StatusesTell
 pub mod RunsAppend
+pub mod RequestNames
 pub mod RequestTable
 pub mod RegisterTables
 pub mod RegisterLaws

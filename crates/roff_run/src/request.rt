@@ -13,6 +13,7 @@ mod numbering;
 mod spacing;
 
 use LineReading::ByArguments;
+use Request::{LeftOut, WithoutEffect};
 pub(crate) use effects::{Changes, Done, Effect, Known};
 pub(crate) use numbering::{name_given, register_named};
 use roff_lines::Param;
@@ -42,6 +43,10 @@ pub(crate) enum Request {
     RemoveRegisters,
     /// `sp`: blank lines.
     Space,
+    /// One of this name that is read without effect.
+    WithoutEffect([u8; 2]),
+    /// One of this name that is left out, and says so.
+    LeftOut([u8; 2]),
 }
 
 /// How the rest of a request's line is read.
@@ -64,28 +69,32 @@ pub(crate) struct Given<'a> {
 pub(crate) struct Row {
     /// Its name.
     pub(crate) name: [u8; 2],
-    /// The request.
-    pub(crate) request: Request,
     /// How its line is read.
     pub(crate) line: LineReading,
     /// Whether it breaks, if a dot called it.
     pub(crate) breaks: bool,
 }
 
-/// The table of requests, in the order of [`Request`], which is that of their names.
+/// All requests, in the order in which a name is looked up; the others by the manual's sections.
 #[rattlefmt::skip]
-static ROWS: [Row; 11] = [
-    Row { name: *b"ad", request: Request::Adjust, line: ByArguments, breaks: false },
-    Row { name: *b"af", request: Request::AssignFormat, line: ByArguments, breaks: false },
-    Row { name: *b"br", request: Request::Break, line: ByArguments, breaks: true },
-    Row { name: *b"fi", request: Request::Fill, line: ByArguments, breaks: true },
-    Row { name: *b"in", request: Request::Indent, line: ByArguments, breaks: true },
-    Row { name: *b"ll", request: Request::LineLength, line: ByArguments, breaks: false },
-    Row { name: *b"na", request: Request::NoAdjust, line: ByArguments, breaks: false },
-    Row { name: *b"nf", request: Request::NoFill, line: ByArguments, breaks: true },
-    Row { name: *b"nr", request: Request::NumberRegister, line: ByArguments, breaks: false },
-    Row { name: *b"rr", request: Request::RemoveRegisters, line: ByArguments, breaks: false },
-    Row { name: *b"sp", request: Request::Space, line: ByArguments, breaks: true },
+static REQUESTS: [Request; 50] = [
+    Request::Adjust, Request::AssignFormat, Request::Break, Request::Fill, Request::Indent,
+    Request::LineLength, Request::NoAdjust, Request::NoFill, Request::NumberRegister,
+    Request::RemoveRegisters, Request::Space,
+    WithoutEffect(*b"bd"), WithoutEffect(*b"cs"), WithoutEffect(*b"fp"), WithoutEffect(*b"ft"),
+    WithoutEffect(*b"ps"), WithoutEffect(*b"ss"), // Section 2.
+    WithoutEffect(*b"vs"), // Section 5.
+    WithoutEffect(*b"cu"), WithoutEffect(*b"lg"), WithoutEffect(*b"ul"), // Section 10.
+    WithoutEffect(*b"hc"), WithoutEffect(*b"hw"), WithoutEffect(*b"hy"), WithoutEffect(*b"nh"), // Section 13.
+    WithoutEffect(*b"lf"), // Section 20.
+    LeftOut(*b"mk"), LeftOut(*b"rt"), // Section 3.
+    LeftOut(*b"os"), LeftOut(*b"sv"), // Section 5.
+    LeftOut(*b"fc"), LeftOut(*b"lc"), LeftOut(*b"tc"), // Section 9.
+    LeftOut(*b"c2"), LeftOut(*b"cc"), LeftOut(*b"ec"), LeftOut(*b"eo"), LeftOut(*b"tr"), LeftOut(*b"uf"), // Section 10.
+    LeftOut(*b"nm"), LeftOut(*b"nn"), // Section 15.
+    LeftOut(*b"rd"), // Section 18.
+    LeftOut(*b"cf"), LeftOut(*b"nx"), LeftOut(*b"pi"), LeftOut(*b"so"), LeftOut(*b"sy"), // Section 19.
+    LeftOut(*b"fl"), LeftOut(*b"mc"), LeftOut(*b"pm"), // Section 20.
 ];
 
 impl Request {
@@ -94,14 +103,29 @@ impl Request {
     pub(crate) fn named(first: u8, second: u8) -> Option<Request>
         ensures { result ≡ request_named (first ∷ second ∷ []) }
     {
-        Some(row_named([first, second])?.request)
+        find_request([first, second]).copied()
     }
 
     /// Its row.
+    #[rattlefmt::skip]
     pub(crate) fn row(self) -> Row
         ensures { result ≡ coded_row self }
     {
-        ROWS[self as usize]
+        match self {
+            Request::Adjust => Row { name: *b"ad", line: ByArguments, breaks: false },
+            Request::AssignFormat => Row { name: *b"af", line: ByArguments, breaks: false },
+            Request::Break => Row { name: *b"br", line: ByArguments, breaks: true },
+            Request::Fill => Row { name: *b"fi", line: ByArguments, breaks: true },
+            Request::Indent => Row { name: *b"in", line: ByArguments, breaks: true },
+            Request::LineLength => Row { name: *b"ll", line: ByArguments, breaks: false },
+            Request::NoAdjust => Row { name: *b"na", line: ByArguments, breaks: false },
+            Request::NoFill => Row { name: *b"nf", line: ByArguments, breaks: true },
+            Request::NumberRegister => Row { name: *b"nr", line: ByArguments, breaks: false },
+            Request::RemoveRegisters => Row { name: *b"rr", line: ByArguments, breaks: false },
+            Request::Space => Row { name: *b"sp", line: ByArguments, breaks: true },
+            WithoutEffect(name) => Row { name, line: ByArguments, breaks: false },
+            LeftOut(name) => Row { name, line: ByArguments, breaks: false },
+        }
     }
 
     /// What it means, called by a dot or not, as far as the run is known, with these arguments.
@@ -131,13 +155,15 @@ impl Request {
             Request::NumberRegister => numbering::set_register(known, given),
             Request::RemoveRegisters => Done::changing(Changes::RemoveGiven),
             Request::Space => spacing::space_down(given.first),
+            WithoutEffect(_) => Done::nothing(),
+            LeftOut(name) => Done::left_out(name),
         }
     }
 }
 
-/// The row of a name.
-fn row_named(name: [u8; 2]) -> Option<&'static Row>
-    ensures { option_copied result ≡ find (λ row. bytes_eq row.name name) ROWS }
+/// The request of a name.
+fn find_request(name: [u8; 2]) -> Option<&'static Request>
+    ensures { option_copied result ≡ find (λ request. bytes_eq (coded_row request).name name) REQUESTS }
 {
-    ROWS.iter().find(|row| row.name == name)
+    REQUESTS.iter().find(|request| request.row().name == name)
 }
