@@ -13,7 +13,6 @@ pub mod Taking
 pub mod StatusesTell
 pub mod RunsAppend
 pub mod RequestNames
-pub mod RequestTable
 pub mod RegisterTables
 pub mod RegisterLaws
 pub mod Numbering

@@ -71,19 +71,27 @@ names_left_out =
     ∷ codes "cf" ∷ codes "nx" ∷ codes "pi" ∷ codes "so" ∷ codes "sy"  -- section 19
     ∷ codes "fl" ∷ codes "mc" ∷ codes "pm" ∷ []  -- section 20
 
--- the requests that do nothing but say so, if they are left out
+-- the requests that are built, in the order of their names
+abbrev pub built : List Request
+built =
+    Adjust ∷ AssignFormat ∷ Break ∷ Fill ∷ Indent ∷ LineLength ∷ NoAdjust ∷ NoFill ∷ NumberRegister ∷ RemoveRegisters
+    ∷ SpaceDown ∷ []
+
+-- those that do nothing, or nothing but say that they are left out
 abbrev pub others : List Request
 others = map WithoutEffect names_without_effect ++ map LeftOut names_left_out
 
 -- all requests
 abbrev pub requests : List Request
-requests =
-    Adjust ∷ AssignFormat ∷ Break ∷ Fill ∷ Indent ∷ LineLength ∷ NoAdjust ∷ NoFill ∷ NumberRegister ∷ RemoveRegisters
-    ∷ SpaceDown ∷ others
+requests = built ++ others
+
+-- whether a request has this name
+abbrev pub has_name : List ℕ → Request → Bool
+has_name name request = bytes_eq (row_of request).name name
 
 -- the request of a name
 abbrev pub request_named : List ℕ → Option Request
-request_named name = find (λ request. bytes_eq (row_of request).name name) requests
+request_named name = find (has_name name) requests
 
 -- what a request means: it breaks if its row says so and a dot called it
 abbrev pub request_effect : Known → Bool → Request → List (List ℕ) → Effect

@@ -1,16 +1,18 @@
 //! The requests: a row for each, and what each does.
 
-ghost use Rattle.std.specs.Prelude.{◌≡◌, ℕ, List, [], ◌∷◌, bytes_eq, find};
+ghost use Rattle.std.specs.Prelude.{◌≡◌, ℕ, List, [], ◌∷◌, find};
 ghost use Rattle.std.specs.Option.{option_copied};
 ghost use Rattle.roff_run.specs.Registers.{Known as KnownOfRun};
 ghost use Rattle.roff_run.specs.Request.Coded.{GivesFirst, KnowsOf, coded_row, done_of, effect_of};
-ghost use Rattle.roff_run.specs.Requests.{request_effect, request_named, row_of};
+ghost use Rattle.roff_run.specs.Requests.{built, has_name, others, request_effect, request_named, row_of};
 
 mod adjustment;
 mod effects;
 mod lengths;
 mod numbering;
 mod spacing;
+#[cfg(test)]
+mod tests;
 
 use LineReading::ByArguments;
 use Request::{LeftOut, WithoutEffect};
@@ -75,35 +77,54 @@ pub(crate) struct Row {
     pub(crate) breaks: bool,
 }
 
-/// All requests, in the order in which a name is looked up; the others by the manual's sections.
+/// The requests that are built, in the order of their names.
+static BUILT: [Request; 11] = [
+    Request::Adjust,
+    Request::AssignFormat,
+    Request::Break,
+    Request::Fill,
+    Request::Indent,
+    Request::LineLength,
+    Request::NoAdjust,
+    Request::NoFill,
+    Request::NumberRegister,
+    Request::RemoveRegisters,
+    Request::Space,
+];
+
+/// The names of those that are read without effect.
 #[rattlefmt::skip]
-static REQUESTS: [Request; 50] = [
-    Request::Adjust, Request::AssignFormat, Request::Break, Request::Fill, Request::Indent,
-    Request::LineLength, Request::NoAdjust, Request::NoFill, Request::NumberRegister,
-    Request::RemoveRegisters, Request::Space,
-    WithoutEffect(*b"bd"), WithoutEffect(*b"cs"), WithoutEffect(*b"fp"), WithoutEffect(*b"ft"),
-    WithoutEffect(*b"ps"), WithoutEffect(*b"ss"), // Section 2.
-    WithoutEffect(*b"vs"), // Section 5.
-    WithoutEffect(*b"cu"), WithoutEffect(*b"lg"), WithoutEffect(*b"ul"), // Section 10.
-    WithoutEffect(*b"hc"), WithoutEffect(*b"hw"), WithoutEffect(*b"hy"), WithoutEffect(*b"nh"), // Section 13.
-    WithoutEffect(*b"lf"), // Section 20.
-    LeftOut(*b"mk"), LeftOut(*b"rt"), // Section 3.
-    LeftOut(*b"os"), LeftOut(*b"sv"), // Section 5.
-    LeftOut(*b"fc"), LeftOut(*b"lc"), LeftOut(*b"tc"), // Section 9.
-    LeftOut(*b"c2"), LeftOut(*b"cc"), LeftOut(*b"ec"), LeftOut(*b"eo"), LeftOut(*b"tr"), LeftOut(*b"uf"), // Section 10.
-    LeftOut(*b"nm"), LeftOut(*b"nn"), // Section 15.
-    LeftOut(*b"rd"), // Section 18.
-    LeftOut(*b"cf"), LeftOut(*b"nx"), LeftOut(*b"pi"), LeftOut(*b"so"), LeftOut(*b"sy"), // Section 19.
-    LeftOut(*b"fl"), LeftOut(*b"mc"), LeftOut(*b"pm"), // Section 20.
+static WITHOUT_EFFECT: [[u8; 2]; 15] = [
+    *b"bd", *b"cs", *b"fp", *b"ft", *b"ps", *b"ss", // Section 2.
+    *b"vs", // Section 5.
+    *b"cu", *b"lg", *b"ul", // Section 10.
+    *b"hc", *b"hw", *b"hy", *b"nh", // Section 13.
+    *b"lf", // Section 20.
+];
+
+/// The names of those that are left out.
+#[rattlefmt::skip]
+static LEFT_OUT: [[u8; 2]; 24] = [
+    *b"mk", *b"rt", // Section 3.
+    *b"os", *b"sv", // Section 5.
+    *b"fc", *b"lc", *b"tc", // Section 9.
+    *b"c2", *b"cc", *b"ec", *b"eo", *b"tr", *b"uf", // Section 10.
+    *b"nm", *b"nn", // Section 15.
+    *b"rd", // Section 18.
+    *b"cf", *b"nx", *b"pi", *b"so", *b"sy", // Section 19.
+    *b"fl", *b"mc", *b"pm", // Section 20.
 ];
 
 impl Request {
     /// The request of a name of two bytes, if there is one.
-    #[tactic(auto, using(crate::proofs::RequestTable::request_found))]
     pub(crate) fn named(first: u8, second: u8) -> Option<Request>
         ensures { result ≡ request_named (first ∷ second ∷ []) }
     {
-        find_request([first, second]).copied()
+        let name = [first, second];
+        match built_named(name) {
+            Some(request) => Some(*request),
+            None => other_named(name),
+        }
     }
 
     /// Its row.
@@ -161,9 +182,22 @@ impl Request {
     }
 }
 
-/// The request of a name.
-fn find_request(name: [u8; 2]) -> Option<&'static Request>
-    ensures { option_copied result ≡ find (λ request. bytes_eq (coded_row request).name name) REQUESTS }
+/// The request of a name among those that are built.
+fn built_named(name: [u8; 2]) -> Option<&'static Request>
+    ensures { option_copied result ≡ find (has_name name) built }
 {
-    REQUESTS.iter().find(|request| request.row().name == name)
+    BUILT.iter().find(|request| request.row().name == name)
+}
+
+/// The request of a name among those that do nothing.
+fn other_named(name: [u8; 2]) -> Option<Request>
+    ensures { result ≡ find (has_name name) others }
+{
+    if WITHOUT_EFFECT.contains(&name) {
+        Some(WithoutEffect(name))
+    } else if LEFT_OUT.contains(&name) {
+        Some(LeftOut(name))
+    } else {
+        None
+    }
 }
