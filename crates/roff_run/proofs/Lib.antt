@@ -12,7 +12,7 @@ pub mod ResultsOnlyCut
 pub mod Taking
 pub mod StatusesTell
 pub mod RunsAppend
-pub mod RequestTable
+pub mod RequestNames
 pub mod RegisterTables
 pub mod RegisterLaws
 pub mod Numbering

@@ -2,7 +2,7 @@
 use Rattle.std.specs.Prelude.{ℕ, List, [], ◌∷◌, ◌++◌, codes, decimal}
 use Rattle.roff_num.specs.LimitNames.{limit_name}
 use Rattle.roff_run.specs.declared.message.Message.{Message}
-use Rattle.roff_run.specs.declared.message.Message.TheVariants.{LimitReached, BadNumber, BadFormat, BackwardMotion, ReadFailed, WriteFailed}
+use Rattle.roff_run.specs.declared.message.Message.TheVariants.{LimitReached, BadNumber, BadFormat, BackwardMotion, LeftOut, ReadFailed, WriteFailed}
 use Rattle.roff_scan.specs.Bytes.{newline}
 
 -- what a message says
@@ -12,6 +12,7 @@ message_text (LimitReached limit value) =
 message_text BadNumber = codes "bad number"
 message_text BadFormat = codes "bad format"
 message_text BackwardMotion = codes "backward motion"
+message_text (LeftOut name) = codes "left out: " ++ name
 message_text ReadFailed = codes "read failed"
 message_text WriteFailed = codes "write failed"
 

@@ -1,5 +1,5 @@
 -- The requests, as in the manual's alphabetical list of requests and sections.
-use Rattle.std.specs.Prelude.{ℕ, Bool, true, false, List, [], ◌∷◌, bytes_eq, codes, find, Option, ◌&&◌}
+use Rattle.std.specs.Prelude.{ℕ, Bool, true, false, List, [], ◌∷◌, ◌++◌, map, bytes_eq, codes, find, Option, ◌&&◌}
 use Rattle.roff_lines.specs.declared.settings.Param.TheVariants.{Filling, Adjusting}
 pub use Rattle.roff_run.specs.declared.event.PageEvent.{PageEvent}
 pub use Rattle.roff_run.specs.declared.event.PageEvent.TheVariants.{Text, Space}
@@ -7,8 +7,8 @@ pub use Rattle.roff_run.specs.Registers.{Known}
 use Rattle.roff_run.specs.declared.request.LineReading.{LineReading}
 use Rattle.roff_run.specs.declared.request.LineReading.TheVariants.{ByArguments}
 use Rattle.roff_run.specs.declared.request.Request.{Request}
-use Rattle.roff_run.specs.declared.request.Request.TheVariants.{Adjust, AssignFormat, Break, Fill, Indent, LineLength, NoAdjust, NoFill, NumberRegister, RemoveRegisters, Space as SpaceDown}
-pub use Rattle.roff_run.specs.Requests.Effects.{Effect, doing, Done, Ignored, Does, nothing, setting, meant_by}
+use Rattle.roff_run.specs.declared.request.Request.TheVariants.{Adjust, AssignFormat, Break, Fill, Indent, LineLength, NoAdjust, NoFill, NumberRegister, RemoveRegisters, Space as SpaceDown, WithoutEffect, LeftOut}
+pub use Rattle.roff_run.specs.Requests.Effects.{Effect, doing, Done, Ignored, Does, nothing, setting, left_out, meant_by}
 use Rattle.roff_run.specs.Requests.Adjustment.{adjust}
 use Rattle.roff_run.specs.Requests.Spacing.{space_down}
 use Rattle.roff_run.specs.Requests.Lengths.{line_length, indent}
@@ -47,16 +47,51 @@ row_of NoFill = row (codes "nf") ByArguments true (always (setting (Filling fals
 row_of NumberRegister = row (codes "nr") ByArguments false set_register  -- section 8
 row_of RemoveRegisters = row (codes "rr") ByArguments false (λ known. remove_registers)  -- section 8
 row_of SpaceDown = row (codes "sp") ByArguments true (λ known. space_down)  -- section 5
+row_of (WithoutEffect name) = row name ByArguments false (always nothing)
+row_of (LeftOut name) = row name ByArguments false (always (left_out name))
 
--- all requests, in the order of the table
-abbrev pub requests : List Request
-requests =
+-- the names of those that are read without effect
+abbrev pub names_without_effect : List (List ℕ)
+names_without_effect =
+    codes "bd" ∷ codes "cs" ∷ codes "fp" ∷ codes "ft" ∷ codes "ps" ∷ codes "ss"  -- section 2
+    ∷ codes "vs"  -- section 5
+    ∷ codes "cu" ∷ codes "lg" ∷ codes "ul"  -- section 10
+    ∷ codes "hc" ∷ codes "hw" ∷ codes "hy" ∷ codes "nh"  -- section 13
+    ∷ codes "lf" ∷ []  -- section 20
+
+-- the names of those that are left out
+abbrev pub names_left_out : List (List ℕ)
+names_left_out =
+    codes "mk" ∷ codes "rt"  -- section 3
+    ∷ codes "os" ∷ codes "sv"  -- section 5
+    ∷ codes "fc" ∷ codes "lc" ∷ codes "tc"  -- section 9
+    ∷ codes "c2" ∷ codes "cc" ∷ codes "ec" ∷ codes "eo" ∷ codes "tr" ∷ codes "uf"  -- section 10
+    ∷ codes "nm" ∷ codes "nn"  -- section 15
+    ∷ codes "rd"  -- section 18
+    ∷ codes "cf" ∷ codes "nx" ∷ codes "pi" ∷ codes "so" ∷ codes "sy"  -- section 19
+    ∷ codes "fl" ∷ codes "mc" ∷ codes "pm" ∷ []  -- section 20
+
+-- the requests that are built, in the order of their names
+abbrev pub built : List Request
+built =
     Adjust ∷ AssignFormat ∷ Break ∷ Fill ∷ Indent ∷ LineLength ∷ NoAdjust ∷ NoFill ∷ NumberRegister ∷ RemoveRegisters
     ∷ SpaceDown ∷ []
 
+-- those that do nothing, or nothing but say that they are left out
+abbrev pub others : List Request
+others = map WithoutEffect names_without_effect ++ map LeftOut names_left_out
+
+-- all requests
+abbrev pub requests : List Request
+requests = built ++ others
+
+-- whether a request has this name
+abbrev pub has_name : List ℕ → Request → Bool
+has_name name request = bytes_eq (row_of request).name name
+
 -- the request of a name
 abbrev pub request_named : List ℕ → Option Request
-request_named name = find (λ request. bytes_eq (row_of request).name name) requests
+request_named name = find (has_name name) requests
 
 -- what a request means: it breaks if its row says so and a dot called it
 abbrev pub request_effect : Known → Bool → Request → List (List ℕ) → Effect

@@ -14,7 +14,7 @@ ghost use Rattle.roff_run.specs.Laws.{LimitsOnlyCut, SameUntilALimit, FailingOnl
 ghost use Rattle.roff_run.specs.ResultLaws.{EveryRunEnds, StepsLeadToTheLastState, NoOtherStateIsLast, LimitsCutResults, SameResultWithoutALimit, FailingCutsResults, SameResultBeforeTheFault, EachStateIsABeginning};
 ghost use Rattle.roff_run.specs.Statuses.{EachStatusTells};
 ghost use Rattle.roff_run.specs.Taken.{EachItemIsTakenOnce, EachRunLeavesItsRest};
-ghost use Rattle.roff_run.specs.RequestLaws.{EachIsListedOnce, EachIsNamed, EachNameHasTwoBytes};
+ghost use Rattle.roff_run.specs.RequestLaws.{EachIsListedOnce, EachIsNamed, EachNameHasTwoBytes, LeftOutOnlySaysSo, WithoutEffectDoesNothing};
 ghost use Rattle.roff_run.specs.Rows.{gives, formatted, formatted_within, formatted_with, formatted_failing};
 
 /// What the definitions give on the worked rows of filled text.
@@ -150,6 +150,12 @@ pub fn request_names()
     ensures named { EachIsNamed }
     ensures listed_once { EachIsListedOnce }
     ensures two_bytes { EachNameHasTwoBytes }
+{}
+
+/// Requests that are read without effect do nothing, and those that are left out only say so.
+pub fn other_requests()
+    ensures without_effect { WithoutEffectDoesNothing }
+    ensures left_out { LeftOutOnlySaysSo }
 {}
 
 /// What the definitions give on worked arguments of requests.

@@ -19,6 +19,8 @@ pub enum Message {
     BadFormat,
     /// A space below 0.
     BackwardMotion,
+    /// Something of the manual that isn't built, by the two bytes that stand for it.
+    LeftOut([u8; 2]),
     /// The source failed.
     ReadFailed,
     /// The output failed.
@@ -59,6 +61,10 @@ impl Message {
             Message::BadNumber => append(text, b"bad number"),
             Message::BadFormat => append(text, b"bad format"),
             Message::BackwardMotion => append(text, b"backward motion"),
+            Message::LeftOut(name) => {
+                append(text, b"left out: ");
+                append(text, &name);
+            }
             Message::ReadFailed => append(text, b"read failed"),
             Message::WriteFailed => append(text, b"write failed"),
         }

@@ -1,18 +1,21 @@
 //! The requests: a row for each, and what each does.
 
-ghost use Rattle.std.specs.Prelude.{◌≡◌, ℕ, List, [], ◌∷◌, bytes_eq, find};
+ghost use Rattle.std.specs.Prelude.{◌≡◌, ℕ, List, [], ◌∷◌, find};
 ghost use Rattle.std.specs.Option.{option_copied};
 ghost use Rattle.roff_run.specs.Registers.{Known as KnownOfRun};
 ghost use Rattle.roff_run.specs.Request.Coded.{GivesFirst, KnowsOf, coded_row, done_of, effect_of};
-ghost use Rattle.roff_run.specs.Requests.{request_effect, request_named, row_of};
+ghost use Rattle.roff_run.specs.Requests.{built, has_name, others, request_effect, request_named, row_of};
 
 mod adjustment;
 mod effects;
 mod lengths;
 mod numbering;
 mod spacing;
+#[cfg(test)]
+mod tests;
 
 use LineReading::ByArguments;
+use Request::{LeftOut, WithoutEffect};
 pub(crate) use effects::{Changes, Done, Effect, Known};
 pub(crate) use numbering::{name_given, register_named};
 use roff_lines::Param;
@@ -42,6 +45,10 @@ pub(crate) enum Request {
     RemoveRegisters,
     /// `sp`: blank lines.
     Space,
+    /// One of this name that is read without effect.
+    WithoutEffect([u8; 2]),
+    /// One of this name that is left out, and says so.
+    LeftOut([u8; 2]),
 }
 
 /// How the rest of a request's line is read.
@@ -64,44 +71,82 @@ pub(crate) struct Given<'a> {
 pub(crate) struct Row {
     /// Its name.
     pub(crate) name: [u8; 2],
-    /// The request.
-    pub(crate) request: Request,
     /// How its line is read.
     pub(crate) line: LineReading,
     /// Whether it breaks, if a dot called it.
     pub(crate) breaks: bool,
 }
 
-/// The table of requests, in the order of [`Request`], which is that of their names.
+/// The requests that are built, in the order of their names.
+static BUILT: [Request; 11] = [
+    Request::Adjust,
+    Request::AssignFormat,
+    Request::Break,
+    Request::Fill,
+    Request::Indent,
+    Request::LineLength,
+    Request::NoAdjust,
+    Request::NoFill,
+    Request::NumberRegister,
+    Request::RemoveRegisters,
+    Request::Space,
+];
+
+/// The names of those that are read without effect.
 #[rattlefmt::skip]
-static ROWS: [Row; 11] = [
-    Row { name: *b"ad", request: Request::Adjust, line: ByArguments, breaks: false },
-    Row { name: *b"af", request: Request::AssignFormat, line: ByArguments, breaks: false },
-    Row { name: *b"br", request: Request::Break, line: ByArguments, breaks: true },
-    Row { name: *b"fi", request: Request::Fill, line: ByArguments, breaks: true },
-    Row { name: *b"in", request: Request::Indent, line: ByArguments, breaks: true },
-    Row { name: *b"ll", request: Request::LineLength, line: ByArguments, breaks: false },
-    Row { name: *b"na", request: Request::NoAdjust, line: ByArguments, breaks: false },
-    Row { name: *b"nf", request: Request::NoFill, line: ByArguments, breaks: true },
-    Row { name: *b"nr", request: Request::NumberRegister, line: ByArguments, breaks: false },
-    Row { name: *b"rr", request: Request::RemoveRegisters, line: ByArguments, breaks: false },
-    Row { name: *b"sp", request: Request::Space, line: ByArguments, breaks: true },
+static WITHOUT_EFFECT: [[u8; 2]; 15] = [
+    *b"bd", *b"cs", *b"fp", *b"ft", *b"ps", *b"ss", // Section 2.
+    *b"vs", // Section 5.
+    *b"cu", *b"lg", *b"ul", // Section 10.
+    *b"hc", *b"hw", *b"hy", *b"nh", // Section 13.
+    *b"lf", // Section 20.
+];
+
+/// The names of those that are left out.
+#[rattlefmt::skip]
+static LEFT_OUT: [[u8; 2]; 24] = [
+    *b"mk", *b"rt", // Section 3.
+    *b"os", *b"sv", // Section 5.
+    *b"fc", *b"lc", *b"tc", // Section 9.
+    *b"c2", *b"cc", *b"ec", *b"eo", *b"tr", *b"uf", // Section 10.
+    *b"nm", *b"nn", // Section 15.
+    *b"rd", // Section 18.
+    *b"cf", *b"nx", *b"pi", *b"so", *b"sy", // Section 19.
+    *b"fl", *b"mc", *b"pm", // Section 20.
 ];
 
 impl Request {
     /// The request of a name of two bytes, if there is one.
-    #[tactic(auto, using(crate::proofs::RequestTable::request_found))]
     pub(crate) fn named(first: u8, second: u8) -> Option<Request>
         ensures { result ≡ request_named (first ∷ second ∷ []) }
     {
-        Some(row_named([first, second])?.request)
+        let name = [first, second];
+        match built_named(name) {
+            Some(request) => Some(*request),
+            None => other_named(name),
+        }
     }
 
     /// Its row.
+    #[rattlefmt::skip]
     pub(crate) fn row(self) -> Row
         ensures { result ≡ coded_row self }
     {
-        ROWS[self as usize]
+        match self {
+            Request::Adjust => Row { name: *b"ad", line: ByArguments, breaks: false },
+            Request::AssignFormat => Row { name: *b"af", line: ByArguments, breaks: false },
+            Request::Break => Row { name: *b"br", line: ByArguments, breaks: true },
+            Request::Fill => Row { name: *b"fi", line: ByArguments, breaks: true },
+            Request::Indent => Row { name: *b"in", line: ByArguments, breaks: true },
+            Request::LineLength => Row { name: *b"ll", line: ByArguments, breaks: false },
+            Request::NoAdjust => Row { name: *b"na", line: ByArguments, breaks: false },
+            Request::NoFill => Row { name: *b"nf", line: ByArguments, breaks: true },
+            Request::NumberRegister => Row { name: *b"nr", line: ByArguments, breaks: false },
+            Request::RemoveRegisters => Row { name: *b"rr", line: ByArguments, breaks: false },
+            Request::Space => Row { name: *b"sp", line: ByArguments, breaks: true },
+            WithoutEffect(name) => Row { name, line: ByArguments, breaks: false },
+            LeftOut(name) => Row { name, line: ByArguments, breaks: false },
+        }
     }
 
     /// What it means, called by a dot or not, as far as the run is known, with these arguments.
@@ -131,13 +176,28 @@ impl Request {
             Request::NumberRegister => numbering::set_register(known, given),
             Request::RemoveRegisters => Done::changing(Changes::RemoveGiven),
             Request::Space => spacing::space_down(given.first),
+            WithoutEffect(_) => Done::nothing(),
+            LeftOut(name) => Done::left_out(name),
         }
     }
 }
 
-/// The row of a name.
-fn row_named(name: [u8; 2]) -> Option<&'static Row>
-    ensures { option_copied result ≡ find (λ row. bytes_eq row.name name) ROWS }
+/// The request of a name among those that are built.
+fn built_named(name: [u8; 2]) -> Option<&'static Request>
+    ensures { option_copied result ≡ find (has_name name) built }
 {
-    ROWS.iter().find(|row| row.name == name)
+    BUILT.iter().find(|request| request.row().name == name)
+}
+
+/// The request of a name among those that do nothing.
+fn other_named(name: [u8; 2]) -> Option<Request>
+    ensures { result ≡ find (has_name name) others }
+{
+    if WITHOUT_EFFECT.contains(&name) {
+        Some(WithoutEffect(name))
+    } else if LEFT_OUT.contains(&name) {
+        Some(LeftOut(name))
+    } else {
+        None
+    }
 }

@@ -16,11 +16,11 @@ use Rattle.roff_run.specs.Registers.Coded.{change_of}
 use Rattle.roff_run.specs.Requests.{Row, row_of, Done, Ignored, Does, Effect}
 use Rattle.roff_run.specs.Requests.Numbering.{name_given, names_given}
 
--- the row that the code's table has for a request
+-- the row that the code has for a request
 abbrev pub coded_row : Request → CodedRow
 coded_row request =
     let row : Row = row_of request in
-    record { name = row.name; request = request; line = row.line; breaks = row.breaks }
+    record { name = row.name; line = row.line; breaks = row.breaks }
 
 -- the code was given the first of these arguments
 pub record GivesFirst (as_given : List (List ℕ)) (given : Given) : Type 0 where

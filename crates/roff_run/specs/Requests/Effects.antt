@@ -1,11 +1,11 @@
 -- What a request does, and what that means for the registers and the page.
-use Rattle.std.specs.Prelude.{Bool, List, [], ◌∷◌, if◌then◌else◌}
+use Rattle.std.specs.Prelude.{ℕ, Bool, List, [], ◌∷◌, if◌then◌else◌}
 use Rattle.roff_lines.specs.declared.event.Event.TheVariants.{WordEnd, Break, Set}
 use Rattle.roff_lines.specs.declared.settings.Param.{Param}
 use Rattle.roff_run.specs.declared.event.PageEvent.{PageEvent}
 use Rattle.roff_run.specs.declared.event.PageEvent.TheVariants.{Text}
 use Rattle.roff_run.specs.declared.message.Message.{Message}
-use Rattle.roff_run.specs.declared.message.Message.TheVariants.{BadNumber, BadFormat}
+use Rattle.roff_run.specs.declared.message.Message.TheVariants.{BadNumber, BadFormat, LeftOut}
 use Rattle.roff_run.specs.Registers.{Change}
 
 -- what a byte or a request means: messages, changes of registers, and then events
@@ -44,6 +44,10 @@ bad_number = Ignored (BadNumber ∷ [])
 -- an argument isn't a format
 abbrev pub bad_format : Done
 bad_format = Ignored (BadFormat ∷ [])
+
+-- a request of this name isn't built
+abbrev pub left_out : List ℕ → Done
+left_out name = Ignored (LeftOut name ∷ [])
 
 -- a break in front of some events, if there is one
 abbrev pub behind_break : Bool → List PageEvent → List PageEvent

@@ -3,7 +3,7 @@
 ghost use Rattle.std.specs.Prelude.{◌≡◌, ◌≤◌, ℕ, List, [], length};
 ghost use Rattle.std.specs.Option.{option_to_list};
 ghost use Rattle.roff_run.specs.Request.Coded.{changes_of, done_of, effect_of};
-ghost use Rattle.roff_run.specs.Requests.Effects.{Does, Ignored, bad_format, bad_number, meant_by, nothing, setting};
+ghost use Rattle.roff_run.specs.Requests.Effects.{Does, Ignored, bad_format, bad_number, left_out, meant_by, nothing, setting};
 
 use crate::event::{Events, PageEvent, RequestEvents};
 use crate::message::Message;
@@ -90,6 +90,13 @@ impl Done {
         ensures { (as_given : List (List ℕ)) → done_of as_given result ≡ bad_format }
     {
         Done::Ignored(Some(Message::BadFormat))
+    }
+
+    /// It is left out.
+    pub(super) fn left_out(name: [u8; 2]) -> Done
+        ensures { (as_given : List (List ℕ)) → done_of as_given result ≡ left_out name }
+    {
+        Done::Ignored(Some(Message::LeftOut(name)))
     }
 
     /// It says this, and these events happen.
