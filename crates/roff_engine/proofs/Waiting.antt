@@ -1,10 +1,9 @@
 -- A turn in which what is half read waits for a byte: what is seen, and what is done with it.
-use Rattle.std.proofs.Common.{◌≡◌, ℕ, ◌+◌, ◌<◌, ◌≤◌, Bool, true, false, List, ◌++◌, length, Result, Err, inr, refl, sym, ap, subst, ◌∙◌, arith, append_assoc}
-use Rattle.std.specs.Prelude.{IsOkUnless, if◌then◌else◌, ◌==◌}
+use Rattle.std.proofs.Common.{◌≡◌, ℕ, ◌+◌, ◌<◌, ◌≤◌, Bool, true, false, List, ◌++◌, length, Option, Some, None, Result, Err, inr, refl, sym, ap, subst, ◌∙◌, arith, append_assoc}
+use Rattle.std.specs.Prelude.{IsOkUnless, if◌then◌else◌}
 use Rattle.roff_num.specs.declared.limit.Limit.{Limit}
 use Rattle.roff_num.specs.declared.limits.Limits.{Limits}
-use Rattle.roff_scan.specs.Bytes.{newline}
-use Rattle.roff_scan.specs.Halves.{newline_stays}
+use Rattle.roff_scan.specs.Halves.{newline_stays, seen_stays}
 use Rattle.roff_scan.specs.Tape.{Tape, Item, Ended, Failed, Stopped, Rises, items_then}
 use Rattle.roff_scan.specs.Unread.{Sighted, SeesByte, SeesNothing, SeesNote, SeesEnding, asks_to_look, looking, seen_ahead}
 use Rattle.roff_scan.specs.Unread.Calls.{Looks}
@@ -24,34 +23,39 @@ use Rattle.roff_engine.specs.Sinks.{Sunk, Puts}
 use Rattle.roff_engine.proofs.Calls.{EndsThere, EndsThere-looks, IsEndingSeen, Leaves, Leaves-looks}
 use Rattle.roff_engine.proofs.Items.{looked_at, moved, note_told, source_failed, source_stopped}
 use Rattle.roff_engine.proofs.Turns.{LeavesFewer, acted, on_ok, on_ok-then, turned, turns_of}
-use Rattle.roff_run.proofs.InFront.{Given-asked, IsNoNote, Looks-looking, items_asked, over_unread, over_unread-looking, seen as seen_step, sighted_step}
+use Rattle.roff_run.proofs.InFront.{Given-asked, IsNoNote, Looks-looking, items_asked, over_unread, over_unread-looking, front_step, seen as seen_step, sighted_step}
 use Rattle.roff_run.proofs.TurnsToCome.{length-newline_stays, turns_within-half_ended}
 
--- what is seen stays where it is, and the item in front is taken
-abbrev pub GoesInFront : Sighted → Type 0
-GoesInFront (SeesByte b) = b == newline ≡ false
-GoesInFront SeesNothing = Unit {0}
-GoesInFront (SeesNote message) = ⊥
-GoesInFront (SeesEnding Ended) = Unit {0}
-GoesInFront (SeesEnding Failed) = ⊥
-GoesInFront (SeesEnding (Stopped limit)) = ⊥
+-- a look shows this in front, a byte or nothing that can be read: no message, fault or limit of the source's
+abbrev pub ShowsFront : Option ℕ → Sighted → Type 0
+ShowsFront seen (SeesByte b) = seen ≡ Some b
+ShowsFront seen SeesNothing = seen ≡ None
+ShowsFront seen (SeesNote message) = ⊥
+ShowsFront seen (SeesEnding Ended) = seen ≡ None
+ShowsFront seen (SeesEnding Failed) = ⊥
+ShowsFront seen (SeesEnding (Stopped limit)) = ⊥
 
-no_note_in_front : (sight : Sighted) → GoesInFront sight → IsNoNote sight
-no_note_in_front (SeesByte b) goes = tt
-no_note_in_front SeesNothing goes = tt
-no_note_in_front (SeesNote message) goes = goes
-no_note_in_front (SeesEnding ending) goes = tt
+no_note_in_front : (seen : Option ℕ) (sight : Sighted) → ShowsFront seen sight → IsNoNote sight
+no_note_in_front seen (SeesByte b) is = tt
+no_note_in_front seen SeesNothing is = tt
+no_note_in_front seen (SeesNote message) is = is
+no_note_in_front seen (SeesEnding ending) is = tt
 
--- the step is the one that takes the item in front
-sighted_step-in_front : (l : Limits) (sight : Sighted) (from behind : State) → GoesInFront sight
-    → sighted_step l sight from behind ≡ in_front_taken l behind.input.ahead behind
-sighted_step-in_front l (SeesByte b) from behind goes =
-    ap (λ (c : Bool). if c then made l from (half_ends behind) else in_front_taken l behind.input.ahead behind) goes
-sighted_step-in_front l SeesNothing from behind goes = refl
-sighted_step-in_front l (SeesNote message) from behind goes = absurd goes
-sighted_step-in_front l (SeesEnding Ended) from behind goes = refl
-sighted_step-in_front l (SeesEnding Failed) from behind goes = absurd goes
-sighted_step-in_front l (SeesEnding (Stopped limit)) from behind goes = absurd goes
+-- the step goes by it
+sighted_step-front : (l : Limits) (seen : Option ℕ) (sight : Sighted) (from behind : State) → ShowsFront seen sight
+    → sighted_step l sight from behind ≡ front_step l seen from behind
+sighted_step-front l seen (SeesByte b) from behind is = ap (λ (o : Option ℕ). front_step l o from behind) (sym is)
+sighted_step-front l seen SeesNothing from behind is = ap (λ (o : Option ℕ). front_step l o from behind) (sym is)
+sighted_step-front l seen (SeesNote message) from behind is = absurd is
+sighted_step-front l seen (SeesEnding Ended) from behind is = ap (λ (o : Option ℕ). front_step l o from behind) (sym is)
+sighted_step-front l seen (SeesEnding Failed) from behind is = absurd is
+sighted_step-front l seen (SeesEnding (Stopped limit)) from behind is = absurd is
+
+-- what is seen stays, and what is half read ends; or it doesn't, and the item in front is taken
+front_step-by : (l : Limits) (seen : Option ℕ) (from behind : State) (stays : Bool) → seen_stays behind.input.half seen ≡ stays
+    → front_step l seen from behind ≡ (if stays then made l from (half_ends behind) else in_front_taken l behind.input.ahead behind)
+front_step-by l seen from behind stays is =
+    ap (λ (c : Bool). if c then made l from (half_ends behind) else in_front_taken l behind.input.ahead behind) is
 
 -- the call that looks ahead
 module _ {gave gives : Tape → Type 0} {left : PageUnread} {sight : Sighted} (old : Coded) (call : Looks gave gives old.unread left sight) where
@@ -96,19 +100,23 @@ WaitingTurn gave gives noted notes old new now after r =
     TurnsBy (λ s. awaited old.limits (seen_ahead s.input.ahead) s) gave gives noted notes old new now after r
 
 module _ {gave gives : Tape → Type 0} {left : PageUnread} (old : Coded) (failed failures : ℕ) (out err : Sunk) (noted notes : ℕ) (more : failed ≤ failures) (less : notes ≤ noted) where
-  -- a newline: what is half read ends
-  pub waiting_newline : (b : ℕ) (new : Coded) (after : Seen) (r : Result (Unit {0}) Status) → b ≡ newline → Looks gave gives old.unread left (SeesByte b)
+  -- what is seen stays: what is half read ends
+  pub waiting_ends : (seen_byte : Option ℕ) (sight : Sighted) (new : Coded) (after : Seen) (r : Result (Unit {0}) Status) → ShowsFront seen_byte sight
+      → Looks gave gives old.unread left sight → seen_stays left.input.half seen_byte ≡ true
       → newline_stays old.unread.input.half ≡ true → Acts left.input.line half_ends (moved old left) new (seen failures out err) after r
       → WaitingTurn gave gives noted notes old new (seen failed out err) after r
-  waiting_newline b new after r is looks stays acts =
-      let call : Looks gave gives old.unread left (SeesByte newline) = subst (λ (b : ℕ). Looks gave gives old.unread left (SeesByte b)) is looks in
+  waiting_ends seen_byte sight new after r is call stays half acts =
       let leaves = leaves_look old call in
       let same : left.input ≡ old.unread.input = input_look old call in
       let fewer : LeavesFewer half_ends old.unread left = λ s is.
-      let some : 1 ≤ length s.input.half = rw (is, same) (length-newline_stays old.unread.input.half stays) in
+      let some : 1 ≤ length s.input.half = rw (is, same) (length-newline_stays old.unread.input.half half) in
       omega (arith, turns_within-half_ended old.unread.limits.bytes (known s) s.reading s.input some, turns_of left old.unread.limits s.input leaves.limits (sym is), leaves.turns) in
       acted leaves _ noted notes half_ends left.input.line new failed failures out err after r more less (ap (λ (i : PageInput). i.line) same)
-      (λ limits tape may h ms. sighted_look old call tape may h ms) (on_ok r fewer) acts
+      (λ limits tape may h ms.
+      let from : State = state_at (items_then (taken old call) tape) old h ms in
+      let behind : State = state_at tape (moved old left) h ms in
+      sighted_look old call tape may h ms ∙ sighted_step-front old.limits seen_byte sight from behind is ∙ front_step-by old.limits seen_byte from behind true stays)
+      (on_ok r fewer) acts
 
   -- a message of the source's
   pub waiting_note : (note : List ℕ) (told : Sunk) (r : Result (Unit {0}) Status) → Looks gave gives old.unread left (SeesNote note) → notes < noted
@@ -146,7 +154,8 @@ pub items_then-append : (first others : List Item) (tape : Tape) → items_then 
 items_then-append first others tape = ap (λ (items : List Item). record { items = items; ending = tape.ending }) (append_assoc first others tape.items)
 
 -- what is seen stays, and a turn follows that takes the item in front
-module _ {gave mid gives : Tape → Type 0} {left : PageUnread} {sight : Sighted} (old : Coded) (call : Looks gave mid old.unread left sight) (goes_on : GoesInFront sight)
+module _ {gave mid gives : Tape → Type 0} {left : PageUnread} {sight : Sighted} (old : Coded) (call : Looks gave mid old.unread left sight)
+    (seen_byte : Option ℕ) (is_front : ShowsFront seen_byte sight) (goes_on : seen_stays left.input.half seen_byte ≡ false)
     (failed failures : ℕ) (out err : Sunk) (noted kept notes : ℕ) (new : Coded) (after : Seen) (r : Result (Unit {0}) Status) (more : failed ≤ failures) (less : kept ≤ noted)
     (turn : TurnsBy (λ s. in_front_taken old.limits s.input.ahead s) mid gives kept notes (moved old left) new (seen failures out err) after r) where
   -- what both took
@@ -168,10 +177,10 @@ module _ {gave mid gives : Tape → Type 0} {left : PageUnread} {sight : Sighted
       let at = stands.0 in
       let from : State = state_at (items_then (taken old call) whole) old at.history at.messages in
       let behind : State = state_at whole (moved old left) at.history at.messages in
-      let same : behind ≡ from = unmoved_look old call (no_note_in_front sight goes_on) whole may at.history at.messages in (
+      let same : behind ≡ from = unmoved_look old call (no_note_in_front seen_byte sight is_front) whole may at.history at.messages in (
         looked_at (leaves_look old call) failed failures out err more t whole start may at same,
         ap (λ (s : State). step old.limits s) same ∙ stands.1 ∙ sighted_look old call whole may at.history at.messages
-            ∙ sighted_step-in_front old.limits sight from behind goes_on,
+            ∙ sighted_step-front old.limits seen_byte sight from behind is_front ∙ front_step-by old.limits seen_byte from behind false goes_on,
       )
 
   -- over a tape that begins with what both took

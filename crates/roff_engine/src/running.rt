@@ -48,7 +48,8 @@ impl Running {
         }
     }
 
-    /// The same where what is half read waits for a byte: a newline stays, and ends it.
+    /// The same where what is half read looks at what stands in front: that stays, and ends it, or is
+    /// taken.
     #[inline(never)]
     fn turn_waiting<S: ByteSource, O: ByteSink, E: ByteSink>(
         &mut self,
@@ -63,14 +64,16 @@ impl Running {
             (seen (S.failures source.old) (O.sunk out.old) (E.sunk err.old))
             (seen (S.failures source.new) (O.sunk out.new) (E.sunk err.new)) result }
     {
-        match self.unread.look(source) {
-            Sight::Byte(b'\n') => return self.end_half(out, err),
+        let seen = match self.unread.look(source) {
+            Sight::Byte(byte) => Some(byte),
+            Sight::Nothing => None,
+            Sight::SourceEnd => None,
             Sight::Note(note) => return tell_note(&note, err),
             Sight::Fault => return Err(self.source_failed(err)),
             Sight::Stop(limit) => return Err(Status::Limit(limit)),
-            Sight::Byte(_) => {}
-            Sight::Nothing => {}
-            Sight::SourceEnd => {}
+        };
+        if self.unread.seen_stays(seen) {
+            return self.end_half(out, err);
         }
         self.turn_in_front(source, out, err)
     }

@@ -1,16 +1,16 @@
 -- The step that takes the item in front, or looks at it, by what the call of the unread input shows of it, and what
 -- the calls take of their source.
 use Rattle.std.proofs.Common.{◌≡◌, ℕ, ◌+◌, Bool, true, false, List, [], ◌∷◌, ◌++◌, Option, Some, None, refl, sym, subst, ap, append_assoc}
-use Rattle.std.specs.Prelude.{nat_lt, ◌&&◌, is_none, if◌then◌else◌, ◌==◌}
+use Rattle.std.specs.Prelude.{nat_lt, ◌&&◌, is_none, if◌then◌else◌}
 use Rattle.roff_num.specs.declared.limits.Limits.{Limits}
-use Rattle.roff_scan.specs.Bytes.{newline}
+use Rattle.roff_scan.specs.Halves.{seen_stays}
 use Rattle.roff_scan.specs.Input.{Ahead, ByteAhead, FreeAhead, EndAhead, DoAhead, cost, item_taken}
 use Rattle.roff_scan.specs.Tape.{Tape, Item, Answer, Gives, Ends, OneByte, OneNote, Ending, Ended, Failed, Stopped, front, behind_front, items_then, only, Took}
 use Rattle.roff_scan.specs.Unread.{Unread, Shown, ShowsByte, ShowsEnd, ShowsDo, ShowsNote, ShowsEnding, ShowsRefusal, taking, taking_ahead, taking_answer, looked_then, answer_behind, asks_to_take, shown_ahead, Sighted, SeesByte, SeesNothing, SeesNote, SeesEnding, seen_ahead, looking, looking_at, looking_past, asks_to_look, Asked}
 use Rattle.roff_run.proofs.InputCounts.{one_of}
 use Rattle.roff_run.specs.Reading.{PageInput, interrupted}
 use Rattle.roff_run.specs.Requests.{PageEvent}
-use Rattle.roff_run.specs.Run.{State, made, byte_taken, ending_input, ending_with, ending_as, stopped_by, in_front_taken, answered, ahead_taken, half_ends, awaited, awaited_of_source}
+use Rattle.roff_run.specs.Run.{front_seen, State, made, byte_taken, ending_input, ending_with, ending_as, stopped_by, in_front_taken, answered, ahead_taken, half_ends, awaited, awaited_of_source}
 use Rattle.roff_run.specs.declared.message.Message.TheVariants.{ReadFailed}
 use Rattle.roff_run.specs.declared.status.Status.TheVariants.{Device, Limit as Limited}
 
@@ -193,13 +193,17 @@ pub over_unread-ending : (u : Unread PageEvent) (a : Answer) (tape behind : Tape
     → IsEnding (taking a u).0 → over_unread (taking a u).1 behind s ≡ over_unread u tape s
 over_unread-ending u a tape behind s given is = ending_of u.input u.limits s u.input.ahead u.looked a tape behind given is
 
+-- what a step does that sees this in front, a byte or nothing, from one state, where this one is it behind the look
+abbrev pub front_step : Limits → Option ℕ → State → State → State
+front_step l seen from behind =
+    if seen_stays behind.input.half seen then made l from (half_ends behind) else in_front_taken l behind.input.ahead behind
+
 -- what a step does in which what is half read waits, by what is seen, from one state, where this one is it behind the look
 abbrev pub sighted_step : Limits → Sighted → State → State → State
-sighted_step l (SeesByte b) from behind =
-    if b == newline then made l from (half_ends behind) else in_front_taken l behind.input.ahead behind
-sighted_step l SeesNothing from behind = in_front_taken l behind.input.ahead behind
+sighted_step l (SeesByte b) from behind = front_step l (Some b) from behind
+sighted_step l SeesNothing from behind = front_step l None from behind
 sighted_step l (SeesNote message) from behind = record behind { messages = behind.messages ++ message }
-sighted_step l (SeesEnding Ended) from behind = in_front_taken l behind.input.ahead behind
+sighted_step l (SeesEnding Ended) from behind = front_step l None from behind
 sighted_step l (SeesEnding Failed) from behind = ending_with Device ReadFailed from
 sighted_step l (SeesEnding (Stopped limit)) from behind = ending_as (Limited limit) from
 
@@ -234,7 +238,7 @@ answer_sighted l limits i (Gives (OneByte b)) tape s gives =
 answer_sighted l limits i (Gives (OneNote message)) tape s gives = refl
 answer_sighted l limits i (Ends Ended) tape s gives =
     let from : Tape → State = λ t. record s { tape = t; input = i } in
-    subst (λ (t : Tape). in_front_taken l i.ahead (from tape) ≡ in_front_taken l i.ahead (from t)) (sym (ended-behind_front Ended tape gives)) refl
+    subst (λ (t : Tape). front_seen l None (from tape) ≡ front_step l None (from tape) (from t)) (sym (ended-behind_front Ended tape gives)) refl
 answer_sighted l limits i (Ends Failed) tape s gives = refl
 answer_sighted l limits i (Ends (Stopped limit)) tape s gives = refl
 

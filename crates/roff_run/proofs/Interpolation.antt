@@ -1,7 +1,8 @@
 -- What is read in the place of an escape.
-use Rattle.std.proofs.Common.{◌≡◌, ℕ, ◌+◌, ◌<◌, ◌≤◌, Bool, true, false, List, [], ◌∷◌, ◌++◌, length, Option, Some, None, refl, ap, sym, subst, ◌∙◌, arith, rules}
-use Rattle.std.specs.Prelude.{nat_lt, not, ◌||◌, map, IsTrue, if◌then◌else◌, ◌==◌}
-use Rattle.std.proofs.lemmas.Bool.{le-ltb, lt-leb}
+use Rattle.std.proofs.Common.{◌≡◌, ℕ, ◌+◌, ◌<◌, ◌≤◌, Bool, true, false, List, [], ◌∷◌, ◌++◌, length, Option, Some, None, refl, ap, sym, subst, ◌∙◌, arith, rules, inl, inr}
+use Rattle.std.specs.Prelude.{nat_le, nat_lt, not, ◌||◌, map, IsTrue, if◌then◌else◌, ◌==◌}
+use Rattle.std.proofs.lemmas.Bool.{cases_Bool, le-ltb, lt-leb}
+use Rattle.std.proofs.lemmas.Bool.Decides.{nat_tests}
 use Rattle.std.specs.List.{list_any}
 use Rattle.std.proofs.lemmas.List.{append-nil}
 use Rattle.std.proofs.lemmas.List.Sums.{sum_by-cons}
@@ -12,15 +13,20 @@ use Rattle.roff_scan.proofs.Settling.{settled-only_kept, held-only_kept-settled}
 use Rattle.roff_scan.specs.Arguments.{Arguments, settled, only_kept, held}
 use Rattle.roff_scan.specs.Bytes.{newline, backslash, is_dropped}
 use Rattle.roff_scan.specs.HalfLaws.{is_special, sign}
-use Rattle.roff_scan.specs.Halves.{Reads, byte_read, most_names, newline_stays}
+use Rattle.roff_scan.specs.declared.escapes.NameUse.{NameUse}
+use Rattle.roff_scan.specs.declared.escapes.NameUse.TheVariants.{Register, Text as OfText, Argument}
+use Rattle.roff_scan.specs.Halves.{ends_size, is_digit, is_first_digit, is_sign, seen_stays, size_read, Reads, byte_read, most_names, newline_stays}
 use Rattle.roff_scan.specs.Input.{Ahead, ByteAhead, EndAhead, cost, counting, item_taken, pushing, pushed, depth}
 use Rattle.roff_scan.specs.Tape.{Tape, Answer, Gives, OneByte, front, items_then}
 use Rattle.roff_scan.specs.Unread.{seen_ahead}
 use Rattle.roff_scan.specs.Nesting.{AreNames}
 use Rattle.roff_scan.specs.declared.half.Half.{Half}
-use Rattle.roff_scan.specs.declared.half.Half.TheVariants.{Backslash, Name}
+use Rattle.roff_scan.specs.declared.half.SizePart.{SizePart}
+use Rattle.roff_scan.specs.declared.half.SizePart.TheVariants.{Nothing as NoSize, Sign, Digit}
+use Rattle.roff_scan.specs.declared.half.Half.TheVariants.{Backslash, Comment, Name, Size}
 use Rattle.roff_scan.specs.declared.half.NamePart.TheVariants.{Nothing, Opened, First}
-use Rattle.roff_scan.specs.declared.half.Read.TheVariants.{GoesOn, Asks}
+use Rattle.roff_scan.specs.declared.half.Read.{Read}
+use Rattle.roff_scan.specs.declared.half.Read.TheVariants.{Escape, GoesOn, Asks}
 use Rattle.roff_store.specs.declared.register.Direction.{Direction}
 use Rattle.roff_store.specs.declared.register.Direction.TheVariants.{Up, Down}
 use Rattle.roff_run.specs.declared.reading.Reading.{Reading}
@@ -28,12 +34,12 @@ use Rattle.roff_run.specs.declared.reading.Reading.TheVariants.{LineStart, Text 
 use Rattle.roff_run.specs.declared.reading.TextLine.{TextLine}
 use Rattle.roff_run.specs.declared.request.Request.{Request}
 use Rattle.roff_run.specs.declared.status.Status.{Status}
-use Rattle.roff_run.specs.InterpolationLaws.{TakesItems, BytesAheadAreTaken, BytesOfTheSourceAreTaken, StandsForItself, IsEscapeOf, Short, Long, reads_text, reads_escapes, stepped, with_text_ahead, with_source_behind, EscapesReadAsTexts, EscapesOfTheSourceReadAsTexts, EscapesOfTextReadAsTexts, cost_of_all, TextsCostTheirBytesAndOne}
+use Rattle.roff_run.specs.InterpolationLaws.{TakesItems, BytesAheadAreTaken, BytesOfTheSourceAreTaken, StandsForItself, IsEscapeOf, Short, Long, ShortString, LongString, OfArgument, reads_text, reads_escapes, stepped, text_named, with_text_ahead, with_source_behind, EscapesReadAsTexts, EscapesOfTheSourceReadAsTexts, EscapesOfTextReadAsTexts, cost_of_all, TextsCostTheirBytesAndOne}
 use Rattle.roff_run.specs.Laws.{IsWithin}
-use Rattle.roff_run.specs.Reading.{PageInput, Taking, going_on, taking, kept_taking, beginning_read, text_read, arguments_read_on, settling, interrupted, interpolating}
+use Rattle.roff_run.specs.Reading.{PageInput, Taking, going_on, taking, kept_taking, beginning_read, text_read, arguments_read_on, settling, interrupted, fresh_line, asking, name_taking}
 use Rattle.roff_run.specs.Registers.{AllRegisters, Known, text_of_register}
 use Rattle.roff_run.specs.Requests.{PageEvent}
-use Rattle.roff_run.specs.Run.{State, known, made, byte_taken, byte_seen, half_ends, awaited, awaited_of_source, answered, moved, in_front_taken, taking_ahead, taking_byte, taken_as, first_passed, grown, unless_refused, stopped_by, reading_on, step, after}
+use Rattle.roff_run.specs.Run.{State, known, made, byte_taken, front_seen, half_ends, awaited, awaited_of_source, answered, moved, in_front_taken, taking_ahead, taking_byte, taken_as, first_passed, grown, unless_refused, stopped_by, reading_on, step, after}
 
 -- where bytes come from: they stand ahead of these items, or in the source in front of this tape
 data Origin : Type 0 where
@@ -87,10 +93,10 @@ is-going s from bytes on ahead tape =
     ∙ ap (λ (items : List (Ahead PageEvent)). of (tape_at from bytes s.tape) items s.to_do s.is_closing s.ended) (sym ahead)
     ∙ ap (λ (t : Tape). of t s.input.ahead s.to_do s.is_closing s.ended) (sym tape)
 
--- a byte that isn't a newline is taken, whether it is waited for or not
+-- a byte that doesn't end what is half read is taken, whether it is waited for or not
 taken-awaited : (l : Limits) (stays : Bool) (b : ℕ) (behind : List (Ahead PageEvent)) (s : State) → s.input.ahead ≡ ByteAhead b ∷ behind
-    → (b == newline) ≡ false
-    → (if stays then byte_seen l b s else in_front_taken l s.input.ahead s) ≡ taking_ahead l (ByteAhead b) behind s
+    → seen_stays s.input.half (Some b) ≡ false
+    → (if stays then front_seen l (Some b) s else in_front_taken l s.input.ahead s) ≡ taking_ahead l (ByteAhead b) behind s
 taken-awaited l true b behind s ahead is =
     ap (λ (c : Bool). if c then made l s (half_ends s) else in_front_taken l s.input.ahead s) is
     ∙ ap (λ (items : List (Ahead PageEvent)). in_front_taken l items s) ahead
@@ -98,7 +104,7 @@ taken-awaited l false b behind s ahead is = ap (λ (items : List (Ahead PageEven
 
 -- the input is read where a byte is ahead
 reading_on-byte : (l : Limits) (b : ℕ) (behind : List (Ahead PageEvent)) (s : State) → s.input.ahead ≡ ByteAhead b ∷ behind
-    → (b == newline) ≡ false → reading_on l s ≡ taking_ahead l (ByteAhead b) behind s
+    → seen_stays s.input.half (Some b) ≡ false → reading_on l s ≡ taking_ahead l (ByteAhead b) behind s
 reading_on-byte l b behind s ahead is =
     ap (λ (items : List (Ahead PageEvent)). if newline_stays s.input.half then awaited l (seen_ahead items) s else in_front_taken l s.input.ahead s) ahead
     ∙ taken-awaited l (newline_stays s.input.half) b behind s ahead is
@@ -119,7 +125,7 @@ bytes_ahead_are_taken l s b behind on ahead is within =
     step-TakesItems l s on ∙ reading_on-byte l b behind s ahead is ∙ taking_ahead-within l b behind s within
 
 -- a byte of the source is taken, whether it is waited for or not
-answered-awaited : (l : Limits) (stays : Bool) (b : ℕ) (s : State) → (b == newline) ≡ false → s.input.ahead ≡ []
+answered-awaited : (l : Limits) (stays : Bool) (b : ℕ) (s : State) → seen_stays s.input.half (Some b) ≡ false → s.input.ahead ≡ []
     → (if stays then awaited_of_source l (Gives (OneByte b)) s else in_front_taken l s.input.ahead s) ≡ answered l (front s.tape) s
 answered-awaited l true b s is none =
     ap (λ (c : Bool). if c then made l s (half_ends s) else in_front_taken l s.input.ahead s) is
@@ -127,7 +133,7 @@ answered-awaited l true b s is none =
 answered-awaited l false b s is none = ap (λ (items : List (Ahead PageEvent)). in_front_taken l items s) none
 
 -- the input is read where a byte of the source comes first
-reading_on-source : (l : Limits) (b : ℕ) (s : State) → s.input.ahead ≡ [] → front s.tape ≡ Gives (OneByte b) → (b == newline) ≡ false
+reading_on-source : (l : Limits) (b : ℕ) (s : State) → s.input.ahead ≡ [] → front s.tape ≡ Gives (OneByte b) → seen_stays s.input.half (Some b) ≡ false
     → reading_on l s ≡ taking_byte l b s
 reading_on-source l b s none gives is =
     ap (λ (items : List (Ahead PageEvent)). if newline_stays s.input.half then awaited l (seen_ahead items) s else in_front_taken l s.input.ahead s) none
@@ -164,6 +170,32 @@ not-second true second neither = absurd (cc)
 not-second false true neither = absurd (cc)
 not-second false false neither = refl
 
+-- a digit behind which another may follow is one
+first_digit-is_digit : (b : ℕ) → is_first_digit b ≡ true → not (is_digit b) ≡ false
+first_digit-is_digit b first = grind (arith, nat_tests)
+
+-- a byte of a size doesn't end it
+goes_on-size : (part : SizePart) (rest : List Half) (b : ℕ) → ((size_read rest part b).0 ≡ Escape 115 → ⊥) → ends_size part (Some b) ≡ false
+goes_on-size NoSize rest b goes = elim (cases_Bool (is_sign b)) [
+  | inl sign ↦ rw sign refl
+  | inr none ↦ elim (cases_Bool (is_first_digit b)) [
+    | inl first ↦ rw none (first_digit-is_digit b first)
+    | inr other ↦ absurd (goes (rw (none, other) refl))
+  ]
+]
+goes_on-size Sign rest b goes = absurd (goes refl)
+goes_on-size Digit rest b goes = absurd (goes refl)
+
+-- nor does a byte that is read what is half read, where no size is over with it
+goes_on : (is_text : Bool) (half behind : List Half) (b : ℕ) (found : Read) → (b == newline) ≡ false → byte_read is_text half b ≡ (found, behind)
+    → (found ≡ Escape 115 → ⊥) → seen_stays half (Some b) ≡ false
+goes_on is_text [] behind b found plain reads goes = refl
+goes_on is_text (Backslash ∷ rest) behind b found plain reads goes = refl
+goes_on is_text (Comment ∷ rest) behind b found plain reads goes = plain
+goes_on is_text (Name purpose part ∷ rest) behind b found plain reads goes = plain
+goes_on is_text (Size part ∷ rest) behind b found plain reads goes =
+    goes_on-size part rest b (λ over. goes (sym (ap (λ (r : Reads). r.0) reads) ∙ over))
+
 -- a reading that reads escapes, and whether it is that of text
 data ReadsEscapes : Reading → Bool → Type 0 where
   AtBeginning : ReadsEscapes LineStart true
@@ -191,21 +223,36 @@ taking-nothing k reading is_text i b half (OnArguments breaks request) read read
     ∙ ap (arguments_read_on k i breaks request) reads
     ∙ ap (λ (a : Arguments). going_on (record i { half = half; arguments = a }) (InArguments breaks request)) settled
 
--- a byte that asks for a register
-taking-asks : (k : Known) (reading : Reading) (is_text : Bool) (i : PageInput) (b : ℕ) (half : List Half) (step : Option Direction) (name : List ℕ)
-    → ReadsEscapes reading is_text → IsRead b → byte_read is_text i.half b ≡ (Asks step name, half)
-    → settled_for reading i.arguments ≡ i.arguments → taking k reading i b ≡ interpolating k (record i { half = half }) reading step name
-taking-asks k reading is_text i b half step name AtBeginning read reads settled =
+-- what is read as a text: a register, a string or an argument
+data Interpolates : NameUse → Type 0 where
+  ARegister : (step : Option Direction) → Interpolates (Register step)
+  AString : Interpolates OfText
+  AnArgument : Interpolates Argument
+
+-- in text too
+name_taking-Interpolates : (k : Known) (i : PageInput) (reading : Reading) (line : TextLine) (purpose : NameUse) (name : Option (List ℕ)) → Interpolates purpose
+    → name_taking k i reading line purpose name ≡ asking k i reading purpose name
+name_taking-Interpolates k i reading line _ name (ARegister step) = refl
+name_taking-Interpolates k i reading line _ name AString = refl
+name_taking-Interpolates k i reading line _ name AnArgument = refl
+
+-- a byte that asks for such a text
+taking-asks : (k : Known) (reading : Reading) (is_text : Bool) (i : PageInput) (b : ℕ) (half : List Half) (asks : NameUse) (name : List ℕ)
+    → Interpolates asks → ReadsEscapes reading is_text → IsRead b → byte_read is_text i.half b ≡ (Asks asks (Some name), half)
+    → settled_for reading i.arguments ≡ i.arguments → taking k reading i b ≡ asking k (record i { half = half }) reading asks (Some name)
+taking-asks k reading is_text i b half asks name of AtBeginning read reads settled =
     ap (λ (d : Bool). if d then going_on i LineStart else kept_taking k LineStart i b) (not-first (is_dropped b) (b == newline) read)
     ∙ ap (beginning_read k i) reads
-taking-asks k reading is_text i b half step name (OnText line) read reads settled =
+    ∙ name_taking-Interpolates k (record i { half = half }) LineStart fresh_line asks (Some name) of
+taking-asks k reading is_text i b half asks name of (OnText line) read reads settled =
     ap (λ (d : Bool). if d then going_on i (InText line) else kept_taking k (InText line) i b) (not-first (is_dropped b) (b == newline) read)
     ∙ ap (text_read k i line) reads
-taking-asks k reading is_text i b half step name (OnArguments breaks request) read reads settled =
+    ∙ name_taking-Interpolates k (record i { half = half }) (InText line) line asks (Some name) of
+taking-asks k reading is_text i b half asks name of (OnArguments breaks request) read reads settled =
     ap (λ (d : Bool). if d then going_on (settling i) (InArguments breaks request) else kept_taking k (InArguments breaks request) i b)
     (not-first (is_dropped b) (b == newline) read)
     ∙ ap (arguments_read_on k i breaks request) reads
-    ∙ ap (λ (a : Arguments). interpolating k (record i { half = half; arguments = a }) (InArguments breaks request) step name) settled
+    ∙ ap (λ (a : Arguments). asking k (record i { half = half; arguments = a }) (InArguments breaks request) asks (Some name)) settled
 
 -- what is within the limits on names, on the stack and on the depth
 record Fits (l : Limits) (registers : AllRegisters) (i : PageInput) : Type 0 where
@@ -228,40 +275,45 @@ taken_as-going_on i reading s = ap (λ (m : List ℕ). record s { input = i; rea
 
 -- a step at a byte
 step-byte : (l : Limits) (s : State) (reading : Reading) (from : Origin) (b : ℕ) (bytes : List ℕ) (a : Arguments) (half : List Half) (charge line : ℕ) (t : State)
-    → IsRead b → charge + 1 ≤ l.bytes → byte_taken b (going s reading from bytes a half (charge + 1) (line_behind from s line)) ≡ t
+    → IsRead b → seen_stays half (Some b) ≡ false → charge + 1 ≤ l.bytes → byte_taken b (going s reading from bytes a half (charge + 1) (line_behind from s line)) ≡ t
     → Fits l t.registers t.input → step l (going s reading from (b ∷ bytes) a half charge line) ≡ t
-step-byte l s reading (FromAhead rest) b bytes a half charge line t read within is fits =
+step-byte l s reading (FromAhead rest) b bytes a half charge line t read goes within is fits =
     let before : State = going s reading (FromAhead rest) (b ∷ bytes) a half charge line in
     bytes_ahead_are_taken l before b (map ByteAhead bytes ++ rest) (record { going = refl; not_closing = refl; idle = refl }) refl
-    (not-second (is_dropped b) (b == newline) read) (omega arith)
+    goes (omega arith)
     ∙ ap (made l before) is ∙ made-Fits l before t fits
-step-byte l s reading (FromSource tape) b bytes a half charge line t read within is fits =
+step-byte l s reading (FromSource tape) b bytes a half charge line t read goes within is fits =
     let before : State = going s reading (FromSource tape) (b ∷ bytes) a half charge line in
     let behind : State = going s reading (FromSource tape) bytes a half (charge + 1) (s.input.newlines + 1) in
     let plain : (b == newline) ≡ false = not-second (is_dropped b) (b == newline) read in
-    bytes_of_the_source_are_taken l before b (record { going = refl; not_closing = refl; idle = refl }) refl refl plain (omega arith)
+    bytes_of_the_source_are_taken l before b (record { going = refl; not_closing = refl; idle = refl }) refl refl goes (omega arith)
     ∙ ap (λ (c : Bool). made l before (byte_taken b (record behind { input = record behind.input { newlines = if c then s.input.newlines + 1 else s.input.newlines } }))) plain
     ∙ ap (made l before) is ∙ made-Fits l before t fits
 
--- a register was asked for in such a run
-abbrev asked : State → Reading → Origin → Arguments → List Half → ℕ → ℕ → Option Direction → List ℕ → State
-asked s reading from a half charge line step name =
-    let t : State = stepped step name (going s reading from [] a half charge line) in
-    record t { input = pushing (text_of_register (known t) name) t.input }
+-- a text was asked for in such a run
+abbrev asked : State → Reading → Origin → Arguments → List Half → ℕ → ℕ → NameUse → List ℕ → State
+asked s reading from a half charge line asks name =
+    let t : State = stepped asks name (going s reading from [] a half charge line) in
+    record t { input = pushing (text_named (known t) asks name) t.input }
 
 -- what it means is done
-taken_as-interpolating : (s : State) (reading : Reading) (from : Origin) (a : Arguments) (before half : List Half) (charge line : ℕ) (step : Option Direction) (name : List ℕ)
-    → taken_as (interpolating (known s) (input_of s from [] a half charge line) reading step name) (going s reading from [] a before charge line)
-    ≡ asked s reading from a half charge line step name
-taken_as-interpolating s reading from a before half charge line None name =
-    ap (λ (m : List ℕ). record (asked s reading from a half charge line None name) { messages = m }) (append-nil s.messages)
-taken_as-interpolating s reading from a before half charge line (Some direction) name = refl
+taken_as-asking : (s : State) (reading : Reading) (from : Origin) (a : Arguments) (before half : List Half) (charge line : ℕ) (asks : NameUse) (name : List ℕ)
+    → Interpolates asks
+    → taken_as (asking (known s) (input_of s from [] a half charge line) reading asks (Some name)) (going s reading from [] a before charge line)
+    ≡ asked s reading from a half charge line asks name
+taken_as-asking s reading from a before half charge line _ name (ARegister None) =
+    ap (λ (m : List ℕ). record (asked s reading from a half charge line (Register None) name) { messages = m }) (append-nil s.messages)
+taken_as-asking s reading from a before half charge line _ name (ARegister (Some direction)) = refl
+taken_as-asking s reading from a before half charge line _ name AString =
+    ap (λ (m : List ℕ). record (asked s reading from a half charge line OfText name) { messages = m }) (append-nil s.messages)
+taken_as-asking s reading from a before half charge line _ name AnArgument =
+    ap (λ (m : List ℕ). record (asked s reading from a half charge line Argument name) { messages = m }) (append-nil s.messages)
 
--- bytes of which the last asks for a register and the others find nothing
-data AsksAtLast (is_text : Bool) (step : Option Direction) (name : List ℕ) (behind : List Half) : List Half → List ℕ → Type 0 where
-  AtLast : (half : List Half) (b : ℕ) → IsRead b → byte_read is_text half b ≡ (Asks step name, behind) → AsksAtLast is_text step name behind half (b ∷ [])
+-- bytes of which the last asks for a text and the others find nothing
+data AsksAtLast (is_text : Bool) (asks : NameUse) (name : List ℕ) (behind : List Half) : List Half → List ℕ → Type 0 where
+  AtLast : (half : List Half) (b : ℕ) → IsRead b → byte_read is_text half b ≡ (Asks asks (Some name), behind) → AsksAtLast is_text asks name behind half (b ∷ [])
   Behind : (half other : List Half) (b : ℕ) (bytes : List ℕ) → IsRead b → byte_read is_text half b ≡ (GoesOn, other)
-      → AsksAtLast is_text step name behind other bytes → AsksAtLast is_text step name behind half (b ∷ bytes)
+      → AsksAtLast is_text asks name behind other bytes → AsksAtLast is_text asks name behind half (b ∷ bytes)
 
 -- behind a byte
 Fits-behind : (l : Limits) (registers : AllRegisters) (s : State) (from : Origin) (b : ℕ) (bytes : List ℕ) (a there : Arguments) (half other : List Half) (charge more line next : ℕ)
@@ -273,36 +325,40 @@ Fits-behind l registers s (FromSource tape) b bytes a there half other charge mo
 
 -- the steps at them
 after-asks : (l : Limits) (s : State) (reading : Reading) (is_text : Bool) (from : Origin) (a : Arguments) (line : ℕ)
-    (asks : Option Direction) (name : List ℕ) (behind half : List Half) (bytes : List ℕ) (charge total : ℕ)
-    → ReadsEscapes reading is_text → settled_for reading a ≡ a → line_behind from s line ≡ line → AsksAtLast is_text asks name behind half bytes
+    (asks : NameUse) (name : List ℕ) (behind half : List Half) (bytes : List ℕ) (charge total : ℕ)
+    → Interpolates asks → ReadsEscapes reading is_text → settled_for reading a ≡ a → line_behind from s line ≡ line → AsksAtLast is_text asks name behind half bytes
     → charge + length bytes ≡ total → total ≤ l.bytes → Fits l s.registers (input_of s from bytes a half charge line)
     → let t : State = asked s reading from a behind total line asks name in
     Fits l t.registers t.input → after l (length bytes) (going s reading from bytes a half charge line) ≡ t
-after-asks l s reading is_text from a line asks name behind _ _ charge total on same stays (AtLast half b read reads) sum within fits fits_behind =
+after-asks l s reading is_text from a line asks name behind _ _ charge total of on same stays (AtLast half b read reads) sum within fits fits_behind =
     let t : State = asked s reading from a behind total line asks name in
     let before : State = going s reading from [] a half (charge + 1) line in
     let one : charge + 1 ≡ total = sum in
     let is : byte_taken b before ≡ t =
-    ap (λ (taking : Taking). taken_as taking before) (taking-asks (known s) reading is_text before.input b behind asks name on read reads same)
-    ∙ taken_as-interpolating s reading from a half behind (charge + 1) line asks name
+    ap (λ (taking : Taking). taken_as taking before) (taking-asks (known s) reading is_text before.input b behind asks name of on read reads same)
+    ∙ taken_as-asking s reading from a half behind (charge + 1) line asks name of
     ∙ ap (λ (c : ℕ). asked s reading from a behind c line asks name) one in
-    step-byte l s reading from b [] a half charge line t read (omega arith)
+    step-byte l s reading from b [] a half charge line t read
+    (goes_on is_text half behind b (Asks asks (Some name)) (not-second (is_dropped b) (b == newline) read) reads (λ is. cc)) (omega arith)
     (ap (λ (n : ℕ). byte_taken b (going s reading from [] a half (charge + 1) n)) stays ∙ is) fits_behind
-after-asks l s reading is_text from a line asks name behind _ _ charge total on same stays (Behind half other b others read reads last) sum within fits fits_behind =
+after-asks l s reading is_text from a line asks name behind _ _ charge total of on same stays (Behind half other b others read reads last) sum within fits fits_behind =
     let t : State = going s reading from others a other (charge + 1) line in
     let before : State = going s reading from others a half (charge + 1) line in
     let is : byte_taken b before ≡ t =
     ap (λ (taking : Taking). taken_as taking before) (taking-nothing (known s) reading is_text before.input b other on read reads same)
     ∙ taken_as-going_on t.input reading before in
     let fits_there : Fits l s.registers t.input = Fits-behind l s.registers s from b others a a half other charge (charge + 1) line line refl fits in
-    ap (after l (length others)) (step-byte l s reading from b others a half charge line t read (omega arith)
+    ap (after l (length others)) (step-byte l s reading from b others a half charge line t read
+    (goes_on is_text half other b GoesOn (not-second (is_dropped b) (b == newline) read) reads (λ is. cc)) (omega arith)
     (ap (λ (n : ℕ). byte_taken b (going s reading from others a half (charge + 1) n)) stays ∙ is) fits_there)
-    ∙ after-asks l s reading is_text from a line asks name behind other others (charge + 1) total on same stays last (omega arith) within fits_there fits_behind
+    ∙ after-asks l s reading is_text from a line asks name behind other others (charge + 1) total of on same stays last (omega arith) within fits_there fits_behind
 
 -- a backslash within names
 byte_read-backslash : (is_text : Bool) (names : List Half) → AreNames names → byte_read is_text names backslash ≡ (GoesOn, Backslash ∷ names)
 byte_read-backslash is_text [] are = refl
 byte_read-backslash is_text (Backslash ∷ rest) are = absurd (search (rules, are.all))
+byte_read-backslash is_text (Comment ∷ rest) are = absurd (search (rules, are.all))
+byte_read-backslash is_text (Size part ∷ rest) are = absurd (search (rules, are.all))
 byte_read-backslash is_text (Name asks part ∷ rest) are = refl
 
 taking-backslash : (k : Known) (reading : Reading) (is_text : Bool) (i : PageInput) → ReadsEscapes reading is_text → AreNames i.half
@@ -327,13 +383,13 @@ held-settled_for _ _ a (OnArguments breaks request) = held-only_kept-settled a
 
 -- the steps at an escape
 after-escape : (l : Limits) (s : State) (reading : Reading) (is_text : Bool) (from : Origin) (a : Arguments)
-    (asks : Option Direction) (name : List ℕ) (names : List Half) (bytes : List ℕ) (charge line : ℕ)
-    → ReadsEscapes reading is_text → AreNames names → AsksAtLast is_text asks name names (Backslash ∷ names) bytes
+    (asks : NameUse) (name : List ℕ) (names : List Half) (bytes : List ℕ) (charge line : ℕ)
+    → Interpolates asks → ReadsEscapes reading is_text → AreNames names → AsksAtLast is_text asks name names (Backslash ∷ names) bytes
     → let total : ℕ = charge + length (backslash ∷ bytes) in
     let t : State = asked s reading from (settled_for reading a) names total (line_behind from s line) asks name in
     total ≤ l.bytes → Fits l s.registers (input_of s from (backslash ∷ bytes) a names charge line)
     → Fits l t.registers t.input → after l (length (backslash ∷ bytes)) (going s reading from (backslash ∷ bytes) a names charge line) ≡ t
-after-escape l s reading is_text from a asks name names bytes charge line on are last within fits fits_behind =
+after-escape l s reading is_text from a asks name names bytes charge line of on are last within fits fits_behind =
     let there : Arguments = settled_for reading a in
     let next : ℕ = line_behind from s line in
     let taken : State = going s reading from bytes a names (charge + 1) next in
@@ -344,9 +400,10 @@ after-escape l s reading is_text from a asks name names bytes charge line on are
     let fits_there : Fits l s.registers t.input =
     Fits-behind l s.registers s from backslash bytes a there names (Backslash ∷ names) charge (charge + 1) line next
     (held-settled_for reading is_text a on) fits in
-    ap (after l (length bytes)) (step-byte l s reading from backslash bytes a names charge line t refl (omega arith) is fits_there)
+    ap (after l (length bytes)) (step-byte l s reading from backslash bytes a names charge line t refl
+    (goes_on is_text names (Backslash ∷ names) backslash GoesOn refl (byte_read-backslash is_text names are) (λ is. cc)) (omega arith) is fits_there)
     ∙ after-asks l s reading is_text from there next asks name names (Backslash ∷ names) bytes (charge + 1) (charge + length (backslash ∷ bytes))
-    on (settled_for-settled_for reading is_text a on) (line_behind-again from s line)
+    of on (settled_for-settled_for reading is_text a on) (line_behind-again from s line)
     last (omega arith) within fits_there fits_behind
 
 -- a byte that stands for itself is read
@@ -355,7 +412,7 @@ IsRead-itself b may = not-or (b == backslash) (is_dropped b || b == newline) may
 
 -- the first unit of a name, where it is none of the special bytes
 name_begun-plain : (backslash opening plus minus : Bool) (a b c d e : Reads) → (backslash || (opening || (plus || (minus || false)))) ≡ false
-    → (if backslash then a else if opening then b else if plus then c else if minus then d else e) ≡ e
+    → (if backslash then a else if plus then b else if minus then c else if opening then d else e) ≡ e
 name_begun-plain true opening plus minus a b c d e none = absurd (cc)
 name_begun-plain false true plus minus a b c d e none = absurd (cc)
 name_begun-plain false false true minus a b c d e none = absurd (cc)
@@ -370,75 +427,119 @@ name_begun-stepped false false others a b c none = refl
 
 -- a name of one byte
 byte_read-short : (is_text : Bool) (asks : Option Direction) (x : ℕ) (names : List Half) → is_special x ≡ false
-    → byte_read is_text (Name asks Nothing ∷ names) x ≡ (Asks asks (x ∷ []), names)
+    → byte_read is_text (Name (Register asks) Nothing ∷ names) x ≡ (Asks (Register asks) (Some (x ∷ [])), names)
 byte_read-short is_text None x names plain = name_begun-plain (x == backslash) (x == 40) (x == 43) (x == 45) _ _ _ _ _ plain
 byte_read-short is_text (Some direction) x names plain = name_begun-stepped (x == backslash) (x == 40) (list_any (λ c. x == c) (43 ∷ 45 ∷ [])) _ _ _ plain
 
--- `n` behind a backslash begins a name
+-- a string's
+byte_read-string : (is_text : Bool) (x : ℕ) (names : List Half) → (x == backslash) ≡ false → (x == 40) ≡ false
+    → byte_read is_text (Name OfText Nothing ∷ names) x ≡ (Asks OfText (Some (x ∷ [])), names)
+byte_read-string is_text x names plain no_opening =
+    ap (λ (c : Bool). if c then (GoesOn, Backslash ∷ Name OfText Nothing ∷ names) else if x == 40 then (GoesOn, Name OfText Opened ∷ names) else (Asks OfText (Some (x ∷ [])), names)) plain
+    ∙ ap (λ (c : Bool). if c then (GoesOn, Name OfText Opened ∷ names) else (Asks OfText (Some (x ∷ [])), names)) no_opening
+
+-- and an argument's
+byte_read-argument : (is_text : Bool) (x : ℕ) (names : List Half) → (x == backslash) ≡ false
+    → byte_read is_text (Name Argument Nothing ∷ names) x ≡ (Asks Argument (Some (x ∷ [])), names)
+byte_read-argument is_text x names plain =
+    ap (λ (c : Bool). if c then (GoesOn, Backslash ∷ Name Argument Nothing ∷ names) else (Asks Argument (Some (x ∷ [])), names)) plain
+
+-- the byte behind a backslash begins a name
+begun-names : (names : List Half) (asks : NameUse) → length names < most_names
+    → ◌≡◌ {A = Reads} (GoesOn, (if nat_le most_names (length names) then names else Name asks Nothing ∷ names)) (GoesOn, Name asks Nothing ∷ names)
+begun-names names asks few =
+    ap (λ (full : Bool). (GoesOn, (if full then names else Name asks Nothing ∷ names))) (lt-leb most_names (length names) few)
+
+-- `n`
 byte_read-n : (is_text : Bool) (names : List Half) → length names < most_names
-    → byte_read is_text (Backslash ∷ names) 110 ≡ (GoesOn, Name None Nothing ∷ names)
-byte_read-n is_text names few =
-    ap (λ (full : Bool). (GoesOn, (if full then names else Name None Nothing ∷ names))) (lt-leb most_names (length names) few)
+    → byte_read is_text (Backslash ∷ names) 110 ≡ (GoesOn, Name (Register None) Nothing ∷ names)
+byte_read-n is_text names few = begun-names names (Register None) few
 
 -- the bytes behind the backslash: `n`, the sign of the step, and the name
 asks-signed : (is_text : Bool) (asks : Option Direction) (name bytes : List ℕ) (names : List Half) → length names < most_names
-    → AsksAtLast is_text asks name names (Name asks Nothing ∷ names) bytes
-    → AsksAtLast is_text asks name names (Backslash ∷ names) (110 ∷ sign asks ++ bytes)
+    → AsksAtLast is_text (Register asks) name names (Name (Register asks) Nothing ∷ names) bytes
+    → AsksAtLast is_text (Register asks) name names (Backslash ∷ names) (110 ∷ sign asks ++ bytes)
 asks-signed is_text None name bytes names few last = Behind _ _ 110 bytes refl (byte_read-n is_text names few) last
 asks-signed is_text (Some Up) name bytes names few last =
     Behind _ _ 110 (43 ∷ bytes) refl (byte_read-n is_text names few) (Behind _ _ 43 bytes refl refl last)
 asks-signed is_text (Some Down) name bytes names few last =
     Behind _ _ 110 (45 ∷ bytes) refl (byte_read-n is_text names few) (Behind _ _ 45 bytes refl refl last)
 
--- the parenthesis of a name of two bytes
-byte_read-opening : (is_text : Bool) (asks : Option Direction) (names : List Half)
-    → byte_read is_text (Name asks Nothing ∷ names) 40 ≡ (GoesOn, Name asks Opened ∷ names)
-byte_read-opening is_text None names = refl
-byte_read-opening is_text (Some direction) names = refl
+-- a string's: `*`, and the name
+asks-string : (is_text : Bool) (name bytes : List ℕ) (names : List Half) → length names < most_names
+    → AsksAtLast is_text OfText name names (Name OfText Nothing ∷ names) bytes
+    → AsksAtLast is_text OfText name names (Backslash ∷ names) (42 ∷ bytes)
+asks-string is_text name bytes names few last = Behind _ _ 42 bytes refl (begun-names names OfText few) last
 
-asks-long : (is_text : Bool) (asks : Option Direction) (x y : ℕ) (names : List Half) → StandsForItself x → StandsForItself y
-    → AsksAtLast is_text asks (x ∷ y ∷ []) names (Name asks Nothing ∷ names) (40 ∷ x ∷ y ∷ [])
-asks-long is_text asks x y names first second =
+-- an argument's: `$`, and the name
+asks-argument : (is_text : Bool) (name bytes : List ℕ) (names : List Half) → length names < most_names
+    → AsksAtLast is_text Argument name names (Name Argument Nothing ∷ names) bytes
+    → AsksAtLast is_text Argument name names (Backslash ∷ names) (36 ∷ bytes)
+asks-argument is_text name bytes names few last = Behind _ _ 36 bytes refl (begun-names names Argument few) last
+
+-- two bytes behind a parenthesis
+asks-opened : (is_text : Bool) (asks : NameUse) (x y : ℕ) (names : List Half) → StandsForItself x → StandsForItself y
+    → AsksAtLast is_text asks (x ∷ y ∷ []) names (Name asks Opened ∷ names) (x ∷ y ∷ [])
+asks-opened is_text asks x y names first second =
     let begun : List Half = Name asks (First x) ∷ names in
     let of_first : byte_read is_text (Name asks Opened ∷ names) x ≡ (GoesOn, begun) =
     ap (λ (c : Bool). if c then (GoesOn, Backslash ∷ Name asks Opened ∷ names) else (GoesOn, begun)) (not-first (x == backslash) (is_dropped x || x == newline) first) in
-    let of_second : byte_read is_text begun y ≡ (Asks asks (x ∷ y ∷ []), names) =
-    ap (λ (c : Bool). if c then (GoesOn, Backslash ∷ begun) else (Asks asks (x ∷ y ∷ []), names)) (not-first (y == backslash) (is_dropped y || y == newline) second) in
-    Behind _ _ 40 (x ∷ y ∷ []) refl (byte_read-opening is_text asks names)
-    (Behind _ _ x (y ∷ []) (IsRead-itself x first) of_first (AtLast _ y (IsRead-itself y second) of_second))
+    let of_second : byte_read is_text begun y ≡ (Asks asks (Some (x ∷ y ∷ [])), names) =
+    ap (λ (c : Bool). if c then (GoesOn, Backslash ∷ begun) else (Asks asks (Some (x ∷ y ∷ [])), names)) (not-first (y == backslash) (is_dropped y || y == newline) second) in
+    Behind _ _ x (y ∷ []) (IsRead-itself x first) of_first (AtLast _ y (IsRead-itself y second) of_second)
+
+-- a register's parenthesis
+byte_read-opening : (is_text : Bool) (asks : Option Direction) (names : List Half)
+    → byte_read is_text (Name (Register asks) Nothing ∷ names) 40 ≡ (GoesOn, Name (Register asks) Opened ∷ names)
+byte_read-opening is_text None names = refl
+byte_read-opening is_text (Some direction) names = refl
 
 -- a state behind bytes that were taken
 abbrev source_behind : Origin → State → State
 source_behind (FromAhead rest) s = s
 source_behind (FromSource tape) s = with_source_behind tape s
 
--- the text of a register ahead of what is behind them
-abbrev read_from : Origin → Option Direction → List ℕ → ℕ → State → State
-read_from from asks name taken s = with_text_ahead name taken (ahead_at from []) (stepped asks name (source_behind from s))
+-- a text ahead of what is behind them
+abbrev read_from : Origin → NameUse → List ℕ → ℕ → State → State
+read_from from asks name taken s = with_text_ahead asks name taken (ahead_at from []) (stepped asks name (source_behind from s))
 
 -- and in such a run
 read_from-asked : (s : State) (reading : Reading) (is_text : Bool) (from : Origin) (bytes : List ℕ) (a : Arguments) (half : List Half) (charge taken line : ℕ)
-    (asks : Option Direction) (name : List ℕ) → ReadsEscapes reading is_text
+    (asks : NameUse) (name : List ℕ) → Interpolates asks → ReadsEscapes reading is_text
     → read_from from asks name taken (going s reading from bytes a half charge line)
     ≡ asked s reading from (settled_for reading a) half (charge + taken) (line_behind from s line) asks name
-read_from-asked s _ _ (FromAhead rest) bytes a half charge taken line None name AtBeginning = refl
-read_from-asked s _ _ (FromAhead rest) bytes a half charge taken line (Some direction) name AtBeginning = refl
-read_from-asked s _ _ (FromAhead rest) bytes a half charge taken line None name (OnText text) = refl
-read_from-asked s _ _ (FromAhead rest) bytes a half charge taken line (Some direction) name (OnText text) = refl
-read_from-asked s _ _ (FromAhead rest) bytes a half charge taken line None name (OnArguments breaks request) = refl
-read_from-asked s _ _ (FromAhead rest) bytes a half charge taken line (Some direction) name (OnArguments breaks request) = refl
-read_from-asked s _ _ (FromSource tape) bytes a half charge taken line None name AtBeginning = refl
-read_from-asked s _ _ (FromSource tape) bytes a half charge taken line (Some direction) name AtBeginning = refl
-read_from-asked s _ _ (FromSource tape) bytes a half charge taken line None name (OnText text) = refl
-read_from-asked s _ _ (FromSource tape) bytes a half charge taken line (Some direction) name (OnText text) = refl
-read_from-asked s _ _ (FromSource tape) bytes a half charge taken line None name (OnArguments breaks request) = refl
-read_from-asked s _ _ (FromSource tape) bytes a half charge taken line (Some direction) name (OnArguments breaks request) = refl
+read_from-asked s _ _ (FromAhead rest) bytes a half charge taken line _ name (ARegister None) AtBeginning = refl
+read_from-asked s _ _ (FromAhead rest) bytes a half charge taken line _ name (ARegister (Some direction)) AtBeginning = refl
+read_from-asked s _ _ (FromAhead rest) bytes a half charge taken line _ name AString AtBeginning = refl
+read_from-asked s _ _ (FromAhead rest) bytes a half charge taken line _ name AnArgument AtBeginning = refl
+read_from-asked s _ _ (FromAhead rest) bytes a half charge taken line _ name (ARegister None) (OnText text) = refl
+read_from-asked s _ _ (FromAhead rest) bytes a half charge taken line _ name (ARegister (Some direction)) (OnText text) = refl
+read_from-asked s _ _ (FromAhead rest) bytes a half charge taken line _ name AString (OnText text) = refl
+read_from-asked s _ _ (FromAhead rest) bytes a half charge taken line _ name AnArgument (OnText text) = refl
+read_from-asked s _ _ (FromAhead rest) bytes a half charge taken line _ name (ARegister None) (OnArguments breaks request) = refl
+read_from-asked s _ _ (FromAhead rest) bytes a half charge taken line _ name (ARegister (Some direction)) (OnArguments breaks request) = refl
+read_from-asked s _ _ (FromAhead rest) bytes a half charge taken line _ name AString (OnArguments breaks request) = refl
+read_from-asked s _ _ (FromAhead rest) bytes a half charge taken line _ name AnArgument (OnArguments breaks request) = refl
+read_from-asked s _ _ (FromSource tape) bytes a half charge taken line _ name (ARegister None) AtBeginning = refl
+read_from-asked s _ _ (FromSource tape) bytes a half charge taken line _ name (ARegister (Some direction)) AtBeginning = refl
+read_from-asked s _ _ (FromSource tape) bytes a half charge taken line _ name AString AtBeginning = refl
+read_from-asked s _ _ (FromSource tape) bytes a half charge taken line _ name AnArgument AtBeginning = refl
+read_from-asked s _ _ (FromSource tape) bytes a half charge taken line _ name (ARegister None) (OnText text) = refl
+read_from-asked s _ _ (FromSource tape) bytes a half charge taken line _ name (ARegister (Some direction)) (OnText text) = refl
+read_from-asked s _ _ (FromSource tape) bytes a half charge taken line _ name AString (OnText text) = refl
+read_from-asked s _ _ (FromSource tape) bytes a half charge taken line _ name AnArgument (OnText text) = refl
+read_from-asked s _ _ (FromSource tape) bytes a half charge taken line _ name (ARegister None) (OnArguments breaks request) = refl
+read_from-asked s _ _ (FromSource tape) bytes a half charge taken line _ name (ARegister (Some direction)) (OnArguments breaks request) = refl
+read_from-asked s _ _ (FromSource tape) bytes a half charge taken line _ name AString (OnArguments breaks request) = refl
+read_from-asked s _ _ (FromSource tape) bytes a half charge taken line _ name AnArgument (OnArguments breaks request) = refl
 
 -- its charge
-charge-asked : (s : State) (reading : Reading) (from : Origin) (a : Arguments) (half : List Half) (charge line : ℕ) (asks : Option Direction) (name : List ℕ)
-    → (asked s reading from a half charge line asks name).input.charge ≡ charge
-charge-asked s reading from a half charge line None name = refl
-charge-asked s reading from a half charge line (Some direction) name = refl
+charge-asked : (s : State) (reading : Reading) (from : Origin) (a : Arguments) (half : List Half) (charge line : ℕ) (asks : NameUse) (name : List ℕ)
+    → Interpolates asks → (asked s reading from a half charge line asks name).input.charge ≡ charge
+charge-asked s reading from a half charge line _ name (ARegister None) = refl
+charge-asked s reading from a half charge line _ name (ARegister (Some direction)) = refl
+charge-asked s reading from a half charge line _ name AString = refl
+charge-asked s reading from a half charge line _ name AnArgument = refl
 
 -- a state within the limits is within those that a step looks at
 Fits-IsWithin : (l : Limits) (s : State) → IsWithin l s → Fits l s.registers s.input
@@ -453,53 +554,71 @@ ReadsEscapes-reads_escapes (Control breaks) is = absurd (cc)
 ReadsEscapes-reads_escapes (NameOf breaks first) is = absurd (cc)
 ReadsEscapes-reads_escapes Dropped is = absurd (cc)
 
--- an escape is read as the text of its register, where a run takes items
+-- an escape is read as its text, where a run takes items
 escape-going : (l : Limits) (s : State) (reading : Reading) (is_text : Bool) (from : Origin) (a : Arguments)
-    (asks : Option Direction) (name : List ℕ) (names : List Half) (bytes : List ℕ) (charge line : ℕ)
-    → ReadsEscapes reading is_text → AreNames names → AsksAtLast is_text asks name names (Backslash ∷ names) bytes
+    (asks : NameUse) (name : List ℕ) (names : List Half) (bytes : List ℕ) (charge line : ℕ)
+    → Interpolates asks → ReadsEscapes reading is_text → AreNames names → AsksAtLast is_text asks name names (Backslash ∷ names) bytes
     → let first : State = going s reading from (backslash ∷ bytes) a names charge line in
     let read : State = read_from from asks name (length (backslash ∷ bytes)) first in
     IsWithin l first → IsWithin l read → after l (length (backslash ∷ bytes)) first ≡ read
-escape-going l s reading is_text from a asks name names bytes charge line on are last within within_read =
+escape-going l s reading is_text from a asks name names bytes charge line of on are last within within_read =
     let first : State = going s reading from (backslash ∷ bytes) a names charge line in
     let read : State = read_from from asks name (length (backslash ∷ bytes)) first in
     let total : ℕ = charge + length (backslash ∷ bytes) in
     let t : State = asked s reading from (settled_for reading a) names total (line_behind from s line) asks name in
-    let is : read ≡ t = read_from-asked s reading is_text from (backslash ∷ bytes) a names charge (length (backslash ∷ bytes)) line asks name on in
+    let is : read ≡ t = read_from-asked s reading is_text from (backslash ∷ bytes) a names charge (length (backslash ∷ bytes)) line asks name of on in
     let within_t : IsWithin l t = subst (IsWithin l) is within_read in
-    let charged : t.input.charge ≡ total = charge-asked s reading from (settled_for reading a) names total (line_behind from s line) asks name in
-    after-escape l s reading is_text from a asks name names bytes charge line on are last (omega (arith, within_t.bytes, charged))
+    let charged : t.input.charge ≡ total = charge-asked s reading from (settled_for reading a) names total (line_behind from s line) asks name of in
+    after-escape l s reading is_text from a asks name names bytes charge line of on are last (omega (arith, within_t.bytes, charged))
     (Fits-IsWithin l first within) (Fits-IsWithin l t within_t)
     ∙ sym is
 
 -- and in any state of such a run
-escape-reads : (l : Limits) (s : State) (is_text : Bool) (from : Origin) (asks : Option Direction) (name bytes : List ℕ)
-    → TakesItems s → ReadsEscapes s.reading is_text → AreNames s.input.half → AsksAtLast is_text asks name s.input.half (Backslash ∷ s.input.half) bytes
+escape-reads : (l : Limits) (s : State) (is_text : Bool) (from : Origin) (asks : NameUse) (name bytes : List ℕ)
+    → Interpolates asks → TakesItems s → ReadsEscapes s.reading is_text → AreNames s.input.half → AsksAtLast is_text asks name s.input.half (Backslash ∷ s.input.half) bytes
     → s.input.ahead ≡ ahead_at from (backslash ∷ bytes) → s.tape ≡ tape_at from (backslash ∷ bytes) s.tape
     → let read : State = read_from from asks name (length (backslash ∷ bytes)) s in
     IsWithin l s → IsWithin l read → after l (length (backslash ∷ bytes)) s ≡ read
-escape-reads l s is_text from asks name bytes takes on are last ahead tape =
+escape-reads l s is_text from asks name bytes of takes on are last ahead tape =
     let Goal : State → Type 0 = λ t.
     IsWithin l t → IsWithin l (read_from from asks name (length (backslash ∷ bytes)) t)
     → after l (length (backslash ∷ bytes)) t ≡ read_from from asks name (length (backslash ∷ bytes)) t in
     subst Goal (is-going s from (backslash ∷ bytes) takes ahead tape)
-    (escape-going l s s.reading is_text from s.input.arguments asks name s.input.half bytes s.input.charge s.input.line on are last)
+    (escape-going l s s.reading is_text from s.input.arguments asks name s.input.half bytes s.input.charge s.input.line of on are last)
 
 -- each escape
-escapes_read_from : (l : Limits) (s : State) (from : Origin) (asks : Option Direction) (name escape : List ℕ)
+escapes_read_from : (l : Limits) (s : State) (from : Origin) (asks : NameUse) (name escape : List ℕ)
     → IsEscapeOf asks name escape → TakesItems s → AreNames s.input.half → length s.input.half < most_names
     → reads_escapes s.reading ≡ true → s.input.ahead ≡ ahead_at from escape → s.tape ≡ tape_at from escape s.tape
     → let read : State = read_from from asks name (length escape) s in
     IsWithin l s → IsWithin l read → after l (length escape) s ≡ read
-escapes_read_from l s from asks _ _ (Short _ x may plain) takes are few reads ahead tape =
+escapes_read_from l s from _ _ _ (Short step x may plain) takes are few reads ahead tape =
     let on = ReadsEscapes-reads_escapes s.reading reads in
-    escape-reads l s on.0 from asks (x ∷ []) (110 ∷ sign asks ++ x ∷ []) takes on.1 are
-    (asks-signed on.0 asks (x ∷ []) (x ∷ []) s.input.half few
-    (AtLast (Name asks Nothing ∷ s.input.half) x (IsRead-itself x may) (byte_read-short on.0 asks x s.input.half plain))) ahead tape
-escapes_read_from l s from asks _ _ (Long _ x y first second) takes are few reads ahead tape =
+    escape-reads l s on.0 from (Register step) (x ∷ []) (110 ∷ sign step ++ x ∷ []) (ARegister step) takes on.1 are
+    (asks-signed on.0 step (x ∷ []) (x ∷ []) s.input.half few
+    (AtLast (Name (Register step) Nothing ∷ s.input.half) x (IsRead-itself x may) (byte_read-short on.0 step x s.input.half plain))) ahead tape
+escapes_read_from l s from _ _ _ (Long step x y first second) takes are few reads ahead tape =
     let on = ReadsEscapes-reads_escapes s.reading reads in
-    escape-reads l s on.0 from asks (x ∷ y ∷ []) (110 ∷ sign asks ++ 40 ∷ x ∷ y ∷ []) takes on.1 are
-    (asks-signed on.0 asks (x ∷ y ∷ []) (40 ∷ x ∷ y ∷ []) s.input.half few (asks-long on.0 asks x y s.input.half first second)) ahead tape
+    escape-reads l s on.0 from (Register step) (x ∷ y ∷ []) (110 ∷ sign step ++ 40 ∷ x ∷ y ∷ []) (ARegister step) takes on.1 are
+    (asks-signed on.0 step (x ∷ y ∷ []) (40 ∷ x ∷ y ∷ []) s.input.half few
+    (Behind _ _ 40 (x ∷ y ∷ []) refl (byte_read-opening on.0 step s.input.half) (asks-opened on.0 (Register step) x y s.input.half first second))) ahead tape
+escapes_read_from l s from _ _ _ (ShortString x may no_opening) takes are few reads ahead tape =
+    let on = ReadsEscapes-reads_escapes s.reading reads in
+    escape-reads l s on.0 from OfText (x ∷ []) (42 ∷ x ∷ []) AString takes on.1 are
+    (asks-string on.0 (x ∷ []) (x ∷ []) s.input.half few
+    (AtLast (Name OfText Nothing ∷ s.input.half) x (IsRead-itself x may)
+    (byte_read-string on.0 x s.input.half (not-first (x == backslash) (is_dropped x || x == newline) may) no_opening))) ahead tape
+escapes_read_from l s from _ _ _ (LongString x y first second) takes are few reads ahead tape =
+    let on = ReadsEscapes-reads_escapes s.reading reads in
+    escape-reads l s on.0 from OfText (x ∷ y ∷ []) (42 ∷ 40 ∷ x ∷ y ∷ []) AString takes on.1 are
+    (asks-string on.0 (x ∷ y ∷ []) (40 ∷ x ∷ y ∷ []) s.input.half few
+    (Behind _ _ 40 (x ∷ y ∷ []) refl refl (asks-opened on.0 OfText x y s.input.half first second))) ahead tape
+escapes_read_from l s from _ _ _ (OfArgument x may) takes are few reads ahead tape =
+    let on = ReadsEscapes-reads_escapes s.reading reads in
+    escape-reads l s on.0 from Argument (x ∷ []) (36 ∷ x ∷ []) AnArgument takes on.1 are
+    (asks-argument on.0 (x ∷ []) (x ∷ []) s.input.half few
+    (AtLast (Name Argument Nothing ∷ s.input.half) x (IsRead-itself x may)
+    (byte_read-argument on.0 x s.input.half (not-first (x == backslash) (is_dropped x || x == newline) may)))) ahead tape
 
 pub escapes_read_as_texts : EscapesReadAsTexts
 escapes_read_as_texts l s asks name escape rest is_escape takes are few reads ahead =
@@ -536,9 +655,9 @@ escapes_of_text_read_as_texts l s name escape rest is_escape takes reads half ah
     let of : PageInput → State = λ i. record s {
       input = pushing (text_of_register (known s) name) (record i { ahead = rest; charge = s.input.charge + length escape });
     } in
-    let is : with_text_ahead name (length escape) rest s ≡ of s.input = ap of (interrupted-reads_text s.reading s.input reads) in
+    let is : with_text_ahead (Register None) name (length escape) rest s ≡ of s.input = ap of (interrupted-reads_text s.reading s.input reads) in
     let few : length s.input.half < most_names = rw half (omega arith) in
-    escapes_read_as_texts l s None name escape rest is_escape takes (rw half AreNames-nil) few (reads_escapes-reads_text s.reading reads) ahead
+    escapes_read_as_texts l s (Register None) name escape rest is_escape takes (rw half AreNames-nil) few (reads_escapes-reads_text s.reading reads) ahead
     within (subst (IsWithin l) (sym is) within_read)
     ∙ is
 

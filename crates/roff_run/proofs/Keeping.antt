@@ -1,20 +1,23 @@
 -- What reading changes in the input: its counts stay, no free byte comes ahead, and little becomes half read.
 --
 -- Each function f of reading has its lemma Keeps-f here, with a line for each of its cases.
-use Rattle.std.proofs.Common.{◌≡◌, ℕ, ◌+◌, ◌≤◌, Bool, true, false, List, [], ◌∷◌, ◌++◌, length, map, Option, Some, None, refl, sym, subst, arith}
-use Rattle.std.specs.Prelude.{◌&&◌, ◌||◌, nat_le, if◌then◌else◌, ◌==◌}
+use Rattle.std.proofs.Common.{◌≡◌, ℕ, ◌+◌, ◌≤◌, Bool, true, false, List, [], ◌∷◌, ◌++◌, length, map, Option, Some, None, refl, sym, subst, ◌∙◌, arith}
+use Rattle.std.specs.Prelude.{if◌then◌else◌, ◌==◌}
 use Rattle.roff_lines.specs.declared.glyph.Glyph.TheVariants.{Printed}
-use Rattle.roff_scan.specs.Bytes.{newline, blank, apostrophe, dot, backslash, is_silent, is_dropped}
-use Rattle.roff_scan.specs.Halves.{Reads, most_names, name_begun, unit_of_name, unit_taken, copied_escape, escape_taken, byte_read, name_ended, reading_ended}
-use Rattle.roff_scan.specs.Input.{Ahead, ByteAhead, FreeAhead, EndAhead, DoAhead}
+use Rattle.roff_scan.specs.Bytes.{newline, blank, apostrophe, dot, is_silent, is_dropped}
+use Rattle.roff_scan.specs.Characters.{character}
+use Rattle.roff_scan.specs.Escapes.{escape_of}
+use Rattle.roff_scan.specs.Halves.{byte_read, reading_ended}
+use Rattle.roff_scan.specs.Input.{Ahead, ByteAhead, EndAhead}
+use Rattle.roff_scan.specs.declared.escapes.Escape.{Escape as Kind}
+use Rattle.roff_scan.specs.declared.escapes.Escape.TheVariants.{Prints, Blank, NoWidth, Nothing as GivesNothing, LeftOut as IsLeftOut, Comment as BeginsComment, Size as BeginsSize, Name as BeginsName}
+use Rattle.roff_scan.specs.declared.escapes.NameUse.{NameUse}
+use Rattle.roff_scan.specs.declared.escapes.NameUse.TheVariants.{Register, Text as OfText, Argument, Character, Font, LeftOut as NameLeftOut}
 use Rattle.roff_scan.specs.declared.half.CopyUnit.{CopyUnit}
 use Rattle.roff_scan.specs.declared.half.CopyUnit.TheVariants.{Byte, Kept}
 use Rattle.roff_scan.specs.declared.half.Half.{Half}
-use Rattle.roff_scan.specs.declared.half.Half.TheVariants.{Backslash, Name as HalfName}
-use Rattle.roff_scan.specs.declared.half.NamePart.{NamePart}
 use Rattle.roff_scan.specs.declared.half.Read.{Read}
 use Rattle.roff_scan.specs.declared.half.Read.TheVariants.{GoesOn, Unit as GivesUnit, Escape, Asks}
-use Rattle.roff_scan.specs.declared.half.NamePart.TheVariants.{Nothing, Opened, First}
 use Rattle.roff_store.specs.declared.register.Direction.{Direction}
 use Rattle.roff_run.specs.declared.reading.Reading.{Reading}
 use Rattle.roff_run.specs.declared.reading.Reading.TheVariants.{LineStart, Text as InText, Control, Name, Arguments as InArguments, Dropped}
@@ -22,17 +25,11 @@ use Rattle.roff_run.specs.declared.reading.TextLine.{TextLine}
 use Rattle.roff_run.specs.declared.request.LineReading.{LineReading}
 use Rattle.roff_run.specs.declared.request.LineReading.TheVariants.{ByArguments}
 use Rattle.roff_run.specs.declared.request.Request.{Request}
-use Rattle.roff_run.specs.Reading.{PageInput, Taking, fresh_line, glyph_taking, blank_taking, text_taking, escape_taking, first_taking, beginning_found, text_found, unit_found, arguments_found, dropped_taking, ends_name, line_taking, name_ended_taking, behind_name, name_whole_taking, kept_taking, interrupted, taking, half_ended, end_taking, going_on}
+use Rattle.roff_run.specs.Reading.{PageInput, Taking, fresh_line, glyph_taking, blank_taking, text_taking, escape_meant, escape_taking, character_printed, character_taking, asking, name_taking, settling, first_taking, beginning_found, text_found, unit_found, arguments_found, dropped_taking, ends_name, line_taking, name_ended_taking, behind_name, name_whole_taking, kept_taking, interrupted, taking, half_ended, end_taking, going_on}
 use Rattle.roff_run.specs.Registers.{Known, known_behind, step_changes, text_of_register}
 use Rattle.roff_run.specs.Requests.{PageEvent, row_of, request_named}
-
--- how many bytes ahead are free
-abbrev pub free_ahead : List (Ahead PageEvent) → ℕ
-free_ahead [] = 0
-free_ahead (ByteAhead b ∷ items) = free_ahead items
-free_ahead (FreeAhead b ∷ items) = free_ahead items + 1
-free_ahead (EndAhead ∷ items) = free_ahead items
-free_ahead (DoAhead event ∷ items) = free_ahead items
+use Rattle.roff_run.specs.TurnsToCome.{free_ahead}
+use Rattle.roff_run.proofs.HalfCounts.{length-byte_read, length-reading_ended}
 
 -- an input behind another: of the same counts, with no more free bytes ahead, and no more than this half read
 pub record Keeps (most : ℕ) (i j : PageInput) : Type 0 where
@@ -47,80 +44,11 @@ Keeps-if : (most : ℕ) (i : PageInput) (b : Bool) (t u : Taking) → Keeps most
 Keeps-if most i true t u first second = first
 Keeps-if most i false t u first second = second
 
--- what was found leaves so much half read
-abbrev Leaves : ℕ → Reads → Type 0
-Leaves most r = length r.1 ≤ most
-
--- either of two, by a test
-Leaves-if : (most : ℕ) (b : Bool) (r s : Reads) → Leaves most r → Leaves most s → Leaves most (if b then r else s)
-Leaves-if most true r s first second = first
-Leaves-if most false r s first second = second
-
--- either of two lists, by a test
-length-if : (most : ℕ) (b : Bool) (xs ys : List Half) → length xs ≤ most → length ys ≤ most → length (if b then xs else ys) ≤ most
-length-if most true xs ys first second = first
-length-if most false xs ys first second = second
-
--- the first unit of a name
-Leaves-name_begun : (rest : List Half) (step : Option Direction) (unit : CopyUnit) → Leaves (length rest + 1) (name_begun rest step unit)
-Leaves-name_begun rest step (Kept b) = omega arith
-Leaves-name_begun rest None (Byte b) =
-    Leaves-if _ (b == 40) _ _ (omega arith) (Leaves-if _ (b == 43) _ _ (omega arith) (Leaves-if _ (b == 45) _ _ (omega arith) (omega arith)))
-Leaves-name_begun rest (Some direction) (Byte b) = Leaves-if _ (b == 40) _ _ (omega arith) (omega arith)
-
--- a unit of a name
-Leaves-unit_of_name : (rest : List Half) (step : Option Direction) (part : NamePart) (unit : CopyUnit) → Leaves (length rest + 1) (unit_of_name rest step part unit)
-Leaves-unit_of_name rest step Nothing unit = Leaves-name_begun rest step unit
-Leaves-unit_of_name rest step Opened (Kept b) = omega arith
-Leaves-unit_of_name rest step Opened (Byte b) = omega arith
-Leaves-unit_of_name rest step (First a) unit = omega arith
-
--- a unit
-Leaves-unit_taken : (half : List Half) (unit : CopyUnit) → Leaves (length half) (unit_taken half unit)
-Leaves-unit_taken [] unit = omega arith
-Leaves-unit_taken (Backslash ∷ rest) unit = omega arith
-Leaves-unit_taken (HalfName step part ∷ rest) unit =
-    let taken : Leaves (length rest + 1) (unit_of_name rest step part unit) = Leaves-unit_of_name rest step part unit in omega (arith, taken)
-
--- the byte behind a backslash of copy mode
-Leaves-copied_escape : (rest : List Half) (b : ℕ) → Leaves (length rest + 1) (copied_escape rest b)
-Leaves-copied_escape rest b =
-    let unit : (u : CopyUnit) → Leaves (length rest + 1) (unit_taken rest u) = λ u. omega (arith, Leaves-unit_taken rest u) in
-    Leaves-if _ (b == newline) _ _ (omega arith)
-    (Leaves-if _ (b == backslash) _ _ (unit (Byte backslash)) (Leaves-if _ (b == dot) _ _ (unit (Byte dot)) (unit (Kept b))))
-
--- the byte behind a backslash
-Leaves-escape_taken : (is_text : Bool) (rest : List Half) (b : ℕ) → Leaves (length rest + 1) (escape_taken is_text rest b)
-Leaves-escape_taken is_text rest b =
-    Leaves-if _ (b == 110) _ _
-    (length-if _ (nat_le most_names (length rest)) _ _ (omega arith) (omega arith))
-    (Leaves-if _ (is_text && length rest == 0) _ _ (omega arith) (Leaves-copied_escape rest b))
-
--- a byte begins one thing at most
-Leaves-byte_read : (is_text : Bool) (half : List Half) (b : ℕ) → Leaves (length half + 1) (byte_read is_text half b)
-Leaves-byte_read is_text [] b = Leaves-if _ (b == backslash) _ _ (omega arith) (omega arith)
-Leaves-byte_read is_text (Backslash ∷ rest) b =
-    let taken : Leaves (length rest + 1) (escape_taken is_text rest b) = Leaves-escape_taken is_text rest b in omega (arith, taken)
-Leaves-byte_read is_text (HalfName step part ∷ rest) b =
-    Leaves-if _ (b == backslash) _ _ (omega arith)
-    (let taken : Leaves (length rest + 1) (unit_of_name rest step part (Byte b)) = Leaves-unit_of_name rest step part (Byte b) in omega (arith, taken))
-
--- a name that ends goes
-Leaves-name_ended : (rest : List Half) (step : Option Direction) (part : NamePart) → Leaves (length rest) (name_ended rest step part)
-Leaves-name_ended rest step Nothing = omega arith
-Leaves-name_ended rest step Opened = omega arith
-Leaves-name_ended rest step (First a) = omega arith
-
--- the reading on top ends, and goes
-Leaves-reading_ended : (is_text : Bool) (first : Half) (others : List Half) → Leaves (length others) (reading_ended is_text (first ∷ others))
-Leaves-reading_ended is_text Backslash others =
-    Leaves-if _ (is_text && length others == 0) _ _ (omega arith) (Leaves-unit_taken others (Byte backslash))
-Leaves-reading_ended is_text (HalfName step part) others = Leaves-name_ended others step part
-
 -- so it does where this is half read
-leaves_ended : (is_text : Bool) (half : List Half) (first : Half) (others : List Half) → half ≡ first ∷ others → Leaves (length others) (reading_ended is_text half)
+leaves_ended : (is_text : Bool) (half : List Half) (first : Half) (others : List Half) → half ≡ first ∷ others
+    → length (reading_ended is_text half).1 ≤ length others
 leaves_ended is_text half first others is =
-    subst (λ (h : List Half). Leaves (length others) (reading_ended is_text h)) (sym is) (Leaves-reading_ended is_text first others)
+    subst (λ (h : List Half). length (reading_ended is_text h).1 ≤ length others) (sym is) (length-reading_ended is_text first others)
 
 -- the input is the same, by a test
 input-if : (i : PageInput) (b : Bool) (t u : Taking) → t.input ≡ i → u.input ≡ i → (if b then t else u).input ≡ i
@@ -138,10 +66,28 @@ input-text_taking i line b =
     (input-if i (is_silent b) _ (if b == blank then blank_taking i line else glyph_taking i line (Printed b)) refl
     (input-if i (b == blank) (blank_taking i line) (glyph_taking i line (Printed b)) (input-blank_taking i line) refl))
 
--- and the byte of an escape
+-- and an escape without a name
+input-escape_meant : (i : PageInput) (line : TextLine) (b : ℕ) (kind : Kind) → (escape_meant i line b kind).input ≡ i
+input-escape_meant i line b (Prints byte) = refl
+input-escape_meant i line b Blank = refl
+input-escape_meant i line b NoWidth = refl
+input-escape_meant i line b IsLeftOut = refl
+input-escape_meant i line b GivesNothing = refl
+input-escape_meant i line b BeginsComment = refl
+input-escape_meant i line b BeginsSize = refl
+input-escape_meant i line b (BeginsName purpose) = refl
+
 input-escape_taking : (i : PageInput) (line : TextLine) (b : ℕ) → (escape_taking i line b).input ≡ i
-input-escape_taking i line b =
-    input-if i (b == newline || is_silent b) _ _ refl (input-if i (b == blank || b == 48) _ _ refl (input-if i (b == 101) _ _ refl refl))
+input-escape_taking i line b = input-escape_meant i line b (escape_of b)
+
+-- and a character
+input-character_printed : (i : PageInput) (line : TextLine) (name text : Option (List ℕ)) → (character_printed i line name text).input ≡ i
+input-character_printed i line name (Some text) = refl
+input-character_printed i line name None = refl
+
+input-character_taking : (i : PageInput) (line : TextLine) (name : Option (List ℕ)) → (character_taking i line name).input ≡ i
+input-character_taking i line (Some name) = input-character_printed i line (Some name) (character name)
+input-character_taking i line None = refl
 
 -- and the first byte of a line
 input-first_taking : (i : PageInput) (b : ℕ) → (first_taking i b).input ≡ i
@@ -161,6 +107,32 @@ free_ahead-register : (k : Known) (step : Option Direction) (name : List ℕ) (i
     → free_ahead (map ByteAhead (text_of_register (known_behind (step_changes step name) k) name) ++ EndAhead ∷ items) ≡ free_ahead items
 free_ahead-register k step name items = free_ahead-pushed (text_of_register (known_behind (step_changes step name) k) name) items
 
+-- what a name asks for
+Keeps-asking : (most : ℕ) (k : Known) (i j : PageInput) (reading : Reading) (purpose : NameUse) (name : Option (List ℕ)) → Keeps most i j
+    → Keeps most i (asking k j reading purpose name).input
+Keeps-asking most k i j reading purpose None keeps = keeps
+Keeps-asking most k i j reading (Register step) (Some name) keeps =
+    record { charge = keeps.charge; newlines = keeps.newlines; line = keeps.line; free = free_ahead-register k step name j.ahead ∙ keeps.free; half = keeps.half }
+Keeps-asking most k i j reading OfText (Some name) keeps = record { charge = keeps.charge; newlines = keeps.newlines; line = keeps.line; free = keeps.free; half = keeps.half }
+Keeps-asking most k i j reading Argument (Some name) keeps = record { charge = keeps.charge; newlines = keeps.newlines; line = keeps.line; free = keeps.free; half = keeps.half }
+Keeps-asking most k i j reading Character (Some name) keeps = record { charge = keeps.charge; newlines = keeps.newlines; line = keeps.line; free = keeps.free; half = keeps.half }
+Keeps-asking most k i j reading Font (Some name) keeps = record { charge = keeps.charge; newlines = keeps.newlines; line = keeps.line; free = keeps.free; half = keeps.half }
+Keeps-asking most k i j reading (NameLeftOut b) (Some name) keeps = record { charge = keeps.charge; newlines = keeps.newlines; line = keeps.line; free = keeps.free; half = keeps.half }
+
+-- a name of a text line
+Keeps-name_taking : (most : ℕ) (k : Known) (i j : PageInput) (reading : Reading) (line : TextLine) (purpose : NameUse) (name : Option (List ℕ)) → Keeps most i j
+    → Keeps most i (name_taking k j reading line purpose name).input
+Keeps-name_taking most k i j reading line Character name keeps = subst (λ (n : PageInput). Keeps most i n) (sym (input-character_taking j line name)) keeps
+Keeps-name_taking most k i j reading line Font name keeps = keeps
+Keeps-name_taking most k i j reading line (NameLeftOut b) name keeps = keeps
+Keeps-name_taking most k i j reading line (Register step) name keeps = Keeps-asking most k i j reading (Register step) name keeps
+Keeps-name_taking most k i j reading line OfText name keeps = Keeps-asking most k i j reading OfText name keeps
+Keeps-name_taking most k i j reading line Argument name keeps = Keeps-asking most k i j reading Argument name keeps
+
+-- this alone is half read otherwise
+Keeps-with_half : (most : ℕ) (i : PageInput) (half : List Half) → length half ≤ most → Keeps most i (record i { half = half })
+Keeps-with_half most i half few = record { charge = refl; newlines = refl; line = refl; free = refl; half = few }
+
 -- what was found of a text line, with this half read
 Keeps-text_found : (most : ℕ) (k : Known) (i : PageInput) (half : List Half) (line : TextLine) (found : Read) → length half ≤ most
     → Keeps most i (text_found k (record i { half = half }) line found).input
@@ -168,8 +140,8 @@ Keeps-text_found most k i half line GoesOn few = record { charge = refl; newline
 Keeps-text_found most k i half line (GivesUnit (Byte b)) few = Keeps-half most i _ half few (input-text_taking (record i { half = half }) line b)
 Keeps-text_found most k i half line (GivesUnit (Kept b)) few = Keeps-half most i _ half few (input-escape_taking (record i { half = half }) line b)
 Keeps-text_found most k i half line (Escape b) few = Keeps-half most i _ half few (input-escape_taking (record i { half = half }) line b)
-Keeps-text_found most k i half line (Asks step name) few =
-    record { charge = refl; newlines = refl; line = refl; free = free_ahead-register k step name i.ahead; half = few }
+Keeps-text_found most k i half line (Asks purpose name) few =
+    Keeps-name_taking most k i (record i { half = half }) (InText line) line purpose name (Keeps-with_half most i half few)
 
 -- what was found where a line begins, with this half read
 Keeps-beginning_found : (most : ℕ) (k : Known) (i : PageInput) (half : List Half) (found : Read) → length half ≤ most
@@ -178,8 +150,8 @@ Keeps-beginning_found most k i half GoesOn few = record { charge = refl; newline
 Keeps-beginning_found most k i half (GivesUnit (Byte b)) few = Keeps-half most i _ half few (input-first_taking (record i { half = half }) b)
 Keeps-beginning_found most k i half (GivesUnit (Kept b)) few = Keeps-half most i _ half few (input-escape_taking (record i { half = half }) fresh_line b)
 Keeps-beginning_found most k i half (Escape b) few = Keeps-half most i _ half few (input-escape_taking (record i { half = half }) fresh_line b)
-Keeps-beginning_found most k i half (Asks step name) few =
-    record { charge = refl; newlines = refl; line = refl; free = free_ahead-register k step name i.ahead; half = few }
+Keeps-beginning_found most k i half (Asks purpose name) few =
+    Keeps-name_taking most k i (record i { half = half }) LineStart fresh_line purpose name (Keeps-with_half most i half few)
 
 -- a unit of a line of arguments
 Keeps-unit_found : (most : ℕ) (k : Known) (i : PageInput) (half : List Half) (breaks : Bool) (request : Request) (unit : CopyUnit) → length half ≤ most
@@ -196,8 +168,9 @@ Keeps-arguments_found : (most : ℕ) (k : Known) (i : PageInput) (half : List Ha
 Keeps-arguments_found most k i half breaks request GoesOn few = record { charge = refl; newlines = refl; line = refl; free = refl; half = few }
 Keeps-arguments_found most k i half breaks request (GivesUnit unit) few = Keeps-unit_found most k i half breaks request unit few
 Keeps-arguments_found most k i half breaks request (Escape b) few = Keeps-unit_found most k i half breaks request (Kept b) few
-Keeps-arguments_found most k i half breaks request (Asks step name) few =
-    record { charge = refl; newlines = refl; line = refl; free = free_ahead-register k step name i.ahead; half = few }
+Keeps-arguments_found most k i half breaks request (Asks purpose name) few =
+    Keeps-asking most k i (settling (record i { half = half })) (InArguments breaks request) purpose name
+    (record { charge = refl; newlines = refl; line = refl; free = refl; half = few })
 
 -- one thing more is half read, or none
 abbrev pub KeepsOneMore : PageInput → PageInput → Type 0
@@ -209,7 +182,7 @@ KeepsOneMore-same i = record { charge = refl; newlines = refl; line = refl; free
 
 -- the first byte behind a request's name
 Keeps-line_taking : (k : Known) (i : PageInput) (breaks : Bool) (request : Request) (r : LineReading) (b : ℕ) → KeepsOneMore i (line_taking k i breaks request r b).input
-Keeps-line_taking k i breaks request ByArguments b = Keeps-arguments_found _ k i (byte_read false i.half b).1 breaks request (byte_read false i.half b).0 (Leaves-byte_read false i.half b)
+Keeps-line_taking k i breaks request ByArguments b = Keeps-arguments_found _ k i (byte_read false i.half b).1 breaks request (byte_read false i.half b).0 (length-byte_read false i.half b)
 
 -- a byte behind a name
 Keeps-name_ended_taking : (k : Known) (i : PageInput) (breaks : Bool) (name : List ℕ) (b : ℕ) → KeepsOneMore i (name_ended_taking k i breaks name b).input
@@ -230,13 +203,13 @@ Keeps-name_whole_taking i breaks name =
 -- a byte that isn't dropped
 Keeps-kept_taking : (k : Known) (reading : Reading) (i : PageInput) (b : ℕ) → KeepsOneMore i (kept_taking k reading i b).input
 Keeps-kept_taking k LineStart i b =
-    Keeps-beginning_found _ k i (byte_read true i.half b).1 (byte_read true i.half b).0 (Leaves-byte_read true i.half b)
-Keeps-kept_taking k (InText line) i b = Keeps-text_found _ k i (byte_read true i.half b).1 line (byte_read true i.half b).0 (Leaves-byte_read true i.half b)
+    Keeps-beginning_found _ k i (byte_read true i.half b).1 (byte_read true i.half b).0 (length-byte_read true i.half b)
+Keeps-kept_taking k (InText line) i b = Keeps-text_found _ k i (byte_read true i.half b).1 line (byte_read true i.half b).0 (length-byte_read true i.half b)
 Keeps-kept_taking k (Control breaks) i b =
     Keeps-if _ i (b == blank) _ _ (KeepsOneMore-same i) (Keeps-if _ i (ends_name b) _ _ (KeepsOneMore-same i) (KeepsOneMore-same i))
 Keeps-kept_taking k (Name breaks first) i b =
     Keeps-if _ i (ends_name b) _ _ (Keeps-name_ended_taking k i breaks (first ∷ []) b) (Keeps-name_whole_taking i breaks (first ∷ b ∷ []))
-Keeps-kept_taking k (InArguments breaks request) i b = Keeps-arguments_found _ k i (byte_read false i.half b).1 breaks request (byte_read false i.half b).0 (Leaves-byte_read false i.half b)
+Keeps-kept_taking k (InArguments breaks request) i b = Keeps-arguments_found _ k i (byte_read false i.half b).1 breaks request (byte_read false i.half b).0 (length-byte_read false i.half b)
 Keeps-kept_taking k Dropped i b = KeepsOneMore-same i
 
 -- what isn't a byte of the line

@@ -24,3 +24,5 @@ pub mod RemovedRegisters
 pub mod InFront
 pub mod Interpolation
 pub mod QuotedArguments
+pub mod Printing
+pub mod HalfCounts

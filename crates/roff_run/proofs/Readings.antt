@@ -2,19 +2,18 @@
 --
 -- Each function f of the run has its lemma ReadsOn-f here, with a line for each of its cases.
 use Rattle.std.proofs.Common.{◌≡◌, ℕ, ◌+◌, ◌≤◌, Bool, true, false, List, [], ◌∷◌, ◌++◌, length, Option, Some, None, refl, arith}
-use Rattle.std.specs.Prelude.{nat_lt, if◌then◌else◌, ◌==◌}
+use Rattle.std.specs.Prelude.{nat_lt, if◌then◌else◌}
 use Rattle.std.proofs.lemmas.Bool.Decides.{nat_tests}
 use Rattle.roff_num.specs.declared.limit.Limit.{Limit}
 use Rattle.roff_num.specs.declared.limit.Limit.TheVariants.{Bytes}
 use Rattle.roff_num.specs.declared.limits.Limits.{Limits}
-use Rattle.roff_scan.specs.Bytes.{newline}
-use Rattle.roff_scan.specs.Halves.{newline_stays}
+use Rattle.roff_scan.specs.Halves.{seen_stays, newline_stays}
 use Rattle.roff_scan.specs.Input.{Ahead, ByteAhead, FreeAhead, EndAhead, DoAhead, cost, item_taken, counting}
 use Rattle.roff_scan.specs.Tape.{Answer, OneByte, OneNote, Ended, Failed, Stopped, Gives, Ends, front}
 use Rattle.roff_scan.specs.Unread.{Sighted, SeesByte, SeesNothing, SeesNote, SeesEnding, seen_ahead}
 use Rattle.roff_scan.specs.declared.half.Half.{Half}
 use Rattle.roff_run.specs.Requests.{PageEvent}
-use Rattle.roff_run.specs.Run.{State, known, ending_as, ending_with, stopped_by, passes_bytes, first_passed, unless_refused, grown, made, moved, byte_taken, half_ends, end_met, ahead_taken, taking_ahead, taking_byte, ending_input, answered, in_front_taken, byte_seen, awaited_of_source, awaited, reading_on}
+use Rattle.roff_run.specs.Run.{State, known, ending_as, ending_with, stopped_by, passes_bytes, first_passed, unless_refused, grown, made, moved, byte_taken, half_ends, end_met, ahead_taken, taking_ahead, taking_byte, ending_input, answered, in_front_taken, front_seen, awaited_of_source, awaited, reading_on}
 use Rattle.roff_run.specs.declared.message.Message.TheVariants.{ReadFailed}
 use Rattle.roff_run.specs.declared.status.Status.TheVariants.{Device, Limit as Limited}
 use Rattle.roff_run.proofs.Keeping.{Keeps, KeepsOneMore-same, Keeps-taking, Keeps-interrupted, Keeps-half_ended}
@@ -106,28 +105,28 @@ ReadsOn-in_front_taken : (l : Limits) (ahead : List (Ahead PageEvent)) (s : Stat
 ReadsOn-in_front_taken l [] s is = ReadsOn-answered l (front s.tape) s is refl
 ReadsOn-in_front_taken l (item ∷ behind) s is = ReadsOn-taking_ahead l item behind s is
 
--- a byte was seen where a newline stays
-ReadsOn-byte_seen : (l : Limits) (b : ℕ) (s : State) (first : Half) (others : List Half) → s.input.half ≡ first ∷ others → ReadsOn l s (byte_seen l b s)
-ReadsOn-byte_seen l b s first others is =
-    ReadsOn-if l s (b == newline) _ _
+-- something was seen in front, or nothing
+ReadsOn-front_seen : (l : Limits) (seen : Option ℕ) (s : State) (first : Half) (others : List Half) → s.input.half ≡ first ∷ others → ReadsOn l s (front_seen l seen s)
+ReadsOn-front_seen l seen s first others is =
+    ReadsOn-if l s (seen_stays s.input.half seen) _ _
     (λ stays. ReadsOn-made l s (half_ends s) (HalfEnds first others is)) (λ taken. ReadsOn-in_front_taken l s.input.ahead s refl)
 
 -- the source was seen there
 ReadsOn-awaited_of_source : (l : Limits) (a : Answer) (s : State) (first : Half) (others : List Half) → s.input.half ≡ first ∷ others → front s.tape ≡ a
     → ReadsOn l s (awaited_of_source l a s)
-ReadsOn-awaited_of_source l (Gives (OneByte b)) s first others is gives = ReadsOn-byte_seen l b s first others is
+ReadsOn-awaited_of_source l (Gives (OneByte b)) s first others is gives = ReadsOn-front_seen l (Some b) s first others is
 ReadsOn-awaited_of_source l (Gives (OneNote message)) s first others is gives = NoteTaken message gives
-ReadsOn-awaited_of_source l (Ends Ended) s first others is ends = ReadsOn-in_front_taken l s.input.ahead s refl
+ReadsOn-awaited_of_source l (Ends Ended) s first others is ends = ReadsOn-front_seen l None s first others is
 ReadsOn-awaited_of_source l (Ends Failed) s first others is ends = SourceFails ends
 ReadsOn-awaited_of_source l (Ends (Stopped limit)) s first others is ends = SourceStops limit ends
 
 -- anything was
 ReadsOn-awaited : (l : Limits) (sight : Option Sighted) (s : State) (first : Half) (others : List Half) → s.input.half ≡ first ∷ others
     → ReadsOn l s (awaited l sight s)
-ReadsOn-awaited l (Some (SeesByte b)) s first others is = ReadsOn-byte_seen l b s first others is
-ReadsOn-awaited l (Some SeesNothing) s first others is = ReadsOn-in_front_taken l s.input.ahead s refl
-ReadsOn-awaited l (Some (SeesNote message)) s first others is = ReadsOn-in_front_taken l s.input.ahead s refl
-ReadsOn-awaited l (Some (SeesEnding ending)) s first others is = ReadsOn-in_front_taken l s.input.ahead s refl
+ReadsOn-awaited l (Some (SeesByte b)) s first others is = ReadsOn-front_seen l (Some b) s first others is
+ReadsOn-awaited l (Some SeesNothing) s first others is = ReadsOn-front_seen l None s first others is
+ReadsOn-awaited l (Some (SeesNote message)) s first others is = ReadsOn-front_seen l None s first others is
+ReadsOn-awaited l (Some (SeesEnding ending)) s first others is = ReadsOn-front_seen l None s first others is
 ReadsOn-awaited l None s first others is = ReadsOn-awaited_of_source l (front s.tape) s first others is refl
 
 -- by what is half read

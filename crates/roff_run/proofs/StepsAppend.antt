@@ -4,18 +4,17 @@
 -- leaves the history and the messages as they are, the line is `OnlyCuts-same s _ refl refl`; where it appends
 -- messages alone, `OnlyCuts-message s _ _ refl refl`; and where it calls another function, that one's lemma.
 use Rattle.std.proofs.Common.{◌≡◌, ℕ, ◌+◌, Bool, true, false, List, [], ◌∷◌, ◌++◌, Option, Some, None, refl}
-use Rattle.std.specs.Prelude.{nat_lt, if◌then◌else◌, ◌==◌}
+use Rattle.std.specs.Prelude.{nat_lt, if◌then◌else◌}
 use Rattle.roff_num.specs.declared.limit.Limit.{Limit}
 use Rattle.roff_num.specs.declared.limits.Limits.{Limits}
-use Rattle.roff_scan.specs.Bytes.{newline}
-use Rattle.roff_scan.specs.Halves.{newline_stays}
+use Rattle.roff_scan.specs.Halves.{seen_stays, newline_stays}
 use Rattle.roff_scan.specs.Input.{Ahead, ByteAhead, FreeAhead, EndAhead, DoAhead, cost, item_taken, counting}
 use Rattle.roff_scan.specs.Tape.{Answer, Gives, Ends, OneByte, OneNote, Ended, Failed, Stopped, front}
 use Rattle.roff_scan.specs.Unread.{Sighted, SeesByte, SeesNothing, SeesNote, SeesEnding, seen_ahead}
 use Rattle.roff_scan.specs.declared.half.Half.{Half}
 use Rattle.roff_run.specs.Laws.{OnlyCuts}
 use Rattle.roff_run.specs.Requests.{PageEvent}
-use Rattle.roff_run.specs.Run.{State, passes_bytes, performing, refusal, first_passed, unless_refused, grown, made, moved, byte_taken, half_ends, end_met, ahead_taken, taking_ahead, taking_byte, ending_input, answered, in_front_taken, byte_seen, awaited_of_source, awaited, reading_on, step_with, step}
+use Rattle.roff_run.specs.Run.{State, passes_bytes, performing, refusal, first_passed, unless_refused, grown, made, moved, byte_taken, half_ends, end_met, ahead_taken, taking_ahead, taking_byte, ending_input, answered, in_front_taken, front_seen, awaited_of_source, awaited, reading_on, step_with, step}
 use Rattle.roff_run.proofs.Beginnings.{IsBeginning-same, IsBeginning-append, IsBeginning-trans}
 
 -- a state of the same history and messages
@@ -116,25 +115,25 @@ pub OnlyCuts-in_front_taken : (l : Limits) (ahead : List (Ahead PageEvent)) (s :
 OnlyCuts-in_front_taken l [] s = OnlyCuts-answered l (front s.tape) s
 OnlyCuts-in_front_taken l (item ∷ behind) s = OnlyCuts-taking_ahead l item behind s
 
--- a byte is seen
-pub OnlyCuts-byte_seen : (l : Limits) (b : ℕ) (s : State) → OnlyCuts s (byte_seen l b s)
-OnlyCuts-byte_seen l b s =
-    OnlyCuts-if (b == newline) (OnlyCuts-made l s _ (OnlyCuts-half_ends s)) (OnlyCuts-in_front_taken l s.input.ahead s)
+-- something is seen in front, or nothing
+pub OnlyCuts-front_seen : (l : Limits) (seen : Option ℕ) (s : State) → OnlyCuts s (front_seen l seen s)
+OnlyCuts-front_seen l seen s =
+    OnlyCuts-if (seen_stays s.input.half seen) (OnlyCuts-made l s _ (OnlyCuts-half_ends s)) (OnlyCuts-in_front_taken l s.input.ahead s)
 
 -- what is half read waits, and the source answers this
 pub OnlyCuts-awaited_of_source : (l : Limits) (a : Answer) (s : State) → OnlyCuts s (awaited_of_source l a s)
-OnlyCuts-awaited_of_source l (Gives (OneByte b)) s = OnlyCuts-byte_seen l b s
+OnlyCuts-awaited_of_source l (Gives (OneByte b)) s = OnlyCuts-front_seen l (Some b) s
 OnlyCuts-awaited_of_source l (Gives (OneNote message)) s = OnlyCuts-message s _ _ refl refl
-OnlyCuts-awaited_of_source l (Ends Ended) s = OnlyCuts-in_front_taken l s.input.ahead s
+OnlyCuts-awaited_of_source l (Ends Ended) s = OnlyCuts-front_seen l None s
 OnlyCuts-awaited_of_source l (Ends Failed) s = OnlyCuts-same s _ refl refl
 OnlyCuts-awaited_of_source l (Ends (Stopped limit)) s = OnlyCuts-same s _ refl refl
 
 -- it waits, and this is seen
 pub OnlyCuts-awaited : (l : Limits) (seen : Option Sighted) (s : State) → OnlyCuts s (awaited l seen s)
-OnlyCuts-awaited l (Some (SeesByte b)) s = OnlyCuts-byte_seen l b s
-OnlyCuts-awaited l (Some SeesNothing) s = OnlyCuts-in_front_taken l s.input.ahead s
-OnlyCuts-awaited l (Some (SeesNote message)) s = OnlyCuts-in_front_taken l s.input.ahead s
-OnlyCuts-awaited l (Some (SeesEnding ending)) s = OnlyCuts-in_front_taken l s.input.ahead s
+OnlyCuts-awaited l (Some (SeesByte b)) s = OnlyCuts-front_seen l (Some b) s
+OnlyCuts-awaited l (Some SeesNothing) s = OnlyCuts-front_seen l None s
+OnlyCuts-awaited l (Some (SeesNote message)) s = OnlyCuts-front_seen l None s
+OnlyCuts-awaited l (Some (SeesEnding ending)) s = OnlyCuts-front_seen l None s
 OnlyCuts-awaited l None s = OnlyCuts-awaited_of_source l (front s.tape) s
 
 -- one item of the input

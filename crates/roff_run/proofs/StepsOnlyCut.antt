@@ -5,15 +5,14 @@
 -- with a lemma that what passes a larger limit passes a smaller one; where it leads to a state that is made unless
 -- a count passes its limit there, a call of `Cut-made`; and where it calls another function, that one's lemma.
 use Rattle.std.proofs.Common.{◌≡◌, ◌⊎◌, inl, inr, ℕ, ◌+◌, zero, suc, Bool, true, false, List, [], ◌∷◌, Option, Some, None, refl, sym, subst, arith}
-use Rattle.std.specs.Prelude.{nat_lt, if◌then◌else◌, ◌==◌}
+use Rattle.std.specs.Prelude.{nat_lt, if◌then◌else◌}
 use Rattle.std.proofs.lemmas.Bool.{cases_Bool, both_ways, false_from_ne_true}
 use Rattle.std.proofs.lemmas.Bool.Decides.{nat_tests}
 use Rattle.roff_num.specs.LimitValues.{value_of}
 use Rattle.roff_num.specs.declared.limit.Limit.{Limit}
 use Rattle.roff_num.specs.declared.limit.Limit.TheVariants.{Bytes}
 use Rattle.roff_num.specs.declared.limits.Limits.{Limits}
-use Rattle.roff_scan.specs.Bytes.{newline}
-use Rattle.roff_scan.specs.Halves.{newline_stays}
+use Rattle.roff_scan.specs.Halves.{seen_stays, newline_stays}
 use Rattle.roff_scan.specs.Input.{Ahead, ByteAhead, FreeAhead, EndAhead, DoAhead, cost}
 use Rattle.roff_scan.specs.Tape.{Tape, Answer, Gives, Ends, OneByte, OneNote, Ended, Failed, Stopped, front, behind_front}
 use Rattle.roff_scan.specs.Unread.{Sighted, SeesByte, SeesNothing, SeesNote, SeesEnding, seen_ahead}
@@ -21,7 +20,7 @@ use Rattle.roff_scan.specs.declared.half.Half.{Half}
 use Rattle.roff_run.specs.Laws.{OnlyCuts, over}
 use Rattle.roff_run.specs.Limits.{AreWithin}
 use Rattle.roff_run.specs.Requests.{PageEvent}
-use Rattle.roff_run.specs.Run.{State, ending_with, counts, first_passed, unless_refused, stopped_by, passes_bytes, performing, grown, made, half_ends, taking_ahead, taking_byte, ending_input, answered, in_front_taken, byte_seen, awaited_of_source, awaited, reading_on, step_with, step, after}
+use Rattle.roff_run.specs.Run.{State, ending_with, counts, first_passed, unless_refused, stopped_by, passes_bytes, performing, grown, made, half_ends, taking_ahead, taking_byte, ending_input, answered, in_front_taken, front_seen, awaited_of_source, awaited, reading_on, step_with, step, after}
 use Rattle.roff_run.specs.declared.message.Message.TheVariants.{ReadFailed}
 use Rattle.roff_run.specs.declared.status.Status.{Status}
 use Rattle.roff_run.specs.declared.status.Status.TheVariants.{Device, Limit as Limited}
@@ -182,25 +181,25 @@ module _ (Beside : Tape → Tape → Type 0) (IsCause : Status → Type 0) where
         Cut-front answered s tape beside refl (λ a. OnlyCuts-answered large a (over tape s)) (λ a. Cut-answered a s tape beside)
     Cut-in_front_taken (item ∷ behind) s tape beside = Cut-taking_ahead item behind s tape beside
 
-    -- both see a byte
-    pub Cut-byte_seen : (b : ℕ) (s : State) (tape : Tape) → Beside s.tape tape → Cut (byte_seen small b s) (byte_seen large b (over tape s))
-    Cut-byte_seen b s tape beside =
-        Cut-if (b == newline) (Cut-half_ends s tape beside) (Cut-in_front_taken s.input.ahead s tape beside)
+    -- both see the same in front, or nothing
+    pub Cut-front_seen : (seen : Option ℕ) (s : State) (tape : Tape) → Beside s.tape tape → Cut (front_seen small seen s) (front_seen large seen (over tape s))
+    Cut-front_seen seen s tape beside =
+        Cut-if (seen_stays s.input.half seen) (Cut-half_ends s tape beside) (Cut-in_front_taken s.input.ahead s tape beside)
 
     -- what is half read waits in both, and both sources give the same answer
     pub Cut-awaited_of_source : (a : Answer) (s : State) (tape : Tape) → Beside s.tape tape → Beside (behind_front s.tape) (behind_front tape) → Cut (awaited_of_source small a s) (awaited_of_source large a (over tape s))
-    Cut-awaited_of_source (Gives (OneByte b)) s tape beside beside_next = Cut-byte_seen b s tape beside
+    Cut-awaited_of_source (Gives (OneByte b)) s tape beside beside_next = Cut-front_seen (Some b) s tape beside
     Cut-awaited_of_source (Gives (OneNote message)) s tape beside beside_next = Same (behind_front tape) beside_next refl
-    Cut-awaited_of_source (Ends Ended) s tape beside beside_next = Cut-in_front_taken s.input.ahead s tape beside
+    Cut-awaited_of_source (Ends Ended) s tape beside beside_next = Cut-front_seen None s tape beside
     Cut-awaited_of_source (Ends Failed) s tape beside beside_next = Same tape beside refl
     Cut-awaited_of_source (Ends (Stopped limit)) s tape beside beside_next = Same tape beside refl
 
     -- it waits in both, and this is seen
     pub Cut-awaited : (seen : Option Sighted) (s : State) (tape : Tape) → Beside s.tape tape → Cut (awaited small seen s) (awaited large seen (over tape s))
-    Cut-awaited (Some (SeesByte b)) s tape beside = Cut-byte_seen b s tape beside
-    Cut-awaited (Some SeesNothing) s tape beside = Cut-in_front_taken s.input.ahead s tape beside
-    Cut-awaited (Some (SeesNote message)) s tape beside = Cut-in_front_taken s.input.ahead s tape beside
-    Cut-awaited (Some (SeesEnding ending)) s tape beside = Cut-in_front_taken s.input.ahead s tape beside
+    Cut-awaited (Some (SeesByte b)) s tape beside = Cut-front_seen (Some b) s tape beside
+    Cut-awaited (Some SeesNothing) s tape beside = Cut-front_seen None s tape beside
+    Cut-awaited (Some (SeesNote message)) s tape beside = Cut-front_seen None s tape beside
+    Cut-awaited (Some (SeesEnding ending)) s tape beside = Cut-front_seen None s tape beside
     Cut-awaited None s tape beside =
         Cut-front awaited_of_source s tape beside refl (λ a. OnlyCuts-awaited_of_source large a (over tape s)) (λ a. Cut-awaited_of_source a s tape beside)
 

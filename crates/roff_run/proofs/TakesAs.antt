@@ -20,7 +20,7 @@ use Rattle.roff_store.specs.declared.register.Register.{Register}
 use Rattle.roff_run.specs.Output.{PageHistory, text_of}
 use Rattle.roff_run.specs.Reader.State.{ReaderState}
 use Rattle.roff_run.specs.Reader.Taken.{IsReady, PageUnread, Takes, TakesAs, Took}
-use Rattle.roff_run.specs.Reading.{PageInput, Taking, end_taking, going_on, interpolating, interrupted, kept_taking, meaning_events, settling, taking}
+use Rattle.roff_run.specs.Reading.{PageInput, Taking, end_taking, going_on, interpolating, interrupted, kept_taking, meaning_events, putting_nothing, settling, taking}
 use Rattle.roff_run.specs.Registers.{AllRegisters, Known, changed_by_all, is_page, is_read_only, known_behind, step_changes, step_messages, stepped_page, text_of_register}
 use Rattle.roff_run.specs.Registers.Capped.{Capped}
 use Rattle.roff_run.specs.Registers.Coded.{known_of}
@@ -245,10 +245,51 @@ TakesAs-meant t behind events env old new u m as_defined came silent means = rec
 
 -- a step of a text line
 pub TakesAs-stepped : (t : PageInput → Taking) (step : TextStep) (env : Env) (old new : ReaderState) (u : PageUnread) (m : Meaning)
-    → ((i : PageInput) → step_at i step ≡ t i) → new ≡ record old { reading = step.reading } → m.message ≡ None → m.events.items ≡ step.events.items
+    → ((i : PageInput) → step_at i step ≡ t i) → new ≡ record old { reading = step.reading } → m.message ≡ step.message → m.events.items ≡ step.events.items
     → TakesAs (λ k. t u.input) env old new u u (Ok m)
-TakesAs-stepped t step env old new u m as_defined =
-    TakesAs-meant (λ k. t u.input) step.reading step.events.items env old new u m (λ k. sym (as_defined u.input))
+TakesAs-stepped t step env old new u m as_defined came says means = record {
+  takes = λ cap h stands ready.
+      subst (λ (taking : Taking). Took taking old.registers new u u m) (as_defined u.input)
+      (record {
+        became = record {
+          input = refl;
+          reading = ap (λ (s : ReaderState). s.reading) came;
+          registers = ap (λ (s : ReaderState). s.registers) came;
+          within = ready.within;
+        };
+        messages = ap (λ (message : Option Message). option_to_list message) says;
+        events = means;
+      });
+}
+
+-- an empty text is put in front
+pub TakesAs-put : (env : Env) (old : ReaderState) (before behind : PageUnread) (m : Meaning) (done : Unit {0})
+    → (Ok done, behind) ≡ changing (pushing [] before.input) before → m.message ≡ None → m.events.items ≡ []
+    → TakesAs (λ k. putting_nothing before.input old.reading) env old old before behind (Ok m)
+TakesAs-put env old before behind m done pushes silent none = record {
+  takes = λ cap h stands ready.
+      let passed = passed_none (input_refusal before.limits (pushing [] before.input)) (pushing [] before.input) before behind done pushes in
+      record {
+        became = record {
+          input = passed.0;
+          reading = refl;
+          registers = refl;
+          within = first_passed-few_names before.limits old.registers.all (pushing [] before.input) (few_names old.registers before ready) ∙ passed.1;
+        };
+        messages = ap (λ (message : Option Message). option_to_list message) silent;
+        events = none;
+      };
+}
+
+-- or its end doesn't fit
+pub TakesAs-not_put : (env : Env) (old new : ReaderState) (before behind : PageUnread) (limit : Limit)
+    → (Err limit, behind) ≡ changing (pushing [] before.input) before
+    → TakesAs (λ k. putting_nothing before.input old.reading) env old new before behind (Err limit)
+TakesAs-not_put env old new before behind limit pushes = record {
+  takes = λ cap h stands ready.
+      let refused = passed_one (input_refusal before.limits (pushing [] before.input)) (pushing [] before.input) before behind limit pushes in
+      first_passed-few_names before.limits old.registers.all (pushing [] before.input) (few_names old.registers before ready) ∙ refused;
+}
 
 -- by whether a byte is dropped
 pub taking-of : (k : Known) (r : Reading) (i : PageInput) (b : ℕ) (c : Bool) → c ≡ is_dropped b

@@ -2,16 +2,18 @@
 use Rattle.std.specs.Prelude.{◌≡◌, ℕ, ◌+◌, ◌<◌, Bool, true, false, not, ◌||◌, List, [], ◌∷◌, ◌++◌, length, map, sum_by, IsTrue, Option, Some, None, ◌==◌}
 use Rattle.roff_num.specs.declared.limits.Limits.{Limits}
 use Rattle.roff_scan.specs.Bytes.{newline, backslash, is_dropped}
-use Rattle.roff_scan.specs.HalfLaws.{is_special, short_escape, long_escape}
-use Rattle.roff_scan.specs.Halves.{most_names}
+use Rattle.roff_scan.specs.HalfLaws.{is_special, short_escape, long_escape, string_escape, argument_escape}
+use Rattle.roff_scan.specs.Halves.{most_names, seen_stays}
 use Rattle.roff_scan.specs.Input.{Ahead, ByteAhead, pushing, item_taken, cost, counting}
 use Rattle.roff_scan.specs.Nesting.{AreNames}
+use Rattle.roff_scan.specs.declared.escapes.NameUse.{NameUse}
+use Rattle.roff_scan.specs.declared.escapes.NameUse.TheVariants.{Register, Text as OfText, Argument}
 use Rattle.roff_scan.specs.Tape.{Tape, Gives, OneByte, front, items_then}
 use Rattle.roff_store.specs.declared.register.Direction.{Direction}
 use Rattle.roff_run.specs.Laws.{IsWithin}
 use Rattle.roff_run.specs.Messages.{message_lines}
 use Rattle.roff_run.specs.Reading.{PageInput, interrupted}
-use Rattle.roff_run.specs.Registers.{StepBy, changed_by, step_messages, text_of_register}
+use Rattle.roff_run.specs.Registers.{Known, StepBy, changed_by, step_messages, text_of_register}
 use Rattle.roff_run.specs.Requests.{PageEvent}
 use Rattle.roff_run.specs.Run.{State, known, made, byte_taken, moved, answered, reading_on, step, after}
 use Rattle.roff_run.specs.declared.reading.Reading.{Reading}
@@ -33,28 +35,32 @@ abbrev pub StepsFollowTheTape : Type 0
 StepsFollowTheTape =
     (l : Limits) (s : State) → TakesItems s → s.input.ahead ≡ [] → s.input.half ≡ [] → step l s ≡ answered l (front s.tape) s
 
--- a byte ahead is taken in one step, at the cost of one
+-- a byte ahead that doesn't end what is half read is taken in one step, at the cost of one
 abbrev pub BytesAheadAreTaken : Type 0
 BytesAheadAreTaken =
     (l : Limits) (s : State) (b : ℕ) (behind : List (Ahead PageEvent)) → TakesItems s → s.input.ahead ≡ ByteAhead b ∷ behind →
-    (b == newline) ≡ false → s.input.charge < l.bytes →
+    seen_stays s.input.half (Some b) ≡ false → s.input.charge < l.bytes →
     step l s ≡ made l s (byte_taken b (record s { input = item_taken (ByteAhead b) behind s.input }))
 
 -- and so is a byte of the source where nothing is ahead: it is counted
 abbrev pub BytesOfTheSourceAreTaken : Type 0
 BytesOfTheSourceAreTaken =
     (l : Limits) (s : State) (b : ℕ) → TakesItems s → s.input.ahead ≡ [] → front s.tape ≡ Gives (OneByte b) →
-    (b == newline) ≡ false → s.input.charge < l.bytes →
+    seen_stays s.input.half (Some b) ≡ false → s.input.charge < l.bytes →
     step l s ≡ made l s (byte_taken b (moved (record s { input = counting b s.input })))
 
 -- a byte that stands for itself wherever bytes are read: it isn't dropped, doesn't end the line, and begins no escape
 abbrev pub StandsForItself : ℕ → Type 0
 StandsForItself b = IsTrue (not (b == backslash || (is_dropped b || b == newline)))
 
--- the escape of a register of this name: `\nx`, `\n(xy`, or with a sign for the step that is made first
-pub data IsEscapeOf : Option Direction → List ℕ → List ℕ → Type 0 where
-  Short : (step : Option Direction) (x : ℕ) → StandsForItself x → is_special x ≡ false → IsEscapeOf step (x ∷ []) (short_escape step x)
-  Long : (step : Option Direction) (x y : ℕ) → StandsForItself x → StandsForItself y → IsEscapeOf step (x ∷ y ∷ []) (long_escape step x y)
+-- an escape that is read as a text, by what its name is for: a register, `\nx`, `\n(xy`, or with a sign for the step that
+-- is made first; a string, `\*x` or `\*(xy`; or an argument, `\$x`
+pub data IsEscapeOf : NameUse → List ℕ → List ℕ → Type 0 where
+  Short : (step : Option Direction) (x : ℕ) → StandsForItself x → is_special x ≡ false → IsEscapeOf (Register step) (x ∷ []) (short_escape step x)
+  Long : (step : Option Direction) (x y : ℕ) → StandsForItself x → StandsForItself y → IsEscapeOf (Register step) (x ∷ y ∷ []) (long_escape step x y)
+  ShortString : (x : ℕ) → StandsForItself x → (x == 40) ≡ false → IsEscapeOf OfText (x ∷ []) (string_escape (x ∷ []))
+  LongString : (x y : ℕ) → StandsForItself x → StandsForItself y → IsEscapeOf OfText (x ∷ y ∷ []) (string_escape (40 ∷ x ∷ y ∷ []))
+  OfArgument : (x : ℕ) → StandsForItself x → IsEscapeOf Argument (x ∷ []) (argument_escape x)
 
 -- whether text is read: where a line begins, and behind it
 abbrev pub reads_text : Reading → Bool
@@ -75,29 +81,34 @@ reads_escapes (InArguments breaks request) = true
 reads_escapes Dropped = false
 
 -- where a register is stepped before it is read: what is wrong with the step is told
-abbrev pub stepped : Option Direction → List ℕ → State → State
-stepped None name s = s
-stepped (Some direction) name s = record s {
+abbrev pub stepped : NameUse → List ℕ → State → State
+stepped (Register (Some direction)) name s = record s {
   registers = changed_by (StepBy name direction) s.registers;
   messages = s.messages ++ message_lines s.input.line (step_messages (Some direction) name s.registers);
 }
+stepped (_) name s = s
 
--- a register's text and its end stand in front of the rest, and so many bytes more were taken. What isn't a byte of the
+-- the text that is read in the place of an escape: a register's. Strings and arguments are empty, as there are none yet.
+abbrev pub text_named : Known → NameUse → List ℕ → List ℕ
+text_named k (Register step) name = text_of_register k name
+text_named k (_) name = []
+
+-- such a text and its end stand in front of the rest, and so many bytes more were taken. What isn't a byte of the
 -- line has come: among arguments no quote follows the quote before it.
-abbrev pub with_text_ahead : List ℕ → ℕ → List (Ahead PageEvent) → State → State
-with_text_ahead name taken rest s = record s {
-  input = pushing (text_of_register (known s) name) (record (interrupted s.reading s.input) { ahead = rest; charge = s.input.charge + taken });
+abbrev pub with_text_ahead : NameUse → List ℕ → ℕ → List (Ahead PageEvent) → State → State
+with_text_ahead purpose name taken rest s = record s {
+  input = pushing (text_named (known s) purpose name) (record (interrupted s.reading s.input) { ahead = rest; charge = s.input.charge + taken });
 }
 
--- Reading a register's escape is reading the register's text, the text's end, and what stood behind the escape. So it
+-- Reading such an escape is reading its text, the text's end, and what stood behind the escape. So it
 -- is where nothing is half read, and also within names, if fewer than may be: they stay half read. What is read stays
 -- too: a line that begins with an escape still begins behind it.
 abbrev pub EscapesReadAsTexts : Type 0
 EscapesReadAsTexts =
-    (l : Limits) (s : State) (step : Option Direction) (name escape : List ℕ) (rest : List (Ahead PageEvent)) →
-    IsEscapeOf step name escape → TakesItems s → AreNames s.input.half → length s.input.half < most_names →
+    (l : Limits) (s : State) (purpose : NameUse) (name escape : List ℕ) (rest : List (Ahead PageEvent)) →
+    IsEscapeOf purpose name escape → TakesItems s → AreNames s.input.half → length s.input.half < most_names →
     reads_escapes s.reading ≡ true → s.input.ahead ≡ map ByteAhead escape ++ rest →
-    let read : State = with_text_ahead name (length escape) rest (stepped step name s) in
+    let read : State = with_text_ahead purpose name (length escape) rest (stepped purpose name s) in
     IsWithin l s → IsWithin l read → after l (length escape) s ≡ read
 
 -- so many bytes of the source were taken: messages tell the line on which they stand
@@ -107,10 +118,10 @@ with_source_behind tape s = record s { tape = tape; input = record s.input { lin
 -- and so it is where the escape stands in the source itself, with nothing ahead of it
 abbrev pub EscapesOfTheSourceReadAsTexts : Type 0
 EscapesOfTheSourceReadAsTexts =
-    (l : Limits) (s : State) (step : Option Direction) (name escape : List ℕ) (tape : Tape) →
-    IsEscapeOf step name escape → TakesItems s → AreNames s.input.half → length s.input.half < most_names →
+    (l : Limits) (s : State) (purpose : NameUse) (name escape : List ℕ) (tape : Tape) →
+    IsEscapeOf purpose name escape → TakesItems s → AreNames s.input.half → length s.input.half < most_names →
     reads_escapes s.reading ≡ true → s.input.ahead ≡ [] → s.tape ≡ items_then (map OneByte escape) tape →
-    let read : State = with_text_ahead name (length escape) [] (stepped step name (with_source_behind tape s)) in
+    let read : State = with_text_ahead purpose name (length escape) [] (stepped purpose name (with_source_behind tape s)) in
     IsWithin l s → IsWithin l read → after l (length escape) s ≡ read
 
 -- So it is where text is read and nothing is half read: `\nx` is three steps, and `\n(xy` five, and but for the input
@@ -118,7 +129,7 @@ EscapesOfTheSourceReadAsTexts =
 abbrev pub EscapesOfTextReadAsTexts : Type 0
 EscapesOfTextReadAsTexts =
     (l : Limits) (s : State) (name escape : List ℕ) (rest : List (Ahead PageEvent)) →
-    IsEscapeOf None name escape → TakesItems s → reads_text s.reading ≡ true → s.input.half ≡ [] →
+    IsEscapeOf (Register None) name escape → TakesItems s → reads_text s.reading ≡ true → s.input.half ≡ [] →
     s.input.ahead ≡ map ByteAhead escape ++ rest →
     let text : List ℕ = text_of_register (known s) name in
     let read : State = record s { input = pushing text (record s.input { ahead = rest; charge = s.input.charge + length escape }) } in

@@ -1,9 +1,24 @@
 -- The messages of a run.
-use Rattle.std.specs.Prelude.{ℕ, List, [], ◌∷◌, ◌++◌, codes, decimal}
+use Rattle.std.specs.Prelude.{ℕ, List, [], ◌∷◌, ◌++◌, codes, decimal, Option, Some, None}
 use Rattle.roff_num.specs.LimitNames.{limit_name}
 use Rattle.roff_run.specs.declared.message.Message.{Message}
-use Rattle.roff_run.specs.declared.message.Message.TheVariants.{LimitReached, BadNumber, BadFormat, BackwardMotion, LeftOut, ReadFailed, WriteFailed}
+use Rattle.roff_run.specs.declared.message.Message.TheVariants.{LimitReached, BadNumber, BadFormat, BackwardMotion, LeftOut, UnknownCharacter, ReadFailed, WriteFailed}
+use Rattle.roff_run.specs.declared.message.CharacterName.{CharacterName}
+use Rattle.roff_run.specs.declared.message.CharacterName.TheVariants.{Nothing, One, Two}
 use Rattle.roff_scan.specs.Bytes.{newline}
+
+-- the name of a character, as far as it was read, cut to two bytes
+abbrev pub character_name : Option (List ℕ) → CharacterName
+character_name None = Nothing
+character_name (Some []) = Nothing
+character_name (Some (a ∷ [])) = One a
+character_name (Some (a ∷ b ∷ others)) = Two (a ∷ b ∷ [])
+
+-- its bytes
+abbrev pub name_bytes : CharacterName → List ℕ
+name_bytes Nothing = []
+name_bytes (One a) = a ∷ []
+name_bytes (Two bytes) = bytes
 
 -- what a message says
 abbrev pub message_text : Message → List ℕ
@@ -13,6 +28,7 @@ message_text BadNumber = codes "bad number"
 message_text BadFormat = codes "bad format"
 message_text BackwardMotion = codes "backward motion"
 message_text (LeftOut name) = codes "left out: " ++ name
+message_text (UnknownCharacter name) = codes "unknown character: " ++ name_bytes name
 message_text ReadFailed = codes "read failed"
 message_text WriteFailed = codes "write failed"
 

@@ -1,17 +1,26 @@
 -- What is being read, and what each byte means there (manual, sections 1.1, 4.1, 8 and 10.1).
-use Rattle.std.specs.Prelude.{ℕ, ◌+◌, Bool, true, false, ◌||◌, List, [], ◌∷◌, ◌++◌, reverse, min, Some, None, Option, if◌then◌else◌, ◌==◌}
+use Rattle.std.specs.Prelude.{ℕ, ◌+◌, Bool, true, false, ◌||◌, List, [], ◌∷◌, ◌++◌, map, reverse, min, Some, None, Option, if◌then◌else◌, ◌==◌}
 use Rattle.roff_lines.specs.declared.event.Event.TheVariants.{Print, WordEnd, Gap, LineEnd, Break}
 use Rattle.roff_lines.specs.declared.glyph.Glyph.{Glyph}
 use Rattle.roff_lines.specs.declared.glyph.Glyph.TheVariants.{Printed, Blanks}
 use Rattle.roff_scan.specs.Arguments.{no_arguments, with_unit, settled, finished, only_kept}
 use Rattle.roff_scan.specs.Bytes.{newline, blank, apostrophe, dot, backslash, is_silent, is_dropped}
+use Rattle.roff_scan.specs.Characters.{character}
+use Rattle.roff_scan.specs.Escapes.{escape_of}
 use Rattle.roff_scan.specs.Halves.{Reads, byte_read, reading_ended}
 use Rattle.roff_scan.specs.Input.{Input, pushing}
+use Rattle.roff_scan.specs.declared.escapes.Escape.{Escape as Kind}
+use Rattle.roff_scan.specs.declared.escapes.Escape.TheVariants.{Prints, Blank, NoWidth, LeftOut as IsLeftOut}
+use Rattle.roff_scan.specs.declared.escapes.NameUse.{NameUse}
+use Rattle.roff_scan.specs.declared.escapes.NameUse.TheVariants.{Register, Character, Font, LeftOut as NameLeftOut}
 use Rattle.roff_scan.specs.declared.half.CopyUnit.{CopyUnit}
 use Rattle.roff_scan.specs.declared.half.CopyUnit.TheVariants.{Byte, Kept}
 use Rattle.roff_scan.specs.declared.half.Read.{Read}
 use Rattle.roff_scan.specs.declared.half.Read.TheVariants.{GoesOn, Unit, Escape, Asks}
 use Rattle.roff_store.specs.declared.register.Direction.{Direction}
+use Rattle.roff_run.specs.Messages.{character_name}
+use Rattle.roff_run.specs.declared.message.Message.{Message}
+use Rattle.roff_run.specs.declared.message.Message.TheVariants.{LeftOut, UnknownCharacter}
 use Rattle.roff_run.specs.declared.reading.Reading.{Reading}
 use Rattle.roff_run.specs.declared.reading.Reading.TheVariants.{LineStart, Text as InText, Control, Name, Arguments as InArguments, Dropped}
 use Rattle.roff_run.specs.declared.reading.TextLine.{TextLine}
@@ -59,14 +68,26 @@ leading_glyph n = if n == 0 then [] else Text (Print (Blanks n)) ∷ []
 abbrev pub leading_blank_events : ℕ → List PageEvent
 leading_blank_events before = if before == 0 then Text WordEnd ∷ Text Break ∷ [] else []
 
--- a glyph of a text line, behind the leading blanks
+-- glyphs of a text line, behind the leading blanks
+abbrev pub glyphs_taking : PageInput → TextLine → List Glyph → Taking
+glyphs_taking i line glyphs =
+    meaning_events i (InText (record line { has_glyph = true; leading = 0 })) (leading_glyph line.leading ++ map (λ glyph. Text (Print glyph)) glyphs)
+
+-- one glyph
 abbrev pub glyph_taking : PageInput → TextLine → Glyph → Taking
-glyph_taking i line glyph =
-    meaning_events i (InText (record line { has_glyph = true; leading = 0 })) (leading_glyph line.leading ++ Text (Print glyph) ∷ [])
+glyph_taking i line glyph = glyphs_taking i line (glyph ∷ [])
 
 -- something of a text line that prints nothing, and makes the line more than blanks
 abbrev pub other_taking : PageInput → TextLine → Taking
 other_taking i line = going_on i (InText (record line { has_other = true }))
+
+-- something that prints nothing, and of which this is said
+abbrev pub told_taking : PageInput → TextLine → Message → Taking
+told_taking i line message = record {
+  input = i;
+  reading = InText (record line { has_other = true });
+  effect = record { messages = message ∷ []; changes = []; events = [] };
+}
 
 -- a count of leading blanks above this reads as this
 abbrev pub most_leading : ℕ
@@ -86,13 +107,31 @@ text_taking i line b =
     else if b == blank then blank_taking i line
     else glyph_taking i line (Printed b)
 
--- an escape of a text line, by the byte behind its backslash; behind a newline the line goes on
+-- an escape that is left out: it is told by its first two bytes
+abbrev pub left_out_taking : PageInput → TextLine → ℕ → Taking
+left_out_taking i line b = told_taking i line (LeftOut (backslash ∷ b ∷ []))
+
+-- an escape of a text line without a name, by what it is; a comment that ended gives nothing
+abbrev pub escape_meant : PageInput → TextLine → ℕ → Kind → Taking
+escape_meant i line b (Prints byte) = glyph_taking i line (Printed byte)
+escape_meant i line b Blank = glyph_taking i line (Blanks 1)
+escape_meant i line b NoWidth = glyph_taking i line (Blanks 0)
+escape_meant i line b IsLeftOut = left_out_taking i line b
+escape_meant i line b (_) = other_taking i line
+
+-- the same by the byte behind its backslash
 abbrev pub escape_taking : PageInput → TextLine → ℕ → Taking
-escape_taking i line b =
-    if b == newline || is_silent b then other_taking i line
-    else if b == blank || b == 48 then glyph_taking i line (Blanks 1)
-    else if b == 101 then glyph_taking i line (Printed backslash)
-    else glyph_taking i line (Printed b)
+escape_taking i line b = escape_meant i line b (escape_of b)
+
+-- a character of a text line, by its text, if one has the name
+abbrev pub character_printed : PageInput → TextLine → Option (List ℕ) → Option (List ℕ) → Taking
+character_printed i line name (Some text) = glyphs_taking i line (map Printed text)
+character_printed i line name None = told_taking i line (UnknownCharacter (character_name name))
+
+-- and by its name, if there is one
+abbrev pub character_taking : PageInput → TextLine → Option (List ℕ) → Taking
+character_taking i line (Some name) = character_printed i line (Some name) (character name)
+character_taking i line None = character_printed i line None None
 
 -- a register is read in the place of its escape: it is stepped first, and its text is put in front
 abbrev pub interpolating : Known → PageInput → Reading → Option Direction → List ℕ → Taking
@@ -101,6 +140,23 @@ interpolating k i reading step name = record {
   reading = reading;
   effect = record { messages = step_messages step name k.registers; changes = step_changes step name; events = [] };
 }
+
+-- a string or an argument is read in the place of its escape; there are none yet, so the text is empty
+abbrev pub putting_nothing : PageInput → Reading → Taking
+putting_nothing i reading = going_on (pushing [] i) reading
+
+-- what the name behind an escape asks for is read in the escape's place; without a byte it is no name
+abbrev pub asking : Known → PageInput → Reading → NameUse → Option (List ℕ) → Taking
+asking k i reading purpose None = going_on i reading
+asking k i reading (Register step) (Some name) = interpolating k i reading step name
+asking k i reading (_) (Some name) = putting_nothing i reading
+
+-- the name behind an escape of a text line; where something is read in the escape's place this is read on
+abbrev pub name_taking : Known → PageInput → Reading → TextLine → NameUse → Option (List ℕ) → Taking
+name_taking k i reading line Character name = character_taking i line name
+name_taking k i reading line Font name = other_taking i line
+name_taking k i reading line (NameLeftOut b) name = left_out_taking i line b
+name_taking k i reading line purpose name = asking k i reading purpose name
 
 -- the first byte of a line
 abbrev pub first_taking : PageInput → ℕ → Taking
@@ -115,7 +171,7 @@ text_found k i line GoesOn = going_on i (InText line)
 text_found k i line (Unit (Byte b)) = text_taking i line b
 text_found k i line (Unit (Kept b)) = escape_taking i line b
 text_found k i line (Escape b) = escape_taking i line b
-text_found k i line (Asks step name) = interpolating k i (InText line) step name
+text_found k i line (Asks purpose name) = name_taking k i (InText line) line purpose name
 
 -- what was found where a line begins: an interpolation leaves it at its beginning
 abbrev pub beginning_found : Known → PageInput → Read → Taking
@@ -123,7 +179,7 @@ beginning_found k i GoesOn = going_on i LineStart
 beginning_found k i (Unit (Byte b)) = first_taking i b
 beginning_found k i (Unit (Kept b)) = escape_taking i fresh_line b
 beginning_found k i (Escape b) = escape_taking i fresh_line b
-beginning_found k i (Asks step name) = interpolating k i LineStart step name
+beginning_found k i (Asks purpose name) = name_taking k i LineStart fresh_line purpose name
 
 -- what something reads where a line begins, with what is half read then
 abbrev pub beginning_read : Known → PageInput → Reads → Taking
@@ -165,7 +221,7 @@ abbrev pub arguments_found : Known → PageInput → Bool → Request → Read �
 arguments_found k i breaks request GoesOn = going_on (settling i) (InArguments breaks request)
 arguments_found k i breaks request (Unit unit) = unit_found k i breaks request unit
 arguments_found k i breaks request (Escape b) = unit_found k i breaks request (Kept b)
-arguments_found k i breaks request (Asks step name) = interpolating k (settling i) (InArguments breaks request) step name
+arguments_found k i breaks request (Asks purpose name) = asking k (settling i) (InArguments breaks request) purpose name
 
 -- what something reads behind a request's name, with what is half read then
 abbrev pub arguments_read_on : Known → PageInput → Bool → Request → Reads → Taking

@@ -1,5 +1,5 @@
 -- The run: a machine of small steps over the source's tape.
-use Rattle.std.specs.Prelude.{◌≡◌, ℕ, zero, suc, ◌+◌, Bool, true, false, List, [], ◌∷◌, ◌++◌, length, nat_lt, Option, Some, None, if◌then◌else◌, ◌==◌}
+use Rattle.std.specs.Prelude.{◌≡◌, ℕ, zero, suc, ◌+◌, Bool, true, false, List, [], ◌∷◌, ◌++◌, length, nat_lt, Option, Some, None, if◌then◌else◌}
 use Rattle.roff_lines.specs.Events.{settings_after}
 use Rattle.roff_lines.specs.LastLine.{last_width}
 use Rattle.roff_lines.specs.Lines.{pending_length}
@@ -8,8 +8,7 @@ use Rattle.roff_num.specs.LimitValues.{value_of}
 use Rattle.roff_num.specs.declared.limit.Limit.{Limit}
 use Rattle.roff_num.specs.declared.limit.Limit.TheVariants.{Bytes, Names, Stack, Depth, Line}
 use Rattle.roff_num.specs.declared.limits.Limits.{Limits}
-use Rattle.roff_scan.specs.Bytes.{newline}
-use Rattle.roff_scan.specs.Halves.{newline_stays}
+use Rattle.roff_scan.specs.Halves.{newline_stays, seen_stays}
 use Rattle.roff_scan.specs.Input.{Ahead, ByteAhead, FreeAhead, EndAhead, DoAhead, initial_input, pushed, depth, cost, item_taken, counting}
 use Rattle.roff_scan.specs.Tape.{Tape, Answer, OneByte, OneNote, Ended, Failed, Stopped, Gives, Ends, front, behind_front}
 use Rattle.roff_scan.specs.Unread.{Sighted, SeesByte, SeesNothing, SeesNote, SeesEnding, seen_ahead}
@@ -192,24 +191,25 @@ abbrev pub in_front_taken : Limits → List (Ahead PageEvent) → State → Stat
 in_front_taken l [] s = answered l (front s.tape) s
 in_front_taken l (item ∷ behind) s = taking_ahead l item behind s
 
--- what is half read waits for a byte: a newline that is seen stays, and ends it
-abbrev pub byte_seen : Limits → ℕ → State → State
-byte_seen l b s = if b == newline then made l s (half_ends s) else in_front_taken l s.input.ahead s
+-- what is half read waits, and this is seen, a byte or nothing that can be read: it stays, and ends what is half read,
+-- or the item in front is taken
+abbrev pub front_seen : Limits → Option ℕ → State → State
+front_seen l seen s = if seen_stays s.input.half seen then made l s (half_ends s) else in_front_taken l s.input.ahead s
 
 -- it waits, and the source is seen behind ends of texts alone, and answers this
 abbrev pub awaited_of_source : Limits → Answer → State → State
-awaited_of_source l (Gives (OneByte b)) s = byte_seen l b s
+awaited_of_source l (Gives (OneByte b)) s = front_seen l (Some b) s
 awaited_of_source l (Gives (OneNote message)) s = moved (record s { messages = s.messages ++ message })
-awaited_of_source l (Ends Ended) s = in_front_taken l s.input.ahead s
+awaited_of_source l (Ends Ended) s = front_seen l None s
 awaited_of_source l (Ends Failed) s = ending_with Device ReadFailed s
 awaited_of_source l (Ends (Stopped limit)) s = ending_as (Limited limit) s
 
 -- it waits, and this is seen ahead of the source, or of the source behind ends of texts alone
 abbrev pub awaited : Limits → Option Sighted → State → State
-awaited l (Some (SeesByte b)) s = byte_seen l b s
-awaited l (Some SeesNothing) s = in_front_taken l s.input.ahead s
-awaited l (Some (SeesNote message)) s = in_front_taken l s.input.ahead s
-awaited l (Some (SeesEnding ending)) s = in_front_taken l s.input.ahead s
+awaited l (Some (SeesByte b)) s = front_seen l (Some b) s
+awaited l (Some SeesNothing) s = front_seen l None s
+awaited l (Some (SeesNote message)) s = front_seen l None s
+awaited l (Some (SeesEnding ending)) s = front_seen l None s
 awaited l None s = awaited_of_source l (front s.tape) s
 
 -- one item of the input, or how it ends

@@ -18,8 +18,9 @@ impl Default for PageEvent {
     }
 }
 
-/// The events of one byte or request, of which there are at most four.
-pub type Events = ArrayVec<PageEvent, 4>;
+/// The events of one byte or request, of which there are at most five: those of a character behind
+/// blanks.
+pub type Events = ArrayVec<PageEvent, 5>;
 
 /// The events of a request behind its break, of which there are at most two.
 pub type RequestEvents = ArrayVec<PageEvent, 2>;

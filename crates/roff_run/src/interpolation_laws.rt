@@ -17,8 +17,8 @@ pub fn bytes_in_front()
     ensures source { BytesOfTheSourceAreTaken }
 {}
 
-/// Reading the escape of a register is reading the register's text, the end of the text, and what
-/// stood behind the escape: so many steps lead there as the escape has bytes, and each byte costs
+/// Reading the escape of a register, a string or an argument is reading its text, the end of the
+/// text, and what stood behind the escape: so many steps lead there as the escape has bytes, and each byte costs
 /// one, if the limits allow the state before and the state behind. A step that the escape makes
 /// comes first, and is told where it would be out of range. So it is where the escape is read
 /// again, and where it stands in the source. A line that begins with an escape begins with the

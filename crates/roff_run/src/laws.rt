@@ -152,6 +152,14 @@ pub fn request_names()
     ensures two_bytes { EachNameHasTwoBytes }
 {}
 
+/// What the definitions give on worked rows of requests that do nothing.
+pub fn other_request_rows()
+    ensures registers_stepped { formatted (codes ".pl 1\n.nr x 0 1\nab\n.ft \\n+x\n'so \\n+x\n\\nx\n")
+        ≡ gives (codes "ab 2\n") (codes "nroff: line 5: left out: so\n") Done }
+    ensures input_ends { formatted (codes ".pl 1\nab\n.so file")
+        ≡ gives (codes "ab\n") (codes "nroff: line 3: left out: so\n") Done }
+{}
+
 /// Requests that are read without effect do nothing, and those that are left out only say so.
 pub fn other_requests()
     ensures without_effect { WithoutEffectDoesNothing }
@@ -172,4 +180,17 @@ pub fn argument_rows()
     ensures unnamed { (k : Known) → set_register k (codes "" ∷ codes "x" ∷ []) ≡ Ignored [] }
     ensures registers_removed { remove_registers (codes "a" ∷ codes "" ∷ codes "bcd" ∷ [])
         ≡ Does [] (Remove (codes "a" ∷ codes "bc" ∷ []) ∷ []) [] }
+{}
+
+/// What the definitions give on worked rows of escapes.
+pub fn escape_rows()
+    ensures characters { formatted (codes "a\\(em\\(xxb\n")
+        ≡ gives (codes "a--b\n") (codes "nroff: line 1: unknown character: xx\n") Done }
+    ensures comments { formatted (codes "a\\\" b\n.br \\\" c\nd\n") ≡ gives (codes "a\nd\n") [] Done }
+    ensures left_out { formatted (codes "a\\zb\\g(xyc")
+        ≡ gives (codes "abc\n") (codes "nroff: line 1: left out: \\z\nnroff: line 1: left out: \\g\n")
+        Done }
+    ensures no_strings_yet { formatted (codes "\\*x.br\na\\$1b\n") ≡ gives (codes "ab\n") [] Done }
+    ensures comment_in_a_name { formatted (codes "\\(em\\(e\\\" m\n")
+        ≡ gives (codes "--\n") (codes "nroff: line 1: unknown character: e\n") Done }
 {}

@@ -15,6 +15,6 @@ mod request;
 mod status;
 
 pub use event::{Events, PageEvent};
-pub use message::{Message, MessageLine};
+pub use message::{CharacterName, Message, MessageLine};
 pub use reader::{Meaning, Reader};
 pub use status::Status;

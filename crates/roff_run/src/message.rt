@@ -1,12 +1,12 @@
 //! The messages of a run.
 
-ghost use Rattle.std.specs.Prelude.{◌≡◌, ◌+◌, ◌≤◌, ◌++◌, length};
+ghost use Rattle.std.specs.Prelude.{◌≡◌, ◌+◌, ◌≤◌, ◌++◌, length, Some};
 ghost use Rattle.arrayvec.specs.ArrayVec.{array_vec_len};
-ghost use Rattle.roff_run.specs.Messages.{message_line, message_text};
+ghost use Rattle.roff_run.specs.Messages.{character_name, message_line, message_text, name_bytes};
 
 use arrayvec::ArrayVec;
 use itoa::Buffer;
-use roff_num::Limit;
+use roff_num::{Limit, Name};
 
 /// What a run reports.
 #[derive(Clone, Copy, Debug, PartialEq, Eq)]
@@ -21,10 +21,23 @@ pub enum Message {
     BackwardMotion,
     /// Something of the manual that isn't built, by the two bytes that stand for it.
     LeftOut([u8; 2]),
+    /// No character has this name.
+    UnknownCharacter(CharacterName),
     /// The source failed.
     ReadFailed,
     /// The output failed.
     WriteFailed,
+}
+
+/// The name of a character, as far as it was read: the first two bytes of it count.
+#[derive(Clone, Copy, Debug, PartialEq, Eq)]
+pub enum CharacterName {
+    /// No byte.
+    Nothing,
+    /// One byte.
+    One(u8),
+    /// Two bytes.
+    Two([u8; 2]),
 }
 
 /// Room for the longest message.
@@ -65,8 +78,38 @@ impl Message {
                 append(text, b"left out: ");
                 append(text, &name);
             }
+            Message::UnknownCharacter(name) => {
+                append(text, b"unknown character: ");
+                name.say(text);
+            }
             Message::ReadFailed => append(text, b"read failed"),
             Message::WriteFailed => append(text, b"write failed"),
+        }
+    }
+}
+
+impl CharacterName {
+    /// The first two bytes of a name.
+    pub(crate) fn of(name: &Name) -> CharacterName
+        ensures { result ≡ character_name (Some name.now) }
+    {
+        let bytes = name.as_bytes();
+        match bytes.get(1) {
+            Some(second) => CharacterName::Two([bytes[0], *second]),
+            None => CharacterName::One(bytes[0]),
+        }
+    }
+
+    /// Adds the bytes.
+    fn say(self, text: &mut MessageLine)
+        requires { array_vec_len text.old ≤ 83 }
+        ensures said { text.new.items ≡ text.old.items ++ name_bytes self }
+        ensures room { array_vec_len text.new ≤ array_vec_len text.old + 2 }
+    {
+        match self {
+            CharacterName::Nothing => {}
+            CharacterName::One(byte) => append(text, &[byte]),
+            CharacterName::Two(bytes) => append(text, &bytes),
         }
     }
 }

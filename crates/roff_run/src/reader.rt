@@ -6,7 +6,7 @@ ghost use Rattle.roff_lines.specs.declared.event.Event.TheVariants.{Gap, Print, 
 ghost use Rattle.roff_lines.specs.declared.glyph.Glyph.TheVariants.{Printed};
 ghost use Rattle.roff_run.specs.Requests.{Text};
 ghost use Rattle.roff_run.specs.Registers.{Known as KnownOf};
-ghost use Rattle.roff_run.specs.Clauses.{AllRegisters, Changed, Env, LineStart, PageHistory, PageUnread, Remove, Stands, TakesAs, arguments_found, beginning_found, changed_by, changes_of, effect_of, end_taking, first_taking, fresh_reader, going_on, meaning_events, half_ended, holding, interpolating, interrupted, kept_taking, known_at, known_of, line_ended, listed, names_given, register_named, request_effect, taking, text_found, text_of, unit_found, value_in_force};
+ghost use Rattle.roff_run.specs.Clauses.{AllRegisters, Changed, Env, LineStart, PageHistory, PageUnread, Remove, Stands, TakesAs, arguments_found, asking, beginning_found, changed_by, changes_of, effect_of, end_taking, first_taking, fresh_reader, going_on, meaning_events, half_ended, holding, interpolating, interrupted, kept_taking, known_at, known_of, line_ended, listed, name_taking, names_given, putting_nothing, register_named, request_effect, taking, text_found, text_of, unit_found, value_in_force};
 
 use crate::event::{Events, PageEvent};
 use crate::message::Message;
@@ -15,7 +15,7 @@ use crate::registers::{Facts, RunRegisters};
 use crate::request::{Changes, Effect, Given, Known, Request, name_given, register_named};
 use roff_lines::Env;
 use roff_num::{Limit, Name, Num};
-use roff_scan::{ArgumentList, CopyUnit, Read, Unread, is_dropped};
+use roff_scan::{ArgumentList, CopyUnit, NameUse, Read, Unread, is_dropped};
 use roff_store::Direction;
 use std::alloc::{AllocError, Global};
 use std::marker::Model;
@@ -205,12 +205,12 @@ impl Reader {
     /// What something of a text line does.
     fn step(&mut self, step: TextStep) -> Meaning
         ensures reading { self.new ≡ record self.old { reading = step.reading } }
-        ensures message { result.message ≡ None }
+        ensures message { result.message ≡ step.message }
         ensures events { result.events.items ≡ step.events.items }
     {
         self.reading = step.reading;
         Meaning {
-            message: None,
+            message: step.message,
             events: step.events,
         }
     }
@@ -243,9 +243,9 @@ impl Reader {
             Read::Unit(CopyUnit::Kept(byte)) | Read::Escape(byte) => {
                 Ok(self.step(TextLine::new().escape(byte)))
             }
-            Read::Asks(step, name) => {
+            Read::Asks(purpose, name) => {
                 self.reading = Reading::LineStart;
-                self.interpolate(step, &name, env, unread)
+                self.read_name(TextLine::new(), purpose, name, env, unread)
             }
         }
     }
@@ -267,10 +267,32 @@ impl Reader {
             Read::Unit(CopyUnit::Kept(byte)) | Read::Escape(byte) => {
                 Ok(self.step(line.escape(byte)))
             }
-            Read::Asks(step, name) => {
+            Read::Asks(purpose, name) => {
                 self.reading = Reading::Text(line);
-                self.interpolate(step, &name, env, unread)
+                self.read_name(line, purpose, name, env, unread)
             }
+        }
+    }
+
+    /// The name behind an escape of a text line.
+    fn read_name(
+        &mut self,
+        line: TextLine,
+        purpose: NameUse,
+        name: Option<Name>,
+        env: &Env,
+        unread: &mut Unread<PageEvent>,
+    ) -> Result<Meaning, Limit>
+        ensures { TakesAs (λ k. name_taking k unread.old.input self.old.reading line purpose name)
+            env.now self.old self.new unread.old unread.new result }
+    {
+        match purpose {
+            NameUse::Character => Ok(self.step(line.character(name))),
+            NameUse::Font => Ok(self.step(line.other())),
+            NameUse::LeftOut(byte) => Ok(self.step(line.left_out(byte))),
+            NameUse::Register(_) => self.ask(purpose, name, env, unread),
+            NameUse::Text => self.ask(purpose, name, env, unread),
+            NameUse::Argument => self.ask(purpose, name, env, unread),
         }
     }
 
@@ -295,10 +317,10 @@ impl Reader {
             Read::Escape(byte) => {
                 self.read_unit(breaks, request, CopyUnit::Kept(byte), env, unread)
             }
-            Read::Asks(step, name) => {
+            Read::Asks(purpose, name) => {
                 unread.settle();
                 self.reading = Reading::Arguments { breaks, request };
-                self.interpolate(step, &name, env, unread)
+                self.ask(purpose, name, env, unread)
             }
         }
     }
@@ -334,6 +356,41 @@ impl Reader {
     {
         unread.hold(unit)?;
         Ok(self.read_on(reading))
+    }
+
+    /// What the name behind an escape asks for is read in the escape's place.
+    fn ask(
+        &mut self,
+        purpose: NameUse,
+        name: Option<Name>,
+        env: &Env,
+        unread: &mut Unread<PageEvent>,
+    ) -> Result<Meaning, Limit>
+        ensures { TakesAs (λ k. asking k unread.old.input self.old.reading purpose name)
+            env.now self.old self.new unread.old unread.new result }
+    {
+        let name = match name {
+            None => return Ok(Meaning::nothing()),
+            Some(name) => name,
+        };
+        match purpose {
+            NameUse::Register(step) => self.interpolate(step, &name, env, unread),
+            NameUse::Text => self.put_nothing(unread),
+            NameUse::Argument => self.put_nothing(unread),
+            // Copy mode reads no such name, and text reads it otherwise.
+            NameUse::Character => self.put_nothing(unread),
+            NameUse::Font => self.put_nothing(unread),
+            NameUse::LeftOut(_) => self.put_nothing(unread),
+        }
+    }
+
+    /// An empty text is put in front.
+    fn put_nothing(&self, unread: &mut Unread<PageEvent>) -> Result<Meaning, Limit>
+        ensures { (env : Env) → TakesAs (λ k. putting_nothing unread.old.input self.now.reading)
+            env self.now self.now unread.old unread.new result }
+    {
+        unread.push(&[])?;
+        Ok(Meaning::nothing())
     }
 
     /// A register is read in the place of its escape: its text is put in front.

@@ -1,19 +1,20 @@
 //! What is being read of a line, and what stands on it.
 
-ghost use Rattle.std.specs.Prelude.{◌≡◌, ℕ, ◌≤◌, ◌++◌, ◌∷◌, ◌==◌, ◌||◌, [], length, true, min};
-ghost use Rattle.roff_scan.specs.Bytes.{is_silent, newline};
+ghost use Rattle.std.specs.Prelude.{◌≡◌, ℕ, ◌≤◌, ◌+◌, ◌++◌, ◌∷◌, [], length, map, true, min};
 ghost use Rattle.roff_lines.specs.declared.event.Event.TheVariants.{Gap, Print, WordEnd};
 ghost use Rattle.roff_lines.specs.declared.glyph.Glyph.TheVariants.{Printed};
-ghost use Rattle.roff_run.specs.Reading.{PageInput, behind_name, going_on, kept_taking, dropped_taking, ends_name, escape_taking, fresh_line, glyph_taking, blank_taking, leading_blank_events, leading_glyph, meaning_events, most_leading, other_taking, taking, text_line_end, text_taking};
+ghost use Rattle.roff_run.specs.Reading.{PageInput, behind_name, going_on, kept_taking, dropped_taking, ends_name, character_taking, escape_taking, fresh_line, glyph_taking, glyphs_taking, blank_taking, leading_blank_events, leading_glyph, left_out_taking, meaning_events, most_leading, other_taking, taking, told_taking, text_line_end, text_taking};
 ghost use Rattle.roff_run.specs.Requests.{Text, row_of};
 ghost use Rattle.roff_run.specs.TextLine.Stepping.{step_at};
 ghost use Rattle.roff_run.specs.Registers.{Known};
 ghost use Rattle.roff_run.specs.declared.reading.Reading.TheVariants.{Control as BehindControl, Name as InName, Text as InText};
 
 use crate::event::{Events, PageEvent};
+use crate::message::{CharacterName, Message};
 use crate::request::{LineReading, Request};
 use roff_lines::{Event, Glyph};
-use roff_scan::is_silent;
+use roff_num::Name;
+use roff_scan::{Escape, character, escape_of, is_silent};
 
 /// A count of leading blanks above this reads as this.
 const MOST_LEADING: u32 = 2_147_483_647;
@@ -46,10 +47,12 @@ pub(crate) struct TextLine {
     pub(crate) leading: u32,
 }
 
-/// What something of a text line does: what is read behind it, and the events that it means.
+/// What something of a text line does: what is read behind it, what it says, and the events that it
+/// means.
 #[derive(Drop)]
 pub(crate) struct TextStep {
     pub(crate) reading: Reading,
+    pub(crate) message: Option<Message>,
     pub(crate) events: Events,
 }
 
@@ -161,6 +164,7 @@ impl TextLine {
         if byte == b'\n' {
             TextStep {
                 reading: Reading::LineStart,
+                message: None,
                 events: self.end(),
             }
         } else if is_silent(byte) {
@@ -172,29 +176,64 @@ impl TextLine {
         }
     }
 
-    /// What an escape does, by the byte behind its backslash.
+    /// What an escape without a name does, by the byte behind its backslash.
     pub(crate) fn escape(self, byte: u8) -> TextStep
         ensures { (i : PageInput) → step_at i result ≡ escape_taking i self byte }
     {
-        if gives_nothing(byte) {
-            self.other()
-        } else if byte == b' ' || byte == b'0' {
-            self.glyph(Glyph::Blanks(1))
-        } else if byte == b'e' {
-            self.glyph(Glyph::Printed(b'\\'))
-        } else {
-            self.glyph(Glyph::Printed(byte))
+        match escape_of(byte) {
+            Escape::Prints(printed) => self.glyph(Glyph::Printed(printed)),
+            Escape::Blank => self.glyph(Glyph::Blanks(1)),
+            Escape::NoWidth => self.glyph(Glyph::Blanks(0)),
+            Escape::LeftOut => self.left_out(byte),
+            Escape::Nothing => self.other(),
+            Escape::Comment => self.other(),
+            Escape::Size => self.other(),
+            Escape::Name(_) => self.other(),
+        }
+    }
+
+    /// What a character does, by its name, if there is one.
+    pub(crate) fn character(self, name: Option<Name>) -> TextStep
+        ensures { (i : PageInput) → step_at i result ≡ character_taking i self name }
+    {
+        match name {
+            None => self.say(Message::UnknownCharacter(CharacterName::Nothing)),
+            Some(name) => match character(name.as_bytes()) {
+                None => self.say(Message::UnknownCharacter(CharacterName::of(&name))),
+                Some(text) => self.print(text),
+            },
+        }
+    }
+
+    /// An escape that is left out, by the byte behind its backslash.
+    pub(crate) fn left_out(self, byte: u8) -> TextStep
+        ensures { (i : PageInput) → step_at i result ≡ left_out_taking i self byte }
+    {
+        self.say(Message::LeftOut([b'\\', byte]))
+    }
+
+    /// Something that prints nothing, and of which this is said.
+    fn say(self, message: Message) -> TextStep
+        ensures { (i : PageInput) → step_at i result ≡ told_taking i self message }
+    {
+        let mut behind = self;
+        behind.has_other = true;
+        TextStep {
+            reading: Reading::Text(behind),
+            message: Some(message),
+            events: Events::new(),
         }
     }
 
     /// Something that prints nothing.
-    fn other(self) -> TextStep
+    pub(crate) fn other(self) -> TextStep
         ensures { (i : PageInput) → step_at i result ≡ other_taking i self }
     {
         let mut behind = self;
         behind.has_other = true;
         TextStep {
             reading: Reading::Text(behind),
+            message: None,
             events: Events::new(),
         }
     }
@@ -203,12 +242,31 @@ impl TextLine {
     fn glyph(self, glyph: Glyph) -> TextStep
         ensures { (i : PageInput) → step_at i result ≡ glyph_taking i self glyph }
     {
+        self.printed(printed(self.leading, glyph))
+    }
+
+    /// Bytes that are printed, behind the leading blanks.
+    fn print(self, text: &[u8]) -> TextStep
+        requires { length text.now ≤ 4 }
+        ensures { (i : PageInput) → step_at i result ≡ glyphs_taking i self (map Printed text.now) }
+    {
+        let mut events = leading_glyph(self.leading);
+        print_bytes(&mut events, text);
+        self.printed(events)
+    }
+
+    /// Glyphs of the line: these are their events.
+    fn printed(self, events: Events) -> TextStep
+        ensures { (i : PageInput) → step_at i result
+            ≡ meaning_events i (InText (record self { has_glyph = true; leading = 0 })) events.items }
+    {
         let mut behind = self;
         behind.has_glyph = true;
         behind.leading = 0;
         TextStep {
             reading: Reading::Text(behind),
-            events: printed(self.leading, glyph),
+            message: None,
+            events,
         }
     }
 
@@ -219,6 +277,7 @@ impl TextLine {
         if self.has_glyph {
             return TextStep {
                 reading: Reading::Text(self),
+                message: None,
                 events: events(&[
                     PageEvent::Text(Event::WordEnd),
                     PageEvent::Text(Event::Gap(1)),
@@ -229,6 +288,7 @@ impl TextLine {
         behind.leading = self.leading.saturating_add(1).min(MOST_LEADING);
         TextStep {
             reading: Reading::Text(behind),
+            message: None,
             events: leading_blank(self.leading),
         }
     }
@@ -238,11 +298,33 @@ impl TextLine {
 fn printed(leading: u32, glyph: Glyph) -> Events
     ensures { result.items ≡ leading_glyph leading ++ Text (Print glyph) ∷ [] }
 {
-    let glyph = PageEvent::Text(Event::Print(glyph));
-    if leading == 0 {
-        events(&[glyph])
-    } else {
-        events(&[PageEvent::Text(Event::Print(Glyph::Blanks(leading))), glyph])
+    let mut events = leading_glyph(leading);
+    events.push(PageEvent::Text(Event::Print(glyph)));
+    events
+}
+
+/// The leading blanks, as a glyph of their own.
+fn leading_glyph(leading: u32) -> Events
+    ensures items { result.items ≡ leading_glyph leading }
+    ensures few { length result.items ≤ 1 }
+{
+    let mut events = Events::new();
+    if leading != 0 {
+        events.push(PageEvent::Text(Event::Print(Glyph::Blanks(leading))));
+    }
+    events
+}
+
+/// Adds the events of bytes that are printed.
+fn print_bytes(events: &mut Events, text: &[u8])
+    requires { length events.old.items + length text.now ≤ 5 }
+    ensures { events.new.items
+        ≡ events.old.items ++ map (λ byte. Text (Print (Printed byte))) text.now }
+{
+    let mut rest = text;
+    while let Some((byte, others)) = rest.split_first() {
+        events.push(PageEvent::Text(Event::Print(Glyph::Printed(*byte))));
+        rest = others;
     }
 }
 
@@ -262,19 +344,12 @@ fn leading_blank(before: u32) -> Events
 
 /// These events.
 fn events(all: &[PageEvent]) -> Events
-    requires { length all.now ≤ 4 }
+    requires { length all.now ≤ 5 }
     ensures { result.items ≡ all.now }
 {
     let mut events = Events::new();
     events.try_extend_from_slice(all).unwrap();
     events
-}
-
-/// Whether an escape with this byte behind its backslash gives nothing.
-fn gives_nothing(byte: u8) -> bool
-    ensures { result ≡ (byte == newline || is_silent byte) }
-{
-    byte == b'\n' || is_silent(byte)
 }
 
 /// Whether a byte ends a name, and doesn't belong to it.

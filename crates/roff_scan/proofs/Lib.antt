@@ -1,5 +1,6 @@
 pub mod Giving
 pub mod Nesting
+pub mod CharacterTable
 pub mod KeptTexts
 pub mod KeptArguments
 pub mod Settling

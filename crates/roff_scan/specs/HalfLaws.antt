@@ -14,7 +14,7 @@ abbrev pub found_before : Read → List Read → List Read
 found_before GoesOn others = others
 found_before (GivesUnit unit) others = GivesUnit unit ∷ others
 found_before (Escape b) others = Escape b ∷ others
-found_before (Asks step name) others = Asks step name ∷ others
+found_before (Asks purpose name) others = Asks purpose name ∷ others
 
 -- bytes read one by one: what they find, in order, and what is half read behind them
 abbrev pub reads_through : Bool → List Half → List ℕ → List Read × List Half
@@ -41,6 +41,14 @@ short_escape step x = register_escape (sign step ++ x ∷ [])
 -- the escape of a register with a name of two bytes: `\n(xy`, `\n+(xy` or `\n-(xy`
 abbrev pub long_escape : Option Direction → ℕ → ℕ → List ℕ
 long_escape step x y = register_escape (sign step ++ 40 ∷ x ∷ y ∷ [])
+
+-- the escape of a string: `\*x` or `\*(xy`, by what stands behind it
+abbrev pub string_escape : List ℕ → List ℕ
+string_escape bytes = backslash ∷ 42 ∷ bytes
+
+-- the escape of an argument: `\$x`
+abbrev pub argument_escape : ℕ → List ℕ
+argument_escape x = backslash ∷ 36 ∷ x ∷ []
 
 -- whether a byte behind `\n` is no name: a backslash, a parenthesis or a sign
 abbrev pub is_special : ℕ → Bool

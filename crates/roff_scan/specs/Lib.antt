@@ -1,6 +1,8 @@
 pub mod Tape
 pub mod Bytes
 pub mod ReadSource
+pub mod Escapes
+pub mod Characters
 pub mod Halves
 pub mod Nesting
 pub mod HalfLaws

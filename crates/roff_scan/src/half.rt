@@ -1,7 +1,7 @@
-//! What is half read: backslashes, and names behind escapes.
+//! What is half read: backslashes, comments, and names and sizes behind escapes.
 
+use crate::escapes::NameUse;
 use roff_num::Name;
-use roff_store::Direction;
 
 /// A unit of copy mode.
 #[derive(Clone, Copy, Debug, PartialEq, Eq)]
@@ -12,7 +12,7 @@ pub enum CopyUnit {
     Kept(u8),
 }
 
-/// How much of a register's name is read.
+/// How much of a name is read.
 #[derive(Clone, Copy, Debug, PartialEq, Eq)]
 pub enum NamePart {
     /// Nothing of it: the next unit is the name.
@@ -23,14 +23,29 @@ pub enum NamePart {
     First(u8),
 }
 
+/// How much of a size is read.
+#[derive(Clone, Copy, Debug, PartialEq, Eq)]
+pub enum SizePart {
+    /// Nothing of it: a sign or a digit may follow.
+    Nothing,
+    /// Its sign: a digit may follow.
+    Sign,
+    /// A digit behind which another may follow.
+    Digit,
+}
+
 /// Something that is half read.
 #[derive(Clone, Copy, Debug, Default, PartialEq, Eq)]
 pub enum Half {
     /// A backslash: the byte behind it comes next.
     #[default]
     Backslash,
-    /// The name of a register, which is stepped before it is read if there is a direction.
-    Name(Option<Direction>, NamePart),
+    /// A comment: every byte of it is dropped, up to a newline.
+    Comment,
+    /// The name behind an escape.
+    Name(NameUse, NamePart),
+    /// A size behind an escape, which is read without effect.
+    Size(SizePart),
 }
 
 /// What a byte, or the end of a reading, gives.
@@ -40,8 +55,9 @@ pub enum Read {
     GoesOn,
     /// A unit for the line: nothing is half read.
     Unit(CopyUnit),
-    /// An escape of the text, by the byte behind its backslash: nothing is half read.
+    /// An escape of the text without a name, or a comment or a size that ended, by the byte behind the
+    /// backslash: nothing is half read.
     Escape(u8),
-    /// A register is asked for, and stepped before if there is a direction.
-    Asks(Option<Direction>, Name),
+    /// A name behind an escape is read; none, if it ended before a byte of it.
+    Asks(NameUse, Option<Name>),
 }

@@ -1,12 +1,16 @@
 //! Facts about what is half read, as contracts of functions that do nothing.
 
-ghost use Rattle.std.specs.Prelude.{◌≡◌, ℕ, ◌<◌, ◌≤◌, Bool, false, List, [], ◌∷◌, length, replicate, Option, None, ◌==◌};
-ghost use Rattle.roff_scan.specs.Bytes.{backslash};
-ghost use Rattle.roff_scan.specs.HalfLaws.{is_special, long_escape, openings, reads_through, register_escape, short_escape};
+ghost use Rattle.std.specs.Prelude.{◌≡◌, ℕ, ◌<◌, ◌≤◌, Bool, true, false, List, [], ◌∷◌, length, replicate, Option, None, Some, ◌==◌};
+ghost use Rattle.roff_scan.specs.Bytes.{backslash, quote};
+ghost use Rattle.roff_scan.specs.Escapes.{escape_of, is_copied};
+ghost use Rattle.roff_scan.specs.HalfLaws.{argument_escape, is_special, long_escape, openings, reads_through, register_escape, short_escape, string_escape};
 ghost use Rattle.roff_scan.specs.Halves.{most_names};
 ghost use Rattle.roff_scan.specs.Nesting.{AreNames, IsNested};
+ghost use Rattle.roff_scan.specs.declared.escapes.Escape.TheVariants.{Name as BeginsName};
+ghost use Rattle.roff_scan.specs.declared.escapes.NameUse.{NameUse};
+ghost use Rattle.roff_scan.specs.declared.escapes.NameUse.TheVariants.{Argument, Character, Register, Text};
 ghost use Rattle.roff_scan.specs.declared.half.Half.{Half};
-ghost use Rattle.roff_scan.specs.declared.half.Half.TheVariants.{Name};
+ghost use Rattle.roff_scan.specs.declared.half.Half.TheVariants.{Comment, Name};
 ghost use Rattle.roff_scan.specs.declared.half.NamePart.TheVariants.{Nothing, Opened};
 ghost use Rattle.roff_scan.specs.declared.half.Read.TheVariants.{Asks};
 ghost use Rattle.roff_store.specs.declared.register.Direction.{Direction};
@@ -17,26 +21,63 @@ ghost use Rattle.roff_store.specs.declared.register.Direction.{Direction};
 pub fn register_escapes()
     ensures short { (is_text : Bool) (names : List Half) (step : Option Direction) (x : ℕ)
         → AreNames names → length names < most_names → is_special x ≡ false
-        → reads_through is_text names (short_escape step x) ≡ (Asks step (x ∷ []) ∷ [], names) }
+        → reads_through is_text names (short_escape step x)
+        ≡ (Asks (Register step) (Some (x ∷ [])) ∷ [], names) }
     ensures long { (is_text : Bool) (names : List Half) (step : Option Direction) (x y : ℕ)
         → AreNames names → length names < most_names
         → (x == backslash) ≡ false → (y == backslash) ≡ false
         → reads_through is_text names (long_escape step x y)
-        ≡ (Asks step (x ∷ y ∷ []) ∷ [], names) }
+        ≡ (Asks (Register step) (Some (x ∷ y ∷ [])) ∷ [], names) }
 {}
 
-/// Eight names are read within each other, and no ninth: where seven are half read `\n` begins an
-/// eighth, where eight are it gives nothing. So `\n(` up to eight times begins as many names; and
-/// whatever is read, no more are half read, and no backslash but on top of them.
-pub fn nesting()
-    ensures begun { (is_text : Bool) (names : List Half)
+/// So do those of a string, `\*x` and `\*(xx`, and of an argument, `\$x`.
+pub fn text_escapes()
+    ensures short { (is_text : Bool) (names : List Half) (x : ℕ)
         → AreNames names → length names < most_names
-        → reads_through is_text names (register_escape []) ≡ ([], Name None Nothing ∷ names) }
-    ensures no_more { (is_text : Bool) (names : List Half)
+        → (x == backslash) ≡ false → (x == 40) ≡ false
+        → reads_through is_text names (string_escape (x ∷ []))
+        ≡ (Asks Text (Some (x ∷ [])) ∷ [], names) }
+    ensures long { (is_text : Bool) (names : List Half) (x y : ℕ)
+        → AreNames names → length names < most_names
+        → (x == backslash) ≡ false → (y == backslash) ≡ false
+        → reads_through is_text names (string_escape (40 ∷ x ∷ y ∷ []))
+        ≡ (Asks Text (Some (x ∷ y ∷ [])) ∷ [], names) }
+    ensures argument { (is_text : Bool) (names : List Half) (x : ℕ)
+        → AreNames names → length names < most_names → (x == backslash) ≡ false
+        → reads_through is_text names (argument_escape x)
+        ≡ (Asks Argument (Some (x ∷ [])) ∷ [], names) }
+{}
+
+/// A character's escape in text finds its two bytes.
+pub fn character_escapes()
+    ensures { (x y : ℕ) → (x == backslash) ≡ false → (y == backslash) ≡ false
+        → reads_through true [] (backslash ∷ 40 ∷ x ∷ y ∷ [])
+        ≡ (Asks Character (Some (x ∷ y ∷ [])) ∷ [], []) }
+{}
+
+/// A comment finds nothing, whatever stands in it, and is half read up to what ends it; in text, in
+/// copy mode and within names.
+pub fn comments()
+    ensures { (is_text : Bool) (names : List Half) (bytes : List ℕ) → AreNames names
+        → reads_through is_text names (backslash ∷ quote ∷ bytes) ≡ ([], Comment ∷ names) }
+{}
+
+/// Eight names are read within each other, and no ninth: where seven are half read an escape that
+/// copy mode reads begins an eighth, where eight are it gives nothing. So `\n(` up to eight times
+/// begins as many names; and whatever is read, no more are half read, and no backslash and no comment
+/// but on top of them.
+pub fn nesting()
+    ensures begun { (is_text : Bool) (names : List Half) (b : ℕ) (purpose : NameUse)
+        → AreNames names → length names < most_names
+        → escape_of b ≡ BeginsName purpose → is_copied purpose ≡ true
+        → reads_through is_text names (backslash ∷ b ∷ []) ≡ ([], Name purpose Nothing ∷ names) }
+    ensures no_more { (is_text : Bool) (names : List Half) (b : ℕ) (purpose : NameUse)
         → AreNames names → length names ≡ most_names
-        → reads_through is_text names (register_escape []) ≡ ([], names) }
+        → escape_of b ≡ BeginsName purpose → is_copied purpose ≡ true
+        → reads_through is_text names (backslash ∷ b ∷ []) ≡ ([], names) }
     ensures opened { (is_text : Bool) (k : ℕ) → k ≤ most_names
-        → reads_through is_text [] (openings k) ≡ ([], replicate k (Name None Opened)) }
+        → reads_through is_text [] (openings k)
+        ≡ ([], replicate k (Name (Register None) Opened)) }
     ensures always { (is_text : Bool) (half : List Half) (bytes : List ℕ) → IsNested half
         → IsNested (reads_through is_text half bytes).1 }
 {}

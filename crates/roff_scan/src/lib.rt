@@ -4,6 +4,8 @@
 
 mod arguments;
 mod bytes;
+mod characters;
+mod escapes;
 mod half;
 pub mod half_laws;
 mod halves;
@@ -16,6 +18,8 @@ mod unread_tests;
 
 pub use arguments::{ArgumentList, Place};
 pub use bytes::{is_dropped, is_silent};
-pub use half::{CopyUnit, Half, NamePart, Read};
+pub use characters::character;
+pub use escapes::{Escape, NameUse, escape_of};
+pub use half::{CopyUnit, Half, NamePart, Read, SizePart};
 pub use source::{ByteSource, Note, ReadSource, Taken};
 pub use unread::{Item, Sight, Unread};

@@ -2,7 +2,7 @@
 
 ghost use Rattle.roff_scan.specs.Arguments.{with_unit, settled, finished};
 ghost use Rattle.roff_scan.specs.ArgumentList.{listed};
-ghost use Rattle.roff_scan.specs.Halves.{byte_read, reading_ended, newline_stays};
+ghost use Rattle.roff_scan.specs.Halves.{byte_read, reading_ended, newline_stays, seen_stays};
 ghost use Rattle.std.specs.Prelude.{reverse, true, false, not, ◌≡◌, ◌==◌, ◌+◌, ◌<◌, ◌≤◌, length, None, IfOk, IfSome};
 ghost use Rattle.roff_scan.specs.Tape.{Answer, OneByte, OneNote, Gives, Failed, Rises};
 ghost use Rattle.roff_scan.specs.Input.{is_none_ahead, counting, events_ahead, frees_ahead, most_events, most_frees, pushed, depth, pushing, putting_back, freeing, with_arguments, without_arguments};
@@ -324,11 +324,19 @@ impl<E: Copy> Unread<E> {
         !self.half.is_empty()
     }
 
-    /// Whether a newline stays, and ends the reading on top.
+    /// Whether the reading on top looks at what stands in front before it is taken: a newline stays
+    /// then, and ends it.
     pub fn newline_stays(&self) -> bool
         ensures { result ≡ newline_stays self.now.input.half }
     {
         self.half.newline_stays()
+    }
+
+    /// Whether what it sees there stays, and ends it: a byte, or nothing that can be read.
+    pub fn seen_stays(&self, seen: Option<u8>) -> bool
+        ensures { result ≡ seen_stays self.now.input.half seen }
+    {
+        self.half.seen_stays(seen)
     }
 
     /// Reads a byte that was taken and isn't dropped; above a text line, or above arguments.

@@ -1,6 +1,6 @@
 //! What is taken of some inputs, in order, by the public calls.
 
-use crate::{CopyUnit, Item, Read, ReadSource, Sight, Unread};
+use crate::{CopyUnit, Item, NameUse, Read, ReadSource, Sight, Unread};
 use roff_num::{Limit, Limits};
 use std::test::Fail;
 
@@ -97,7 +97,25 @@ fn names_are_read_behind_backslashes(rt: HostRuntime) -> Result<(), Fail> {
         assert!(rt; matches!(unread.read_byte(true, *byte), Read::GoesOn));
     }
     assert!(rt; unread.newline_stays() && !unread.is_bare());
-    assert!(rt; matches!(unread.end_reading(true), Read::Asks(None, _)));
+    assert!(rt;
+        matches!(
+            unread.end_reading(true),
+            Read::Asks(NameUse::Register(None), Some(_))
+        )
+    );
+    assert!(rt; unread.is_bare());
+    Ok(())
+}
+
+#[test]
+fn a_size_takes_only_what_belongs_to_it(rt: HostRuntime) -> Result<(), Fail> {
+    let mut unread: Unread<u8> = Unread::new(rt.alloc(), Limits::DEFAULT)?;
+    for byte in b"\\s2" {
+        assert!(rt; matches!(unread.read_byte(true, *byte), Read::GoesOn));
+    }
+    assert!(rt; !unread.seen_stays(Some(b'9')));
+    assert!(rt; unread.seen_stays(Some(b'x')) && unread.seen_stays(None));
+    assert!(rt; matches!(unread.end_reading(true), Read::Escape(b's')));
     assert!(rt; unread.is_bare());
     Ok(())
 }

@@ -1,5 +1,12 @@
-use Rattle.roff_scan.proofs.Nesting.{IsNested-reads_through, opened-names}
+use Rattle.std.proofs.Common.{[]}
+use Rattle.roff_scan.proofs.Nesting.{IsNested-reads_through, begins, begins_no_more, opened-names}
 use Rattle.roff_scan.proofs.half_laws.nesting.Goals as goal
+
+pub returns-clause-begun : goal.returns-clause-begun
+returns-clause-begun c = λ is_text names b purpose. begins is_text names b purpose []
+
+pub returns-clause-no_more : goal.returns-clause-no_more
+returns-clause-no_more c = λ is_text names b purpose. begins_no_more is_text names b purpose []
 
 pub returns-clause-opened : goal.returns-clause-opened
 returns-clause-opened c = opened-names

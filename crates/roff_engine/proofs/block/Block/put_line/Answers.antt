@@ -29,7 +29,7 @@ loop-byte-preserved g c =
     let begun = c.loop-byte.invariant.begun in
     let glyphs : List ℕ = c.take_glyphs-glyphs.result.now in
     let whole : begun.front ++ (c.in-Some.byte ∷ c.next.new.self) ≡ line_bytes (finished_of c.args.line) = rw (← c.in-Some.ensures.steps) begun.whole in
-    let held : c.extend_from_slice.new.self.items ≡ c.push.new.bytes.items ++ glyphs = rw (c.extend_from_slice.ensures.items, c.unwrap.ensures) refl in
+    let held : c.extend_from_slice.new.self.items ≡ c.push.new.bytes.items ++ glyphs = rw (c.extend_from_slice.ensures.items, c.unwrap.ensures) (refl {a = c.push.new.bytes.items ++ glyphs}) in
     record {
       room = omega (arith, c.in_ok-push.ensures.capacity, c.extend_from_slice.ensures.capacity);
       begun = record {

@@ -1,14 +1,8 @@
-use Rattle.std.proofs.Common.{refl}
-use Rattle.std.proofs.lemmas.Bool.{ne_eqb}
+use Rattle.std.proofs.Common.{refl, sym, ◌∙◌}
 use Rattle.roff_scan.specs.Unread.{sighted}
-use Rattle.roff_engine.proofs.Waiting.{GoesInFront, waiting_failed, waiting_in_front, waiting_newline, waiting_note, waiting_stopped}
+use Rattle.roff_engine.proofs.Waiting.{ShowsFront, waiting_ends, waiting_failed, waiting_in_front, waiting_note, waiting_stopped}
 use Rattle.roff_engine.proofs.running.Running.turn_waiting.Goals as goal
 use Rattle.roff_engine.proofs.running.Running.turn_waiting.Goals.{in-Byte, in-Nothing, in-SourceEnd}
-
-pub returns-in-Byte-eq10 : goal.returns-in-Byte-eq10
-returns-in-Byte-eq10 g c =
-    let shown = c.in-Byte-eq10.ensures in
-    waiting_newline c.args.self.now _ _ _ _ _ _ shown.failures shown.notes c.in-Byte-eq10.field-0 c.end_half.new.self _ _ c.in-Byte-eq10.field-0-test shown.looks c.requires (c.end_half.ensures _)
 
 pub returns-in-Note : goal.returns-in-Note
 returns-in-Note g c =
@@ -26,11 +20,24 @@ returns-in-Stop g c =
     let shown = c.in-Stop.ensures in
     waiting_stopped c.args.self.now _ _ _ _ _ _ shown.failures shown.notes c.in-Stop.limit shown.looks
 
+pub returns-then-seen_stays : goal.returns-then-seen_stays
+returns-then-seen_stays g c =
+    let is_front : ShowsFront c.match-look.seen (sighted c.look.result) = elim c.match-look.branch [
+      | in-Byte w ↦ rw w.in-Byte.is w.seen-is
+      | in-Nothing w ↦ rw w.in-Nothing.is w.seen-is
+      | in-SourceEnd w ↦ rw w.in-SourceEnd.is w.seen-is
+    ] in
+    let look = c.look.ensures in
+    waiting_ends c.args.self.now _ _ _ _ _ _ look.failures look.notes c.match-look.seen (sighted c.look.result) c.end_half.new.self _ _ is_front look.looks
+    (sym c.seen_stays.ensures ∙ c.if-seen_stays.true) c.requires (c.end_half.ensures _)
+
 pub returns : goal.returns
 returns g c =
-    let goes_on : GoesInFront (sighted c.look.result) = elim c.match-look.branch [
-      | in-Byte w ↦ rw w.in-Byte.is (ne_eqb w.in-Byte.field-0 10 w.in-Byte.field-0-test.1)
-      | in-Nothing w ↦ rw w.in-Nothing.is tt
-      | in-SourceEnd w ↦ rw w.in-SourceEnd.is tt
+    let is_front : ShowsFront c.match-look.seen (sighted c.look.result) = elim c.match-look.branch [
+      | in-Byte w ↦ rw w.in-Byte.is w.seen-is
+      | in-Nothing w ↦ rw w.in-Nothing.is w.seen-is
+      | in-SourceEnd w ↦ rw w.in-SourceEnd.is w.seen-is
     ] in
-    waiting_in_front c.args.self.now c.look.ensures.looks goes_on _ _ _ _ _ _ _ c.turn_in_front.new.self _ _ c.look.ensures.failures c.look.ensures.notes c.turn_in_front.ensures
+    let look = c.look.ensures in
+    waiting_in_front c.args.self.now look.looks c.match-look.seen is_front (sym c.seen_stays.ensures ∙ c.if-seen_stays.false) _ _ _ _ _ _ _ c.turn_in_front.new.self _ _
+    look.failures look.notes c.turn_in_front.ensures

@@ -1,6 +1,6 @@
 use Rattle.std.proofs.Common.{ap}
 use Rattle.roff_run.specs.Reader.State.{ReaderState}
-use Rattle.roff_run.specs.Reading.{PageInput, interpolating}
+use Rattle.roff_run.specs.Reading.{PageInput, asking}
 use Rattle.roff_run.specs.Registers.{Known}
 use Rattle.roff_run.specs.declared.reading.Reading.{Reading}
 use Rattle.roff_run.specs.declared.reading.Reading.TheVariants.{Arguments as InArguments}
@@ -14,11 +14,11 @@ returns-in-Asks c =
     let mid = c.settle-in-Asks.new.self in
     let reading : Reading = InArguments c.args.breaks c.args.request in
     let set : ReaderState = record { reading = reading; registers = c.self.inside.registers } in
-    let asks = λ (k : Known) (i : PageInput). interpolating k i reading c.in-Asks.step c.in-Asks.name in
+    let asks = λ (k : Known) (i : PageInput). asking k i reading c.in-Asks.purpose c.in-Asks.name in
     rw c.in-Asks.is
-    (TakesAs-settled asks env c.args.self.now c.interpolate.new.self u mid c.interpolate.new.unread c.interpolate.result c.settle-in-Asks.ensures.change
-    (TakesAs-set (λ k. asks k mid.input) env c.args.self.now set c.interpolate.new.self mid c.interpolate.new.unread c.interpolate.result
-    (ap (λ (s : ReaderState). s.registers) c.self.view_is) c.interpolate.ensures))
+    (TakesAs-settled asks env c.args.self.now c.ask.new.self u mid c.ask.new.unread c.ask.result c.settle-in-Asks.ensures.change
+    (TakesAs-set (λ k. asks k mid.input) env c.args.self.now set c.ask.new.self mid c.ask.new.unread c.ask.result
+    (ap (λ (s : ReaderState). s.registers) c.self.view_is) c.ask.ensures))
 
 pub returns-in-Unit : goal.returns-in-Unit
 returns-in-Unit c = rw c.in-Unit.is c.read_unit.ensures

@@ -1,28 +1,35 @@
-use Rattle.std.proofs.Common.{◌≡◌, true, false, rules, ◌==◌, ◌||◌}
-use Rattle.roff_scan.specs.Bytes.{is_silent}
+use Rattle.std.proofs.Common.{sym, ap, ◌∙◌}
+use Rattle.roff_run.specs.Reading.{escape_meant}
 use Rattle.roff_run.proofs.reading.TextLine.escape.Goals as goal
 
-pub returns-then-gives_nothing : goal.returns-then-gives_nothing
-returns-then-gives_nothing c = λ i.
-    let unheard : (c.args.byte == 10 || is_silent c.args.byte) ≡ true = search rules in
-    rw unheard (c.other.ensures i)
+pub returns-in-Prints : goal.returns-in-Prints
+returns-in-Prints c = λ i.
+    c.glyph.ensures i ∙ ap (escape_meant i c.args.self c.args.byte) (sym c.in-Prints.is ∙ c.escape_of.ensures)
 
-pub returns-then-byte-eq48 : goal.returns-then-byte-eq48
-returns-then-byte-eq48 c = λ i.
-    let heard : (c.args.byte == 10 || is_silent c.args.byte) ≡ false = search rules in
-    let blank : (c.args.byte == 32 || c.args.byte == 48) ≡ true = search rules in
-    rw (heard, blank) (c.glyph.ensures i)
+pub returns-in-Blank : goal.returns-in-Blank
+returns-in-Blank c = λ i.
+    c.glyph-in-Blank.ensures i ∙ ap (escape_meant i c.args.self c.args.byte) (sym c.in-Blank.is ∙ c.escape_of.ensures)
 
-pub returns-then-byte-eq101 : goal.returns-then-byte-eq101
-returns-then-byte-eq101 c = λ i.
-    let heard : (c.args.byte == 10 || is_silent c.args.byte) ≡ false = search rules in
-    let not_blank : (c.args.byte == 32 || c.args.byte == 48) ≡ false = search rules in
-    let is_e : (c.args.byte == 101) ≡ true = search rules in
-    rw (heard, not_blank, is_e) (c.glyph-then-byte-eq101.ensures i)
+pub returns-in-NoWidth : goal.returns-in-NoWidth
+returns-in-NoWidth c = λ i.
+    c.glyph-in-NoWidth.ensures i ∙ ap (escape_meant i c.args.self c.args.byte) (sym c.in-NoWidth.is ∙ c.escape_of.ensures)
 
-pub returns-else-byte-eq101 : goal.returns-else-byte-eq101
-returns-else-byte-eq101 c = λ i.
-    let heard : (c.args.byte == 10 || is_silent c.args.byte) ≡ false = search rules in
-    let not_blank : (c.args.byte == 32 || c.args.byte == 48) ≡ false = search rules in
-    let not_e : (c.args.byte == 101) ≡ false = search rules in
-    rw (heard, not_blank, not_e) (c.glyph-else-byte-eq101.ensures i)
+pub returns-in-LeftOut : goal.returns-in-LeftOut
+returns-in-LeftOut c = λ i.
+    c.left_out.ensures i ∙ ap (escape_meant i c.args.self c.args.byte) (sym c.in-LeftOut.is ∙ c.escape_of.ensures)
+
+pub returns-in-Nothing : goal.returns-in-Nothing
+returns-in-Nothing c = λ i.
+    c.other.ensures i ∙ ap (escape_meant i c.args.self c.args.byte) (sym c.in-Nothing.is ∙ c.escape_of.ensures)
+
+pub returns-in-Comment : goal.returns-in-Comment
+returns-in-Comment c = λ i.
+    c.other-in-Comment.ensures i ∙ ap (escape_meant i c.args.self c.args.byte) (sym c.in-Comment.is ∙ c.escape_of.ensures)
+
+pub returns-in-Name : goal.returns-in-Name
+returns-in-Name c = λ i.
+    c.other-in-Name.ensures i ∙ ap (escape_meant i c.args.self c.args.byte) (sym c.in-Name.is ∙ c.escape_of.ensures)
+
+pub returns-in-Size : goal.returns-in-Size
+returns-in-Size c = λ i.
+    c.other-in-Size.ensures i ∙ ap (escape_meant i c.args.self c.args.byte) (sym c.in-Size.is ∙ c.escape_of.ensures)

@@ -1,0 +1,10 @@
+use Rattle.std.proofs.Common.{true, List, ap, ◌∙◌}
+use Rattle.roff_run.specs.Reading.{meaning_events}
+use Rattle.roff_run.specs.Requests.{PageEvent}
+use Rattle.roff_run.specs.declared.reading.Reading.TheVariants.{Text}
+use Rattle.roff_run.proofs.reading.TextLine.glyph.Goals as goal
+
+pub returns : goal.returns
+returns c = λ i.
+    let at = λ (events : List PageEvent). meaning_events i (Text (record c.args.self { has_glyph = true; leading = 0 })) events in
+    c.printed-2.ensures i ∙ ap at c.printed.ensures

@@ -1,0 +1,5 @@
+use Rattle.roff_scan.proofs.Nesting.{comment_read}
+use Rattle.roff_scan.proofs.half_laws.comments.Goals as goal
+
+pub returns : goal.returns
+returns c = comment_read
