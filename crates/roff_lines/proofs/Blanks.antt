@@ -4,25 +4,23 @@ use Rattle.std.specs.Prelude.{if◌then◌else◌, ◌==◌}
 use Rattle.std.proofs.lemmas.Bool.{and_right, cases_Bool}
 use Rattle.roff_lines.specs.Glyphs.{gap_blank, further_blank, glyph_blank}
 use Rattle.roff_lines.specs.Words.{is_empty}
-use Rattle.roff_lines.specs.Columns.{spaces, added_columns, spread, trimmed, is_blank_mark, without_blanks}
+use Rattle.roff_lines.specs.Columns.{spaces, added_columns, spread, trimmed}
+use Rattle.roff_lines.specs.LineBytes.Fronts.{is_blank_mark, without_blanks}
 
 -- a list with something at its end isn't empty
 is_empty-push : (xs : List ℕ) (b : ℕ) → is_empty (xs ++ b ∷ []) ≡ false
 is_empty-push [] b = refl
 is_empty-push (x ∷ xs) b = refl
 
--- a blank at a text's end is left out
-pub without_blanks_behind_blank : (xs : List ℕ) (b : ℕ) → is_blank_mark b ≡ true →
-    without_blanks (xs ++ b ∷ []) ≡ without_blanks xs
-without_blanks_behind_blank [] b e = rw e
-without_blanks_behind_blank (x ∷ xs) b e = rw (without_blanks_behind_blank xs b e)
-
--- a text whose last byte is no blank stays as it is
-pub without_blanks_behind_glyph : (xs : List ℕ) (b : ℕ) → is_blank_mark b ≡ false →
-    without_blanks (xs ++ b ∷ []) ≡ xs ++ b ∷ []
-without_blanks_behind_glyph [] b e = rw e
-without_blanks_behind_glyph (x ∷ xs) b e =
-    rw (without_blanks_behind_glyph xs b e, is_empty-push xs b, and_right (is_blank_mark x) false refl)
+-- a blank at a text's end is left out; a text whose last byte is no blank stays as it is
+pub without_blanks_push : (xs : List ℕ) (b : ℕ) →
+    without_blanks (xs ++ b ∷ []) ≡ (if is_blank_mark b then without_blanks xs else xs ++ b ∷ [])
+without_blanks_push [] b = elim (cases_Bool (is_blank_mark b)) [ inl e ↦ rw e | inr e ↦ rw e ]
+without_blanks_push (x ∷ xs) b =
+    elim (cases_Bool (is_blank_mark b)) [
+      | inl e ↦ rw (without_blanks_push xs b, e)
+      | inr e ↦ rw (without_blanks_push xs b, e, is_empty-push xs b, and_right (is_blank_mark x) false refl)
+    ]
 
 -- blanks with something behind them aren't empty
 is_empty-spaces : (n b : ℕ) (xs : List ℕ) → is_empty (spaces n ++ b ∷ xs) ≡ false

@@ -1,4 +1,5 @@
 pub mod Blanks
+pub mod GlyphsInFront
 pub mod Widths
 pub mod PendingLine
 pub mod LastLine

@@ -1,6 +1,6 @@
 -- Printed bytes above the blank are written as themselves.
-use Rattle.std.proofs.Common.{◌≡◌, ℕ, ◌<◌, false, List, [], ◌∷◌, ◌++◌, length, Some, refl, ap, arith, ne_eqb}
-use Rattle.std.specs.Prelude.{◌==◌, map, reverse, All}
+use Rattle.std.proofs.Common.{◌≡◌, ℕ, ◌<◌, false, List, [], ◌∷◌, ◌++◌, length, Some, refl, ap, ◌∙◌, arith}
+use Rattle.std.specs.Prelude.{map, reverse, All}
 use Rattle.std.specs.List.{flat_map}
 use Rattle.std.proofs.lemmas.Bool.Decides.{nat_tests}
 use Rattle.std.proofs.lemmas.List.Elements.{All-head, All-tail}
@@ -10,6 +10,7 @@ use Rattle.roff_lines.specs.Events.{WordEnd}
 use Rattle.roff_lines.specs.Words.{is_empty}
 use Rattle.roff_lines.specs.Columns.{spread, trimmed, written_by_break}
 use Rattle.roff_lines.specs.Telling.{glyphs_told}
+use Rattle.roff_lines.proofs.GlyphsInFront.{eqb-above, spread-glyph}
 use Rattle.roff_lines.proofs.Telling.{settings_after-told, words-word}
 
 -- the first of some bytes above the blank is above it, and so are the others
@@ -30,24 +31,19 @@ text-above (b ∷ bytes) above =
     let here : 32 < b = first_above b bytes above in
     rw (text_byte-above b here) (ap (λ xs. b ∷ xs) (text-above bytes (others_above b bytes above)))
 
--- it is none at or below the blank
-eqb-above : (b c : ℕ) → c < b → (b == c) ≡ false
-eqb-above b c above = ne_eqb b c (λ e. absurd (omega arith))
-
 -- none of them is written as a blank
 pub spread-above : (spare gaps i : ℕ) (bytes : List ℕ) → All (λ b. 32 < b) bytes → spread spare gaps i bytes ≡ bytes
 spread-above spare gaps i [] above = refl
 spread-above spare gaps i (b ∷ bytes) above =
     let here : 32 < b = first_above b bytes above in
-    rw (eqb-above b 32 (omega arith), eqb-above b 1 (omega arith), eqb-above b 0 (omega arith))
-    (ap (λ xs. b ∷ xs) (spread-above spare gaps i bytes (others_above b bytes above)))
+    spread-glyph spare gaps i b bytes here ∙ ap (λ xs. b ∷ xs) (spread-above spare gaps i bytes (others_above b bytes above))
 
 -- so none is left out
 pub trimmed-above : (bytes : List ℕ) → All (λ b. 32 < b) bytes → trimmed bytes ≡ bytes
 trimmed-above [] above = refl
 trimmed-above (b ∷ bytes) above =
     let here : 32 < b = first_above b bytes above in
-    rw (eqb-above b 32 (omega arith)) (ap (λ xs. b ∷ xs) (trimmed-above bytes (others_above b bytes above)))
+    rw (eqb-above b 32 (omega arith) here) (ap (λ xs. b ∷ xs) (trimmed-above bytes (others_above b bytes above)))
 
 -- a list with an element isn't empty
 is_empty-some : (bytes : List ℕ) → 0 < length bytes → is_empty (map Printed bytes) ≡ false

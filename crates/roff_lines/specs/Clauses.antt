@@ -8,7 +8,7 @@ pub use Rattle.roff_lines.specs.Events.{Event, Print, WordEnd, Gap, LineEnd, Bre
 pub use Rattle.roff_lines.specs.Words.{Word, is_empty, has_open_word, is_closer, is_sentence_mark, words}
 pub use Rattle.roff_lines.specs.Telling.{glyphs_told, words_told, bytes_told, IsOfText, IsWordUnder, IsClear}
 pub use Rattle.roff_lines.specs.Lines.{Finished, gap_text, may_be_wide, pending_length, laid_out, empty_line, finished}
-pub use Rattle.roff_lines.specs.Columns.{finished_of, added_columns, line_bytes, written_by_break, is_blank_mark, spread, without_blanks, StandsInColumns}
+pub use Rattle.roff_lines.specs.Columns.{finished_of, added_columns, line_bytes, written_by_break, StandsInColumns}
 pub use Rattle.roff_lines.specs.Filling.{lines_of, FillsLines}
 pub use Rattle.roff_lines.specs.Paragraphs.{finished_lines, until_break, full_lines, broken_lines, paragraph_lines}
 pub use Rattle.roff_lines.specs.LastLine.{line_width, last_width, EndsAtWidth}

@@ -1,5 +1,5 @@
 -- Where a finished line's text stands, and what it writes (manual, section 4.1).
-use Rattle.std.specs.Prelude.{◌≡◌, ℕ, ◌+◌, ◌-◌, ◌*◌, ◌/◌, Bool, ◌&&◌, ◌||◌, List, [], ◌∷◌, ◌++◌, take, replicate, Option, option_map, if◌then◌else◌, ◌==◌}
+use Rattle.std.specs.Prelude.{◌≡◌, ℕ, ◌+◌, ◌-◌, ◌*◌, ◌/◌, ◌&&◌, ◌||◌, List, [], ◌∷◌, ◌++◌, take, replicate, Option, option_map, if◌then◌else◌, ◌==◌}
 use Rattle.roff_lines.specs.declared.line.Line.{Line}
 use Rattle.roff_lines.specs.Glyphs.{gap_blank, further_blank, glyph_blank, text_width, gaps_in}
 use Rattle.roff_lines.specs.Words.{is_empty}
@@ -47,16 +47,6 @@ line_bytes l = trimmed (spaces l.lead ++ spread l.spare l.gaps 0 l.text) ++ 10 �
 -- what a break writes, if it finishes a line
 abbrev pub written_by_break : History → Option (List ℕ)
 written_by_break h = option_map line_bytes (finished h Break)
-
--- whether a byte of a text stands for a blank
-abbrev pub is_blank_mark : ℕ → Bool
-is_blank_mark b = b == gap_blank || (b == further_blank || b == glyph_blank)
-
--- a line's text without its trailing blanks
-abbrev pub without_blanks : List ℕ → List ℕ
-without_blanks [] = []
-without_blanks (b ∷ text) =
-    let rest = without_blanks text in if is_blank_mark b && is_empty rest then [] else b ∷ rest
 
 -- where a line's text stands: what is written before its k-th byte is as wide as the byte's column says
 abbrev pub StandsInColumns : Finished → Type 0

@@ -1,2 +1,3 @@
 -- The bytes of a line, one after another.
+pub mod Fronts
 pub mod Left

@@ -1,8 +1,11 @@
 //! The environment: the pending line, the open word, and what is in force.
 
-ghost use Rattle.std.specs.Prelude.{◌≡◌, ℕ, ◌+◌, ◌<◌, ◌≤◌, ◌^◌, ◌↔◌, [], ◌∷◌, ◌++◌, length, IfOk, OnOk, OnErr, IsErr, IsOkUnless, option_map};
+ghost use Rattle.std.specs.Prelude.{◌≡◌, ℕ, ◌+◌, ◌<◌, ◌≤◌, ◌^◌, ◌↔◌, [], ◌∷◌, ◌++◌, length};
+ghost use Rattle.std.specs.Prelude.{IfOk, OnOk, OnErr, IsErr, IsOkUnless, option_map};
 ghost use Rattle.std.specs.Borrow.{sem};
-ghost use Rattle.roff_lines.specs.Clauses.{finished_of, Print, WordEnd, Gap, LineEnd, Break, Set, History, settings_after, last_width, text_width, finished, gap_text, may_be_wide, pending_length, shaped};
+ghost use Rattle.roff_lines.specs.Clauses.{Print, WordEnd, Gap, LineEnd, Break, Set, History};
+ghost use Rattle.roff_lines.specs.Clauses.{settings_after, last_width, pending_length, finished_of};
+ghost use Rattle.roff_lines.specs.Clauses.{finished, shaped, text_width, gap_text, may_be_wide};
 
 use crate::glyph::{Glyph, kept_byte};
 use crate::line::{FURTHER_BLANK, GAP, Line, UNPADDABLE};
@@ -50,7 +53,9 @@ impl Model for Env {
 }
 
 impl Env {
-    ghost use Rattle.roff_lines.specs.Env.Kept.{with_word_ended, finished_by_word, with_line_finished, finished_by_break, with_input_line_ended, finished_by_line_end};
+    ghost use Rattle.roff_lines.specs.Env.Kept.{with_word_ended, finished_by_word};
+    ghost use Rattle.roff_lines.specs.Env.Kept.{with_line_finished, finished_by_break};
+    ghost use Rattle.roff_lines.specs.Env.Kept.{with_input_line_ended, finished_by_line_end};
     ghost use Rattle.roff_lines.specs.Env.Stands.{Stands, StandsBehind, Finishes};
     ghost use Rattle.roff_lines.specs.Env.Rests.{RestsBehind};
 
@@ -84,9 +89,9 @@ impl Env {
         self.settings
     }
 
-    /// The width of the line that was finished last, in columns, from where its text begins (manual,
-    /// section 8, the register `.n`): the blanks of adjusting count, the indent doesn't. It is 0 at
-    /// first, and behind an empty line.
+    /// The width of the line that was finished last, in columns, from where its text begins
+    /// (manual, section 8, the register `.n`): the blanks of adjusting count, the indent doesn't.
+    /// It is 0 at first, and behind an empty line.
     pub fn last_width(&self) -> u32
         ensures kept { result ≡ self.now.last_width }
         ensures counted { (line_cap : ℕ) (h : History)

@@ -1,7 +1,8 @@
 //! What a finished line writes.
 
-ghost use Rattle.std.specs.Prelude.{◌≡◌, ◌+◌, ◌*◌, ◌/◌, ◌-◌, ◌<◌, ◌≤◌, ◌^◌, ◌++◌, ℕ, length, take, drop};
-ghost use Rattle.roff_lines.specs.Clauses.{finished_of, line_bytes, added_columns, is_blank_mark, spread, without_blanks};
+ghost use Rattle.std.specs.Prelude.{◌≡◌, ◌+◌, ◌-◌, ◌<◌, ◌≤◌, ◌^◌, ◌++◌, length, take};
+ghost use Rattle.roff_lines.specs.Clauses.{finished_of, line_bytes, added_columns};
+ghost use Rattle.roff_lines.specs.LineBytes.Fronts.{glyphs_in_front, is_blank_mark, without_blanks};
 
 use crate::line::{FURTHER_BLANK, GAP, Line, UNPADDABLE};
 use std::marker::Model;
@@ -54,10 +55,10 @@ impl<'a> LineBytes<'a> {
         }
     }
 
-    /// Takes the bytes in front that are no blanks, at most so many.
+    /// Takes the bytes of glyphs in front, those above the blank, at most so many.
     pub fn take_glyphs(&mut self, most: usize) -> &'a [u8]
+        ensures glyphs { result.now ≡ take most (glyphs_in_front self.old) }
         ensures taken { result.now ++ self.new ≡ self.old }
-        ensures most { length result.now ≤ most }
     {
         if self.blanks > 0 {
             return &[];
@@ -120,18 +121,15 @@ fn added_to_gap(passed: u64, spare: u64, gaps: u64) -> u128
     behind.saturating_sub(before)
 }
 
-/// How many bytes in front of a text are no blanks, at most so many: they are written as they stand.
+/// How many bytes of glyphs stand in front of a text, at most so many.
 fn count_of_glyphs(text: &[u8], most: usize) -> usize
     ensures text { result ≤ length text.now }
-    ensures most { result ≤ most }
-    ensures glyphs { (spare gaps passed : ℕ)
-        → take result text.now ++ spread spare gaps passed (drop result text.now)
-        ≡ spread spare gaps passed text.now }
+    ensures glyphs { take result text.now ≡ take most (glyphs_in_front text.now) }
 {
     let mut count = 0;
     while count < most {
         match text.get(count) {
-            Some(byte) if !is_blank(*byte) => count += 1,
+            Some(byte) if *byte > b' ' => count += 1,
             _ => break,
         }
     }
@@ -139,7 +137,7 @@ fn count_of_glyphs(text: &[u8], most: usize) -> usize
 }
 
 /// A text up to its last glyph that is no blank.
-#[tactic(auto, using(crate::proofs::Blanks::without_blanks_behind_blank, crate::proofs::Blanks::without_blanks_behind_glyph))]
+#[tactic(auto, using(crate::proofs::Blanks::without_blanks_push))]
 fn without_trailing_blanks(text: &[u8]) -> &[u8]
     ensures { result.now ≡ without_blanks text.now }
 {

@@ -1,12 +1,12 @@
-use Rattle.std.proofs.Common.{◌≡◌, ◌≤◌, ◌-◌, ◌++◌, ℕ, length, take, drop}
-use Rattle.roff_lines.specs.Columns.{spread}
+use Rattle.std.proofs.Common.{◌≡◌, ◌≤◌, ◌-◌, ◌++◌, length, take, drop}
+use Rattle.roff_lines.specs.LineBytes.Fronts.{glyphs_in_front}
 use Rattle.roff_lines.proofs.line_bytes.count_of_glyphs.Given as goal
 
 abbrev pub invariant-loop-count : goal.invariant-loop-count
 invariant-loop-count l = record {
   text : l.count ≤ length l.text;
   most : l.count ≤ l.most;
-  glyphs : (spare gaps passed : ℕ) → take l.count l.text ++ spread spare gaps passed (drop l.count l.text) ≡ spread spare gaps passed l.text;
+  glyphs : take l.count l.text ++ glyphs_in_front (drop l.count l.text) ≡ glyphs_in_front l.text;
 }
 
 abbrev pub decreases-loop-count : goal.decreases-loop-count

@@ -1,5 +1,5 @@
 use Rattle.std.proofs.Common.{◌≡◌, length}
-use Rattle.roff_lines.specs.Columns.{without_blanks}
+use Rattle.roff_lines.specs.LineBytes.Fronts.{without_blanks}
 use Rattle.roff_lines.proofs.line_bytes.without_trailing_blanks.Given as goal
 
 abbrev pub invariant-loop-last : goal.invariant-loop-last
