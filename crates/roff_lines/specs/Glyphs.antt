@@ -2,7 +2,8 @@
 --
 -- A line's text is a list of bytes. Three of them stand for blanks, so that a gap, which adjusting
 -- may widen, is told from the blanks of a glyph, which it may not.
-use Rattle.std.specs.Prelude.{ℕ, ◌&&◌, List, [], ◌∷◌, nat_le, nat_lt, replicate, sum_by, count_by, if◌then◌else◌, ◌==◌}
+use Rattle.std.specs.Prelude.{ℕ, List, [], ◌∷◌, nat_le, replicate, sum_by, count_by, if◌then◌else◌, ◌==◌}
+pub use Rattle.roff_num.specs.Widths.{byte_width}
 use Rattle.roff_lines.specs.declared.glyph.Glyph.{Glyph}
 use Rattle.roff_lines.specs.declared.glyph.Glyph.TheVariants.{Printed, Blanks}
 
@@ -26,10 +27,6 @@ text_byte b = if nat_le b 32 then glyph_blank else b
 abbrev pub glyph_text : Glyph → List ℕ
 glyph_text (Printed b) = text_byte b ∷ []
 glyph_text (Blanks n) = replicate n glyph_blank
-
--- the columns of one byte of a text: none where it goes on with a character of several bytes
-abbrev pub byte_width : ℕ → ℕ
-byte_width b = if nat_le 128 b && nat_lt b 192 then 0 else 1
 
 -- the columns of a text
 abbrev pub text_width : List ℕ → ℕ

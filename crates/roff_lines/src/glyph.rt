@@ -1,7 +1,7 @@
 //! Glyphs: what a line prints in one piece.
 
 ghost use Rattle.std.specs.Prelude.{◌≡◌, length, if◌then◌else◌};
-ghost use Rattle.roff_lines.specs.Clauses.{byte_width, glyph_text, text_byte, is_closer, is_sentence_mark};
+ghost use Rattle.roff_lines.specs.Clauses.{glyph_text, text_byte, is_closer, is_sentence_mark};
 
 use crate::line::UNPADDABLE;
 
@@ -36,13 +36,6 @@ impl Glyph {
             Glyph::Printed(_) | Glyph::Blanks(_) => false,
         }
     }
-}
-
-/// The width of one byte of a line's text, in columns.
-pub(crate) fn width_of_byte(byte: u8) -> u64
-    ensures { result ≡ byte_width byte }
-{
-    if byte & 0xC0 == 0x80 { 0 } else { 1 }
 }
 
 /// What stands for a printed byte in a line's text.

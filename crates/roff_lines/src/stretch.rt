@@ -3,7 +3,7 @@
 ghost use Rattle.std.specs.Prelude.{◌≡◌, ℕ, ◌+◌, ◌<◌, ◌≤◌, [], ◌∷◌, ◌++◌, length, replicate, IfOk};
 ghost use Rattle.roff_lines.specs.Clauses.{text_width, gaps_in};
 
-use crate::glyph::width_of_byte;
+use roff_num::width_of_byte;
 use crate::line::GAP;
 use std::alloc::{AllocError, Global};
 use std::marker::Model;

@@ -10,6 +10,7 @@ pub mod Rounding
 pub mod Ranges
 pub mod Operators
 pub mod Steps
+pub mod Widths
 pub mod Numerals
 pub mod Expressions
 pub mod Reading

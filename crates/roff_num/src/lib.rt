@@ -17,6 +17,7 @@ mod num;
 mod number_tests;
 mod numeral;
 mod operator;
+mod width;
 
 pub use evaluation::eval;
 pub use format::{Format, NumText, read_format, write_num};
@@ -24,3 +25,4 @@ pub use limit::Limit;
 pub use limits::Limits;
 pub use name::Name;
 pub use num::{Num, NumFault, Scale, round_h, round_v};
+pub use width::width_of_byte;

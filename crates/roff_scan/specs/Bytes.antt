@@ -3,6 +3,9 @@ use Rattle.std.specs.Prelude.{ℕ, Bool, ◌&&◌, ◌||◌, not, [], ◌∷◌,
 use Rattle.std.specs.List.{list_any}
 
 -- bytes with a meaning
+abbrev pub tab : ℕ
+tab = 9
+
 abbrev pub newline : ℕ
 newline = 10
 
@@ -25,6 +28,6 @@ backslash = 92
 abbrev pub is_silent : ℕ → Bool
 is_silent b = list_any (λ c. b == c) (2 ∷ 3 ∷ 5 ∷ 6 ∷ 7 ∷ [])
 
--- all other control bytes but the newline are dropped as they are taken
+-- all other control bytes but the tab and the newline are dropped as they are taken
 abbrev pub is_dropped : ℕ → Bool
-is_dropped b = (nat_lt b 32 || b == 127) && not (b == newline || is_silent b)
+is_dropped b = (nat_lt b 32 || b == 127) && not (b == newline || b == tab || is_silent b)

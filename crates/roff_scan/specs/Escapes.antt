@@ -2,10 +2,12 @@
 use Rattle.std.specs.Prelude.{ℕ, Bool, true, false, List, [], ◌∷◌, find, Option, Some, None, ◌==◌}
 use Rattle.roff_scan.specs.Bytes.{backslash}
 use Rattle.roff_scan.specs.declared.escapes.Escape.{Escape}
-use Rattle.roff_scan.specs.declared.escapes.Escape.TheVariants.{Prints, Blank, NoWidth, Nothing, LeftOut, Comment, Size, Name as NameOf}
+use Rattle.roff_scan.specs.declared.escapes.Escape.TheVariants.{Prints, Blank, NoWidth, Nothing, LeftOut, Comment, Size, Name as NameOf, Text as TextOf, Width}
 use Rattle.roff_scan.specs.declared.escapes.NameUse.{NameUse}
 use Rattle.roff_scan.specs.declared.escapes.NameUse.TheVariants.{Register, Text, Argument, Character, Font, LeftOut as LeftOutName}
 use Rattle.roff_scan.specs.declared.escapes.Row.{Row}
+use Rattle.roff_scan.specs.declared.escapes.TextUse.{TextUse}
+use Rattle.roff_scan.specs.declared.escapes.TextUse.TheVariants.{Motion, LeftOut as LeftOutText}
 
 -- a row of the table
 abbrev pub row : ℕ → Escape → Row
@@ -42,6 +44,19 @@ escapes =
     ∷ row 103 (NameOf (LeftOutName 103))  -- \g
     ∷ row 106 (NameOf (LeftOutName 106))  -- \j
     ∷ row 107 (NameOf (LeftOutName 107))  -- \k
+    ∷ row 104 (TextOf Motion)  -- \h
+    ∷ row 119 Width  -- \w
+    ∷ row 98 (TextOf (LeftOutText 98))  -- \b
+    ∷ row 68 (TextOf (LeftOutText 68))  -- \D
+    ∷ row 72 (TextOf (LeftOutText 72))  -- \H
+    ∷ row 108 (TextOf (LeftOutText 108))  -- \l
+    ∷ row 76 (TextOf (LeftOutText 76))  -- \L
+    ∷ row 78 (TextOf (LeftOutText 78))  -- \N
+    ∷ row 111 (TextOf (LeftOutText 111))  -- \o
+    ∷ row 83 (TextOf (LeftOutText 83))  -- \S
+    ∷ row 118 (TextOf (LeftOutText 118))  -- \v
+    ∷ row 120 (TextOf (LeftOutText 120))  -- \x
+    ∷ row 88 (TextOf (LeftOutText 88))  -- \X
     ∷ row 97 LeftOut  -- \a
     ∷ row 100 LeftOut  -- \d
     ∷ row 112 LeftOut  -- \p

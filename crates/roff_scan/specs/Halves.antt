@@ -1,16 +1,19 @@
--- What is half read: backslashes, comments, and names and sizes behind escapes (manual, sections 2.3, 7.2, 8 and 10.1).
+-- What is half read: backslashes, comments, and names, sizes and texts behind escapes (manual, sections 2.3, 7.2, 8, 10.1
+-- and 11).
 --
 -- Units of copy mode are handed down from what stands above: a byte, or an escape that is kept.
-use Rattle.std.specs.Prelude.{ℕ, Bool, true, false, ◌&&◌, ◌||◌, not, List, [], ◌∷◌, length, take, nat_le, Option, Some, None, if◌then◌else◌, ◌==◌}
+use Rattle.std.specs.Prelude.{ℕ, Bool, true, false, ◌&&◌, ◌||◌, not, List, [], ◌∷◌, take, nat_le, Option, Some, None, if◌then◌else◌, ◌==◌}
 use Rattle.roff_store.specs.declared.register.Direction.TheVariants.{Up, Down}
-use Rattle.roff_scan.specs.Bytes.{newline, quote, dot, backslash}
+use Rattle.roff_scan.specs.Bytes.{tab, newline, quote, dot, backslash}
 use Rattle.roff_scan.specs.Escapes.{escape_of, is_copied}
+use Rattle.roff_scan.specs.Half.{Half, Backslash, Comment, Name, Size, Delimited, Width, unit_bytes, names_in, widths_in}
+use Rattle.roff_scan.specs.Measures.{columns_of, wider, byte_columns, escape_measures, name_measures, motion_of}
 use Rattle.roff_scan.specs.declared.escapes.Escape.{Escape as Kind}
-use Rattle.roff_scan.specs.declared.escapes.Escape.TheVariants.{Comment as BeginsComment, Size as BeginsSize, Name as BeginsName}
+use Rattle.roff_scan.specs.declared.escapes.Escape.TheVariants.{Comment as BeginsComment, Size as BeginsSize, Name as BeginsName, Text as BeginsText, Width as BeginsWidth}
 use Rattle.roff_scan.specs.declared.escapes.NameUse.{NameUse}
-use Rattle.roff_scan.specs.declared.escapes.NameUse.TheVariants.{Register, Argument, Character}
-use Rattle.roff_scan.specs.declared.half.Half.{Half}
-use Rattle.roff_scan.specs.declared.half.Half.TheVariants.{Backslash, Comment, Name, Size}
+use Rattle.roff_scan.specs.declared.escapes.NameUse.TheVariants.{Register, Text, Argument, Character, Font, LeftOut as LeftOutName}
+use Rattle.roff_scan.specs.declared.escapes.TextUse.{TextUse}
+use Rattle.roff_scan.specs.declared.escapes.TextUse.TheVariants.{Motion as OfMotion, LeftOut as LeftOutText}
 use Rattle.roff_scan.specs.declared.half.SizePart.{SizePart}
 use Rattle.roff_scan.specs.declared.half.SizePart.TheVariants.{Nothing as NoSize, Sign, Digit}
 use Rattle.roff_scan.specs.declared.half.NamePart.{NamePart}
@@ -18,12 +21,11 @@ use Rattle.roff_scan.specs.declared.half.NamePart.TheVariants.{Nothing, Opened, 
 use Rattle.roff_scan.specs.declared.half.CopyUnit.{CopyUnit}
 use Rattle.roff_scan.specs.declared.half.CopyUnit.TheVariants.{Byte, Kept}
 use Rattle.roff_scan.specs.declared.half.Read.{Read}
-use Rattle.roff_scan.specs.declared.half.Read.TheVariants.{GoesOn, Unit as GivesUnit, Escape, Asks}
-
--- the bytes of a unit: a byte, or a backslash and the byte behind it
-abbrev pub unit_bytes : CopyUnit → List ℕ
-unit_bytes (Byte b) = b ∷ []
-unit_bytes (Kept b) = backslash ∷ b ∷ []
+use Rattle.roff_scan.specs.declared.half.Read.TheVariants.{GoesOn, Unit as GivesUnit, Holds, Escape, Asks, Motion, Measures, Tells}
+use Rattle.roff_scan.specs.declared.half.Remark.{Remark}
+use Rattle.roff_scan.specs.declared.half.Surroundings.{Surroundings}
+use Rattle.roff_scan.specs.declared.measures.Measured.{Measured}
+use Rattle.roff_scan.specs.declared.half.Surroundings.TheVariants.{Text as InText, Arguments as InArguments, Copy as InCopy}
 
 -- what a byte, a unit or an ending gives, and what is half read then
 abbrev pub Reads : Type 0
@@ -33,9 +35,68 @@ Reads = Read × List Half
 abbrev pub most_names : ℕ
 most_names = 8
 
+-- within so many texts that are measured a further one isn't measured
+abbrev pub most_widths : ℕ
+most_widths = 8
+
+-- how a backslash is read above these: within names and texts too deep to be measured in copy mode, within texts between
+-- delimiters as in arguments, and within measured ones as in text
+abbrev pub surroundings : Bool → List Half → Surroundings
+surroundings is_text [] = if is_text then InText else InArguments
+surroundings is_text (Delimited purpose d text ∷ rest) = InArguments
+surroundings is_text (Width d width is_deep ∷ rest) = if is_deep then InCopy else InText
+surroundings is_text (half ∷ rest) = InCopy
+
+-- whether every escape is read there
+abbrev pub reads_text : Surroundings → Bool
+reads_text InText = true
+reads_text InArguments = false
+reads_text InCopy = false
+
+-- whether widths are
+abbrev pub reads_widths : Surroundings → Bool
+reads_widths InText = true
+reads_widths InArguments = true
+reads_widths InCopy = false
+
+-- what is said, if something is
+abbrev pub told : Option Remark → Read
+told None = GoesOn
+told (Some remark) = Tells remark
+
+-- a text that is measured grows by this
+abbrev pub grown : List Half → Option ℕ → ℕ → Bool → Measured → Reads
+grown rest d width is_deep measured = (told measured.remark, Width d (wider width measured.columns) is_deep ∷ rest)
+
+-- an escape of the text without a name, above these: a text that is measured grows by it
+abbrev pub escape_given : List Half → ℕ → Reads
+escape_given (Width d width is_deep ∷ rest) b = grown rest d width is_deep (escape_measures b (escape_of b))
+escape_given rest b = (Escape b, rest)
+
+-- a motion, above these
+abbrev pub motion_given : List Half → Measured → Reads
+motion_given (Width d width is_deep ∷ rest) measured = grown rest d width is_deep measured
+motion_given rest measured = (Motion measured.columns measured.remark, rest)
+
+-- whether what a name asks for is read in the place of its escape: a register, a string or an argument
+abbrev pub name_measured : List Half → Option ℕ → ℕ → Bool → NameUse → Option (List ℕ) → Reads
+name_measured rest d width is_deep purpose name =
+    if is_copied purpose then (Asks purpose name, Width d width is_deep ∷ rest)
+    else grown rest d width is_deep (name_measures purpose name)
+
+-- a name that was read above these: a text that is measured grows by what isn't read in the escape's place
+abbrev pub name_given : List Half → NameUse → Option (List ℕ) → Reads
+name_given (Width d width is_deep ∷ rest) purpose name = name_measured rest d width is_deep purpose name
+name_given rest purpose name = (Asks purpose name, rest)
+
+-- a text between delimiters that is whole, above these
+abbrev pub text_given : List Half → TextUse → List ℕ → Reads
+text_given rest OfMotion text = motion_given rest (motion_of text)
+text_given rest (LeftOutText b) text = escape_given rest b
+
 -- a name that is whole
 abbrev pub name_whole : List Half → NameUse → List ℕ → Reads
-name_whole rest purpose name = (Asks purpose (Some name), rest)
+name_whole rest purpose name = name_given rest purpose (Some name)
 
 -- the first unit of a name is all of it, unless a parenthesis opens one of two bytes
 abbrev pub name_or_opening : List Half → NameUse → ℕ → Reads
@@ -59,6 +120,11 @@ unit_of_name rest purpose Opened (Byte b) = (GoesOn, Name purpose (First b) ∷ 
 unit_of_name rest purpose Opened (Kept b) = name_whole rest purpose (unit_bytes (Kept b))
 unit_of_name rest purpose (First a) unit = name_whole rest purpose (take 2 (a ∷ unit_bytes unit))
 
+-- a unit of a text between delimiters: a motion's is held, and one that is left out is dropped
+abbrev pub unit_of_text : List Half → TextUse → Option ℕ → List ℕ → CopyUnit → Reads
+unit_of_text rest OfMotion d text unit = (Holds unit, Delimited OfMotion d text ∷ rest)
+unit_of_text rest (LeftOutText b) d text unit = (GoesOn, Delimited (LeftOutText b) d text ∷ rest)
+
 -- a unit, where this is half read
 abbrev pub unit_taken : List Half → CopyUnit → Reads
 unit_taken [] unit = (GivesUnit unit, [])
@@ -66,6 +132,8 @@ unit_taken (Backslash ∷ rest) unit = (GoesOn, Backslash ∷ rest)
 unit_taken (Comment ∷ rest) unit = (GoesOn, Comment ∷ rest)
 unit_taken (Name purpose part ∷ rest) unit = unit_of_name rest purpose part unit
 unit_taken (Size part ∷ rest) unit = (GoesOn, Size part ∷ rest)
+unit_taken (Delimited purpose d text ∷ rest) unit = unit_of_text rest purpose d text unit
+unit_taken (Width d width is_deep ∷ rest) unit = (GoesOn, Width d width is_deep ∷ rest)
 
 -- the byte behind a backslash of copy mode that begins nothing: a newline is dropped with its backslash
 abbrev pub copied_escape : List Half → ℕ → Reads
@@ -73,6 +141,7 @@ copied_escape rest b =
     if b == newline then (GoesOn, rest)
     else if b == backslash then unit_taken rest (Byte backslash)
     else if b == dot then unit_taken rest (Byte dot)
+    else if b == 116 then unit_taken rest (Byte tab)
     else unit_taken rest (Kept b)
 
 -- how much of a name its escape has: `\(` is a parenthesis itself
@@ -83,11 +152,15 @@ part_at_first (_) = Nothing
 -- a name begins, unless it would be one too many
 abbrev pub name_beginning : List Half → NameUse → Reads
 name_beginning rest purpose =
-    (GoesOn, (if nat_le most_names (length rest) then rest else Name purpose (part_at_first purpose) ∷ rest))
+    (GoesOn, (if nat_le most_names (names_in rest) then rest else Name purpose (part_at_first purpose) ∷ rest))
+
+-- a text that is measured begins, or one too deep for it
+abbrev pub width_beginning : List Half → Reads
+width_beginning rest = (GoesOn, Width None 0 (nat_le most_widths (widths_in rest)) ∷ rest)
 
 -- a size is over: an escape of the text
 abbrev pub size_over : List Half → Reads
-size_over rest = (Escape 115, rest)
+size_over rest = escape_given rest 115
 
 -- whether a byte is a sign, a digit, or a digit behind which another belongs to a size
 abbrev pub is_sign : ℕ → Bool
@@ -108,18 +181,41 @@ size_read rest NoSize b =
 size_read rest Sign b = size_over rest
 size_read rest Digit b = size_over rest
 
--- the byte behind a backslash in a text line or in copy mode, by what it means in text. Comments begin in both, and
--- so do some names.
-abbrev pub escape_read : Bool → List Half → ℕ → Kind → Reads
-escape_read in_text rest b BeginsComment = (GoesOn, Comment ∷ rest)
-escape_read in_text rest b BeginsSize = if in_text then (GoesOn, Size NoSize ∷ rest) else copied_escape rest b
-escape_read in_text rest b (BeginsName purpose) =
-    if is_copied purpose || in_text then name_beginning rest purpose else unit_taken rest (Kept b)
-escape_read in_text rest b (_) = if in_text then (Escape b, rest) else copied_escape rest b
+-- the byte behind a backslash, by what it means in text. Comments begin everywhere, and so do some names.
+abbrev pub escape_read : Surroundings → List Half → ℕ → Kind → Reads
+escape_read around rest b BeginsComment = (GoesOn, Comment ∷ rest)
+escape_read around rest b BeginsSize = if reads_text around then (GoesOn, Size NoSize ∷ rest) else copied_escape rest b
+escape_read around rest b (BeginsName purpose) =
+    if is_copied purpose || reads_text around then name_beginning rest purpose else unit_taken rest (Kept b)
+escape_read around rest b (BeginsText purpose) =
+    if reads_text around then (GoesOn, Delimited purpose None [] ∷ rest) else copied_escape rest b
+escape_read around rest b BeginsWidth = if reads_widths around then width_beginning rest else copied_escape rest b
+escape_read around rest b (_) = if reads_text around then escape_given rest b else copied_escape rest b
 
--- the byte behind a backslash; above a text line, or above arguments. Within names copy mode reads.
+-- the byte behind a backslash; above a text line, or above arguments
 abbrev pub escape_taken : Bool → List Half → ℕ → Reads
-escape_taken is_text rest b = escape_read (is_text && length rest == 0) rest b (escape_of b)
+escape_taken is_text rest b = escape_read (surroundings is_text rest) rest b (escape_of b)
+
+-- a byte of a text between delimiters: the first delimits it, whatever it is, and the same ends it
+abbrev pub byte_of_text : List Half → TextUse → Option ℕ → List ℕ → ℕ → Reads
+byte_of_text rest purpose None text b = (GoesOn, Delimited purpose (Some b) text ∷ rest)
+byte_of_text rest purpose (Some d) text b =
+    if b == d then text_given rest purpose text
+    else if b == backslash then (GoesOn, Backslash ∷ Delimited purpose (Some d) text ∷ rest)
+    else unit_of_text rest purpose (Some d) text (Byte b)
+
+-- a byte of a text that is measured grows it, unless it stands too deep
+abbrev pub byte_measured : List Half → Option ℕ → ℕ → Bool → ℕ → Reads
+byte_measured rest d width is_deep b =
+    if is_deep then (GoesOn, Width d width is_deep ∷ rest) else grown rest d width is_deep (columns_of (byte_columns b))
+
+-- the same where its delimiter may come
+abbrev pub byte_of_width : List Half → Option ℕ → ℕ → Bool → ℕ → Reads
+byte_of_width rest None width is_deep b = (GoesOn, Width (Some b) width is_deep ∷ rest)
+byte_of_width rest (Some d) width is_deep b =
+    if b == d then (Measures width, rest)
+    else if b == backslash then (GoesOn, Backslash ∷ Width (Some d) width is_deep ∷ rest)
+    else byte_measured rest (Some d) width is_deep b
 
 -- a byte that isn't dropped, where this is half read; above a text line, or above arguments
 abbrev pub byte_read : Bool → List Half → ℕ → Reads
@@ -129,30 +225,33 @@ byte_read is_text (Comment ∷ rest) b = (GoesOn, Comment ∷ rest)
 byte_read is_text (Name purpose part ∷ rest) b =
     if b == backslash then (GoesOn, Backslash ∷ Name purpose part ∷ rest) else unit_of_name rest purpose part (Byte b)
 byte_read is_text (Size part ∷ rest) b = size_read rest part b
+byte_read is_text (Delimited purpose d text ∷ rest) b = byte_of_text rest purpose d text b
+byte_read is_text (Width d width is_deep ∷ rest) b = byte_of_width rest d width is_deep b
 
 -- a name that ends before a newline or the input's end: without a byte it is none
 abbrev pub name_ended : List Half → NameUse → NamePart → Reads
-name_ended rest purpose Nothing = (Asks purpose None, rest)
-name_ended rest purpose Opened = (Asks purpose None, rest)
+name_ended rest purpose Nothing = name_given rest purpose None
+name_ended rest purpose Opened = name_given rest purpose None
 name_ended rest purpose (First a) = name_whole rest purpose (a ∷ [])
 
 -- The reading on top ends before what stays. A backslash of copy mode is a byte, and one of the text an escape
--- that gives nothing, as before a newline. A comment of the text is an escape.
+-- that gives nothing, as before a newline. A comment of the text is an escape. Texts end as at their delimiter.
 abbrev pub reading_ended : Bool → List Half → Reads
 reading_ended is_text [] = (GoesOn, [])
 reading_ended is_text (Backslash ∷ rest) =
-    if is_text && length rest == 0 then (Escape newline, []) else unit_taken rest (Byte backslash)
-reading_ended is_text (Comment ∷ rest) = if is_text && length rest == 0 then (Escape quote, []) else (GoesOn, rest)
+    if reads_text (surroundings is_text rest) then escape_given rest newline else unit_taken rest (Byte backslash)
+reading_ended is_text (Comment ∷ rest) =
+    if reads_text (surroundings is_text rest) then escape_given rest quote else (GoesOn, rest)
 reading_ended is_text (Name purpose part ∷ rest) = name_ended rest purpose part
 reading_ended is_text (Size part ∷ rest) = size_over rest
+reading_ended is_text (Delimited purpose d text ∷ rest) = text_given rest purpose text
+reading_ended is_text (Width d width is_deep ∷ rest) = (Measures width, rest)
 
 -- whether the reading on top looks at what stands in front before it is taken: a newline stays then, and ends it
 abbrev pub newline_stays : List Half → Bool
 newline_stays [] = false
 newline_stays (Backslash ∷ rest) = false
-newline_stays (Comment ∷ rest) = true
-newline_stays (Name purpose part ∷ rest) = true
-newline_stays (Size part ∷ rest) = true
+newline_stays (half ∷ rest) = true
 
 -- whether a byte belongs to a size of which so much is read
 abbrev pub is_of_size : SizePart → ℕ → Bool
@@ -165,7 +264,7 @@ abbrev pub ends_size : SizePart → Option ℕ → Bool
 ends_size part None = true
 ends_size part (Some b) = not (is_of_size part b)
 
--- whether it stays, and ends a name or a comment: a newline
+-- whether it stays, and ends a name, a comment or a text: a newline
 abbrev pub ends_at_newline : Option ℕ → Bool
 ends_at_newline None = false
 ends_at_newline (Some b) = b == newline
@@ -177,3 +276,5 @@ seen_stays (Backslash ∷ rest) seen = false
 seen_stays (Comment ∷ rest) seen = ends_at_newline seen
 seen_stays (Name purpose part ∷ rest) seen = ends_at_newline seen
 seen_stays (Size part ∷ rest) seen = ends_size part seen
+seen_stays (Delimited purpose d text ∷ rest) seen = ends_at_newline seen
+seen_stays (Width d width is_deep ∷ rest) seen = ends_at_newline seen

@@ -4,7 +4,8 @@
 use Rattle.std.specs.Prelude.{ℕ, ◌+◌, ◌*◌, Bool, true, false, List, [], ◌∷◌, ◌++◌, map, if◌then◌else◌, ◌==◌}
 use Rattle.roff_scan.specs.Arguments.{Arguments, no_arguments, only_kept, held}
 use Rattle.roff_scan.specs.Bytes.{newline}
-use Rattle.roff_scan.specs.declared.half.Half.{Half}
+use Rattle.roff_scan.specs.Half.{Half, texts_held, text_held}
+use Rattle.roff_scan.specs.declared.half.CopyUnit.{CopyUnit}
 
 -- an item ahead of the source
 pub data Ahead (E : Type 0) : Type 0 where
@@ -83,7 +84,7 @@ most_frees = 21
 
 -- what counts in the limit on the stack: unread pushed bytes, and the texts that are held while they are read
 abbrev pub pushed : {E : Type 0} → Input E → ℕ
-pushed i = bytes_ahead i.ahead + held i.arguments
+pushed i = bytes_ahead i.ahead + held i.arguments + texts_held i.half
 
 -- what counts in the limit on the depth: pushed texts that haven't ended
 abbrev pub depth : {E : Type 0} → Input E → ℕ
@@ -136,3 +137,7 @@ without_arguments i = record i { arguments = no_arguments }
 -- these arguments were read: of those that are whole only the ones to be kept are there
 abbrev pub with_arguments : {E : Type 0} → Arguments → Input E → Input E
 with_arguments a i = record i { arguments = only_kept a }
+
+-- one unit more is held of the text between delimiters that is being read
+abbrev pub holding_text : {E : Type 0} → CopyUnit → Input E → Input E
+holding_text unit i = record i { half = text_held unit i.half }

@@ -3,8 +3,11 @@ pub mod Bytes
 pub mod ReadSource
 pub mod Escapes
 pub mod Characters
+pub mod Half
+pub mod Measures
 pub mod Halves
 pub mod Nesting
+pub mod HalfTexts
 pub mod HalfLaws
 pub mod Arguments
 pub mod ArgumentTexts

@@ -10,9 +10,9 @@ pub fn is_silent(byte: u8) -> bool
     matches!(byte, 2 | 3 | 5 | 6 | 7)
 }
 
-/// Whether a byte is dropped as it is taken: all other control bytes but the newline.
+/// Whether a byte is dropped as it is taken: all other control bytes but the tab and the newline.
 pub fn is_dropped(byte: u8) -> bool
     ensures { result ≡ is_dropped byte }
 {
-    (byte < 32 || byte == 127) && byte != b'\n' && !is_silent(byte)
+    (byte < 32 || byte == 127) && byte != b'\n' && byte != b'\t' && !is_silent(byte)
 }

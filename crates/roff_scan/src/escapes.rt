@@ -25,6 +25,19 @@ pub enum Escape {
     Size,
     /// A name stands behind it.
     Name(NameUse),
+    /// A text between two delimiters stands behind it.
+    Text(TextUse),
+    /// A text between two delimiters stands behind it, and is measured.
+    Width,
+}
+
+/// What the text between two delimiters behind an escape is for.
+#[derive(Clone, Copy, Debug, PartialEq, Eq)]
+pub enum TextUse {
+    /// The length of a motion along the line.
+    Motion,
+    /// The escape of this byte is left out, and its text with it.
+    LeftOut(u8),
 }
 
 /// What the name behind an escape is for.
@@ -55,7 +68,7 @@ pub(crate) struct Row {
 
 /// The table of escapes. A byte that isn't in it prints itself.
 #[rattlefmt::skip]
-static ROWS: [Row; 35] = [
+static ROWS: [Row; 48] = [
     Row { byte: b'\\', escape: Escape::Prints(b'\\') },
     Row { byte: b'e', escape: Escape::Prints(b'\\') },
     Row { byte: b' ', escape: Escape::Blank },
@@ -84,6 +97,19 @@ static ROWS: [Row; 35] = [
     Row { byte: b'g', escape: Escape::Name(NameUse::LeftOut(b'g')) },
     Row { byte: b'j', escape: Escape::Name(NameUse::LeftOut(b'j')) },
     Row { byte: b'k', escape: Escape::Name(NameUse::LeftOut(b'k')) },
+    Row { byte: b'h', escape: Escape::Text(TextUse::Motion) },
+    Row { byte: b'w', escape: Escape::Width },
+    Row { byte: b'b', escape: Escape::Text(TextUse::LeftOut(b'b')) },
+    Row { byte: b'D', escape: Escape::Text(TextUse::LeftOut(b'D')) },
+    Row { byte: b'H', escape: Escape::Text(TextUse::LeftOut(b'H')) },
+    Row { byte: b'l', escape: Escape::Text(TextUse::LeftOut(b'l')) },
+    Row { byte: b'L', escape: Escape::Text(TextUse::LeftOut(b'L')) },
+    Row { byte: b'N', escape: Escape::Text(TextUse::LeftOut(b'N')) },
+    Row { byte: b'o', escape: Escape::Text(TextUse::LeftOut(b'o')) },
+    Row { byte: b'S', escape: Escape::Text(TextUse::LeftOut(b'S')) },
+    Row { byte: b'v', escape: Escape::Text(TextUse::LeftOut(b'v')) },
+    Row { byte: b'x', escape: Escape::Text(TextUse::LeftOut(b'x')) },
+    Row { byte: b'X', escape: Escape::Text(TextUse::LeftOut(b'X')) },
     Row { byte: b'a', escape: Escape::LeftOut },
     Row { byte: b'd', escape: Escape::LeftOut },
     Row { byte: b'p', escape: Escape::LeftOut },

@@ -1,6 +1,6 @@
-//! What is half read: backslashes, comments, and names and sizes behind escapes.
+//! What is half read: backslashes, comments, and names, sizes and texts behind escapes.
 
-use crate::escapes::NameUse;
+use crate::escapes::{NameUse, TextUse};
 use roff_num::Name;
 
 /// A unit of copy mode.
@@ -34,9 +34,20 @@ pub enum SizePart {
     Digit,
 }
 
-/// Something that is half read.
+/// How the byte behind a backslash is read.
+#[derive(Clone, Copy, Debug, PartialEq, Eq)]
+pub enum Surroundings {
+    /// As in a text line: every escape is one.
+    Text,
+    /// As in arguments: copied, but for widths.
+    Arguments,
+    /// In copy mode.
+    Copy,
+}
+
+/// Something that is half read. The texts between delimiters stand behind each other in one block.
 #[derive(Clone, Copy, Debug, Default, PartialEq, Eq)]
-pub enum Half {
+pub(crate) enum HalfRead {
     /// A backslash: the byte behind it comes next.
     #[default]
     Backslash,
@@ -46,6 +57,25 @@ pub enum Half {
     Name(NameUse, NamePart),
     /// A size behind an escape, which is read without effect.
     Size(SizePart),
+    /// The text behind an escape between two delimiters, and where it begins in the block; without a
+    /// delimiter that comes next.
+    Delimited(TextUse, Option<u8>, usize),
+    /// A text that is measured: its delimiter, its width so far in basic units, and whether it
+    /// stands too deep within others to be measured.
+    Width(Option<u8>, u32, bool),
+}
+
+/// What is said of something that is read.
+#[derive(Drop)]
+pub enum Remark {
+    /// The escape of this byte is left out.
+    LeftOut(u8),
+    /// No character has this name; none, if it ended before a byte of it.
+    UnknownCharacter(Option<Name>),
+    /// The length of a motion isn't a number, or is out of range.
+    BadNumber,
+    /// The length of a motion is below 0.
+    BackwardMotion,
 }
 
 /// What a byte, or the end of a reading, gives.
@@ -55,9 +85,17 @@ pub enum Read {
     GoesOn,
     /// A unit for the line: nothing is half read.
     Unit(CopyUnit),
-    /// An escape of the text without a name, or a comment or a size that ended, by the byte behind the
-    /// backslash: nothing is half read.
+    /// A unit for the text between delimiters that is being read.
+    Holds(CopyUnit),
+    /// An escape of the text without a name, or a comment, a size or a left-out text that ended, by
+    /// the byte behind the backslash: nothing is half read.
     Escape(u8),
     /// A name behind an escape is read; none, if it ended before a byte of it.
     Asks(NameUse, Option<Name>),
+    /// A motion of so many columns along the line, and what is said of it: nothing is half read.
+    Motion(u32, Option<Remark>),
+    /// A text was measured: its width in basic units is read in its place.
+    Measures(u32),
+    /// This is said of something within a text that is measured.
+    Tells(Remark),
 }

@@ -1,56 +1,67 @@
-//! Reading behind backslashes: units of copy mode, comments, and the names and sizes behind escapes.
+//! Reading behind backslashes: units of copy mode, comments, and the names, sizes and texts behind escapes.
 
-ghost use Rattle.std.specs.Prelude.{◌≡◌, ◌≤◌, ◌==◌, List, [], ◌∷◌, length, MatchOption};
-ghost use Rattle.roff_scan.specs.Halves.{byte_read, copied_escape, escape_taken, is_of_size, name_beginning, name_begun, name_ended, newline_stays, part_at_first, reading_ended, seen_stays, size_read, unit_of_name, unit_taken};
-ghost use Rattle.roff_scan.specs.Nesting.{AreNames, IsNested};
-ghost use Rattle.roff_scan.specs.declared.half.Half.{Half as HalfOf};
-ghost use Rattle.roff_scan.specs.declared.half.Half.TheVariants.{Name as HalfName};
+ghost use Rattle.std.specs.Prelude.{◌≡◌, ◌≤◌, ◌+◌, ◌==◌, ℕ, true, List, Option, [], ◌∷◌, length, IfOk, MatchOption};
+ghost use Rattle.roff_scan.specs.Escapes.{escape_of as kind_of};
+ghost use Rattle.roff_scan.specs.Half.{Half, Delimited as DelimitedHalf, Name as NameHalf, Size as SizeHalf, Width as WidthHalf, names_in, text_held, texts_held, widths_in};
+ghost use Rattle.roff_scan.specs.HalfTexts.{BeginsBehind, IsOnTop, begun, leaving};
+ghost use Rattle.roff_scan.specs.Halves.{byte_of_text, byte_of_width, byte_read, copied_escape, escape_given, escape_taken, grown, is_of_size, motion_given, name_beginning, name_begun, name_ended, name_given, newline_stays, part_at_first, reading_ended, reads_widths, seen_stays, size_read, surroundings, text_given, unit_of_name, unit_of_text, unit_taken, width_beginning};
+ghost use Rattle.roff_scan.specs.Nesting.{IsNested, is_open};
 ghost use Rattle.roff_scan.specs.declared.half.Read.TheVariants.{Asks};
 ghost use Rattle.roff_scan.specs.declared.escapes.NameUse.{NameUse as UseOf};
 
-use crate::escapes::{Escape, NameUse, escape_of};
-use crate::half::{CopyUnit, Half, NamePart, Read, SizePart};
+use crate::escapes::{Escape, NameUse, TextUse, escape_of};
+use crate::half::{CopyUnit, HalfRead, NamePart, Read, SizePart, Surroundings};
+use crate::measures::{Measured, byte_columns, wider};
 use arrayvec::ArrayVec;
 use roff_num::Name;
 use roff_store::Direction;
+use std::alloc::{AllocError, Global};
 use std::marker::Model;
 
 /// Within so many names a further one isn't read.
 const MOST_NAMES: usize = 8;
 
-/// What is half read: names within each other, and a backslash, a comment or a size on top of them.
+/// Within so many texts that are measured a further one isn't measured.
+const MOST_WIDTHS: usize = 8;
+
+/// What is half read: names and texts within each other, and a backslash, a comment or a size on top
+/// of them.
+///
+/// All its memory is reserved as it is made.
 #[derive(Drop)]
 pub(crate) struct Halves {
     /// The innermost at the back.
-    items: ArrayVec<Half, 16>,
+    items: ArrayVec<HalfRead, 32>,
+    /// The texts between delimiters, behind each other.
+    texts: Vec<u8>,
+    room: u32,
 }
 
 impl Model for Halves {
-    ghost use Rattle.std.specs.Prelude.{List, reverse};
-    ghost use Rattle.roff_scan.specs.declared.half.Half.{Half};
+    ghost use Rattle.roff_scan.specs.HalfTexts.{IsSound, KeptHalves, kept_by};
 
-    ghost Value = { List Half };
+    ghost Value = { KeptHalves };
 
-    ghost use Rattle.roff_scan.specs.Nesting.{IsNested};
+    ghost view = { kept_by };
 
-    ghost view = { λ h. reverse h.items.items };
-
-    ghost invariant = { λ h. IsNested (reverse h.items.items) };
+    ghost invariant = { IsSound };
 }
 
 impl Halves {
-    /// Nothing is half read.
-    pub(crate) fn new() -> Self
-        ensures { result ≡ [] }
+    /// Nothing is half read, with room for so many bytes of texts.
+    pub(crate) fn new(alloc: Global, room: u32) -> Result<Self, AllocError>
+        ensures { IfOk result (λ h. h ≡ record { half = []; room = room }) }
     {
-        Halves {
+        Ok(Halves {
             items: ArrayVec::new(),
-        }
+            texts: Vec::with_capacity(alloc, room as usize)?,
+            room,
+        })
     }
 
     /// Whether nothing is half read.
     pub(crate) fn is_empty(&self) -> bool
-        ensures { result ≡ (length self.now == 0) }
+        ensures { result ≡ (length self.now.half == 0) }
     {
         self.items.is_empty()
     }
@@ -58,95 +69,169 @@ impl Halves {
     /// Whether the reading on top looks at what stands in front before it is taken: a newline stays
     /// then, and ends it.
     pub(crate) fn newline_stays(&self) -> bool
-        ensures { result ≡ newline_stays self.now }
+        ensures { result ≡ newline_stays self.now.half }
     {
-        matches!(
-            self.items.as_slice().last(),
-            Some(Half::Name(..) | Half::Comment | Half::Size(_))
-        )
+        match self.top() {
+            None => false,
+            Some(HalfRead::Backslash) => false,
+            Some(_) => true,
+        }
     }
 
     /// Whether what it sees there stays, and ends it: a byte, or nothing that can be read.
     pub(crate) fn seen_stays(&self, seen: Option<u8>) -> bool
-        ensures { result ≡ seen_stays self.now seen }
+        ensures { result ≡ seen_stays self.now.half seen }
     {
-        match self.items.as_slice().last() {
-            Some(Half::Name(..) | Half::Comment) => seen == Some(b'\n'),
-            Some(Half::Size(part)) => match seen {
-                Some(byte) => !is_of_size(*part, byte),
+        match self.top() {
+            None => false,
+            Some(HalfRead::Backslash) => false,
+            Some(HalfRead::Size(part)) => match seen {
+                Some(byte) => !is_of_size(part, byte),
                 None => true,
             },
-            _ => false,
+            Some(_) => seen == Some(b'\n'),
+        }
+    }
+
+    /// How many bytes of texts between delimiters are held.
+    pub(crate) fn held(&self) -> usize
+        ensures { result ≡ texts_held self.now.half }
+    {
+        self.texts.len()
+    }
+
+    /// How many bytes more would be held behind a unit of the text that is being read.
+    pub(crate) fn bytes_more(&self, unit: CopyUnit) -> usize
+        ensures { texts_held (text_held unit self.now.half) ≡ texts_held self.now.half + result }
+    {
+        match (self.top(), unit) {
+            (Some(HalfRead::Delimited(..)), CopyUnit::Byte(_)) => 1,
+            (Some(HalfRead::Delimited(..)), CopyUnit::Kept(_)) => 2,
+            _ => 0,
+        }
+    }
+
+    /// Holds one unit more of the text that is being read.
+    pub(crate) fn hold(&mut self, unit: CopyUnit)
+        requires { texts_held (text_held unit self.old.half) ≤ self.old.room }
+        ensures { self.new ≡ record self.old { half = text_held unit self.old.half } }
+    {
+        if let Some(HalfRead::Delimited(..)) = self.top() {
+            match unit {
+                CopyUnit::Byte(byte) => self.texts.push(byte).unwrap(),
+                CopyUnit::Kept(byte) => {
+                    self.texts.push(b'\\').unwrap();
+                    self.texts.push(byte).unwrap();
+                }
+            }
         }
     }
 
     /// Reads a byte that isn't dropped; above a text line, or above arguments.
     pub(crate) fn read_byte(&mut self, is_text: bool, byte: u8) -> Read
-        ensures { (result, self.new) ≡ byte_read is_text self.old byte }
+        ensures { (result, self.new) ≡ leaving (byte_read is_text self.old.half byte) self.old }
     {
-        match self.pop() {
+        match self.top() {
             None => {
                 if byte == b'\\' {
-                    self.push(Half::Backslash);
+                    self.push(HalfRead::Backslash);
                     Read::GoesOn
                 } else {
                     Read::Unit(CopyUnit::Byte(byte))
                 }
             }
-            Some(Half::Backslash) => self.read_escape(is_text, byte),
-            Some(Half::Comment) => {
-                self.push(Half::Comment);
-                Read::GoesOn
+            Some(HalfRead::Backslash) => {
+                self.pop();
+                self.read_escape(is_text, byte)
             }
-            Some(Half::Name(purpose, part)) => {
+            Some(HalfRead::Comment) => Read::GoesOn,
+            Some(HalfRead::Name(purpose, part)) => {
                 if byte == b'\\' {
-                    self.push(Half::Name(purpose, part));
-                    self.push(Half::Backslash);
+                    self.push(HalfRead::Backslash);
                     Read::GoesOn
                 } else {
+                    self.pop();
                     self.read_unit_of_name(purpose, part, CopyUnit::Byte(byte))
                 }
             }
-            Some(Half::Size(part)) => self.read_size(part, byte),
+            Some(HalfRead::Size(part)) => {
+                self.pop();
+                self.read_size(part, byte)
+            }
+            Some(HalfRead::Delimited(purpose, delimiter, begin)) => {
+                self.read_byte_of_text(purpose, delimiter, begin, byte)
+            }
+            Some(HalfRead::Width(delimiter, width, is_deep)) => {
+                self.read_byte_of_width(delimiter, width, is_deep, byte)
+            }
         }
     }
 
     /// Ends the reading on top, before what stays.
     pub(crate) fn end_reading(&mut self, is_text: bool) -> Read
-        ensures { (result, self.new) ≡ reading_ended is_text self.old }
+        ensures { (result, self.new) ≡ leaving (reading_ended is_text self.old.half) self.old }
     {
-        match self.pop() {
+        match self.top() {
             None => Read::GoesOn,
-            Some(Half::Backslash) => {
-                if is_text && self.is_empty() {
-                    Read::Escape(b'\n')
+            Some(HalfRead::Backslash) => {
+                self.pop();
+                if self.surroundings(is_text) == Surroundings::Text {
+                    self.give_escape(b'\n')
                 } else {
                     self.read_unit(CopyUnit::Byte(b'\\'))
                 }
             }
-            Some(Half::Comment) => {
-                if is_text && self.is_empty() {
-                    Read::Escape(b'"')
+            Some(HalfRead::Comment) => {
+                self.pop();
+                if self.surroundings(is_text) == Surroundings::Text {
+                    self.give_escape(b'"')
                 } else {
                     Read::GoesOn
                 }
             }
-            Some(Half::Name(purpose, part)) => Read::Asks(purpose, name_so_far(part)),
-            Some(Half::Size(_)) => Read::Escape(b's'),
+            Some(HalfRead::Name(purpose, part)) => {
+                self.pop();
+                self.give_name(purpose, name_so_far(part))
+            }
+            Some(HalfRead::Size(_)) => {
+                self.pop();
+                self.give_escape(b's')
+            }
+            Some(HalfRead::Delimited(purpose, _, begin)) => self.end_text(purpose, begin),
+            Some(HalfRead::Width(_, width, _)) => {
+                self.pop();
+                Read::Measures(width)
+            }
+        }
+    }
+
+    /// How the byte behind a backslash above these is read; above a text line, or above arguments.
+    fn surroundings(&self, is_text: bool) -> Surroundings
+        ensures { result ≡ surroundings is_text self.now.half }
+    {
+        match self.top() {
+            None => {
+                if is_text {
+                    Surroundings::Text
+                } else {
+                    Surroundings::Arguments
+                }
+            }
+            Some(HalfRead::Delimited(..)) => Surroundings::Arguments,
+            Some(HalfRead::Width(_, _, false)) => Surroundings::Text,
+            Some(_) => Surroundings::Copy,
         }
     }
 
     /// The byte behind a backslash, which is off already.
     fn read_escape(&mut self, is_text: bool, byte: u8) -> Read
-        requires { AreNames self.old }
-        ensures { (result, self.new) ≡ escape_taken is_text self.old byte }
+        requires { is_open self.old.half ≡ true }
+        ensures { (result, self.new) ≡ leaving (escape_taken is_text self.old.half byte) self.old }
     {
-        let in_text = is_text && self.is_empty();
+        let around = self.surroundings(is_text);
+        let in_text = around == Surroundings::Text;
         match escape_of(byte) {
-            Escape::Comment => {
-                self.push(Half::Comment);
-                Read::GoesOn
-            }
+            Escape::Comment => self.begin(HalfRead::Comment),
             Escape::Name(purpose) => {
                 if purpose.is_copied() || in_text {
                     self.begin_name(purpose)
@@ -154,130 +239,346 @@ impl Halves {
                     self.read_unit(CopyUnit::Kept(byte))
                 }
             }
-            Escape::Size => {
-                if in_text {
-                    self.push(Half::Size(SizePart::Nothing));
-                    Read::GoesOn
-                } else {
+            Escape::Width => {
+                if around == Surroundings::Copy {
                     self.copy_escape(byte)
+                } else {
+                    self.begin_width()
                 }
             }
-            _ => {
-                if in_text {
-                    Read::Escape(byte)
-                } else {
-                    self.copy_escape(byte)
-                }
+            Escape::Size if in_text => self.begin(HalfRead::Size(SizePart::Nothing)),
+            Escape::Text(purpose) if in_text => {
+                self.begin(HalfRead::Delimited(purpose, None, self.texts.len()))
             }
+            _ if in_text => self.give_escape(byte),
+            _ => self.copy_escape(byte),
         }
     }
 
     /// The byte behind a backslash of copy mode that begins nothing.
     fn copy_escape(&mut self, byte: u8) -> Read
-        requires { AreNames self.old }
-        ensures { (result, self.new) ≡ copied_escape self.old byte }
+        ensures { (result, self.new) ≡ leaving (copied_escape self.old.half byte) self.old }
     {
         match byte {
             b'\n' => Read::GoesOn,
             b'\\' | b'.' => self.read_unit(CopyUnit::Byte(byte)),
+            b't' => self.read_unit(CopyUnit::Byte(b'\t')),
             _ => self.read_unit(CopyUnit::Kept(byte)),
         }
     }
 
+    /// Something begins, which may stand above these.
+    fn begin(&mut self, half: HalfRead) -> Read
+        requires stands { IsNested (begun half ∷ self.old.half) }
+        requires begins { BeginsBehind (texts_held self.old.half) half }
+        ensures going { result ≡ Read.GoesOn }
+        ensures begun { self.new ≡ record self.old { half = begun half ∷ self.old.half } }
+    {
+        self.push(half);
+        Read::GoesOn
+    }
+
     /// A name begins, unless it would be one too many.
     fn begin_name(&mut self, purpose: NameUse) -> Read
-        requires { AreNames self.old }
-        ensures { (result, self.new) ≡ name_beginning self.old purpose }
+        requires { is_open self.old.half ≡ true }
+        ensures { (result, self.new) ≡ leaving (name_beginning self.old.half purpose) self.old }
     {
-        if self.items.len() < MOST_NAMES {
-            self.push(Half::Name(purpose, part_at_first(purpose)));
+        if self.names() < MOST_NAMES {
+            self.push(HalfRead::Name(purpose, part_at_first(purpose)));
         }
         Read::GoesOn
     }
 
+    /// A text that is measured begins, or one too deep for it.
+    fn begin_width(&mut self) -> Read
+        requires open { is_open self.old.half ≡ true }
+        requires around { reads_widths (surroundings true self.old.half) ≡ true }
+        ensures { (result, self.new) ≡ leaving (width_beginning self.old.half) self.old }
+    {
+        let is_deep = self.widths() >= MOST_WIDTHS;
+        self.push(HalfRead::Width(None, 0, is_deep));
+        Read::GoesOn
+    }
+
+    /// How many names are half read.
+    fn names(&self) -> usize
+        ensures { result ≡ names_in self.now.half }
+    {
+        let mut count = 0;
+        for item in self.items.iter() {
+            if let HalfRead::Name(..) = item {
+                count += 1;
+            }
+        }
+        count
+    }
+
+    /// How many texts are being measured.
+    fn widths(&self) -> usize
+        ensures { result ≡ widths_in self.now.half }
+    {
+        let mut count = 0;
+        for item in self.items.iter() {
+            if let HalfRead::Width(..) = item {
+                count += 1;
+            }
+        }
+        count
+    }
+
     /// A unit of copy mode.
     fn read_unit(&mut self, unit: CopyUnit) -> Read
-        requires { AreNames self.old }
-        ensures { (result, self.new) ≡ unit_taken self.old unit }
+        ensures { (result, self.new) ≡ leaving (unit_taken self.old.half unit) self.old }
     {
-        match self.pop() {
+        match self.top() {
             None => Read::Unit(unit),
-            Some(Half::Name(purpose, part)) => self.read_unit_of_name(purpose, part, unit),
-            Some(Half::Backslash) => unreachable!(),
-            Some(Half::Comment) => unreachable!(),
-            Some(Half::Size(_)) => unreachable!(),
+            Some(HalfRead::Name(purpose, part)) => {
+                self.pop();
+                self.read_unit_of_name(purpose, part, unit)
+            }
+            Some(HalfRead::Delimited(purpose, _, _)) => unit_of_text(purpose, unit),
+            Some(_) => Read::GoesOn,
         }
     }
 
     /// A byte of a size, which is off already: behind no sign a second digit belongs to it where the
     /// first is 1, 2 or 3.
     fn read_size(&mut self, part: SizePart, byte: u8) -> Read
-        requires { AreNames self.old }
-        ensures { (result, self.new) ≡ size_read self.old part byte }
+        requires { IsNested (SizeHalf part ∷ self.old.half) }
+        ensures { (result, self.new) ≡ leaving (size_read self.old.half part byte) self.old }
     {
         let part = match (part, byte) {
             (SizePart::Nothing, b'+' | b'-') => SizePart::Sign,
             (SizePart::Nothing, b'1'..=b'3') => SizePart::Digit,
-            _ => return Read::Escape(b's'),
+            _ => return self.give_escape(b's'),
         };
-        self.push(Half::Size(part));
+        self.push(HalfRead::Size(part));
         Read::GoesOn
     }
 
     /// A unit of a name, which is off already.
     fn read_unit_of_name(&mut self, purpose: NameUse, part: NamePart, unit: CopyUnit) -> Read
-        requires { AreNames (HalfName purpose part ∷ self.old) }
-        ensures { (result, self.new) ≡ unit_of_name self.old purpose part unit }
+        requires { IsNested (NameHalf purpose part ∷ self.old.half) }
+        ensures { (result, self.new)
+            ≡ leaving (unit_of_name self.old.half purpose part unit) self.old }
     {
         let kept = match (part, unit) {
             (NamePart::Nothing, CopyUnit::Byte(byte)) => return self.read_first(purpose, byte),
             (NamePart::Nothing, CopyUnit::Kept(byte)) => [b'\\', byte],
             (NamePart::Opened, CopyUnit::Byte(byte)) => {
-                self.push(Half::Name(purpose, NamePart::First(byte)));
+                self.push(HalfRead::Name(purpose, NamePart::First(byte)));
                 return Read::GoesOn;
             }
             (NamePart::Opened, CopyUnit::Kept(byte)) => [b'\\', byte],
             (NamePart::First(first), CopyUnit::Byte(byte)) => [first, byte],
             (NamePart::First(first), CopyUnit::Kept(_)) => [first, b'\\'],
         };
-        Read::Asks(purpose, Some(short_name(&kept)))
+        self.give_name(purpose, Some(short_name(&kept)))
     }
 
     /// The first byte of a name, which is off already: a sign, a parenthesis, or all of it.
     fn read_first(&mut self, purpose: NameUse, byte: u8) -> Read
-        requires { AreNames (HalfName purpose NamePart.Nothing ∷ self.old) }
-        ensures { (result, self.new) ≡ name_begun self.old purpose byte }
+        requires { IsNested (NameHalf purpose NamePart.Nothing ∷ self.old.half) }
+        ensures { (result, self.new) ≡ leaving (name_begun self.old.half purpose byte) self.old }
     {
         let half = match (byte, purpose) {
             (b'+', NameUse::Register(None)) => {
-                Half::Name(NameUse::Register(Some(Direction::Up)), NamePart::Nothing)
+                HalfRead::Name(NameUse::Register(Some(Direction::Up)), NamePart::Nothing)
             }
             (b'-', NameUse::Register(None)) => {
-                Half::Name(NameUse::Register(Some(Direction::Down)), NamePart::Nothing)
+                HalfRead::Name(NameUse::Register(Some(Direction::Down)), NamePart::Nothing)
             }
-            (_, NameUse::Argument) => return Read::Asks(purpose, Some(short_name(&[byte]))),
-            (b'(', _) => Half::Name(purpose, NamePart::Opened),
-            _ => return Read::Asks(purpose, Some(short_name(&[byte]))),
+            (_, NameUse::Argument) => {
+                return self.give_name(purpose, Some(short_name(&[byte])));
+            }
+            (b'(', _) => HalfRead::Name(purpose, NamePart::Opened),
+            _ => return self.give_name(purpose, Some(short_name(&[byte]))),
         };
         self.push(half);
         Read::GoesOn
     }
 
-    /// Puts something on top.
-    fn push(&mut self, half: Half)
-        requires { IsNested (half ∷ self.old) }
-        ensures { self.new ≡ half ∷ self.old }
+    /// A byte of the text between delimiters on top: the first delimits it, and the same ends it.
+    fn read_byte_of_text(
+        &mut self,
+        purpose: TextUse,
+        delimiter: Option<u8>,
+        begin: usize,
+        byte: u8,
+    ) -> Read
+        ensures { (rest : List Half) → IsOnTop (HalfRead.Delimited purpose delimiter begin) self.old.half rest
+            → (result, self.new) ≡ leaving (byte_read true self.old.half byte) self.old }
+    {
+        match delimiter {
+            None => {
+                self.replace(HalfRead::Delimited(purpose, Some(byte), begin));
+                Read::GoesOn
+            }
+            Some(delimiter) => {
+                if byte == delimiter {
+                    self.end_text(purpose, begin)
+                } else if byte == b'\\' {
+                    self.begin(HalfRead::Backslash)
+                } else {
+                    unit_of_text(purpose, CopyUnit::Byte(byte))
+                }
+            }
+        }
+    }
+
+    /// A byte of the text on top that is measured.
+    fn read_byte_of_width(
+        &mut self,
+        delimiter: Option<u8>,
+        width: u32,
+        is_deep: bool,
+        byte: u8,
+    ) -> Read
+        ensures { (rest : List Half) → self.old.half ≡ WidthHalf delimiter width is_deep ∷ rest
+            → (result, self.new)
+            ≡ leaving (byte_of_width rest delimiter width is_deep byte) self.old }
+    {
+        match delimiter {
+            None => {
+                self.replace(HalfRead::Width(Some(byte), width, is_deep));
+                Read::GoesOn
+            }
+            Some(delimiter) => {
+                if byte == delimiter {
+                    self.pop();
+                    Read::Measures(width)
+                } else if byte == b'\\' {
+                    self.begin(HalfRead::Backslash)
+                } else if is_deep {
+                    Read::GoesOn
+                } else {
+                    let columns = Measured::columns(byte_columns(byte));
+                    self.grow(Some(delimiter), width, is_deep, columns)
+                }
+            }
+        }
+    }
+
+    /// The text between delimiters on top is whole.
+    fn end_text(&mut self, purpose: TextUse, begin: usize) -> Read
+        ensures { (delimiter : Option ℕ) (rest : List Half)
+            → IsOnTop (HalfRead.Delimited purpose delimiter begin) self.old.half rest
+            → (result, self.new) ≡ leaving (reading_ended true self.old.half) self.old }
+    {
+        match purpose {
+            TextUse::Motion => {
+                let measured = Measured::of_motion(&self.texts[begin..]);
+                self.pop();
+                self.give_motion(measured)
+            }
+            TextUse::LeftOut(byte) => {
+                self.pop();
+                self.give_escape(byte)
+            }
+        }
+    }
+
+    /// An escape of the text without a name: a text that is measured grows by it.
+    fn give_escape(&mut self, byte: u8) -> Read
+        ensures { (result, self.new) ≡ leaving (escape_given self.old.half byte) self.old }
+    {
+        match self.top() {
+            Some(HalfRead::Width(delimiter, width, is_deep)) => {
+                self.grow(delimiter, width, is_deep, Measured::of_escape(byte))
+            }
+            _ => Read::Escape(byte),
+        }
+    }
+
+    /// A motion: a text that is measured grows by it.
+    fn give_motion(&mut self, measured: Measured) -> Read
+        ensures { (result, self.new) ≡ leaving (motion_given self.old.half measured) self.old }
+    {
+        match self.top() {
+            Some(HalfRead::Width(delimiter, width, is_deep)) => {
+                self.grow(delimiter, width, is_deep, measured)
+            }
+            _ => Read::Motion(measured.columns, measured.remark),
+        }
+    }
+
+    /// A name: a text that is measured grows by what isn't read in the escape's place.
+    fn give_name(&mut self, purpose: NameUse, name: Option<Name>) -> Read
+        ensures { (result, self.new) ≡ leaving (name_given self.old.half purpose name) self.old }
+    {
+        match self.top() {
+            Some(HalfRead::Width(delimiter, width, is_deep)) if !purpose.is_copied() => {
+                self.grow(delimiter, width, is_deep, Measured::of_name(purpose, name))
+            }
+            _ => Read::Asks(purpose, name),
+        }
+    }
+
+    /// The text on top that is measured grows.
+    fn grow(
+        &mut self,
+        delimiter: Option<u8>,
+        width: u32,
+        is_deep: bool,
+        measured: Measured,
+    ) -> Read
+        ensures { (rest : List Half) → self.old.half ≡ WidthHalf delimiter width is_deep ∷ rest
+            → (result, self.new) ≡ leaving (grown rest delimiter width is_deep measured) self.old }
+    {
+        self.replace(HalfRead::Width(
+            delimiter,
+            wider(width, measured.columns),
+            is_deep,
+        ));
+        match measured.remark {
+            None => Read::GoesOn,
+            Some(remark) => Read::Tells(remark),
+        }
+    }
+
+    /// What is on top; the text that it has there stays.
+    fn top(&self) -> Option<HalfRead>
+        ensures { MatchOption result (self.now.half ≡ [])
+            (λ item. Σ (λ rest. IsOnTop item self.now.half rest)) }
+    {
+        self.items.as_slice().last().copied()
+    }
+
+    /// Puts something on top, which may stand there.
+    fn push(&mut self, half: HalfRead)
+        requires stands { IsNested (begun half ∷ self.old.half) }
+        requires begins { BeginsBehind (texts_held self.old.half) half }
+        ensures { self.new ≡ record self.old { half = begun half ∷ self.old.half } }
     {
         self.items.push(half);
     }
 
-    /// Takes off what is on top.
-    fn pop(&mut self) -> Option<Half>
-        ensures nested { IsNested self.old }
-        ensures rest { MatchOption result ((self.old ≡ []) × (self.new ≡ []))
-            (λ half. self.old ≡ half ∷ self.new) }
+    /// Puts something in the place of what is on top.
+    fn replace(&mut self, half: HalfRead) {
+        self.items.pop();
+        self.items.push(half);
+    }
+
+    /// Takes off what is on top, and its text.
+    fn pop(&mut self)
+        ensures { (item : HalfRead) (rest : List Half) → IsOnTop item self.old.half rest
+            → self.new ≡ record self.old { half = rest } }
     {
-        self.items.pop()
+        if let Some(HalfRead::Delimited(_, _, begin)) = self.items.pop() {
+            self.texts.truncate(begin);
+        }
+    }
+}
+
+/// A unit of a text between delimiters: a motion's is held, and one that is left out is dropped.
+fn unit_of_text(purpose: TextUse, unit: CopyUnit) -> Read
+    ensures { (rest : List Half) (delimiter : Option ℕ) (text : List ℕ)
+        → (result, DelimitedHalf purpose delimiter text ∷ rest)
+        ≡ unit_of_text rest purpose delimiter text unit }
+{
+    match purpose {
+        TextUse::Motion => Read::Holds(unit),
+        TextUse::LeftOut(_) => Read::GoesOn,
     }
 }
 
@@ -302,8 +603,8 @@ fn short_name(bytes: &[u8]) -> Name
 
 /// The bytes so far of a name that isn't whole.
 fn name_so_far(part: NamePart) -> Option<Name>
-    ensures { (rest : List HalfOf) (purpose : UseOf)
-        → (Asks purpose result, rest) ≡ name_ended rest purpose part }
+    ensures { (rest : List Half) (purpose : UseOf)
+        → name_given rest purpose result ≡ name_ended rest purpose part }
 {
     match part {
         NamePart::First(first) => Some(short_name(&[first])),

@@ -5,7 +5,7 @@ ghost use Rattle.roff_scan.specs.ArgumentList.{listed};
 ghost use Rattle.roff_scan.specs.Halves.{byte_read, reading_ended, newline_stays, seen_stays};
 ghost use Rattle.std.specs.Prelude.{reverse, true, false, not, ◌≡◌, ◌==◌, ◌+◌, ◌<◌, ◌≤◌, length, None, IfOk, IfSome};
 ghost use Rattle.roff_scan.specs.Tape.{Answer, OneByte, OneNote, Gives, Failed, Rises};
-ghost use Rattle.roff_scan.specs.Input.{is_none_ahead, counting, events_ahead, frees_ahead, most_events, most_frees, pushed, depth, pushing, putting_back, freeing, with_arguments, without_arguments};
+ghost use Rattle.roff_scan.specs.Input.{is_none_ahead, counting, events_ahead, frees_ahead, most_events, most_frees, holding_text, pushed, depth, pushing, putting_back, freeing, with_arguments, without_arguments};
 
 use crate::arguments::{ArgumentList, ArgumentTexts};
 use crate::half::{CopyUnit, Read};
@@ -94,7 +94,7 @@ impl<E: Copy> Unread<E> {
             limits,
             slots: Slots::new(alloc, limits.stack, limits.depth)?,
             arguments: ArgumentTexts::new(alloc, limits.stack)?,
-            half: Halves::new(),
+            half: Halves::new(alloc, limits.stack)?,
             looked: None,
             charge: 0,
             newlines: 0,
@@ -124,12 +124,12 @@ impl<E: Copy> Unread<E> {
         self.line
     }
 
-    /// What counts in the limit on the stack: the pushed bytes that aren't read yet, and the
-    /// bytes of the arguments that are held.
+    /// What counts in the limit on the stack: the pushed bytes that aren't read yet, and the bytes
+    /// of the arguments and of the texts between delimiters that are held.
     pub fn pushed(&self) -> usize
         ensures { result ≡ pushed self.now.input }
     {
-        self.slots.byte_count() + self.arguments.held()
+        self.slots.byte_count() + self.arguments.held() + self.half.held()
     }
 
     /// What counts in the limit on the depth: the pushed texts that haven't ended.
@@ -355,6 +355,23 @@ impl<E: Copy> Unread<E> {
         ensures within { IsWithin self.new }
     {
         self.half.end_reading(is_text)
+    }
+
+    /// Holds one unit more of the text between delimiters that is being read.
+    ///
+    /// # Errors
+    ///
+    /// [`Limit::Stack`] if its bytes don't fit.
+    pub fn hold_text(&mut self, unit: CopyUnit) -> Result<(), Limit>
+        ensures change { (result, self.new)
+            ≡ changing (holding_text unit self.old.input) self.old }
+        ensures within { IsWithin self.new }
+    {
+        if self.half.bytes_more(unit) > self.limits.stack as usize - self.pushed() {
+            return Err(Limit::Stack);
+        }
+        self.half.hold(unit);
+        Ok(())
     }
 
     /// Drops the arguments of the line before.

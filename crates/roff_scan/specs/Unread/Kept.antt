@@ -9,7 +9,7 @@ kept_by a = record {
   input = record {
     ahead = a.slots.ahead;
     arguments = a.arguments.arguments;
-    half = a.half;
+    half = a.half.half;
     charge = a.charge;
     newlines = a.newlines;
     line = a.line;
@@ -23,5 +23,6 @@ pub record IsSound {E : Type 0} (a : Inside E) : Type 0 where
   pub bytes : a.slots.most_bytes ≡ a.limits.stack
   pub texts : a.slots.most_texts ≡ a.limits.depth
   pub arguments : a.arguments.room ≡ a.limits.stack
+  pub held : a.half.room ≡ a.limits.stack
   pub small : a.limits.stack < 2 ^ 32
   pub within : IsWithin (kept_by a)

@@ -1,0 +1,74 @@
+-- What the code keeps of what is half read.
+use Rattle.std.specs.Prelude.{◌≡◌, ℕ, ◌≤◌, ◌<◌, ◌^◌, List, [], ◌∷◌, length, reverse, take, drop, vec_capacity}
+use Rattle.roff_scan.specs.Half.{Half, Backslash, Comment, Name, Size, Delimited, Width, texts_held}
+use Rattle.roff_scan.specs.Halves.{Reads}
+use Rattle.roff_scan.specs.Nesting.{IsNested}
+use Rattle.roff_scan.specs.declared.half.HalfRead.{HalfRead}
+use Rattle.roff_scan.specs.declared.half.HalfRead.TheVariants.{Backslash as BackslashRead, Comment as CommentRead, Name as NameRead, Size as SizeRead, Delimited as DelimitedRead, Width as WidthRead}
+use Rattle.roff_scan.specs.declared.half.Read.{Read}
+use Rattle.roff_scan.specs.declared.halves.Halves.TheInside.{Inside}
+
+-- what is half read, and how many bytes of texts between delimiters there is room for
+pub record KeptHalves : Type 0 where
+  pub half : List Half
+  pub room : ℕ
+
+-- the texts stand behind each other in one block, the innermost last
+abbrev pub joined : List HalfRead → List ℕ → List Half
+joined [] block = []
+joined (BackslashRead ∷ items) block = Backslash ∷ joined items block
+joined (CommentRead ∷ items) block = Comment ∷ joined items block
+joined (NameRead purpose part ∷ items) block = Name purpose part ∷ joined items block
+joined (SizeRead part ∷ items) block = Size part ∷ joined items block
+joined (DelimitedRead purpose delimiter begin ∷ items) block = Delimited purpose delimiter (drop begin block) ∷ joined items (take begin block)
+joined (WidthRead delimiter width is_deep ∷ items) block = Width delimiter width is_deep ∷ joined items block
+
+-- each of them begins within the block, and no byte stands before the first
+abbrev pub AreJoined : List HalfRead → List ℕ → Type 0
+AreJoined [] block = block ≡ []
+AreJoined (DelimitedRead purpose delimiter begin ∷ items) block = (begin ≤ length block) × AreJoined items (take begin block)
+AreJoined (item ∷ items) block = AreJoined items block
+
+-- what the fields keep: the innermost stands at the back
+abbrev pub kept_by : Inside → KeptHalves
+kept_by a = record { half = joined (reverse a.items.items) a.texts.items; room = a.room }
+
+-- the room is reserved, the texts lie within it, and things are within each other as they may be
+pub record IsSound (a : Inside) : Type 0 where
+  pub small : a.room < 2 ^ 32
+  pub reserved : a.room ≤ vec_capacity a.texts
+  pub within : length a.texts.items ≤ a.room
+  pub joined : AreJoined (reverse a.items.items) a.texts.items
+  pub nested : IsNested (kept_by a).half
+
+-- what a byte, a unit or an ending gives, and what is kept then
+abbrev pub leaving : Reads → KeptHalves → Read × KeptHalves
+leaving r k = (r.0, record k { half = r.1 })
+
+-- an item as it is kept where it begins: a text without a byte
+abbrev pub begun : HalfRead → Half
+begun BackslashRead = Backslash
+begun CommentRead = Comment
+begun (NameRead purpose part) = Name purpose part
+begun (SizeRead part) = Size part
+begun (DelimitedRead purpose delimiter begin) = Delimited purpose delimiter []
+begun (WidthRead delimiter width is_deep) = Width delimiter width is_deep
+
+-- a text begins behind these bytes
+abbrev pub BeginsBehind : ℕ → HalfRead → Type 0
+BeginsBehind bytes (DelimitedRead purpose delimiter begin) = begin ≡ bytes
+BeginsBehind bytes (item) = Unit {0}
+
+-- something that is kept, with its text, if it has one
+abbrev pub with_text : HalfRead → List ℕ → Half
+with_text BackslashRead text = Backslash
+with_text CommentRead text = Comment
+with_text (NameRead purpose part) text = Name purpose part
+with_text (SizeRead part) text = Size part
+with_text (DelimitedRead purpose delimiter begin) text = Delimited purpose delimiter text
+with_text (WidthRead delimiter width is_deep) text = Width delimiter width is_deep
+
+-- it stands on top of these
+pub record IsOnTop (item : HalfRead) (half rest : List Half) : Type 0 where
+  pub text : List ℕ
+  pub same : half ≡ with_text item text ∷ rest
