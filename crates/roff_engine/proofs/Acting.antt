@@ -12,7 +12,7 @@ use Rattle.roff_scan.specs.Halves.{reading_ended}
 use Rattle.roff_scan.specs.Input.{DoAhead, bytes_ahead, depth}
 use Rattle.roff_scan.specs.Tape.{Tape}
 use Rattle.roff_scan.specs.Unread.{looked_then}
-use Rattle.roff_scan.specs.declared.half.Half.{Half}
+use Rattle.roff_scan.specs.Half.{Half}
 use Rattle.roff_engine.specs.declared.formatter.Formatter.{Formatter}
 use Rattle.roff_engine.specs.declared.halt.Halt.{Halt}
 use Rattle.roff_engine.specs.declared.halt.Halt.TheVariants.{Limit as Limited, Refused, Output, Messages}

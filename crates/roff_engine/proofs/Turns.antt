@@ -7,7 +7,7 @@ use Rattle.roff_scan.specs.Input.{DoAhead}
 use Rattle.roff_scan.specs.Tape.{Tape, Item, Ended, Failed, Stopped, Rises, items_then}
 use Rattle.roff_scan.specs.Unread.{Shown, ShowsByte, ShowsEnd, ShowsDo, ShowsNote, ShowsEnding, ShowsRefusal, asks_to_take, taking}
 use Rattle.roff_scan.specs.Unread.Calls.{Takes}
-use Rattle.roff_scan.specs.declared.half.Half.{Half}
+use Rattle.roff_scan.specs.Half.{Half}
 use Rattle.roff_run.specs.declared.event.PageEvent.{PageEvent}
 use Rattle.roff_run.specs.declared.message.Message.TheVariants.{ReadFailed}
 use Rattle.roff_run.specs.declared.status.Status.{Status}

@@ -20,10 +20,9 @@ use Rattle.roff_scan.specs.Input.{Ahead, ByteAhead, EndAhead, cost, counting, it
 use Rattle.roff_scan.specs.Tape.{Tape, Answer, Gives, OneByte, front, items_then}
 use Rattle.roff_scan.specs.Unread.{seen_ahead}
 use Rattle.roff_scan.specs.Nesting.{AreNames}
-use Rattle.roff_scan.specs.declared.half.Half.{Half}
+use Rattle.roff_scan.specs.Half.{Half, Backslash, Comment, Name, Size}
 use Rattle.roff_scan.specs.declared.half.SizePart.{SizePart}
 use Rattle.roff_scan.specs.declared.half.SizePart.TheVariants.{Nothing as NoSize, Sign, Digit}
-use Rattle.roff_scan.specs.declared.half.Half.TheVariants.{Backslash, Comment, Name, Size}
 use Rattle.roff_scan.specs.declared.half.NamePart.TheVariants.{Nothing, Opened, First}
 use Rattle.roff_scan.specs.declared.half.Read.{Read}
 use Rattle.roff_scan.specs.declared.half.Read.TheVariants.{Escape, GoesOn, Asks}

@@ -11,8 +11,7 @@ use Rattle.roff_scan.specs.Bytes.{newline, blank, quote, backslash, is_dropped}
 use Rattle.roff_scan.specs.Quoting.{quoted_byte, quoted, quoted_line}
 use Rattle.roff_scan.specs.Halves.{byte_read}
 use Rattle.roff_scan.specs.declared.half.CopyUnit.TheVariants.{Byte}
-use Rattle.roff_scan.specs.declared.half.Half.{Half}
-use Rattle.roff_scan.specs.declared.half.Half.TheVariants.{Backslash}
+use Rattle.roff_scan.specs.Half.{Half, Backslash}
 use Rattle.roff_scan.specs.declared.half.Read.TheVariants.{GoesOn, Unit as GivesUnit}
 use Rattle.roff_run.proofs.Interpolation.{IsRead, not-first, not-second, IsRead-itself}
 use Rattle.roff_run.specs.declared.reading.Reading.{Reading}

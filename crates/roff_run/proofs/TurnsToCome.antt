@@ -8,7 +8,7 @@ use Rattle.roff_scan.specs.Halves.{newline_stays}
 use Rattle.roff_scan.specs.Input.{Ahead, ByteAhead, FreeAhead, EndAhead, DoAhead, cost, item_taken}
 use Rattle.roff_scan.specs.Tape.{Answer, Gives, Ends, OneByte, OneNote}
 use Rattle.roff_scan.specs.Unread.{Unread, Shown, ShowsByte, ShowsEnd, ShowsDo, ShowsNote, ShowsEnding, ShowsRefusal, taking, taking_answer, answer_behind}
-use Rattle.roff_scan.specs.declared.half.Half.{Half}
+use Rattle.roff_scan.specs.Half.{Half}
 use Rattle.roff_run.specs.Reading.{PageInput, half_ended, taking as byte_taking}
 use Rattle.roff_run.specs.Registers.{Known}
 use Rattle.roff_run.specs.Requests.{PageEvent}

@@ -2,7 +2,8 @@
 pub use Rattle.roff_run.specs.Output.{PageHistory, text_of}
 pub use Rattle.roff_run.specs.Reader.State.{fresh_reader}
 pub use Rattle.roff_run.specs.Reader.Taken.{Changed, PageUnread, TakesAs}
-pub use Rattle.roff_run.specs.Reading.{arguments_found, asking, beginning_found, end_taking, first_taking, going_on, half_ended, holding, interpolating, interrupted, kept_taking, line_ended, meaning_events, name_taking, putting_nothing, taking, text_found, unit_found}
+pub use Rattle.roff_run.specs.Reading.{arguments_found, asking, beginning_found, end_taking, first_taking, going_on, half_ended, holding, interpolating, interrupted, kept_taking, line_ended, meaning_events, measuring, name_taking, no_unit_found, putting_nothing, taking, telling, text_found, unit_found}
+pub use Rattle.roff_scan.specs.Input.{holding_text}
 pub use Rattle.roff_run.specs.Registers.{AllRegisters, Remove, changed_by, value_in_force}
 pub use Rattle.roff_run.specs.Registers.Coded.{known_of}
 pub use Rattle.roff_run.specs.Request.Coded.{changes_of, effect_of, register_named}

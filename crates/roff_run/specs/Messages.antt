@@ -5,7 +5,9 @@ use Rattle.roff_run.specs.declared.message.Message.{Message}
 use Rattle.roff_run.specs.declared.message.Message.TheVariants.{LimitReached, BadNumber, BadFormat, BackwardMotion, LeftOut, UnknownCharacter, ReadFailed, WriteFailed}
 use Rattle.roff_run.specs.declared.message.CharacterName.{CharacterName}
 use Rattle.roff_run.specs.declared.message.CharacterName.TheVariants.{Nothing, One, Two}
-use Rattle.roff_scan.specs.Bytes.{newline}
+use Rattle.roff_scan.specs.Bytes.{newline, backslash}
+use Rattle.roff_scan.specs.declared.half.Remark.{Remark}
+use Rattle.roff_scan.specs.declared.half.Remark.TheVariants.{LeftOut as EscapeLeftOut, UnknownCharacter as NoCharacter, BadNumber as NoNumber, BackwardMotion as MotionBack}
 
 -- the name of a character, as far as it was read, cut to two bytes
 abbrev pub character_name : Option (List ℕ) → CharacterName
@@ -40,3 +42,15 @@ message_line line message = codes "nroff: line " ++ decimal line ++ codes ": " +
 abbrev pub message_lines : ℕ → List Message → List ℕ
 message_lines line [] = []
 message_lines line (m ∷ ms) = message_line line m ++ message_lines line ms
+
+-- what is said of something that was read, as a message
+abbrev pub remark_message : Remark → Message
+remark_message (EscapeLeftOut b) = LeftOut (backslash ∷ b ∷ [])
+remark_message (NoCharacter name) = UnknownCharacter (character_name name)
+remark_message NoNumber = BadNumber
+remark_message MotionBack = BackwardMotion
+
+-- the same of what may be said
+abbrev pub remark_messages : Option Remark → List Message
+remark_messages None = []
+remark_messages (Some remark) = remark_message remark ∷ []

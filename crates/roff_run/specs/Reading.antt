@@ -1,24 +1,27 @@
 -- What is being read, and what each byte means there (manual, sections 1.1, 4.1, 8 and 10.1).
-use Rattle.std.specs.Prelude.{ℕ, ◌+◌, Bool, true, false, ◌||◌, List, [], ◌∷◌, ◌++◌, map, reverse, min, Some, None, Option, if◌then◌else◌, ◌==◌}
+use Rattle.std.specs.Prelude.{ℕ, ◌+◌, Bool, true, false, ◌||◌, List, [], ◌∷◌, ◌++◌, decimal, map, reverse, min, Some, None, Option, if◌then◌else◌, ◌==◌}
 use Rattle.roff_lines.specs.declared.event.Event.TheVariants.{Print, WordEnd, Gap, LineEnd, Break}
 use Rattle.roff_lines.specs.declared.glyph.Glyph.{Glyph}
 use Rattle.roff_lines.specs.declared.glyph.Glyph.TheVariants.{Printed, Blanks}
 use Rattle.roff_scan.specs.Arguments.{no_arguments, with_unit, settled, finished, only_kept}
-use Rattle.roff_scan.specs.Bytes.{newline, blank, apostrophe, dot, backslash, is_silent, is_dropped}
+use Rattle.roff_scan.specs.Bytes.{tab, newline, blank, apostrophe, dot, backslash, is_silent, is_dropped}
 use Rattle.roff_scan.specs.Characters.{character}
 use Rattle.roff_scan.specs.Escapes.{escape_of}
 use Rattle.roff_scan.specs.Halves.{Reads, byte_read, reading_ended}
-use Rattle.roff_scan.specs.Input.{Input, pushing}
+use Rattle.roff_scan.specs.Input.{Input, pushing, holding_text}
 use Rattle.roff_scan.specs.declared.escapes.Escape.{Escape as Kind}
-use Rattle.roff_scan.specs.declared.escapes.Escape.TheVariants.{Prints, Blank, NoWidth, LeftOut as IsLeftOut}
+use Rattle.roff_scan.specs.declared.escapes.Escape.TheVariants.{Prints, Blank, NoWidth, LeftOut as IsLeftOut, Text as BeginsText}
 use Rattle.roff_scan.specs.declared.escapes.NameUse.{NameUse}
 use Rattle.roff_scan.specs.declared.escapes.NameUse.TheVariants.{Register, Character, Font, LeftOut as NameLeftOut}
+use Rattle.roff_scan.specs.declared.escapes.TextUse.{TextUse}
+use Rattle.roff_scan.specs.declared.escapes.TextUse.TheVariants.{LeftOut as LeftOutText}
 use Rattle.roff_scan.specs.declared.half.CopyUnit.{CopyUnit}
 use Rattle.roff_scan.specs.declared.half.CopyUnit.TheVariants.{Byte, Kept}
 use Rattle.roff_scan.specs.declared.half.Read.{Read}
-use Rattle.roff_scan.specs.declared.half.Read.TheVariants.{GoesOn, Unit, Escape, Asks}
+use Rattle.roff_scan.specs.declared.half.Read.TheVariants.{GoesOn, Unit, Holds, Escape, Asks, Motion, Measures, Tells}
+use Rattle.roff_scan.specs.declared.half.Remark.{Remark}
 use Rattle.roff_store.specs.declared.register.Direction.{Direction}
-use Rattle.roff_run.specs.Messages.{character_name}
+use Rattle.roff_run.specs.Messages.{character_name, remark_message, remark_messages}
 use Rattle.roff_run.specs.declared.message.Message.{Message}
 use Rattle.roff_run.specs.declared.message.Message.TheVariants.{LeftOut, UnknownCharacter}
 use Rattle.roff_run.specs.declared.reading.Reading.{Reading}
@@ -89,6 +92,26 @@ told_taking i line message = record {
   effect = record { messages = message ∷ []; changes = []; events = [] };
 }
 
+-- something that was read within a text that is measured, and of which this is said
+abbrev pub telling : PageInput → Reading → Remark → Taking
+telling i reading remark = record {
+  input = i;
+  reading = reading;
+  effect = record { messages = remark_message remark ∷ []; changes = []; events = [] };
+}
+
+-- a motion of so many columns along a text line, and what is said of it: a glyph, however long it is
+abbrev pub motion_taking : PageInput → TextLine → ℕ → Option Remark → Taking
+motion_taking i line columns remark = record {
+  input = i;
+  reading = InText (record line { has_glyph = true; leading = 0 });
+  effect = record {
+    messages = remark_messages remark;
+    changes = [];
+    events = leading_glyph line.leading ++ Text (Print (Blanks columns)) ∷ [];
+  };
+}
+
 -- a count of leading blanks above this reads as this
 abbrev pub most_leading : ℕ
 most_leading = 2147483647
@@ -99,11 +122,11 @@ blank_taking i line =
     if line.has_glyph then meaning_events i (InText line) (Text WordEnd ∷ Text (Gap 1) ∷ [])
     else meaning_events i (InText (record line { leading = min (line.leading + 1) most_leading })) (leading_blank_events line.leading)
 
--- a byte of a text line
+-- a byte of a text line; a tab prints nothing, as there are no tab stops yet
 abbrev pub text_taking : PageInput → TextLine → ℕ → Taking
 text_taking i line b =
     if b == newline then meaning_events i LineStart (text_line_end line)
-    else if is_silent b then other_taking i line
+    else if b == tab || is_silent b then other_taking i line
     else if b == blank then blank_taking i line
     else glyph_taking i line (Printed b)
 
@@ -117,6 +140,7 @@ escape_meant i line b (Prints byte) = glyph_taking i line (Printed byte)
 escape_meant i line b Blank = glyph_taking i line (Blanks 1)
 escape_meant i line b NoWidth = glyph_taking i line (Blanks 0)
 escape_meant i line b IsLeftOut = left_out_taking i line b
+escape_meant i line b (BeginsText (LeftOutText byte)) = left_out_taking i line byte
 escape_meant i line b (_) = other_taking i line
 
 -- the same by the byte behind its backslash
@@ -145,6 +169,10 @@ interpolating k i reading step name = record {
 abbrev pub putting_nothing : PageInput → Reading → Taking
 putting_nothing i reading = going_on (pushing [] i) reading
 
+-- the width of a text is read in its place, in digits
+abbrev pub measuring : PageInput → Reading → ℕ → Taking
+measuring i reading width = going_on (pushing (decimal width) i) reading
+
 -- what the name behind an escape asks for is read in the escape's place; without a byte it is no name
 abbrev pub asking : Known → PageInput → Reading → NameUse → Option (List ℕ) → Taking
 asking k i reading purpose None = going_on i reading
@@ -170,16 +198,24 @@ abbrev pub text_found : Known → PageInput → TextLine → Read → Taking
 text_found k i line GoesOn = going_on i (InText line)
 text_found k i line (Unit (Byte b)) = text_taking i line b
 text_found k i line (Unit (Kept b)) = escape_taking i line b
+text_found k i line (Holds unit) = going_on (holding_text unit i) (InText line)
 text_found k i line (Escape b) = escape_taking i line b
 text_found k i line (Asks purpose name) = name_taking k i (InText line) line purpose name
+text_found k i line (Motion columns remark) = motion_taking i line columns remark
+text_found k i line (Measures width) = measuring i (InText line) width
+text_found k i line (Tells remark) = telling i (InText line) remark
 
 -- what was found where a line begins: an interpolation leaves it at its beginning
 abbrev pub beginning_found : Known → PageInput → Read → Taking
 beginning_found k i GoesOn = going_on i LineStart
 beginning_found k i (Unit (Byte b)) = first_taking i b
 beginning_found k i (Unit (Kept b)) = escape_taking i fresh_line b
+beginning_found k i (Holds unit) = going_on (holding_text unit i) LineStart
 beginning_found k i (Escape b) = escape_taking i fresh_line b
 beginning_found k i (Asks purpose name) = name_taking k i LineStart fresh_line purpose name
+beginning_found k i (Motion columns remark) = motion_taking i fresh_line columns remark
+beginning_found k i (Measures width) = measuring i LineStart width
+beginning_found k i (Tells remark) = telling i LineStart remark
 
 -- what something reads where a line begins, with what is half read then
 abbrev pub beginning_read : Known → PageInput → Reads → Taking
@@ -216,12 +252,19 @@ unit_found k i breaks request (Byte b) =
     else going_on (holding (Byte b) i) (InArguments breaks request)
 unit_found k i breaks request (Kept b) = going_on (holding (Kept b) i) (InArguments breaks request)
 
+-- what was found behind a request's name that is no unit of an argument; a motion is none there, as it is copied
+abbrev pub no_unit_found : Known → PageInput → Reading → Read → Taking
+no_unit_found k i reading (Holds unit) = going_on (holding_text unit i) reading
+no_unit_found k i reading (Asks purpose name) = asking k i reading purpose name
+no_unit_found k i reading (Measures width) = measuring i reading width
+no_unit_found k i reading (Tells remark) = telling i reading remark
+no_unit_found k i reading (_) = going_on i reading
+
 -- what was found behind a request's name: an escape's beginning is no quote
 abbrev pub arguments_found : Known → PageInput → Bool → Request → Read → Taking
-arguments_found k i breaks request GoesOn = going_on (settling i) (InArguments breaks request)
 arguments_found k i breaks request (Unit unit) = unit_found k i breaks request unit
 arguments_found k i breaks request (Escape b) = unit_found k i breaks request (Kept b)
-arguments_found k i breaks request (Asks purpose name) = asking k (settling i) (InArguments breaks request) purpose name
+arguments_found k i breaks request found = no_unit_found k (settling i) (InArguments breaks request) found
 
 -- what something reads behind a request's name, with what is half read then
 abbrev pub arguments_read_on : Known → PageInput → Bool → Request → Reads → Taking
@@ -233,7 +276,7 @@ dropped_taking i b = going_on i (if b == newline then LineStart else Dropped)
 
 -- whether a byte ends a name, and doesn't belong to it
 abbrev pub ends_name : ℕ → Bool
-ends_name b = b == blank || (b == newline || b == backslash)
+ends_name b = b == blank || (b == tab || (b == newline || b == backslash))
 
 -- the first byte behind a request's name, by how its line is read
 abbrev pub line_taking : Known → PageInput → Bool → Request → LineReading → ℕ → Taking
@@ -262,7 +305,7 @@ abbrev pub kept_taking : Known → Reading → PageInput → ℕ → Taking
 kept_taking k LineStart i b = beginning_read k i (byte_read true i.half b)
 kept_taking k (InText line) i b = text_read k i line (byte_read true i.half b)
 kept_taking k (Control breaks) i b =
-    if b == blank then going_on i (Control breaks)
+    if b == blank || b == tab then going_on i (Control breaks)
     else if ends_name b then dropped_taking i b
     else going_on i (Name breaks b)
 kept_taking k (Name breaks first) i b =

@@ -2,11 +2,12 @@
 
 ghost use Rattle.std.specs.Prelude.{◌≡◌, ◌+◌, ◌≤◌, ◌++◌, length, Some};
 ghost use Rattle.arrayvec.specs.ArrayVec.{array_vec_len};
-ghost use Rattle.roff_run.specs.Messages.{character_name, message_line, message_text, name_bytes};
+ghost use Rattle.roff_run.specs.Messages.{character_name, message_line, message_text, name_bytes, remark_message};
 
 use arrayvec::ArrayVec;
 use itoa::Buffer;
 use roff_num::{Limit, Name};
+use roff_scan::Remark;
 
 /// What a run reports.
 #[derive(Clone, Copy, Debug, PartialEq, Eq)]
@@ -84,6 +85,23 @@ impl Message {
             }
             Message::ReadFailed => append(text, b"read failed"),
             Message::WriteFailed => append(text, b"write failed"),
+        }
+    }
+}
+
+impl Message {
+    /// What is said of something that was read.
+    pub(crate) fn of_remark(remark: Remark) -> Message
+        ensures { result ≡ remark_message remark }
+    {
+        match remark {
+            Remark::LeftOut(byte) => Message::LeftOut([b'\\', byte]),
+            Remark::UnknownCharacter(None) => Message::UnknownCharacter(CharacterName::Nothing),
+            Remark::UnknownCharacter(Some(name)) => {
+                Message::UnknownCharacter(CharacterName::of(&name))
+            }
+            Remark::BadNumber => Message::BadNumber,
+            Remark::BackwardMotion => Message::BackwardMotion,
         }
     }
 }

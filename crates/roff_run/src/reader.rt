@@ -6,16 +6,17 @@ ghost use Rattle.roff_lines.specs.declared.event.Event.TheVariants.{Gap, Print, 
 ghost use Rattle.roff_lines.specs.declared.glyph.Glyph.TheVariants.{Printed};
 ghost use Rattle.roff_run.specs.Requests.{Text};
 ghost use Rattle.roff_run.specs.Registers.{Known as KnownOf};
-ghost use Rattle.roff_run.specs.Clauses.{AllRegisters, Changed, Env, LineStart, PageHistory, PageUnread, Remove, Stands, TakesAs, arguments_found, asking, beginning_found, changed_by, changes_of, effect_of, end_taking, first_taking, fresh_reader, going_on, meaning_events, half_ended, holding, interpolating, interrupted, kept_taking, known_at, known_of, line_ended, listed, name_taking, names_given, putting_nothing, register_named, request_effect, taking, text_found, text_of, unit_found, value_in_force};
+ghost use Rattle.roff_run.specs.Clauses.{AllRegisters, Changed, Env, LineStart, PageHistory, PageUnread, Remove, Stands, TakesAs, arguments_found, asking, beginning_found, changed_by, changes_of, effect_of, end_taking, first_taking, fresh_reader, going_on, meaning_events, half_ended, holding, holding_text, interpolating, interrupted, kept_taking, known_at, known_of, line_ended, listed, measuring, name_taking, names_given, no_unit_found, putting_nothing, register_named, request_effect, taking, telling, text_found, text_of, unit_found, value_in_force};
 
 use crate::event::{Events, PageEvent};
 use crate::message::Message;
 use crate::reading::{Reading, TextLine, TextStep};
 use crate::registers::{Facts, RunRegisters};
 use crate::request::{Changes, Effect, Given, Known, Request, name_given, register_named};
+use itoa::Buffer;
 use roff_lines::Env;
 use roff_num::{Limit, Name, Num};
-use roff_scan::{ArgumentList, CopyUnit, NameUse, Read, Unread, is_dropped};
+use roff_scan::{ArgumentList, CopyUnit, NameUse, Read, Remark, Unread, is_dropped};
 use roff_store::Direction;
 use std::alloc::{AllocError, Global};
 use std::marker::Model;
@@ -243,6 +244,12 @@ impl Reader {
             Read::Unit(CopyUnit::Kept(byte)) | Read::Escape(byte) => {
                 Ok(self.step(TextLine::new().escape(byte)))
             }
+            Read::Holds(unit) => self.hold_text(unit, Reading::LineStart, unread),
+            Read::Motion(columns, remark) => {
+                Ok(self.step(TextLine::new().motion(columns, remark)))
+            }
+            Read::Measures(width) => self.measure(width, Reading::LineStart, unread),
+            Read::Tells(remark) => Ok(self.tell(remark, Reading::LineStart)),
             Read::Asks(purpose, name) => {
                 self.reading = Reading::LineStart;
                 self.read_name(TextLine::new(), purpose, name, env, unread)
@@ -267,6 +274,10 @@ impl Reader {
             Read::Unit(CopyUnit::Kept(byte)) | Read::Escape(byte) => {
                 Ok(self.step(line.escape(byte)))
             }
+            Read::Holds(unit) => self.hold_text(unit, Reading::Text(line), unread),
+            Read::Motion(columns, remark) => Ok(self.step(line.motion(columns, remark))),
+            Read::Measures(width) => self.measure(width, Reading::Text(line), unread),
+            Read::Tells(remark) => Ok(self.tell(remark, Reading::Text(line))),
             Read::Asks(purpose, name) => {
                 self.reading = Reading::Text(line);
                 self.read_name(line, purpose, name, env, unread)
@@ -308,20 +319,36 @@ impl Reader {
         ensures { TakesAs (λ k. arguments_found k unread.old.input breaks request found)
             env.now self.old self.new unread.old unread.new result }
     {
+        let unit = match found {
+            Read::Unit(unit) => unit,
+            Read::Escape(byte) => CopyUnit::Kept(byte),
+            found => {
+                unread.settle();
+                let reading = Reading::Arguments { breaks, request };
+                return self.read_in_arguments(reading, found, env, unread);
+            }
+        };
+        self.read_unit(breaks, request, unit, env, unread)
+    }
+
+    /// Something behind a request's name that is no unit of an argument.
+    fn read_in_arguments(
+        &mut self,
+        reading: Reading,
+        found: Read,
+        env: &Env,
+        unread: &mut Unread<PageEvent>,
+    ) -> Result<Meaning, Limit>
+        ensures { TakesAs (λ k. no_unit_found k unread.old.input reading found)
+            env.now self.old self.new unread.old unread.new result }
+    {
+        self.reading = reading;
         match found {
-            Read::GoesOn => {
-                unread.settle();
-                Ok(self.read_on(Reading::Arguments { breaks, request }))
-            }
-            Read::Unit(unit) => self.read_unit(breaks, request, unit, env, unread),
-            Read::Escape(byte) => {
-                self.read_unit(breaks, request, CopyUnit::Kept(byte), env, unread)
-            }
-            Read::Asks(purpose, name) => {
-                unread.settle();
-                self.reading = Reading::Arguments { breaks, request };
-                self.ask(purpose, name, env, unread)
-            }
+            Read::Holds(unit) => self.hold_text(unit, reading, unread),
+            Read::Asks(purpose, name) => self.ask(purpose, name, env, unread),
+            Read::Measures(width) => self.measure(width, reading, unread),
+            Read::Tells(remark) => Ok(self.tell(remark, reading)),
+            _ => Ok(Meaning::nothing()),
         }
     }
 
@@ -356,6 +383,48 @@ impl Reader {
     {
         unread.hold(unit)?;
         Ok(self.read_on(reading))
+    }
+
+    /// A unit of a text between delimiters is held, and this is read on.
+    fn hold_text(
+        &mut self,
+        unit: CopyUnit,
+        reading: Reading,
+        unread: &mut Unread<PageEvent>,
+    ) -> Result<Meaning, Limit>
+        ensures { (env : Env)
+            → TakesAs (λ k. going_on (holding_text unit unread.old.input) reading)
+            env self.old self.new unread.old unread.new result }
+    {
+        unread.hold_text(unit)?;
+        Ok(self.read_on(reading))
+    }
+
+    /// The width of a text is read in its place, and behind it this.
+    fn measure(
+        &mut self,
+        width: u32,
+        reading: Reading,
+        unread: &mut Unread<PageEvent>,
+    ) -> Result<Meaning, Limit>
+        ensures { (env : Env)
+            → TakesAs (λ k. measuring unread.old.input reading width)
+            env self.old self.new unread.old unread.new result }
+    {
+        unread.push(Buffer::new().format(width).as_bytes())?;
+        Ok(self.read_on(reading))
+    }
+
+    /// This is said of something within a text that is measured, and this is read on.
+    fn tell(&mut self, remark: Remark, reading: Reading) -> Meaning
+        ensures { (env : Env) (u : PageUnread)
+            → TakesAs (λ k. telling u.input reading remark) env self.old self.new u u (Ok result) }
+    {
+        self.reading = reading;
+        Meaning {
+            message: Some(Message::of_remark(remark)),
+            events: Events::new(),
+        }
     }
 
     /// What the name behind an escape asks for is read in the escape's place.

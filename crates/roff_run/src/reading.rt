@@ -3,7 +3,9 @@
 ghost use Rattle.std.specs.Prelude.{◌≡◌, ℕ, ◌≤◌, ◌+◌, ◌++◌, ◌∷◌, [], length, map, true, min};
 ghost use Rattle.roff_lines.specs.declared.event.Event.TheVariants.{Gap, Print, WordEnd};
 ghost use Rattle.roff_lines.specs.declared.glyph.Glyph.TheVariants.{Printed};
-ghost use Rattle.roff_run.specs.Reading.{PageInput, behind_name, going_on, kept_taking, dropped_taking, ends_name, character_taking, escape_taking, fresh_line, glyph_taking, glyphs_taking, blank_taking, leading_blank_events, leading_glyph, left_out_taking, meaning_events, most_leading, other_taking, taking, told_taking, text_line_end, text_taking};
+ghost use Rattle.roff_run.specs.Reading.{PageInput, behind_name, going_on, kept_taking, dropped_taking, ends_name, character_taking, escape_taking, fresh_line, glyph_taking, glyphs_taking, blank_taking, leading_blank_events, leading_glyph, left_out_taking, meaning_events, most_leading, motion_taking, other_taking, taking, told_taking, text_line_end, text_taking};
+ghost use Rattle.std.specs.Option.{option_to_list};
+ghost use Rattle.roff_run.specs.Messages.{remark_messages};
 ghost use Rattle.roff_run.specs.Requests.{Text, row_of};
 ghost use Rattle.roff_run.specs.TextLine.Stepping.{step_at};
 ghost use Rattle.roff_run.specs.Registers.{Known};
@@ -14,7 +16,7 @@ use crate::message::{CharacterName, Message};
 use crate::request::{LineReading, Request};
 use roff_lines::{Event, Glyph};
 use roff_num::Name;
-use roff_scan::{Escape, character, escape_of, is_silent};
+use roff_scan::{Escape, Remark, TextUse, character, escape_of, is_silent};
 
 /// A count of leading blanks above this reads as this.
 const MOST_LEADING: u32 = 2_147_483_647;
@@ -71,7 +73,7 @@ impl Reading {
         ensures { (k : Known) (i : PageInput)
             → kept_taking k (BehindControl breaks) i byte ≡ going_on i result }
     {
-        if byte == b' ' {
+        if byte == b' ' || byte == b'\t' {
             Reading::Control { breaks }
         } else if ends_name(byte) {
             Reading::behind_dropped(byte)
@@ -167,7 +169,7 @@ impl TextLine {
                 message: None,
                 events: self.end(),
             }
-        } else if is_silent(byte) {
+        } else if byte == b'\t' || is_silent(byte) {
             self.other()
         } else if byte == b' ' {
             self.blank()
@@ -189,6 +191,9 @@ impl TextLine {
             Escape::Comment => self.other(),
             Escape::Size => self.other(),
             Escape::Name(_) => self.other(),
+            Escape::Text(TextUse::LeftOut(left_out)) => self.left_out(left_out),
+            Escape::Text(TextUse::Motion) => self.other(),
+            Escape::Width => self.other(),
         }
     }
 
@@ -210,6 +215,15 @@ impl TextLine {
         ensures { (i : PageInput) → step_at i result ≡ left_out_taking i self byte }
     {
         self.say(Message::LeftOut([b'\\', byte]))
+    }
+
+    /// A motion of so many columns, and what is said of it.
+    pub(crate) fn motion(self, columns: u32, remark: Option<Remark>) -> TextStep
+        ensures { (i : PageInput) → step_at i result ≡ motion_taking i self columns remark }
+    {
+        let mut step = self.glyph(Glyph::Blanks(columns));
+        step.message = message_of(remark);
+        step
     }
 
     /// Something that prints nothing, and of which this is said.
@@ -352,9 +366,19 @@ fn events(all: &[PageEvent]) -> Events
     events
 }
 
+/// What is said, if something is.
+fn message_of(remark: Option<Remark>) -> Option<Message>
+    ensures { option_to_list result ≡ remark_messages remark }
+{
+    match remark {
+        None => None,
+        Some(remark) => Some(Message::of_remark(remark)),
+    }
+}
+
 /// Whether a byte ends a name, and doesn't belong to it.
 pub(crate) fn ends_name(byte: u8) -> bool
     ensures { result ≡ ends_name byte }
 {
-    byte == b' ' || byte == b'\n' || byte == b'\\'
+    matches!(byte, b' ' | b'\t' | b'\n' | b'\\')
 }
