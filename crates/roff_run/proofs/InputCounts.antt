@@ -5,6 +5,7 @@ use Rattle.std.proofs.lemmas.Bool.{le-ltb, ltb-false}
 use Rattle.roff_num.specs.declared.limit.Limit.TheVariants.{Stack, Depth, Names}
 use Rattle.roff_num.specs.declared.limits.Limits.{Limits}
 use Rattle.roff_scan.specs.Arguments.{held, settled, no_arguments}
+use Rattle.roff_scan.specs.Half.{texts_held}
 use Rattle.roff_scan.specs.Input.{Ahead, ByteAhead, FreeAhead, EndAhead, DoAhead, counting, item_taken, pushed, depth, bytes_ahead, ends_ahead}
 use Rattle.roff_scan.specs.Tape.{Answer, Gives, Ends, OneByte, OneNote}
 use Rattle.roff_scan.specs.Unread.{Unread, Shown, taking, taking_answer, answer_behind, input_refusal}
@@ -27,10 +28,12 @@ pub record NoMore (now before : PageInput) : Type 0 where
   pub texts : depth now ≤ depth before
 
 -- by the items ahead alone
-by_ahead : (now before : PageInput) → now.arguments ≡ before.arguments → bytes_ahead now.ahead ≤ bytes_ahead before.ahead
+by_ahead : (now before : PageInput) → now.arguments ≡ before.arguments → now.half ≡ before.half → bytes_ahead now.ahead ≤ bytes_ahead before.ahead
     → ends_ahead now.ahead ≤ ends_ahead before.ahead → NoMore now before
-by_ahead now before same bytes texts =
-    let held_same : held now.arguments ≡ held before.arguments = ap held same in record { bytes = omega arith; texts = texts }
+by_ahead now before same same_half bytes texts =
+    let held_same : held now.arguments ≡ held before.arguments = ap held same in
+    let half_same : texts_held now.half ≡ texts_held before.half = ap texts_held same_half in
+    record { bytes = omega arith; texts = texts }
 
 -- what changes nothing there
 NoMore-same : (i : PageInput) → NoMore i i
@@ -50,7 +53,7 @@ ends_behind EndAhead items = omega arith
 ends_behind (DoAhead event) items = omega arith
 
 pub NoMore-item_taken : (item : Ahead PageEvent) (items : List (Ahead PageEvent)) (i : PageInput) → i.ahead ≡ item ∷ items → NoMore (item_taken item items i) i
-NoMore-item_taken item items i ahead = by_ahead (item_taken item items i) i refl
+NoMore-item_taken item items i ahead = by_ahead (item_taken item items i) i refl refl
     (subst (λ (all : List (Ahead PageEvent)). bytes_ahead items ≤ bytes_ahead all) (sym ahead) (bytes_behind item items))
     (subst (λ (all : List (Ahead PageEvent)). ends_ahead items ≤ ends_ahead all) (sym ahead) (ends_behind item items))
 
@@ -59,7 +62,7 @@ abbrev LeavesNoMore : PageInput → Shown PageEvent × Unread PageEvent → Type
 LeavesNoMore i call = NoMore call.1.input i
 
 NoMore-answer : (a : Answer) (u : Unread PageEvent) → LeavesNoMore u.input (taking_answer a u)
-NoMore-answer (Gives (OneByte b)) u = one_of (LeavesNoMore u.input) _ _ _ (NoMore-same u.input) (by_ahead (counting b u.input) u.input refl (omega arith) (omega arith))
+NoMore-answer (Gives (OneByte b)) u = one_of (LeavesNoMore u.input) _ _ _ (NoMore-same u.input) (by_ahead (counting b u.input) u.input refl refl (omega arith) (omega arith))
 NoMore-answer (Gives (OneNote message)) u = NoMore-same u.input
 NoMore-answer (Ends ending) u = NoMore-same u.input
 
@@ -76,7 +79,7 @@ NoMore-taking a u = NoMore-taking_of u.input.ahead a u.input u.looked u.limits
 
 -- where no quote follows, as many bytes are held
 pub pushed-settling : (i : PageInput) → pushed (settling i) ≡ pushed i
-pushed-settling i = ap (λ n. bytes_ahead i.ahead + n) (held-only_kept (settled i.arguments) ∙ held-settled i.arguments)
+pushed-settling i = ap (λ n. bytes_ahead i.ahead + n + texts_held i.half) (held-only_kept (settled i.arguments) ∙ held-settled i.arguments)
 
 pub NoMore-settling : (i : PageInput) → NoMore (settling i) i
 NoMore-settling i = record { bytes = omega (arith, pushed-settling i); texts = omega arith }

@@ -2,22 +2,23 @@
 --
 -- Each function f of reading has its lemma Keeps-f here, with a line for each of its cases.
 use Rattle.std.proofs.Common.{◌≡◌, ℕ, ◌+◌, ◌≤◌, Bool, true, false, List, [], ◌∷◌, ◌++◌, length, map, Option, Some, None, refl, sym, subst, ◌∙◌, arith}
-use Rattle.std.specs.Prelude.{if◌then◌else◌, ◌==◌}
+use Rattle.std.specs.Prelude.{◌||◌, decimal, if◌then◌else◌, ◌==◌}
 use Rattle.roff_lines.specs.declared.glyph.Glyph.TheVariants.{Printed}
-use Rattle.roff_scan.specs.Bytes.{newline, blank, apostrophe, dot, is_silent, is_dropped}
+use Rattle.roff_scan.specs.Bytes.{tab, newline, blank, apostrophe, dot, is_silent, is_dropped}
 use Rattle.roff_scan.specs.Characters.{character}
 use Rattle.roff_scan.specs.Escapes.{escape_of}
 use Rattle.roff_scan.specs.Halves.{byte_read, reading_ended}
-use Rattle.roff_scan.specs.Input.{Ahead, ByteAhead, EndAhead}
+use Rattle.roff_scan.specs.Input.{Ahead, ByteAhead, EndAhead, holding_text}
 use Rattle.roff_scan.specs.declared.escapes.Escape.{Escape as Kind}
-use Rattle.roff_scan.specs.declared.escapes.Escape.TheVariants.{Prints, Blank, NoWidth, Nothing as GivesNothing, LeftOut as IsLeftOut, Comment as BeginsComment, Size as BeginsSize, Name as BeginsName}
+use Rattle.roff_scan.specs.declared.escapes.Escape.TheVariants.{Prints, Blank, NoWidth, Nothing as GivesNothing, LeftOut as IsLeftOut, Comment as BeginsComment, Size as BeginsSize, Name as BeginsName, Text as BeginsText, Width as BeginsWidth}
 use Rattle.roff_scan.specs.declared.escapes.NameUse.{NameUse}
 use Rattle.roff_scan.specs.declared.escapes.NameUse.TheVariants.{Register, Text as OfText, Argument, Character, Font, LeftOut as NameLeftOut}
+use Rattle.roff_scan.specs.declared.escapes.TextUse.TheVariants.{Motion as OfMotion, LeftOut as LeftOutText}
 use Rattle.roff_scan.specs.declared.half.CopyUnit.{CopyUnit}
 use Rattle.roff_scan.specs.declared.half.CopyUnit.TheVariants.{Byte, Kept}
-use Rattle.roff_scan.specs.Half.{Half}
+use Rattle.roff_scan.specs.Half.{Half, Backslash, Comment, Name as NameHalf, Size, Delimited, Width, text_held}
 use Rattle.roff_scan.specs.declared.half.Read.{Read}
-use Rattle.roff_scan.specs.declared.half.Read.TheVariants.{GoesOn, Unit as GivesUnit, Escape, Asks}
+use Rattle.roff_scan.specs.declared.half.Read.TheVariants.{GoesOn, Unit as GivesUnit, Holds, Escape, Asks, Motion, Measures, Tells}
 use Rattle.roff_store.specs.declared.register.Direction.{Direction}
 use Rattle.roff_run.specs.declared.reading.Reading.{Reading}
 use Rattle.roff_run.specs.declared.reading.Reading.TheVariants.{LineStart, Text as InText, Control, Name, Arguments as InArguments, Dropped}
@@ -25,7 +26,7 @@ use Rattle.roff_run.specs.declared.reading.TextLine.{TextLine}
 use Rattle.roff_run.specs.declared.request.LineReading.{LineReading}
 use Rattle.roff_run.specs.declared.request.LineReading.TheVariants.{ByArguments}
 use Rattle.roff_run.specs.declared.request.Request.{Request}
-use Rattle.roff_run.specs.Reading.{PageInput, Taking, fresh_line, glyph_taking, blank_taking, text_taking, escape_meant, escape_taking, character_printed, character_taking, asking, name_taking, settling, first_taking, beginning_found, text_found, unit_found, arguments_found, dropped_taking, ends_name, line_taking, name_ended_taking, behind_name, name_whole_taking, kept_taking, interrupted, taking, half_ended, end_taking, going_on}
+use Rattle.roff_run.specs.Reading.{PageInput, Taking, fresh_line, glyph_taking, blank_taking, text_taking, escape_meant, escape_taking, character_printed, character_taking, asking, measuring, name_taking, settling, first_taking, beginning_found, text_found, unit_found, arguments_found, dropped_taking, ends_name, line_taking, name_ended_taking, behind_name, name_whole_taking, kept_taking, interrupted, taking, half_ended, end_taking, going_on}
 use Rattle.roff_run.specs.Registers.{Known, known_behind, step_changes, text_of_register}
 use Rattle.roff_run.specs.Requests.{PageEvent, row_of, request_named}
 use Rattle.roff_run.specs.TurnsToCome.{free_ahead}
@@ -63,7 +64,7 @@ input-blank_taking i line = input-if i line.has_glyph _ _ refl refl
 input-text_taking : (i : PageInput) (line : TextLine) (b : ℕ) → (text_taking i line b).input ≡ i
 input-text_taking i line b =
     input-if i (b == newline) _ _ refl
-    (input-if i (is_silent b) _ (if b == blank then blank_taking i line else glyph_taking i line (Printed b)) refl
+    (input-if i (b == tab || is_silent b) _ (if b == blank then blank_taking i line else glyph_taking i line (Printed b)) refl
     (input-if i (b == blank) (blank_taking i line) (glyph_taking i line (Printed b)) (input-blank_taking i line) refl))
 
 -- and an escape without a name
@@ -76,6 +77,9 @@ input-escape_meant i line b GivesNothing = refl
 input-escape_meant i line b BeginsComment = refl
 input-escape_meant i line b BeginsSize = refl
 input-escape_meant i line b (BeginsName purpose) = refl
+input-escape_meant i line b (BeginsText OfMotion) = refl
+input-escape_meant i line b (BeginsText (LeftOutText byte)) = refl
+input-escape_meant i line b BeginsWidth = refl
 
 input-escape_taking : (i : PageInput) (line : TextLine) (b : ℕ) → (escape_taking i line b).input ≡ i
 input-escape_taking i line b = input-escape_meant i line b (escape_of b)
@@ -106,6 +110,30 @@ free_ahead-pushed (b ∷ text) items = free_ahead-pushed text items
 free_ahead-register : (k : Known) (step : Option Direction) (name : List ℕ) (items : List (Ahead PageEvent))
     → free_ahead (map ByteAhead (text_of_register (known_behind (step_changes step name) k) name) ++ EndAhead ∷ items) ≡ free_ahead items
 free_ahead-register k step name items = free_ahead-pushed (text_of_register (known_behind (step_changes step name) k) name) items
+
+-- nor is one of a width's digits
+Keeps-measuring : (most : ℕ) (i j : PageInput) (reading : Reading) (width : ℕ) → Keeps most i j → Keeps most i (measuring j reading width).input
+Keeps-measuring most i j reading width keeps =
+    record { charge = keeps.charge; newlines = keeps.newlines; line = keeps.line; free = free_ahead-pushed (decimal width) j.ahead ∙ keeps.free; half = keeps.half }
+
+-- a unit of a text leaves as much half read
+length-text_held : (unit : CopyUnit) (half : List Half) → length (text_held unit half) ≡ length half
+length-text_held unit [] = refl
+length-text_held unit (Backslash ∷ rest) = refl
+length-text_held unit (Comment ∷ rest) = refl
+length-text_held unit (NameHalf purpose part ∷ rest) = refl
+length-text_held unit (Size part ∷ rest) = refl
+length-text_held unit (Delimited purpose d text ∷ rest) = refl
+length-text_held unit (Width d width is_deep ∷ rest) = refl
+
+Keeps-holding_text : (most : ℕ) (i j : PageInput) (unit : CopyUnit) → Keeps most i j → Keeps most i (holding_text unit j)
+Keeps-holding_text most i j unit keeps = record {
+  charge = keeps.charge;
+  newlines = keeps.newlines;
+  line = keeps.line;
+  free = keeps.free;
+  half = omega (arith, keeps.half, length-text_held unit j.half);
+}
 
 -- what a name asks for
 Keeps-asking : (most : ℕ) (k : Known) (i j : PageInput) (reading : Reading) (purpose : NameUse) (name : Option (List ℕ)) → Keeps most i j
@@ -142,6 +170,10 @@ Keeps-text_found most k i half line (GivesUnit (Kept b)) few = Keeps-half most i
 Keeps-text_found most k i half line (Escape b) few = Keeps-half most i _ half few (input-escape_taking (record i { half = half }) line b)
 Keeps-text_found most k i half line (Asks purpose name) few =
     Keeps-name_taking most k i (record i { half = half }) (InText line) line purpose name (Keeps-with_half most i half few)
+Keeps-text_found most k i half line (Holds unit) few = Keeps-holding_text most i (record i { half = half }) unit (Keeps-with_half most i half few)
+Keeps-text_found most k i half line (Motion columns remark) few = Keeps-with_half most i half few
+Keeps-text_found most k i half line (Measures width) few = Keeps-measuring most i (record i { half = half }) (InText line) width (Keeps-with_half most i half few)
+Keeps-text_found most k i half line (Tells remark) few = Keeps-with_half most i half few
 
 -- what was found where a line begins, with this half read
 Keeps-beginning_found : (most : ℕ) (k : Known) (i : PageInput) (half : List Half) (found : Read) → length half ≤ most
@@ -152,6 +184,10 @@ Keeps-beginning_found most k i half (GivesUnit (Kept b)) few = Keeps-half most i
 Keeps-beginning_found most k i half (Escape b) few = Keeps-half most i _ half few (input-escape_taking (record i { half = half }) fresh_line b)
 Keeps-beginning_found most k i half (Asks purpose name) few =
     Keeps-name_taking most k i (record i { half = half }) LineStart fresh_line purpose name (Keeps-with_half most i half few)
+Keeps-beginning_found most k i half (Holds unit) few = Keeps-holding_text most i (record i { half = half }) unit (Keeps-with_half most i half few)
+Keeps-beginning_found most k i half (Motion columns remark) few = Keeps-with_half most i half few
+Keeps-beginning_found most k i half (Measures width) few = Keeps-measuring most i (record i { half = half }) LineStart width (Keeps-with_half most i half few)
+Keeps-beginning_found most k i half (Tells remark) few = Keeps-with_half most i half few
 
 -- a unit of a line of arguments
 Keeps-unit_found : (most : ℕ) (k : Known) (i : PageInput) (half : List Half) (breaks : Bool) (request : Request) (unit : CopyUnit) → length half ≤ most
@@ -162,15 +198,24 @@ Keeps-unit_found most k i half breaks request (Byte b) few =
     (record { charge = refl; newlines = refl; line = refl; free = refl; half = few })
 Keeps-unit_found most k i half breaks request (Kept b) few = record { charge = refl; newlines = refl; line = refl; free = refl; half = few }
 
+-- where no quote follows, with this half read
+Keeps-settled : (most : ℕ) (i : PageInput) (half : List Half) → length half ≤ most → Keeps most i (settling (record i { half = half }))
+Keeps-settled most i half few = record { charge = refl; newlines = refl; line = refl; free = refl; half = few }
+
 -- what was found of one, with this half read
 Keeps-arguments_found : (most : ℕ) (k : Known) (i : PageInput) (half : List Half) (breaks : Bool) (request : Request) (found : Read) → length half ≤ most
     → Keeps most i (arguments_found k (record i { half = half }) breaks request found).input
-Keeps-arguments_found most k i half breaks request GoesOn few = record { charge = refl; newlines = refl; line = refl; free = refl; half = few }
 Keeps-arguments_found most k i half breaks request (GivesUnit unit) few = Keeps-unit_found most k i half breaks request unit few
 Keeps-arguments_found most k i half breaks request (Escape b) few = Keeps-unit_found most k i half breaks request (Kept b) few
+Keeps-arguments_found most k i half breaks request GoesOn few = Keeps-settled most i half few
 Keeps-arguments_found most k i half breaks request (Asks purpose name) few =
-    Keeps-asking most k i (settling (record i { half = half })) (InArguments breaks request) purpose name
-    (record { charge = refl; newlines = refl; line = refl; free = refl; half = few })
+    Keeps-asking most k i (settling (record i { half = half })) (InArguments breaks request) purpose name (Keeps-settled most i half few)
+Keeps-arguments_found most k i half breaks request (Holds unit) few =
+    Keeps-holding_text most i (settling (record i { half = half })) unit (Keeps-settled most i half few)
+Keeps-arguments_found most k i half breaks request (Motion columns remark) few = Keeps-settled most i half few
+Keeps-arguments_found most k i half breaks request (Measures width) few =
+    Keeps-measuring most i (settling (record i { half = half })) (InArguments breaks request) width (Keeps-settled most i half few)
+Keeps-arguments_found most k i half breaks request (Tells remark) few = Keeps-settled most i half few
 
 -- one thing more is half read, or none
 abbrev pub KeepsOneMore : PageInput → PageInput → Type 0
@@ -206,7 +251,7 @@ Keeps-kept_taking k LineStart i b =
     Keeps-beginning_found _ k i (byte_read true i.half b).1 (byte_read true i.half b).0 (length-byte_read true i.half b)
 Keeps-kept_taking k (InText line) i b = Keeps-text_found _ k i (byte_read true i.half b).1 line (byte_read true i.half b).0 (length-byte_read true i.half b)
 Keeps-kept_taking k (Control breaks) i b =
-    Keeps-if _ i (b == blank) _ _ (KeepsOneMore-same i) (Keeps-if _ i (ends_name b) _ _ (KeepsOneMore-same i) (KeepsOneMore-same i))
+    Keeps-if _ i (b == blank || b == tab) _ _ (KeepsOneMore-same i) (Keeps-if _ i (ends_name b) _ _ (KeepsOneMore-same i) (KeepsOneMore-same i))
 Keeps-kept_taking k (Name breaks first) i b =
     Keeps-if _ i (ends_name b) _ _ (Keeps-name_ended_taking k i breaks (first ∷ []) b) (Keeps-name_whole_taking i breaks (first ∷ b ∷ []))
 Keeps-kept_taking k (InArguments breaks request) i b = Keeps-arguments_found _ k i (byte_read false i.half b).1 breaks request (byte_read false i.half b).0 (length-byte_read false i.half b)
