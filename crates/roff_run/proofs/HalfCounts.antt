@@ -1,10 +1,10 @@
 -- How much is half read behind what is read.
-use Rattle.std.proofs.Common.{ℕ, ◌+◌, ◌≤◌, Bool, true, false, List, [], ◌∷◌, length, Some, None, arith}
+use Rattle.std.proofs.Common.{ℕ, ◌+◌, ◌≤◌, Bool, true, false, List, [], ◌∷◌, length, Option, Some, None, arith}
 use Rattle.std.specs.Prelude.{◌&&◌, ◌||◌, nat_le, if◌then◌else◌, ◌==◌}
 use Rattle.roff_scan.specs.Bytes.{tab, newline, quote, dot, backslash}
 use Rattle.roff_scan.specs.Escapes.{escape_of, is_copied}
 use Rattle.roff_scan.specs.Half.{Half, Backslash, Comment, Name, Size, Delimited, Width, names_in}
-use Rattle.roff_scan.specs.Halves.{Reads, most_names, surroundings, reads_text, reads_widths, grown, escape_given, motion_given, name_given, text_given, name_beginning, width_beginning, name_or_opening, name_begun, unit_of_name, unit_of_text, unit_taken, copied_escape, escape_read, is_sign, is_first_digit, size_read, byte_of_text, byte_measured, byte_of_width, byte_read, name_ended, reading_ended}
+use Rattle.roff_scan.specs.Halves.{Reads, most_names, surroundings, reads_text, reads_widths, escape_given, motion_given, name_given, text_given, name_beginning, width_beginning, name_or_opening, name_begun, unit_of_name, unit_of_text, unit_taken, copied_escape, escape_read, is_sign, is_first_digit, size_read, byte_of_text, byte_of_width, byte_read, name_ended, reading_ended}
 use Rattle.roff_scan.specs.Measures.{motion_of}
 use Rattle.roff_scan.specs.declared.escapes.Escape.{Escape as Kind}
 use Rattle.roff_scan.specs.declared.escapes.Escape.TheVariants.{Prints, Blank, NoWidth, Nothing as GivesNothing, LeftOut as IsLeftOut, Comment as BeginsComment, Size as BeginsSize, Name as BeginsName, Text as BeginsText, Width as BeginsWidth}
@@ -19,7 +19,6 @@ use Rattle.roff_scan.specs.declared.half.SizePart.TheVariants.{Nothing as NoSize
 use Rattle.roff_scan.specs.declared.half.NamePart.{NamePart}
 use Rattle.roff_scan.specs.declared.half.NamePart.TheVariants.{Nothing, Opened, First}
 use Rattle.roff_scan.specs.declared.half.Surroundings.{Surroundings}
-use Rattle.roff_scan.specs.declared.measures.Measured.{Measured}
 
 -- what was found leaves so much half read
 abbrev Leaves : ℕ → Reads → Type 0
@@ -45,14 +44,14 @@ Leaves-escape_given (Size part ∷ rest) b = omega arith
 Leaves-escape_given (Delimited purpose d text ∷ rest) b = omega arith
 Leaves-escape_given (Width d width is_deep ∷ rest) b = omega arith
 
-Leaves-motion_given : (rest : List Half) (measured : Measured) → Leaves (length rest) (motion_given rest measured)
-Leaves-motion_given [] measured = omega arith
-Leaves-motion_given (Backslash ∷ rest) measured = omega arith
-Leaves-motion_given (Comment ∷ rest) measured = omega arith
-Leaves-motion_given (Name purpose part ∷ rest) measured = omega arith
-Leaves-motion_given (Size part ∷ rest) measured = omega arith
-Leaves-motion_given (Delimited purpose d text ∷ rest) measured = omega arith
-Leaves-motion_given (Width d width is_deep ∷ rest) measured = omega arith
+Leaves-motion_given : (rest : List Half) (text : List ℕ) → Leaves (length rest) (motion_given rest (motion_of text))
+Leaves-motion_given [] text = omega arith
+Leaves-motion_given (Backslash ∷ rest) text = omega arith
+Leaves-motion_given (Comment ∷ rest) text = omega arith
+Leaves-motion_given (Name purpose part ∷ rest) text = omega arith
+Leaves-motion_given (Size part ∷ rest) text = omega arith
+Leaves-motion_given (Delimited purpose d held ∷ rest) text = omega arith
+Leaves-motion_given (Width d width is_deep ∷ rest) text = omega arith
 
 Leaves-name_given : (rest : List Half) (purpose : NameUse) (name : Option (List ℕ)) → Leaves (length rest) (name_given rest purpose name)
 Leaves-name_given [] purpose name = omega arith
@@ -65,7 +64,7 @@ Leaves-name_given (Width d width is_deep ∷ rest) purpose name = Leaves-if _ (i
 
 -- a text between delimiters
 Leaves-text_given : (rest : List Half) (purpose : TextUse) (text : List ℕ) → Leaves (length rest) (text_given rest purpose text)
-Leaves-text_given rest OfMotion text = Leaves-motion_given rest (motion_of text)
+Leaves-text_given rest OfMotion text = Leaves-motion_given rest text
 Leaves-text_given rest (LeftOutText b) text = Leaves-escape_given rest b
 
 -- what leaves no more leaves one more at most
