@@ -2,9 +2,11 @@
 use Rattle.std.proofs.Common.{◌≡◌, ℕ, ◌+◌, ◌*◌, ◌<◌, ◌≤◌, Bool, true, false, ◌&&◌, not, List, [], ◌∷◌, length, Option, None, refl, ap, ◌∙◌, arith, rules}
 use Rattle.std.specs.Prelude.{nat_le, if◌then◌else◌}
 use Rattle.std.proofs.lemmas.Bool.{leb-false}
-use Rattle.roff_scan.specs.Half.{Half, Backslash, Comment, Name, Size, Delimited, Width, names_in, widths_in}
+use Rattle.roff_scan.specs.Half.{Half, Backslash, Comment, Name, Size, Delimited, Width, names_in, text_held, widths_in}
 use Rattle.roff_scan.specs.Halves.{most_names, most_widths, surroundings, reads_text, reads_widths}
 use Rattle.roff_scan.specs.Nesting.{IsNested, is_nested, is_open, may_stand}
+use Rattle.roff_scan.proofs.HalfTexts.{with_delimiter}
+use Rattle.roff_scan.specs.declared.half.CopyUnit.{CopyUnit}
 use Rattle.roff_scan.specs.declared.half.Surroundings.{Surroundings}
 use Rattle.roff_scan.specs.declared.half.Surroundings.TheVariants.{Text as InText, Arguments as InArguments, Copy as InCopy}
 
@@ -168,3 +170,23 @@ IsNested-width half nested around =
     let stands : may_stand (Width None 0 deep) half ≡ true = both_true (reads_widths (surroundings true half)) (if deep then deep else not deep) around (as_many deep) in
     both_true (is_open half && may_stand (Width None 0 deep) half) (is_nested half)
     (both_true (is_open half) (may_stand (Width None 0 deep) half) (open-rest Backslash half nested) stands) (IsNested-rest Backslash half nested)
+
+-- a unit more of a text
+pub IsNested-text_held : (unit : CopyUnit) (half : List Half) → IsNested half → IsNested (text_held unit half)
+IsNested-text_held unit [] nested = nested
+IsNested-text_held unit (Backslash ∷ rest) nested = nested
+IsNested-text_held unit (Comment ∷ rest) nested = nested
+IsNested-text_held unit (Name purpose part ∷ rest) nested = nested
+IsNested-text_held unit (Size part ∷ rest) nested = nested
+IsNested-text_held unit (Delimited purpose delimiter text ∷ rest) nested = nested
+IsNested-text_held unit (Width delimiter width is_deep ∷ rest) nested = nested
+
+-- the delimiter of a text
+pub IsNested-with_delimiter : (d : ℕ) (half : List Half) → IsNested half → IsNested (with_delimiter d half)
+IsNested-with_delimiter d [] nested = nested
+IsNested-with_delimiter d (Backslash ∷ rest) nested = nested
+IsNested-with_delimiter d (Comment ∷ rest) nested = nested
+IsNested-with_delimiter d (Name purpose part ∷ rest) nested = nested
+IsNested-with_delimiter d (Size part ∷ rest) nested = nested
+IsNested-with_delimiter d (Delimited purpose delimiter text ∷ rest) nested = nested
+IsNested-with_delimiter d (Width delimiter width is_deep ∷ rest) nested = nested

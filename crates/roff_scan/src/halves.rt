@@ -5,6 +5,7 @@ ghost use Rattle.roff_scan.specs.Escapes.{escape_of as kind_of};
 ghost use Rattle.roff_scan.specs.Half.{Half, Backslash as BackslashHalf, Delimited as DelimitedHalf, Name as NameHalf, Size as SizeHalf, Width as WidthHalf, names_in, text_held, texts_held, widths_in};
 ghost use Rattle.roff_scan.specs.HalfTexts.{BeginsBehind, IsOnTop, begun, leaving, names_among, widths_among};
 ghost use Rattle.roff_scan.specs.Halves.{byte_of_text, byte_of_width, byte_read, copied_escape, escape_given, escape_taken, grown, is_of_size, motion_given, name_beginning, name_begun, name_ended, name_given, newline_stays, part_at_first, reading_ended, reads_widths, seen_stays, size_read, surroundings, text_given, unit_of_name, unit_of_text, unit_taken, width_beginning};
+ghost use Rattle.roff_scan.specs.Measures.{motion_of};
 ghost use Rattle.roff_scan.specs.Nesting.{IsNested, is_open};
 ghost use Rattle.roff_scan.specs.declared.half.Read.TheVariants.{Asks};
 ghost use Rattle.roff_scan.specs.declared.escapes.NameUse.{NameUse as UseOf};
@@ -250,9 +251,7 @@ impl Halves {
                 }
             }
             Escape::Size if in_text => self.begin(HalfRead::Size(SizePart::Nothing)),
-            Escape::Text(purpose) if in_text => {
-                self.begin(HalfRead::Delimited(purpose, None, self.texts.len()))
-            }
+            Escape::Text(purpose) if in_text => self.begin_text(purpose),
             _ if in_text => self.give_escape(byte),
             _ => self.copy_escape(byte),
         }
@@ -290,6 +289,17 @@ impl Halves {
             self.push(HalfRead::Name(purpose, part_at_first(purpose)));
         }
         Read::GoesOn
+    }
+
+    /// A text between delimiters begins.
+    fn begin_text(&mut self, purpose: TextUse) -> Read
+        requires { IsNested (DelimitedHalf purpose None [] ∷ self.old.half) }
+        ensures going { result ≡ Read.GoesOn }
+        ensures begun { self.new
+            ≡ record self.old { half = DelimitedHalf purpose None [] ∷ self.old.half } }
+    {
+        let begin = self.held();
+        self.begin(HalfRead::Delimited(purpose, None, begin))
     }
 
     /// A text that is measured begins, or one too deep for it.
@@ -464,7 +474,7 @@ impl Halves {
     {
         match purpose {
             TextUse::Motion => {
-                let measured = Measured::of_motion(&self.texts[begin..]);
+                let measured = self.motion(begin);
                 self.pop();
                 self.give_motion(measured)
             }
@@ -473,6 +483,16 @@ impl Halves {
                 self.give_escape(byte)
             }
         }
+    }
+
+    /// The motion that the text on top asks for, which begins there in the block.
+    fn motion(&self, begin: usize) -> Measured
+        requires { begin ≡ texts_held (drop 1 self.now.half) }
+        ensures { (purpose : PurposeOf) (delimiter : Option ℕ) (text : List ℕ) (rest : List Half)
+            → self.now.half ≡ DelimitedHalf purpose delimiter text ∷ rest
+            → result ≡ motion_of text }
+    {
+        Measured::of_motion(&self.texts[begin..])
     }
 
     /// An escape of the text without a name: a text that is measured grows by it.
