@@ -20,16 +20,6 @@ second_of : (a b : Bool) → a && b ≡ true → b ≡ true
 second_of true b both = both
 second_of false b both = absurd (search (rules, both))
 
--- of two that hold both do
-both_true : (a b : Bool) → a ≡ true → b ≡ true → a && b ≡ true
-both_true true b first second = second
-both_true false b first second = first
-
--- either something holds or it doesn't
-as_many : (a : Bool) → (if a then a else not a) ≡ true
-as_many true = refl
-as_many false = refl
-
 -- what doesn't hold is false
 not_true : (a : Bool) → not a ≡ true → a ≡ false
 not_true true is = absurd (search (rules, is))
@@ -160,16 +150,6 @@ length-spare (Width delimiter width is_deep ∷ rest) nested =
 pub length-nested : (half : List Half) → IsNested half → length half ≤ 28
 length-nested half nested =
     omega (arith, length-spare half nested, spare-few half, names-nested half nested, widths-nested half nested)
-
--- a text begins where widths are read
-pub IsNested-width :
-    (half : List Half) → IsNested (Backslash ∷ half) → reads_widths (surroundings true half) ≡ true
-    → IsNested (Width None 0 (nat_le most_widths (widths_in half)) ∷ half)
-IsNested-width half nested around =
-    let deep : Bool = nat_le most_widths (widths_in half) in
-    let stands : may_stand (Width None 0 deep) half ≡ true = both_true (reads_widths (surroundings true half)) (if deep then deep else not deep) around (as_many deep) in
-    both_true (is_open half && may_stand (Width None 0 deep) half) (is_nested half)
-    (both_true (is_open half) (may_stand (Width None 0 deep) half) (open-rest Backslash half nested) stands) (IsNested-rest Backslash half nested)
 
 -- a unit more of a text
 pub IsNested-text_held : (unit : CopyUnit) (half : List Half) → IsNested half → IsNested (text_held unit half)

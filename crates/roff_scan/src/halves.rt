@@ -492,7 +492,8 @@ impl Halves {
             → self.now.half ≡ DelimitedHalf purpose delimiter text ∷ rest
             → result ≡ motion_of text }
     {
-        Measured::of_motion(&self.texts[begin..])
+        let text = &self.texts[begin..];
+        Measured::of_motion(text)
     }
 
     /// An escape of the text without a name: a text that is measured grows by it.

@@ -5,14 +5,14 @@ use Rattle.roff_scan.specs.Measures.{motion_of}
 use Rattle.roff_scan.proofs.HalfTexts.{drop-held, held-rest, text_on_top}
 use Rattle.roff_scan.proofs.halves.Halves.motion.Goals as goal
 
-pub slice_bounds-of_motion-count : goal.slice_bounds-of_motion-count
-slice_bounds-of_motion-count c =
+pub slice_bounds-text-count : goal.slice_bounds-text-count
+slice_bounds-text-count c =
     let inside = c.self.inside in
     let begins = rw (← c.self.view_is) at c.requires in
     omega (arith, begins, ap length c.deref.ensures.value, held-rest (reverse inside.items.items) inside.texts.items c.self.invariant.joined)
 
-pub slice_bounds-of_motion-start : goal.slice_bounds-of_motion-start
-slice_bounds-of_motion-start c =
+pub slice_bounds-text-start : goal.slice_bounds-text-start
+slice_bounds-text-start c =
     let inside = c.self.inside in
     let begins = rw (← c.self.view_is) at c.requires in
     omega (arith, begins, ap length c.deref.ensures.value, held-rest (reverse inside.items.items) inside.texts.items c.self.invariant.joined)
