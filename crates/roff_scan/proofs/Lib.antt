@@ -1,5 +1,8 @@
 pub mod Giving
 pub mod Nesting
+pub mod NestedHalves
+pub mod HalfTexts
+pub mod HalfCounts
 pub mod CharacterTable
 pub mod KeptTexts
 pub mod KeptArguments
