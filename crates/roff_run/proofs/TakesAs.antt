@@ -1,5 +1,5 @@
 -- What the code of the reader takes, piece by piece, as the definition takes it.
-use Rattle.std.proofs.Common.{◌≡◌, ℕ, Bool, true, false, cond, List, [], length, Option, Some, None, Result, Ok, Err, refl, sym, subst, ap, ◌∙◌}
+use Rattle.std.proofs.Common.{◌≡◌, ℕ, ◌≤◌, Bool, true, false, cond, List, [], length, Option, Some, None, Result, Ok, Err, refl, sym, subst, ap, ◌∙◌, arith}
 use Rattle.std.specs.Option.{option_to_list}
 use Rattle.std.specs.Prelude.{nat_lt, ◌&&◌, is_some, if◌then◌else◌}
 use Rattle.roff_lines.specs.Env.Stands.{Stands}
@@ -8,10 +8,13 @@ use Rattle.roff_num.specs.declared.limit.Limit.{Limit}
 use Rattle.roff_num.specs.declared.limit.Limit.TheVariants.{Names}
 use Rattle.roff_num.specs.Ranges.{is_in_range}
 use Rattle.roff_scan.specs.Bytes.{is_dropped, newline}
-use Rattle.roff_scan.specs.Halves.{Reads}
+use Rattle.roff_scan.specs.Half.{Half, texts_held}
+use Rattle.roff_scan.specs.Halves.{Reads, reading_ended}
 use Rattle.roff_scan.specs.Input.{pushing, with_half}
 use Rattle.roff_scan.specs.Unread.{changing, input_refusal, reading, unless_passed}
+use Rattle.roff_scan.specs.declared.half.CopyUnit.{CopyUnit}
 use Rattle.roff_scan.specs.declared.half.Read.{Read}
+use Rattle.roff_scan.specs.declared.half.Read.TheVariants.{GoesOn, Unit as OneUnit, Holds, Escape, Asks, Motion, Measures, Tells}
 use Rattle.roff_store.proofs.Entries.{length-with_entry}
 use Rattle.roff_store.specs.Named.{with_entry, entry_of}
 use Rattle.roff_store.specs.Registers.{Registers, register_of, with_step, next_value}
@@ -20,7 +23,7 @@ use Rattle.roff_store.specs.declared.register.Register.{Register}
 use Rattle.roff_run.specs.Output.{PageHistory, text_of}
 use Rattle.roff_run.specs.Reader.State.{ReaderState}
 use Rattle.roff_run.specs.Reader.Taken.{IsReady, PageUnread, Takes, TakesAs, Took}
-use Rattle.roff_run.specs.Reading.{PageInput, Taking, end_taking, going_on, interpolating, interrupted, kept_taking, meaning_events, putting_nothing, settling, taking}
+use Rattle.roff_run.specs.Reading.{PageInput, Taking, arguments_found, end_taking, going_on, half_ended, interpolating, interrupted, kept_taking, meaning_events, no_unit_found, settling, taking}
 use Rattle.roff_run.specs.Registers.{AllRegisters, Known, changed_by_all, is_page, is_read_only, known_behind, step_changes, step_messages, stepped_page, text_of_register}
 use Rattle.roff_run.specs.Registers.Capped.{Capped}
 use Rattle.roff_run.specs.Registers.Coded.{known_of}
@@ -30,10 +33,12 @@ use Rattle.roff_run.specs.declared.message.Message.{Message}
 use Rattle.roff_run.specs.declared.reader.Meaning.{Meaning}
 use Rattle.roff_run.specs.declared.reading.Reading.{Reading}
 use Rattle.roff_run.specs.declared.reading.Reading.TheVariants.{LineStart, Text as InText, Control, Name, Arguments as InArguments, Dropped}
+use Rattle.roff_run.specs.declared.reading.TextLine.{TextLine}
 use Rattle.roff_run.specs.declared.reading.TextStep.{TextStep}
 use Rattle.roff_run.specs.declared.registers.Facts.{Facts}
+use Rattle.roff_run.specs.declared.request.Request.{Request}
 use Rattle.roff_run.specs.TextLine.Stepping.{step_at}
-use Rattle.roff_run.proofs.InputCounts.{NoMore-interrupted, NoMore-settling, first_passed-few_names, first_passed-no_more, one_of}
+use Rattle.roff_run.proofs.InputCounts.{NoMore, NoMore-interrupted, NoMore-settling, first_passed-few_names, first_passed-no_more, one_of}
 
 -- what is taken where other units are half read, and something else was read of the line
 Takes-elsewhere : (t : Taking) (old : Capped) (new : ReaderState) (before behind : PageUnread) (i : PageInput) (result : Result Meaning Limit)
@@ -50,19 +55,25 @@ Takes-elsewhere t old new before behind i (Ok m) took = record {
 }
 Takes-elsewhere t old new before behind i (Err limit) passed = passed
 
+-- where no more is held of texts that are half read
+NoMore-with_half : (half : List Half) (i : PageInput) → texts_held half ≤ texts_held i.half → NoMore (with_half half i) i
+NoMore-with_half half i fewer = record { bytes = omega (arith, fewer); texts = omega arith }
+
 -- what something reads, with what is half read then
 pub TakesAs-read : (t : Known → PageInput → Read → Taking) (r : Reads) (env : Env) (old new : ReaderState) (before mid behind : PageUnread)
-    (found : Read) (result : Result Meaning Limit) → (found, mid) ≡ reading r before
+    (found : Read) (result : Result Meaning Limit) → (found, mid) ≡ reading r before → texts_held r.1 ≤ texts_held before.input.half
     → TakesAs (λ k. t k mid.input found) env old new mid behind result
     → TakesAs (λ k. t k (with_half r.1 before.input) r.0) env old new before behind result
-TakesAs-read t r env old new before mid behind found result reads takes =
+TakesAs-read t r env old new before mid behind found result reads fewer takes =
     let half : PageInput = with_half r.1 before.input in
     let behind_it : PageUnread = record before { input = half } in
     let moved : TakesAs (λ k. t k half r.0) env old new behind_it behind result =
     subst (λ (p : Read × PageUnread). TakesAs (λ k. t k p.1.input p.0) env old new p.1 behind result) reads takes in
     record {
-      takes = λ cap h stands ready. Takes-elsewhere (t (known_at h old.registers.all before.input) half r.0) old.registers new before behind half result
-          (moved.takes cap h stands (record { cap = ready.cap; within = ready.within }));
+      takes = λ cap h stands ready.
+          let within = first_passed-no_more before.limits old.registers.all half before.input (NoMore-with_half r.1 before.input fewer) ready.within in
+          Takes-elsewhere (t (known_at h old.registers.all before.input) half r.0) old.registers new before behind half result
+          (moved.takes cap h stands (record { cap = ready.cap; within = within }));
     }
 
 -- the same from where something else is read of the line
@@ -262,33 +273,32 @@ TakesAs-stepped t step env old new u m as_defined came says means = record {
       });
 }
 
--- an empty text is put in front
-pub TakesAs-put : (env : Env) (old : ReaderState) (before behind : PageUnread) (m : Meaning) (done : Unit {0})
-    → (Ok done, behind) ≡ changing (pushing [] before.input) before → m.message ≡ None → m.events.items ≡ []
-    → TakesAs (λ k. putting_nothing before.input old.reading) env old old before behind (Ok m)
-TakesAs-put env old before behind m done pushes silent none = record {
+-- the input changes, and this is read on
+pub TakesAs-changed : (i : PageInput) (place : Reading) (env : Env) (old new : ReaderState) (before behind : PageUnread) (m : Meaning) (done : Unit {0})
+    → (Ok done, behind) ≡ changing i before → new ≡ record old { reading = place } → m.message ≡ None → m.events.items ≡ []
+    → TakesAs (λ k. going_on i place) env old new before behind (Ok m)
+TakesAs-changed i place env old new before behind m done changes came silent none = record {
   takes = λ cap h stands ready.
-      let passed = passed_none (input_refusal before.limits (pushing [] before.input)) (pushing [] before.input) before behind done pushes in
+      let passed = passed_none (input_refusal before.limits i) i before behind done changes in
       record {
         became = record {
           input = passed.0;
-          reading = refl;
-          registers = refl;
-          within = first_passed-few_names before.limits old.registers.all (pushing [] before.input) (few_names old.registers before ready) ∙ passed.1;
+          reading = ap (λ (s : ReaderState). s.reading) came;
+          registers = ap (λ (s : ReaderState). s.registers) came;
+          within = first_passed-few_names before.limits old.registers.all i (few_names old.registers before ready) ∙ passed.1;
         };
         messages = ap (λ (message : Option Message). option_to_list message) silent;
         events = none;
       };
 }
 
--- or its end doesn't fit
-pub TakesAs-not_put : (env : Env) (old new : ReaderState) (before behind : PageUnread) (limit : Limit)
-    → (Err limit, behind) ≡ changing (pushing [] before.input) before
-    → TakesAs (λ k. putting_nothing before.input old.reading) env old new before behind (Err limit)
-TakesAs-not_put env old new before behind limit pushes = record {
+-- or a limit refuses the change
+pub TakesAs-not_changed : (i : PageInput) (place : Reading) (env : Env) (old new : ReaderState) (before behind : PageUnread) (limit : Limit)
+    → (Err limit, behind) ≡ changing i before → TakesAs (λ k. going_on i place) env old new before behind (Err limit)
+TakesAs-not_changed i place env old new before behind limit changes = record {
   takes = λ cap h stands ready.
-      let refused = passed_one (input_refusal before.limits (pushing [] before.input)) (pushing [] before.input) before behind limit pushes in
-      first_passed-few_names before.limits old.registers.all (pushing [] before.input) (few_names old.registers before ready) ∙ refused;
+      let refused = passed_one (input_refusal before.limits i) i before behind limit changes in
+      first_passed-few_names before.limits old.registers.all i (few_names old.registers before ready) ∙ refused;
 }
 
 -- by whether a byte is dropped
@@ -304,3 +314,25 @@ end_taking-newline k (Control breaks) i begun = refl
 end_taking-newline k (Name breaks first) i begun = refl
 end_taking-newline k (InArguments breaks request) i begun = refl
 end_taking-newline k Dropped i begun = refl
+
+-- behind a request's name anything but a unit is no byte of an argument
+pub arguments_found-no_unit : (k : Known) (i : PageInput) (breaks : Bool) (request : Request) (found : Read) → ((unit : CopyUnit) → found ≡ OneUnit unit → ⊥)
+    → ((b : ℕ) → found ≡ Escape b → ⊥) → no_unit_found k (settling i) (InArguments breaks request) found ≡ arguments_found k i breaks request found
+arguments_found-no_unit k i breaks request (OneUnit unit) no_unit no_escape = absurd (no_unit unit refl)
+arguments_found-no_unit k i breaks request (Escape b) no_unit no_escape = absurd (no_escape b refl)
+arguments_found-no_unit k i breaks request GoesOn no_unit no_escape = refl
+arguments_found-no_unit k i breaks request (Holds unit) no_unit no_escape = refl
+arguments_found-no_unit k i breaks request (Asks purpose name) no_unit no_escape = refl
+arguments_found-no_unit k i breaks request (Motion columns remark) no_unit no_escape = refl
+arguments_found-no_unit k i breaks request (Measures width) no_unit no_escape = refl
+arguments_found-no_unit k i breaks request (Tells remark) no_unit no_escape = refl
+
+-- where nothing of what is half read is kept when it ends
+pub half_ended-dropped : (k : Known) (r : Reading) (i : PageInput) → (r ≡ LineStart → ⊥) → ((line : TextLine) → r ≡ InText line → ⊥)
+    → ((breaks : Bool) (request : Request) → r ≡ InArguments breaks request → ⊥) → going_on (with_half (reading_ended true i.half).1 i) r ≡ half_ended k r i
+half_ended-dropped k LineStart i begun no_text no_arguments = absurd (begun refl)
+half_ended-dropped k (InText line) i begun no_text no_arguments = absurd (no_text line refl)
+half_ended-dropped k (Control breaks) i begun no_text no_arguments = refl
+half_ended-dropped k (Name breaks first) i begun no_text no_arguments = refl
+half_ended-dropped k (InArguments breaks request) i begun no_text no_arguments = absurd (no_arguments breaks request refl)
+half_ended-dropped k Dropped i begun no_text no_arguments = refl

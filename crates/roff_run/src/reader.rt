@@ -319,16 +319,17 @@ impl Reader {
         ensures { TakesAs (λ k. arguments_found k unread.old.input breaks request found)
             env.now self.old self.new unread.old unread.new result }
     {
-        let unit = match found {
-            Read::Unit(unit) => unit,
-            Read::Escape(byte) => CopyUnit::Kept(byte),
-            found => {
+        match found {
+            Read::Unit(unit) => self.read_unit(breaks, request, unit, env, unread),
+            Read::Escape(byte) => {
+                self.read_unit(breaks, request, CopyUnit::Kept(byte), env, unread)
+            }
+            _ => {
                 unread.settle();
                 let reading = Reading::Arguments { breaks, request };
-                return self.read_in_arguments(reading, found, env, unread);
+                self.read_in_arguments(reading, found, env, unread)
             }
-        };
-        self.read_unit(breaks, request, unit, env, unread)
+        }
     }
 
     /// Something behind a request's name that is no unit of an argument.
@@ -342,13 +343,15 @@ impl Reader {
         ensures { TakesAs (λ k. no_unit_found k unread.old.input reading found)
             env.now self.old self.new unread.old unread.new result }
     {
-        self.reading = reading;
         match found {
             Read::Holds(unit) => self.hold_text(unit, reading, unread),
-            Read::Asks(purpose, name) => self.ask(purpose, name, env, unread),
+            Read::Asks(purpose, name) => {
+                self.reading = reading;
+                self.ask(purpose, name, env, unread)
+            }
             Read::Measures(width) => self.measure(width, reading, unread),
             Read::Tells(remark) => Ok(self.tell(remark, reading)),
-            _ => Ok(Meaning::nothing()),
+            _ => Ok(self.read_on(reading)),
         }
     }
 

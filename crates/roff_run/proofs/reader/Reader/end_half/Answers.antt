@@ -1,8 +1,11 @@
-use Rattle.std.proofs.Common.{◌≡◌, true, false, rules}
+use Rattle.std.proofs.Common.{◌≡◌, [], Ok, true, false, refl, rules, ap, ◌∙◌}
 use Rattle.roff_scan.specs.Halves.{reading_ended}
-use Rattle.roff_run.specs.Reading.{arguments_found, beginning_found, half_ended, text_found}
+use Rattle.roff_scan.proofs.TextsHeld.{texts_held-reading_ended}
+use Rattle.roff_scan.specs.Input.{with_half}
+use Rattle.roff_run.specs.Reader.State.{ReaderState}
+use Rattle.roff_run.specs.Reading.{arguments_found, beginning_found, going_on, half_ended, text_found}
 use Rattle.roff_run.specs.declared.reading.Reading.TheVariants.{Arguments as InArguments, LineStart, Text as InText}
-use Rattle.roff_run.proofs.TakesAs.{TakesAs-read, TakesAs-where}
+use Rattle.roff_run.proofs.TakesAs.{TakesAs-as, TakesAs-meant, TakesAs-read, TakesAs-where, half_ended-dropped}
 use Rattle.roff_run.proofs.reader.Reader.end_half.Goals as goal
 
 pub returns-in-LineStart : goal.returns-in-LineStart
@@ -13,7 +16,7 @@ returns-in-LineStart c =
     let is : old.reading ≡ LineStart = search rules in
     TakesAs-where (λ k r. half_ended k r u.input) LineStart env old c.begin_line.new.self u c.begin_line.new.unread c.begin_line.result is
     (TakesAs-read beginning_found (reading_ended true u.input.half) env old c.begin_line.new.self u c.end_reading-found.new.self c.begin_line.new.unread
-    c.end_reading-found.result c.begin_line.result c.end_reading-found.ensures.reading c.begin_line.ensures)
+    c.end_reading-found.result c.begin_line.result c.end_reading-found.ensures.reading (texts_held-reading_ended true u.input.half) c.begin_line.ensures)
 
 pub returns-in-Text : goal.returns-in-Text
 returns-in-Text c =
@@ -25,7 +28,7 @@ returns-in-Text c =
     TakesAs-where (λ k r. half_ended k r u.input) (InText line) env old c.read_text.new.self u c.read_text.new.unread c.read_text.result is
     (TakesAs-read (λ k i found. text_found k i line found) (reading_ended true u.input.half) env old c.read_text.new.self u
     c.end_reading-found-in-Text.new.self c.read_text.new.unread c.end_reading-found-in-Text.result c.read_text.result
-    c.end_reading-found-in-Text.ensures.reading c.read_text.ensures)
+    c.end_reading-found-in-Text.ensures.reading (texts_held-reading_ended true u.input.half) c.read_text.ensures)
 
 pub returns-in-Arguments : goal.returns-in-Arguments
 returns-in-Arguments c =
@@ -38,4 +41,20 @@ returns-in-Arguments c =
     TakesAs-where (λ k r. half_ended k r u.input) (InArguments breaks request) env old c.read_arguments.new.self u c.read_arguments.new.unread c.read_arguments.result is
     (TakesAs-read (λ k i found. arguments_found k i breaks request found) (reading_ended false u.input.half) env old c.read_arguments.new.self u
     c.end_reading-found-in-Arguments.new.self c.read_arguments.new.unread c.end_reading-found-in-Arguments.result c.read_arguments.result
-    c.end_reading-found-in-Arguments.ensures.reading c.read_arguments.ensures)
+    c.end_reading-found-in-Arguments.ensures.reading (texts_held-reading_ended false u.input.half) c.read_arguments.ensures)
+
+pub returns-in_default : goal.returns-in_default
+returns-in_default c =
+    let env = c.args.env.now in
+    let old = c.args.self.now in
+    let u = c.args.unread.now in
+    let mid = c.end_reading.new.self in
+    let read = reading_ended true u.input.half in
+    let m = c.nothing.result in
+    let same = ap (λ (s : ReaderState). s.reading) c.self.view_is in
+    TakesAs-as (λ k. going_on (with_half read.1 u.input) old.reading) (λ k. half_ended k old.reading u.input) env old old u mid (Ok m)
+    (λ k. half_ended-dropped k old.reading u.input (λ is. c.in_default.not-LineStart (same ∙ is)) (λ line is. c.in_default.not-Text line (same ∙ is))
+    (λ breaks request is. c.in_default.not-Arguments breaks request (same ∙ is)))
+    (TakesAs-read (λ k i found. going_on i old.reading) read env old old u mid mid c.end_reading.result (Ok m) c.end_reading.ensures.reading
+    (texts_held-reading_ended true u.input.half)
+    (TakesAs-meant (λ k. going_on mid.input old.reading) old.reading [] env old old mid m (λ k. refl) refl c.nothing.ensures.message c.nothing.ensures.events))

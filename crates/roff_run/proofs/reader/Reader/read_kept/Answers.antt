@@ -1,5 +1,6 @@
 use Rattle.std.proofs.Common.{◌≡◌, [], Ok, true, false, rules}
 use Rattle.roff_scan.specs.Halves.{byte_read}
+use Rattle.roff_scan.proofs.TextsHeld.{texts_held-byte_read}
 use Rattle.roff_run.specs.Reading.{arguments_found, beginning_found, kept_taking, text_found}
 use Rattle.roff_run.specs.declared.reading.Reading.TheVariants.{Arguments as InArguments, Control, Dropped, LineStart, Text as InText}
 use Rattle.roff_run.proofs.TakesAs.{TakesAs-meant, TakesAs-read, TakesAs-where}
@@ -13,7 +14,7 @@ returns-in-LineStart c =
     let is : old.reading ≡ LineStart = search rules in
     TakesAs-where (λ k r. kept_taking k r u.input c.args.byte) LineStart env old c.begin_line.new.self u c.begin_line.new.unread c.begin_line.result is
     (TakesAs-read beginning_found (byte_read true u.input.half c.args.byte) env old c.begin_line.new.self u c.read_byte-found.new.self c.begin_line.new.unread
-    c.read_byte-found.result c.begin_line.result c.read_byte-found.ensures.reading c.begin_line.ensures)
+    c.read_byte-found.result c.begin_line.result c.read_byte-found.ensures.reading (texts_held-byte_read true c.args.byte u.input.half) c.begin_line.ensures)
 
 pub returns-in-Text : goal.returns-in-Text
 returns-in-Text c =
@@ -25,7 +26,7 @@ returns-in-Text c =
     TakesAs-where (λ k r. kept_taking k r u.input c.args.byte) (InText line) env old c.read_text.new.self u c.read_text.new.unread c.read_text.result is
     (TakesAs-read (λ k i found. text_found k i line found) (byte_read true u.input.half c.args.byte) env old c.read_text.new.self u
     c.read_byte-found-in-Text.new.self c.read_text.new.unread c.read_byte-found-in-Text.result c.read_text.result
-    c.read_byte-found-in-Text.ensures.reading c.read_text.ensures)
+    c.read_byte-found-in-Text.ensures.reading (texts_held-byte_read true c.args.byte u.input.half) c.read_text.ensures)
 
 pub returns-in-Control : goal.returns-in-Control
 returns-in-Control c =
@@ -49,7 +50,7 @@ returns-in-Arguments c =
     TakesAs-where (λ k r. kept_taking k r u.input c.args.byte) (InArguments breaks request) env old c.read_arguments.new.self u c.read_arguments.new.unread c.read_arguments.result is
     (TakesAs-read (λ k i found. arguments_found k i breaks request found) (byte_read false u.input.half c.args.byte) env old c.read_arguments.new.self u
     c.read_byte-found-in-Arguments.new.self c.read_arguments.new.unread c.read_byte-found-in-Arguments.result c.read_arguments.result
-    c.read_byte-found-in-Arguments.ensures.reading c.read_arguments.ensures)
+    c.read_byte-found-in-Arguments.ensures.reading (texts_held-byte_read false c.args.byte u.input.half) c.read_arguments.ensures)
 
 pub returns-in-Dropped : goal.returns-in-Dropped
 returns-in-Dropped c =

@@ -1,9 +1,24 @@
 use Rattle.std.proofs.Common.{ap}
 use Rattle.roff_run.specs.Reader.State.{ReaderState}
-use Rattle.roff_run.specs.Reading.{name_taking}
+use Rattle.roff_run.specs.Reading.{motion_taking, name_taking}
 use Rattle.roff_run.specs.declared.reading.Reading.TheVariants.{Text}
-use Rattle.roff_run.proofs.TakesAs.{TakesAs-set}
+use Rattle.roff_run.proofs.TakesAs.{TakesAs-set, TakesAs-stepped}
 use Rattle.roff_run.proofs.reader.Reader.read_text.Goals as goal
+
+pub returns-in-Holds : goal.returns-in-Holds
+returns-in-Holds c = rw c.in-Holds.is (c.hold_text.ensures c.args.env.now)
+
+pub returns-in-Motion : goal.returns-in-Motion
+returns-in-Motion c =
+    rw c.in-Motion.is
+    (TakesAs-stepped (λ i. motion_taking i c.args.line c.in-Motion.columns c.in-Motion.remark) c.motion.result c.args.env.now c.args.self.now c.step-in-Motion.new.self
+    c.args.unread.now c.step-in-Motion.result c.motion.ensures c.step-in-Motion.ensures.reading c.step-in-Motion.ensures.message c.step-in-Motion.ensures.events)
+
+pub returns-in-Measures : goal.returns-in-Measures
+returns-in-Measures c = rw c.in-Measures.is (c.measure.ensures c.args.env.now)
+
+pub returns-in-Tells : goal.returns-in-Tells
+returns-in-Tells c = rw c.in-Tells.is (c.tell.ensures c.args.env.now c.args.unread.now)
 
 pub returns-in-Asks : goal.returns-in-Asks
 returns-in-Asks c =

@@ -1,4 +1,7 @@
-use Rattle.std.proofs.Common.{sym, ap, ◌∙◌}
+use Rattle.std.proofs.Common.{◌≡◌, rules, sym, ap, ◌∙◌}
+use Rattle.roff_scan.specs.Escapes.{escape_of}
+use Rattle.roff_scan.specs.declared.escapes.Escape.TheVariants.{Text}
+use Rattle.roff_scan.specs.declared.escapes.TextUse.TheVariants.{LeftOut, Motion}
 use Rattle.roff_run.specs.Reading.{escape_meant}
 use Rattle.roff_run.proofs.reading.TextLine.escape.Goals as goal
 
@@ -33,3 +36,17 @@ returns-in-Name c = λ i.
 pub returns-in-Size : goal.returns-in-Size
 returns-in-Size c = λ i.
     c.other-in-Size.ensures i ∙ ap (escape_meant i c.args.self c.args.byte) (sym c.in-Size.is ∙ c.escape_of.ensures)
+
+pub returns-in-Text-LeftOut : goal.returns-in-Text-LeftOut
+returns-in-Text-LeftOut c = λ i.
+    let is : Text (LeftOut c.in-Text-LeftOut.left_out) ≡ escape_of c.args.byte = search rules in
+    c.left_out-in-Text-LeftOut.ensures i ∙ ap (escape_meant i c.args.self c.args.byte) is
+
+pub returns-in-Text-Motion : goal.returns-in-Text-Motion
+returns-in-Text-Motion c = λ i.
+    let is : Text Motion ≡ escape_of c.args.byte = search rules in
+    c.other-in-Text-Motion.ensures i ∙ ap (escape_meant i c.args.self c.args.byte) is
+
+pub returns-in-Width : goal.returns-in-Width
+returns-in-Width c = λ i.
+    c.other-in-Width.ensures i ∙ ap (escape_meant i c.args.self c.args.byte) (sym c.in-Width.is ∙ c.escape_of.ensures)
