@@ -13,3 +13,4 @@ pub mod Counts
 pub mod Pushing
 pub mod Standing
 pub mod Taking
+pub mod TextsHeld

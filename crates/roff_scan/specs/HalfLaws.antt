@@ -3,25 +3,34 @@ use Rattle.std.specs.Prelude.{ℕ, zero, suc, Bool, List, [], ◌∷◌, ◌++�
 use Rattle.std.specs.List.{list_any}
 use Rattle.roff_scan.specs.Bytes.{backslash}
 use Rattle.roff_scan.specs.Halves.{byte_read}
-use Rattle.roff_scan.specs.declared.half.Half.{Half}
+use Rattle.roff_scan.specs.Half.{Half, text_held}
 use Rattle.roff_scan.specs.declared.half.Read.{Read}
-use Rattle.roff_scan.specs.declared.half.Read.TheVariants.{GoesOn, Unit as GivesUnit, Escape, Asks}
+use Rattle.roff_scan.specs.declared.half.Read.TheVariants.{GoesOn, Unit as GivesUnit, Holds, Escape, Asks, Motion, Measures, Tells}
 use Rattle.roff_store.specs.declared.register.Direction.{Direction}
 use Rattle.roff_store.specs.declared.register.Direction.TheVariants.{Up, Down}
 
 -- what a byte finds, if it finds something, stands before what the others find
 abbrev pub found_before : Read → List Read → List Read
 found_before GoesOn others = others
+found_before (Holds unit) others = others
 found_before (GivesUnit unit) others = GivesUnit unit ∷ others
 found_before (Escape b) others = Escape b ∷ others
 found_before (Asks purpose name) others = Asks purpose name ∷ others
+found_before (Motion columns remark) others = Motion columns remark ∷ others
+found_before (Measures width) others = Measures width ∷ others
+found_before (Tells remark) others = Tells remark ∷ others
+
+-- what is half read behind what a byte gives: a unit of a text between delimiters is held there
+abbrev pub half_behind : Read → List Half → List Half
+half_behind (Holds unit) half = text_held unit half
+half_behind (_) half = half
 
 -- bytes read one by one: what they find, in order, and what is half read behind them
 abbrev pub reads_through : Bool → List Half → List ℕ → List Read × List Half
 reads_through is_text half [] = ([], half)
 reads_through is_text half (b ∷ bytes) =
     let read = byte_read is_text half b in
-    let others = reads_through is_text read.1 bytes in
+    let others = reads_through is_text (half_behind read.0 read.1) bytes in
     (found_before read.0 others.0, others.1)
 
 -- the sign of a step
