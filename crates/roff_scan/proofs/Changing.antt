@@ -4,10 +4,9 @@ use Rattle.std.specs.Prelude.{nat_lt}
 use Rattle.std.proofs.lemmas.Bool.Decides.{nat_tests}
 use Rattle.roff_num.specs.declared.limit.Limit.TheVariants.{Stack, Depth}
 use Rattle.roff_scan.specs.Arguments.{Arguments, held}
-use Rattle.roff_scan.specs.Half.{Half, texts_held, text_held}
-use Rattle.roff_scan.specs.Input.{Input, EndAhead, pushed, depth, pushing, freeing, with_arguments, with_half, holding_text, bytes_ahead}
+use Rattle.roff_scan.specs.Half.{Half, texts_held}
+use Rattle.roff_scan.specs.Input.{Input, EndAhead, pushed, depth, pushing, freeing, with_arguments, with_half, bytes_ahead}
 use Rattle.roff_scan.specs.Unread.{Unread, IsWithin, changing}
-use Rattle.roff_scan.specs.declared.half.CopyUnit.{CopyUnit}
 use Rattle.roff_scan.proofs.KeptArguments.{held-only_kept}
 use Rattle.roff_scan.proofs.Counts.{bytes_ahead-bytes, ends_ahead-bytes, bytes_ahead-frees, ends_ahead-frees}
 
@@ -101,29 +100,8 @@ module _ {E : Type 0} (u : Unread E) (a : Arguments) where
       pub IsWithin-holding : IsWithin (record u { input = with_arguments a u.input })
       IsWithin-holding = IsWithin-with_arguments within held_within
 
-module _ {E : Type 0} (u : Unread E) where
-  -- where no more is held of texts between delimiters
-  pub IsWithin-with_half : (half : List Half) → IsWithin u → texts_held half ≤ texts_held u.input.half → IsWithin (record u { input = with_half half u.input })
-  IsWithin-with_half half within fewer =
-      record { charge = within.charge; newlines = within.newlines; pushed = omega (arith, within.pushed, fewer); depth = within.depth }
-
-  module _ (unit : CopyUnit) (bytes more : ℕ) (counted : bytes ≡ pushed u.input)
-      (longer : texts_held (text_held unit u.input.half) ≡ texts_held u.input.half + more) where
-    -- a unit of such a text that doesn't fit is refused
-    pub hold_text_past_stack : u.limits.stack - bytes < more → changing (holding_text unit u.input) u ≡ (Err Stack, u)
-    hold_text_past_stack above = changing_past_stack u (holding_text unit u.input) (omega (arith, above, counted, longer))
-
-    module _ (within : IsWithin u) (fits : more ≤ u.limits.stack - bytes) where
-      text_within : pushed (holding_text unit u.input) ≤ u.limits.stack
-      text_within = omega (arith, fits, counted, longer, within.pushed)
-
-      -- and one that fits is held
-      pub hold_text_within : changing (holding_text unit u.input) u ≡ (Ok tt, record u { input = holding_text unit u.input })
-      hold_text_within = changing_within u (holding_text unit u.input) text_within within.depth
-
-      pub IsWithin-holding_text : IsWithin (record u { input = holding_text unit u.input })
-      IsWithin-holding_text = record { charge = within.charge; newlines = within.newlines; pushed = text_within; depth = within.depth }
-
-      -- there is room for it
-      pub texts_within : texts_held (text_held unit u.input.half) ≤ u.limits.stack
-      texts_within = omega (arith, text_within)
+-- where no more is held of texts between delimiters
+pub IsWithin-with_half :
+    {E : Type 0} (u : Unread E) (half : List Half) → IsWithin u → texts_held half ≤ texts_held u.input.half → IsWithin (record u { input = with_half half u.input })
+IsWithin-with_half u half within fewer =
+    record { charge = within.charge; newlines = within.newlines; pushed = omega (arith, within.pushed, fewer); depth = within.depth }

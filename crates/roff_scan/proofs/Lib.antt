@@ -1,5 +1,6 @@
 pub mod Giving
 pub mod Nesting
+pub mod NamesRead
 pub mod CharacterTable
 pub mod KeptTexts
 pub mod KeptArguments

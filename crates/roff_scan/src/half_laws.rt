@@ -4,7 +4,7 @@ ghost use Rattle.std.specs.Prelude.{◌≡◌, ℕ, ◌<◌, ◌≤◌, Bool, tr
 ghost use Rattle.roff_scan.specs.Bytes.{backslash, quote};
 ghost use Rattle.roff_scan.specs.Escapes.{escape_of, is_copied};
 ghost use Rattle.roff_scan.specs.HalfLaws.{argument_escape, is_special, long_escape, openings, reads_through, register_escape, short_escape, string_escape};
-ghost use Rattle.roff_scan.specs.Halves.{most_names};
+ghost use Rattle.roff_scan.specs.Halves.{most_names, reading_ended};
 ghost use Rattle.roff_scan.specs.Nesting.{AreNames, IsNested};
 ghost use Rattle.roff_scan.specs.declared.escapes.Escape.TheVariants.{Name as BeginsName};
 ghost use Rattle.roff_scan.specs.declared.escapes.NameUse.{NameUse};
@@ -63,8 +63,9 @@ pub fn comments()
 
 /// Eight names are read within each other, and no ninth: where seven are half read an escape that
 /// copy mode reads begins an eighth, where eight are it gives nothing. So `\n(` up to eight times
-/// begins as many names; and whatever is read, no more are half read, and no backslash and no comment
-/// but on top of them.
+/// begins as many names. Whatever is read, and however it ends, each thing that is half read stands
+/// where it may: no more names are half read, no backslash, comment or size but on top, and what is
+/// read only in text stands only there.
 pub fn nesting()
     ensures begun { (is_text : Bool) (names : List Half) (b : ℕ) (purpose : NameUse)
         → AreNames names → length names < most_names
@@ -79,4 +80,6 @@ pub fn nesting()
         ≡ ([], replicate k (Name (Register None) Opened)) }
     ensures always { (is_text : Bool) (half : List Half) (bytes : List ℕ) → IsNested half
         → IsNested (reads_through is_text half bytes).1 }
+    ensures ended { (is_text : Bool) (half : List Half) → IsNested half
+        → IsNested (reading_ended is_text half).1 }
 {}
