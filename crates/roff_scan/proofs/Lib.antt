@@ -15,3 +15,5 @@ pub mod Pushing
 pub mod Standing
 pub mod Taking
 pub mod TextsHeld
+pub mod TextsRead
+pub mod Copying

@@ -42,7 +42,7 @@ name_given-names (Delimited other d text ∷ rest) purpose name are = absurd (se
 name_given-names (Width d width is_deep ∷ rest) purpose name are = absurd (search (rules, are.all))
 
 -- what is read on behind a reading
-abbrev read_on : Bool → List ℕ → Reads → List Read × List Half
+abbrev pub read_on : Bool → List ℕ → Reads → List Read × List Half
 read_on is_text bytes r =
     let others = reads_through is_text (half_behind r.0 r.1) bytes in
     (found_before r.0 others.0, others.1)
