@@ -1,5 +1,5 @@
 -- Texts between delimiters, read as they are.
-use Rattle.std.proofs.Common.{◌≡◌, ℕ, ◌+◌, ◌*◌, ◌≤◌, Bool, true, false, ◌&&◌, List, [], ◌∷◌, ◌++◌, Option, Some, None, refl, sym, ap, append_assoc, arith, ◌∙◌}
+use Rattle.std.proofs.Common.{◌≡◌, ℕ, ◌+◌, ◌*◌, ◌≤◌, Bool, true, false, ◌&&◌, List, [], ◌∷◌, ◌++◌, Some, refl, sym, ap, append_assoc, arith, ◌∙◌}
 use Rattle.std.specs.Prelude.{◌==◌, ◌||◌, min, not, if◌then◌else◌}
 use Rattle.std.proofs.lemmas.Bool.{eq-eqb}
 use Rattle.std.proofs.lemmas.List.{append-nil}
@@ -12,7 +12,6 @@ use Rattle.roff_scan.specs.Halves.{Reads, byte_measured, escape_read, text_given
 use Rattle.roff_scan.specs.Measures.{byte_columns, most_width, motion_of, wider}
 use Rattle.roff_scan.specs.declared.escapes.Escape.{Escape as Kind}
 use Rattle.roff_scan.specs.declared.escapes.Escape.TheVariants.{Text as BeginsText}
-use Rattle.roff_scan.specs.declared.escapes.TextUse.{TextUse}
 use Rattle.roff_scan.specs.declared.escapes.TextUse.TheVariants.{Motion as OfMotion, LeftOut as LeftOutText}
 use Rattle.roff_scan.specs.declared.half.CopyUnit.TheVariants.{Byte}
 use Rattle.roff_scan.specs.declared.half.Read.{Read}
