@@ -1,6 +1,9 @@
 pub mod Giving
 pub mod Nesting
 pub mod NamesRead
+pub mod NestedHalves
+pub mod HalfTexts
+pub mod HalfCounts
 pub mod CharacterTable
 pub mod KeptTexts
 pub mod KeptArguments

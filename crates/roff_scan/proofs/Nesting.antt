@@ -3,7 +3,7 @@ use Rattle.std.proofs.Common.{◌≡◌, ℕ, Bool, true, false, ◌&&◌, List,
 use Rattle.std.specs.Prelude.{◌==◌, ◌||◌, not, nat_le, if◌then◌else◌}
 use Rattle.roff_scan.specs.Bytes.{tab, newline, dot, backslash, quote}
 use Rattle.roff_scan.specs.Escapes.{escape_of, is_copied}
-use Rattle.roff_scan.specs.Half.{Half, Backslash, Comment, Name, Size, Delimited, Width, names_in, text_held, widths_in}
+use Rattle.roff_scan.specs.Half.{Half, Backslash, Comment, Name, Size, Delimited, Width, names_in, widths_in}
 use Rattle.roff_scan.specs.HalfLaws.{half_behind, reads_through}
 use Rattle.roff_scan.specs.Halves.{Reads, byte_of_text, byte_of_width, byte_read, copied_escape, escape_given, escape_read, is_first_digit, is_sign, most_names, most_widths, motion_given, name_begun, name_ended, name_given, name_or_opening, part_at_first, reading_ended, reads_text, reads_widths, size_read, surroundings, text_given, unit_of_name, unit_of_text, unit_taken}
 use Rattle.roff_scan.specs.Measures.{motion_of}
@@ -23,6 +23,7 @@ use Rattle.roff_scan.specs.declared.half.Read.TheVariants.{GoesOn, Unit as Gives
 use Rattle.roff_scan.specs.declared.half.SizePart.{SizePart}
 use Rattle.roff_scan.specs.declared.half.SizePart.TheVariants.{Nothing as NoSize, Sign, Digit}
 use Rattle.roff_scan.specs.declared.measures.Measured.{Measured}
+use Rattle.roff_scan.proofs.NestedHalves.{IsNested-rest, IsNested-text_held, open-rest}
 
 -- of two readings either leaves it so, by a test
 either : (c : Bool) (x y : Reads) → (c ≡ true → IsNested x.1) → (c ≡ false → IsNested y.1) → IsNested (if c then x else y).1
@@ -30,25 +31,8 @@ either true x y of_x of_y = of_x refl
 either false x y of_x of_y = of_y refl
 
 -- three tests that hold
-first_holds : (a b c : Bool) → (a && b && c) ≡ true → a ≡ true
-first_holds true b c all = refl
-first_holds false b c all = cc
-
-last_holds : (a b c : Bool) → (a && b && c) ≡ true → c ≡ true
-last_holds true true c all = all
-last_holds true false c all = cc
-last_holds false b c all = cc
-
 all_hold : (a b c : Bool) → a ≡ true → b ≡ true → c ≡ true → (a && b && c) ≡ true
 all_hold a b c first second third = rw (first, second, third) refl
-
--- without the innermost
-without : (half : Half) (rest : List Half) → IsNested (half ∷ rest) → IsNested rest
-without half rest nested = last_holds (is_open rest) (may_stand half rest) (is_nested rest) nested
-
--- something may stand above the others then
-open_below : (half : Half) (rest : List Half) → IsNested (half ∷ rest) → is_open rest ≡ true
-open_below half rest nested = first_holds (is_open rest) (may_stand half rest) (is_nested rest) nested
 
 -- with one more
 above : (half : Half) (rest : List Half) → is_open rest ≡ true → may_stand half rest ≡ true → IsNested rest → IsNested (half ∷ rest)
@@ -92,7 +76,7 @@ IsNested-text_given (LeftOutText b) text rest nested = IsNested-escape_given b r
 -- a name, or the parenthesis of one
 IsNested-name_or_opening : (purpose : NameUse) (b : ℕ) (rest : List Half) → IsNested (Name purpose Nothing ∷ rest) → IsNested (name_or_opening rest purpose b).1
 IsNested-name_or_opening purpose b rest nested =
-    either (b == 40) _ _ (λ opening. nested) (λ other. IsNested-name_given purpose _ rest (without (Name purpose Nothing) rest nested))
+    either (b == 40) _ _ (λ opening. nested) (λ other. IsNested-name_given purpose _ rest (IsNested-rest (Name purpose Nothing) rest nested))
 
 -- the first byte of a name
 IsNested-name_begun : (purpose : NameUse) (b : ℕ) (rest : List Half) → IsNested (Name purpose Nothing ∷ rest) → IsNested (name_begun rest purpose b).1
@@ -100,7 +84,7 @@ IsNested-name_begun (Register None) b rest nested =
     either (b == 43) _ _ (λ up. nested) (λ other. either (b == 45) _ _ (λ down. nested) (λ plain. IsNested-name_or_opening (Register None) b rest nested))
 IsNested-name_begun (Register (Some direction)) b rest nested = IsNested-name_or_opening (Register (Some direction)) b rest nested
 IsNested-name_begun Text b rest nested = IsNested-name_or_opening Text b rest nested
-IsNested-name_begun Argument b rest nested = IsNested-name_given Argument _ rest (without (Name Argument Nothing) rest nested)
+IsNested-name_begun Argument b rest nested = IsNested-name_given Argument _ rest (IsNested-rest (Name Argument Nothing) rest nested)
 IsNested-name_begun Character b rest nested = IsNested-name_or_opening Character b rest nested
 IsNested-name_begun Font b rest nested = IsNested-name_or_opening Font b rest nested
 IsNested-name_begun (LeftOut byte) b rest nested = IsNested-name_or_opening (LeftOut byte) b rest nested
@@ -110,10 +94,10 @@ IsNested-unit_of_name :
     (purpose : NameUse) (part : NamePart) (unit : CopyUnit) (rest : List Half)
     → IsNested (Name purpose part ∷ rest) → IsNested (unit_of_name rest purpose part unit).1
 IsNested-unit_of_name purpose Nothing (Byte b) rest nested = IsNested-name_begun purpose b rest nested
-IsNested-unit_of_name purpose Nothing (Kept b) rest nested = IsNested-name_given purpose _ rest (without (Name purpose Nothing) rest nested)
+IsNested-unit_of_name purpose Nothing (Kept b) rest nested = IsNested-name_given purpose _ rest (IsNested-rest (Name purpose Nothing) rest nested)
 IsNested-unit_of_name purpose Opened (Byte b) rest nested = nested
-IsNested-unit_of_name purpose Opened (Kept b) rest nested = IsNested-name_given purpose _ rest (without (Name purpose Opened) rest nested)
-IsNested-unit_of_name purpose (First a) unit rest nested = IsNested-name_given purpose _ rest (without (Name purpose (First a)) rest nested)
+IsNested-unit_of_name purpose Opened (Kept b) rest nested = IsNested-name_given purpose _ rest (IsNested-rest (Name purpose Opened) rest nested)
+IsNested-unit_of_name purpose (First a) unit rest nested = IsNested-name_given purpose _ rest (IsNested-rest (Name purpose (First a)) rest nested)
 
 -- a unit of a text between delimiters
 IsNested-unit_of_text :
@@ -207,9 +191,9 @@ module _ (is_text : Bool) (b : ℕ) (rest : List Half) (is_free : is_open rest �
 IsNested-size_read : (part : SizePart) (b : ℕ) (rest : List Half) → IsNested (Size part ∷ rest) → IsNested (size_read rest part b).1
 IsNested-size_read NoSize b rest nested =
     either (is_sign b) _ _ (λ is. nested) λ other.
-    either (is_first_digit b) _ _ (λ is. nested) λ other. IsNested-escape_given 115 rest (without (Size NoSize) rest nested)
-IsNested-size_read Sign b rest nested = IsNested-escape_given 115 rest (without (Size Sign) rest nested)
-IsNested-size_read Digit b rest nested = IsNested-escape_given 115 rest (without (Size Digit) rest nested)
+    either (is_first_digit b) _ _ (λ is. nested) λ other. IsNested-escape_given 115 rest (IsNested-rest (Size NoSize) rest nested)
+IsNested-size_read Sign b rest nested = IsNested-escape_given 115 rest (IsNested-rest (Size Sign) rest nested)
+IsNested-size_read Digit b rest nested = IsNested-escape_given 115 rest (IsNested-rest (Size Digit) rest nested)
 
 -- a byte of a text between delimiters
 IsNested-byte_of_text :
@@ -217,7 +201,7 @@ IsNested-byte_of_text :
     → IsNested (Delimited purpose d text ∷ rest) → IsNested (byte_of_text rest purpose d text b).1
 IsNested-byte_of_text purpose None text b rest nested = nested
 IsNested-byte_of_text purpose (Some d) text b rest nested =
-    either (b == d) _ _ (λ ends. IsNested-text_given purpose text rest (without (Delimited purpose (Some d) text) rest nested)) λ other.
+    either (b == d) _ _ (λ ends. IsNested-text_given purpose text rest (IsNested-rest (Delimited purpose (Some d) text) rest nested)) λ other.
     either (b == backslash) _ _ (λ escape. nested) λ other. IsNested-unit_of_text purpose (Some d) text (Byte b) rest nested
 
 -- a byte of a text that is measured
@@ -226,14 +210,14 @@ IsNested-byte_of_width :
     → IsNested (Width d width is_deep ∷ rest) → IsNested (byte_of_width rest d width is_deep b).1
 IsNested-byte_of_width None width is_deep b rest nested = nested
 IsNested-byte_of_width (Some d) width is_deep b rest nested =
-    either (b == d) _ _ (λ ends. without (Width (Some d) width is_deep) rest nested) λ other.
+    either (b == d) _ _ (λ ends. IsNested-rest (Width (Some d) width is_deep) rest nested) λ other.
     either (b == backslash) _ _ (λ escape. nested) λ other. either is_deep _ _ (λ deep. nested) (λ grows. nested)
 
 -- a byte
 pub IsNested-byte_read : (is_text : Bool) (b : ℕ) (half : List Half) → IsNested half → IsNested (byte_read is_text half b).1
 IsNested-byte_read is_text b [] nested = either (b == backslash) _ _ (λ escape. nested) (λ unit. nested)
 IsNested-byte_read is_text b (Backslash ∷ rest) nested =
-    IsNested-escape_read is_text b rest (open_below Backslash rest nested) (without Backslash rest nested) (escape_of b)
+    IsNested-escape_read is_text b rest (open-rest Backslash rest nested) (IsNested-rest Backslash rest nested) (escape_of b)
 IsNested-byte_read is_text b (Comment ∷ rest) nested = nested
 IsNested-byte_read is_text b (Name purpose part ∷ rest) nested =
     either (b == backslash) _ _ (λ escape. nested) (λ unit. IsNested-unit_of_name purpose part (Byte b) rest nested)
@@ -251,26 +235,17 @@ IsNested-name_ended purpose (First a) rest nested = IsNested-name_given purpose 
 pub IsNested-reading_ended : (is_text : Bool) (half : List Half) → IsNested half → IsNested (reading_ended is_text half).1
 IsNested-reading_ended is_text [] nested = nested
 IsNested-reading_ended is_text (Backslash ∷ rest) nested =
-    let below = without Backslash rest nested in
+    let below = IsNested-rest Backslash rest nested in
     either (reads_text (surroundings is_text rest)) _ _ (λ reads. IsNested-escape_given newline rest below) (λ copies. IsNested-unit_taken (Byte backslash) rest below)
 IsNested-reading_ended is_text (Comment ∷ rest) nested =
-    let below = without Comment rest nested in
+    let below = IsNested-rest Comment rest nested in
     either (reads_text (surroundings is_text rest)) _ _ (λ reads. IsNested-escape_given quote rest below) (λ copies. below)
-IsNested-reading_ended is_text (Name purpose part ∷ rest) nested = IsNested-name_ended purpose part rest (without (Name purpose part) rest nested)
-IsNested-reading_ended is_text (Size part ∷ rest) nested = IsNested-escape_given 115 rest (without (Size part) rest nested)
-IsNested-reading_ended is_text (Delimited purpose d text ∷ rest) nested = IsNested-text_given purpose text rest (without (Delimited purpose d text) rest nested)
-IsNested-reading_ended is_text (Width d width is_deep ∷ rest) nested = without (Width d width is_deep) rest nested
+IsNested-reading_ended is_text (Name purpose part ∷ rest) nested = IsNested-name_ended purpose part rest (IsNested-rest (Name purpose part) rest nested)
+IsNested-reading_ended is_text (Size part ∷ rest) nested = IsNested-escape_given 115 rest (IsNested-rest (Size part) rest nested)
+IsNested-reading_ended is_text (Delimited purpose d text ∷ rest) nested = IsNested-text_given purpose text rest (IsNested-rest (Delimited purpose d text) rest nested)
+IsNested-reading_ended is_text (Width d width is_deep ∷ rest) nested = IsNested-rest (Width d width is_deep) rest nested
 
--- a unit that is held
-IsNested-text_held : (unit : CopyUnit) (half : List Half) → IsNested half → IsNested (text_held unit half)
-IsNested-text_held unit [] nested = nested
-IsNested-text_held unit (Backslash ∷ rest) nested = nested
-IsNested-text_held unit (Comment ∷ rest) nested = nested
-IsNested-text_held unit (Name purpose part ∷ rest) nested = nested
-IsNested-text_held unit (Size part ∷ rest) nested = nested
-IsNested-text_held unit (Delimited purpose d text ∷ rest) nested = nested
-IsNested-text_held unit (Width d width is_deep ∷ rest) nested = nested
-
+-- what is half read behind it
 IsNested-half_behind : (read : Read) (half : List Half) → IsNested half → IsNested (half_behind read half)
 IsNested-half_behind GoesOn half nested = nested
 IsNested-half_behind (GivesUnit unit) half nested = nested

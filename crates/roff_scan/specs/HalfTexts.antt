@@ -1,5 +1,6 @@
 -- What the code keeps of what is half read.
-use Rattle.std.specs.Prelude.{◌≡◌, ℕ, ◌≤◌, ◌<◌, ◌^◌, List, [], ◌∷◌, length, reverse, take, drop, vec_capacity}
+use Rattle.std.specs.Prelude.{◌≡◌, ℕ, ◌+◌, ◌≤◌, ◌<◌, ◌^◌, List, [], ◌∷◌, length, reverse, take, drop, vec_capacity}
+use Rattle.std.specs.List.{sum_by}
 use Rattle.roff_scan.specs.Half.{Half, Backslash, Comment, Name, Size, Delimited, Width, texts_held}
 use Rattle.roff_scan.specs.Halves.{Reads}
 use Rattle.roff_scan.specs.Nesting.{IsNested}
@@ -68,7 +69,27 @@ with_text (SizeRead part) text = Size part
 with_text (DelimitedRead purpose delimiter begin) text = Delimited purpose delimiter text
 with_text (WidthRead delimiter width is_deep) text = Width delimiter width is_deep
 
--- it stands on top of these
-pub record IsOnTop (item : HalfRead) (half rest : List Half) : Type 0 where
+-- it stands on top, with its text, which begins behind those below
+pub record IsOnTop (item : HalfRead) (half : List Half) : Type 0 where
   pub text : List ℕ
+  pub rest : List Half
   pub same : half ≡ with_text item text ∷ rest
+  pub begins : BeginsBehind (texts_held rest) item
+
+-- 1 for a name
+abbrev pub one_name : HalfRead → ℕ
+one_name (NameRead purpose part) = 1
+one_name (item) = 0
+
+-- how many of these are names
+abbrev pub names_among : List HalfRead → ℕ
+names_among items = sum_by one_name items
+
+-- 1 for a text that is measured
+abbrev pub one_width : HalfRead → ℕ
+one_width (WidthRead delimiter width is_deep) = 1
+one_width (item) = 0
+
+-- how many of these are texts that are measured
+abbrev pub widths_among : List HalfRead → ℕ
+widths_among items = sum_by one_width items

@@ -69,7 +69,7 @@ pub fn comments()
 /// copy mode reads begins an eighth, where eight are it gives nothing. So `\n(` up to eight times
 /// begins as many names. Whatever is read, and however it ends, each thing that is half read stands
 /// where it may: no more names are half read, no backslash, comment or size but on top, and what is
-/// read only in text stands only there.
+/// read only in text stands only there. So they are few.
 pub fn nesting()
     ensures begun { (is_text : Bool) (names : List Half) (b : ℕ) (purpose : NameUse)
         → AreNames names → length names < most_names
@@ -86,6 +86,7 @@ pub fn nesting()
         → IsNested (reads_through is_text half bytes).1 }
     ensures ended { (is_text : Bool) (half : List Half) → IsNested half
         → IsNested (reading_ended is_text half).1 }
+    ensures few { (half : List Half) → IsNested half → length half ≤ 28 }
 {}
 
 /// Copy mode changes a text without interpolations and comments as `copied` says, and nothing of it

@@ -1,13 +1,15 @@
 //! Reading behind backslashes: units of copy mode, comments, and the names, sizes and texts behind escapes.
 
-ghost use Rattle.std.specs.Prelude.{◌≡◌, ◌≤◌, ◌+◌, ◌==◌, ℕ, true, List, Option, [], ◌∷◌, length, IfOk, MatchOption};
+ghost use Rattle.std.specs.Prelude.{◌≡◌, ◌≤◌, ◌+◌, ◌==◌, ℕ, true, List, Option, Some, None, [], ◌∷◌, drop, length, IfOk, MatchOption};
 ghost use Rattle.roff_scan.specs.Escapes.{escape_of as kind_of};
-ghost use Rattle.roff_scan.specs.Half.{Half, Delimited as DelimitedHalf, Name as NameHalf, Size as SizeHalf, Width as WidthHalf, names_in, text_held, texts_held, widths_in};
-ghost use Rattle.roff_scan.specs.HalfTexts.{BeginsBehind, IsOnTop, begun, leaving};
+ghost use Rattle.roff_scan.specs.Half.{Half, Backslash as BackslashHalf, Delimited as DelimitedHalf, Name as NameHalf, Size as SizeHalf, Width as WidthHalf, names_in, text_held, texts_held, widths_in};
+ghost use Rattle.roff_scan.specs.HalfTexts.{BeginsBehind, IsOnTop, begun, leaving, names_among, widths_among};
 ghost use Rattle.roff_scan.specs.Halves.{byte_of_text, byte_of_width, byte_read, copied_escape, escape_given, escape_taken, grown, is_of_size, motion_given, name_beginning, name_begun, name_ended, name_given, newline_stays, part_at_first, reading_ended, reads_widths, seen_stays, size_read, surroundings, text_given, unit_of_name, unit_of_text, unit_taken, width_beginning};
+ghost use Rattle.roff_scan.specs.Measures.{motion_of};
 ghost use Rattle.roff_scan.specs.Nesting.{IsNested, is_open};
 ghost use Rattle.roff_scan.specs.declared.half.Read.TheVariants.{Asks};
 ghost use Rattle.roff_scan.specs.declared.escapes.NameUse.{NameUse as UseOf};
+ghost use Rattle.roff_scan.specs.declared.escapes.TextUse.{TextUse as PurposeOf};
 
 use crate::escapes::{Escape, NameUse, TextUse, escape_of};
 use crate::half::{CopyUnit, HalfRead, NamePart, Read, SizePart, Surroundings};
@@ -104,9 +106,11 @@ impl Halves {
     pub(crate) fn bytes_more(&self, unit: CopyUnit) -> usize
         ensures { texts_held (text_held unit self.now.half) ≡ texts_held self.now.half + result }
     {
-        match (self.top(), unit) {
-            (Some(HalfRead::Delimited(..)), CopyUnit::Byte(_)) => 1,
-            (Some(HalfRead::Delimited(..)), CopyUnit::Kept(_)) => 2,
+        match self.top() {
+            Some(HalfRead::Delimited(..)) => match unit {
+                CopyUnit::Byte(_) => 1,
+                CopyUnit::Kept(_) => 2,
+            },
             _ => 0,
         }
     }
@@ -225,7 +229,7 @@ impl Halves {
 
     /// The byte behind a backslash, which is off already.
     fn read_escape(&mut self, is_text: bool, byte: u8) -> Read
-        requires { is_open self.old.half ≡ true }
+        requires { IsNested (BackslashHalf ∷ self.old.half) }
         ensures { (result, self.new) ≡ leaving (escape_taken is_text self.old.half byte) self.old }
     {
         let around = self.surroundings(is_text);
@@ -247,9 +251,7 @@ impl Halves {
                 }
             }
             Escape::Size if in_text => self.begin(HalfRead::Size(SizePart::Nothing)),
-            Escape::Text(purpose) if in_text => {
-                self.begin(HalfRead::Delimited(purpose, None, self.texts.len()))
-            }
+            Escape::Text(purpose) if in_text => self.begin_text(purpose),
             _ if in_text => self.give_escape(byte),
             _ => self.copy_escape(byte),
         }
@@ -280,7 +282,7 @@ impl Halves {
 
     /// A name begins, unless it would be one too many.
     fn begin_name(&mut self, purpose: NameUse) -> Read
-        requires { is_open self.old.half ≡ true }
+        requires { IsNested (BackslashHalf ∷ self.old.half) }
         ensures { (result, self.new) ≡ leaving (name_beginning self.old.half purpose) self.old }
     {
         if self.names() < MOST_NAMES {
@@ -289,9 +291,20 @@ impl Halves {
         Read::GoesOn
     }
 
+    /// A text between delimiters begins.
+    fn begin_text(&mut self, purpose: TextUse) -> Read
+        requires { IsNested (DelimitedHalf purpose None [] ∷ self.old.half) }
+        ensures going { result ≡ Read.GoesOn }
+        ensures begun { self.new
+            ≡ record self.old { half = DelimitedHalf purpose None [] ∷ self.old.half } }
+    {
+        let begin = self.held();
+        self.begin(HalfRead::Delimited(purpose, None, begin))
+    }
+
     /// A text that is measured begins, or one too deep for it.
     fn begin_width(&mut self) -> Read
-        requires open { is_open self.old.half ≡ true }
+        requires nested { IsNested (BackslashHalf ∷ self.old.half) }
         requires around { reads_widths (surroundings true self.old.half) ≡ true }
         ensures { (result, self.new) ≡ leaving (width_beginning self.old.half) self.old }
     {
@@ -304,26 +317,14 @@ impl Halves {
     fn names(&self) -> usize
         ensures { result ≡ names_in self.now.half }
     {
-        let mut count = 0;
-        for item in self.items.iter() {
-            if let HalfRead::Name(..) = item {
-                count += 1;
-            }
-        }
-        count
+        names_among(self.items.as_slice())
     }
 
     /// How many texts are being measured.
     fn widths(&self) -> usize
         ensures { result ≡ widths_in self.now.half }
     {
-        let mut count = 0;
-        for item in self.items.iter() {
-            if let HalfRead::Width(..) = item {
-                count += 1;
-            }
-        }
-        count
+        widths_among(self.items.as_slice())
     }
 
     /// A unit of copy mode.
@@ -406,12 +407,16 @@ impl Halves {
         begin: usize,
         byte: u8,
     ) -> Read
-        ensures { (rest : List Half) → IsOnTop (HalfRead.Delimited purpose delimiter begin) self.old.half rest
-            → (result, self.new) ≡ leaving (byte_read true self.old.half byte) self.old }
+        requires nested { IsNested self.old.half }
+        requires on_top { IsOnTop (HalfRead.Delimited purpose delimiter begin) self.old.half }
+        ensures { (text : List ℕ) (rest : List Half)
+            → self.old.half ≡ DelimitedHalf purpose delimiter text ∷ rest
+            → (result, self.new)
+            ≡ leaving (byte_of_text rest purpose delimiter text byte) self.old }
     {
         match delimiter {
             None => {
-                self.replace(HalfRead::Delimited(purpose, Some(byte), begin));
+                self.delimit(byte);
                 Read::GoesOn
             }
             Some(delimiter) => {
@@ -434,14 +439,15 @@ impl Halves {
         is_deep: bool,
         byte: u8,
     ) -> Read
-        ensures { (rest : List Half) → self.old.half ≡ WidthHalf delimiter width is_deep ∷ rest
-            → (result, self.new)
-            ≡ leaving (byte_of_width rest delimiter width is_deep byte) self.old }
+        requires nested { IsNested self.old.half }
+        requires on_top { IsOnTop (HalfRead.Width delimiter width is_deep) self.old.half }
+        ensures { (result, self.new) ≡ leaving
+            (byte_of_width (drop 1 self.old.half) delimiter width is_deep byte) self.old }
     {
         match delimiter {
             None => {
-                self.replace(HalfRead::Width(Some(byte), width, is_deep));
-                Read::GoesOn
+                self.pop();
+                self.begin(HalfRead::Width(Some(byte), width, is_deep))
             }
             Some(delimiter) => {
                 if byte == delimiter {
@@ -461,13 +467,14 @@ impl Halves {
 
     /// The text between delimiters on top is whole.
     fn end_text(&mut self, purpose: TextUse, begin: usize) -> Read
-        ensures { (delimiter : Option ℕ) (rest : List Half)
-            → IsOnTop (HalfRead.Delimited purpose delimiter begin) self.old.half rest
-            → (result, self.new) ≡ leaving (reading_ended true self.old.half) self.old }
+        requires { begin ≡ texts_held (drop 1 self.old.half) }
+        ensures { (delimiter : Option ℕ) (text : List ℕ) (rest : List Half)
+            → self.old.half ≡ DelimitedHalf purpose delimiter text ∷ rest
+            → (result, self.new) ≡ leaving (text_given rest purpose text) self.old }
     {
         match purpose {
             TextUse::Motion => {
-                let measured = Measured::of_motion(&self.texts[begin..]);
+                let measured = self.motion(begin);
                 self.pop();
                 self.give_motion(measured)
             }
@@ -476,6 +483,17 @@ impl Halves {
                 self.give_escape(byte)
             }
         }
+    }
+
+    /// The motion that the text on top asks for, which begins there in the block.
+    fn motion(&self, begin: usize) -> Measured
+        requires { begin ≡ texts_held (drop 1 self.now.half) }
+        ensures { (purpose : PurposeOf) (delimiter : Option ℕ) (text : List ℕ) (rest : List Half)
+            → self.now.half ≡ DelimitedHalf purpose delimiter text ∷ rest
+            → result ≡ motion_of text }
+    {
+        let text = &self.texts[begin..];
+        Measured::of_motion(text)
     }
 
     /// An escape of the text without a name: a text that is measured grows by it.
@@ -522,14 +540,14 @@ impl Halves {
         is_deep: bool,
         measured: Measured,
     ) -> Read
-        ensures { (rest : List Half) → self.old.half ≡ WidthHalf delimiter width is_deep ∷ rest
-            → (result, self.new) ≡ leaving (grown rest delimiter width is_deep measured) self.old }
+        requires nested { IsNested self.old.half }
+        requires on_top { IsOnTop (HalfRead.Width delimiter width is_deep) self.old.half }
+        ensures { (result, self.new) ≡ leaving
+            (grown (drop 1 self.old.half) delimiter width is_deep measured) self.old }
     {
-        self.replace(HalfRead::Width(
-            delimiter,
-            wider(width, measured.columns),
-            is_deep,
-        ));
+        let width = wider(width, measured.columns);
+        self.pop();
+        self.push(HalfRead::Width(delimiter, width, is_deep));
         match measured.remark {
             None => Read::GoesOn,
             Some(remark) => Read::Tells(remark),
@@ -538,8 +556,9 @@ impl Halves {
 
     /// What is on top; the text that it has there stays.
     fn top(&self) -> Option<HalfRead>
-        ensures { MatchOption result (self.now.half ≡ [])
-            (λ item. Σ (λ rest. IsOnTop item self.now.half rest)) }
+        ensures top { MatchOption result (self.now.half ≡ [])
+            (λ item. IsOnTop item self.now.half) }
+        ensures nested { IsNested self.now.half }
     {
         self.items.as_slice().last().copied()
     }
@@ -553,21 +572,57 @@ impl Halves {
         self.items.push(half);
     }
 
-    /// Puts something in the place of what is on top.
-    fn replace(&mut self, half: HalfRead) {
-        self.items.pop();
-        self.items.push(half);
+    /// The text between delimiters on top has its delimiter.
+    fn delimit(&mut self, delimiter: u8)
+        ensures { (purpose : PurposeOf) (text : List ℕ) (rest : List Half)
+            → self.old.half ≡ DelimitedHalf purpose None text ∷ rest
+            → self.new ≡ record self.old {
+                half = DelimitedHalf purpose (Some delimiter) text ∷ rest } }
+    {
+        if let Some(HalfRead::Delimited(purpose, _, begin)) = self.top() {
+            self.items.pop();
+            self.items.push(HalfRead::Delimited(purpose, Some(delimiter), begin));
+        }
     }
 
     /// Takes off what is on top, and its text.
     fn pop(&mut self)
-        ensures { (item : HalfRead) (rest : List Half) → IsOnTop item self.old.half rest
-            → self.new ≡ record self.old { half = rest } }
+        ensures { self.new ≡ record self.old { half = drop 1 self.old.half } }
     {
         if let Some(HalfRead::Delimited(_, _, begin)) = self.items.pop() {
             self.texts.truncate(begin);
         }
     }
+}
+
+/// How many of these are names.
+fn names_among(items: &[HalfRead]) -> usize
+    ensures { result ≡ names_among items.now }
+{
+    let mut count = 0;
+    let mut rest = items;
+    while let Some((item, others)) = rest.split_first() {
+        if let HalfRead::Name(..) = item {
+            count += 1;
+        }
+        rest = others;
+    }
+    count
+}
+
+/// How many of these are texts that are measured.
+fn widths_among(items: &[HalfRead]) -> usize
+    ensures { result ≡ widths_among items.now }
+{
+    let mut count = 0;
+    let mut rest = items;
+    while let Some((item, others)) = rest.split_first() {
+        if let HalfRead::Width(..) = item {
+            count += 1;
+        }
+        rest = others;
+    }
+    count
 }
 
 /// A unit of a text between delimiters: a motion's is held, and one that is left out is dropped.
