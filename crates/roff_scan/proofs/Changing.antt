@@ -4,7 +4,8 @@ use Rattle.std.specs.Prelude.{nat_lt}
 use Rattle.std.proofs.lemmas.Bool.Decides.{nat_tests}
 use Rattle.roff_num.specs.declared.limit.Limit.TheVariants.{Stack, Depth}
 use Rattle.roff_scan.specs.Arguments.{Arguments, held}
-use Rattle.roff_scan.specs.Input.{Input, EndAhead, pushed, depth, pushing, freeing, with_arguments, bytes_ahead}
+use Rattle.roff_scan.specs.Half.{Half, texts_held}
+use Rattle.roff_scan.specs.Input.{Input, EndAhead, pushed, depth, pushing, freeing, with_arguments, with_half, bytes_ahead}
 use Rattle.roff_scan.specs.Unread.{Unread, IsWithin, changing}
 use Rattle.roff_scan.proofs.KeptArguments.{held-only_kept}
 use Rattle.roff_scan.proofs.Counts.{bytes_ahead-bytes, ends_ahead-bytes, bytes_ahead-frees, ends_ahead-frees}
@@ -71,11 +72,12 @@ IsWithin-freeing u bytes within = record {
 
 module _ {E : Type 0} (u : Unread E) (a : Arguments) where
   -- what isn't kept of arguments holds no bytes
-  pushed-with_arguments : pushed (with_arguments a u.input) ≡ bytes_ahead u.input.ahead + held a
-  pushed-with_arguments = ap (λ bytes. bytes_ahead u.input.ahead + bytes) (held-only_kept a)
+  pushed-with_arguments : pushed (with_arguments a u.input) ≡ bytes_ahead u.input.ahead + held a + texts_held u.input.half
+  pushed-with_arguments = ap (λ bytes. bytes_ahead u.input.ahead + bytes + texts_held u.input.half) (held-only_kept a)
 
   -- other arguments that fit
-  pub IsWithin-with_arguments : IsWithin u → bytes_ahead u.input.ahead + held a ≤ u.limits.stack → IsWithin (record u { input = with_arguments a u.input })
+  pub IsWithin-with_arguments : IsWithin u → bytes_ahead u.input.ahead + held a + texts_held u.input.half ≤ u.limits.stack
+      → IsWithin (record u { input = with_arguments a u.input })
   IsWithin-with_arguments within fits = record { charge = within.charge; newlines = within.newlines; pushed = rw pushed-with_arguments fits; depth = within.depth }
 
   -- arguments with no more bytes
@@ -88,7 +90,7 @@ module _ {E : Type 0} (u : Unread E) (a : Arguments) where
     hold_past_stack above = changing_past_stack u (with_arguments a u.input) (rw pushed-with_arguments (omega (arith, above, counted, longer)))
 
     module _ (within : IsWithin u) (fits : more ≤ u.limits.stack - bytes) where
-      held_within : bytes_ahead u.input.ahead + held a ≤ u.limits.stack
+      held_within : bytes_ahead u.input.ahead + held a + texts_held u.input.half ≤ u.limits.stack
       held_within = omega (arith, fits, counted, longer, within.pushed)
 
       -- and those that fit are held
@@ -97,3 +99,9 @@ module _ {E : Type 0} (u : Unread E) (a : Arguments) where
 
       pub IsWithin-holding : IsWithin (record u { input = with_arguments a u.input })
       IsWithin-holding = IsWithin-with_arguments within held_within
+
+-- where no more is held of texts between delimiters
+pub IsWithin-with_half :
+    {E : Type 0} (u : Unread E) (half : List Half) → IsWithin u → texts_held half ≤ texts_held u.input.half → IsWithin (record u { input = with_half half u.input })
+IsWithin-with_half u half within fewer =
+    record { charge = within.charge; newlines = within.newlines; pushed = omega (arith, within.pushed, fewer); depth = within.depth }

@@ -1,5 +1,6 @@
 pub mod Giving
 pub mod Nesting
+pub mod NamesRead
 pub mod NestedHalves
 pub mod HalfTexts
 pub mod HalfCounts
@@ -16,3 +17,6 @@ pub mod Counts
 pub mod Pushing
 pub mod Standing
 pub mod Taking
+pub mod TextsHeld
+pub mod TextsRead
+pub mod Copying

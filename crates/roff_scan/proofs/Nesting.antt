@@ -1,262 +1,264 @@
--- How deep things are half read within each other.
-use Rattle.std.proofs.Common.{◌≡◌, ℕ, zero, suc, ◌+◌, ◌<◌, ◌≤◌, Bool, true, false, ◌&&◌, List, [], ◌∷◌, length, replicate, Option, Some, None, refl, arith, rules, ap, ◌∙◌}
-use Rattle.std.specs.Prelude.{◌==◌, ◌||◌, nat_le, if◌then◌else◌}
-use Rattle.std.proofs.lemmas.Bool.{leb-false, lt-leb}
-use Rattle.std.proofs.lemmas.List.{length-replicate}
-use Rattle.roff_scan.specs.Bytes.{newline, quote, dot, backslash}
+-- What is half read stays within each other as it may be, whatever is read.
+use Rattle.std.proofs.Common.{◌≡◌, ℕ, Bool, true, false, ◌&&◌, List, [], ◌∷◌, Option, Some, None, refl}
+use Rattle.std.specs.Prelude.{◌==◌, ◌||◌, not, nat_le, if◌then◌else◌}
+use Rattle.roff_scan.specs.Bytes.{tab, newline, dot, backslash, quote}
 use Rattle.roff_scan.specs.Escapes.{escape_of, is_copied}
-use Rattle.roff_scan.specs.HalfLaws.{found_before, openings, reads_through}
-use Rattle.roff_scan.specs.Halves.{Reads, byte_read, copied_escape, escape_read, is_first_digit, is_sign, most_names, name_beginning, name_begun, name_or_opening, part_at_first, size_read, unit_of_name, unit_taken}
-use Rattle.roff_scan.specs.Nesting.{AreNames, IsNested, are_all_names}
+use Rattle.roff_scan.specs.Half.{Half, Backslash, Comment, Name, Size, Delimited, Width, names_in, widths_in}
+use Rattle.roff_scan.specs.HalfLaws.{half_behind, reads_through}
+use Rattle.roff_scan.specs.Halves.{Reads, byte_of_text, byte_of_width, byte_read, copied_escape, escape_given, escape_read, is_first_digit, is_sign, most_names, most_widths, motion_given, name_begun, name_ended, name_given, name_or_opening, part_at_first, reading_ended, reads_text, reads_widths, size_read, surroundings, text_given, unit_of_name, unit_of_text, unit_taken}
+use Rattle.roff_scan.specs.Measures.{motion_of}
+use Rattle.roff_scan.specs.Nesting.{IsNested, is_nested, is_open, may_stand}
 use Rattle.roff_scan.specs.declared.escapes.Escape.{Escape as Kind}
-use Rattle.roff_scan.specs.declared.escapes.Escape.TheVariants.{Prints, Blank, NoWidth, Nothing as GivesNothing, LeftOut as IsLeftOut, Comment as BeginsComment, Size as BeginsSize, Name as BeginsName}
+use Rattle.roff_scan.specs.declared.escapes.Escape.TheVariants.{Prints, Blank, NoWidth, Nothing as GivesNothing, LeftOut as IsLeftOut, Comment as BeginsComment, Size as BeginsSize, Name as BeginsName, Text as BeginsText, Width as BeginsWidth}
 use Rattle.roff_scan.specs.declared.escapes.NameUse.{NameUse}
 use Rattle.roff_scan.specs.declared.escapes.NameUse.TheVariants.{Register, Text, Argument, Character, Font, LeftOut}
+use Rattle.roff_scan.specs.declared.escapes.TextUse.{TextUse}
+use Rattle.roff_scan.specs.declared.escapes.TextUse.TheVariants.{Motion as OfMotion, LeftOut as LeftOutText}
 use Rattle.roff_scan.specs.declared.half.CopyUnit.{CopyUnit}
 use Rattle.roff_scan.specs.declared.half.CopyUnit.TheVariants.{Byte, Kept}
-use Rattle.roff_scan.specs.declared.half.Half.{Half}
-use Rattle.roff_scan.specs.declared.half.Half.TheVariants.{Backslash, Comment, Name, Size}
-use Rattle.roff_scan.specs.declared.half.SizePart.{SizePart}
-use Rattle.roff_scan.specs.declared.half.SizePart.TheVariants.{Nothing as NoSize, Sign, Digit}
 use Rattle.roff_scan.specs.declared.half.NamePart.{NamePart}
 use Rattle.roff_scan.specs.declared.half.NamePart.TheVariants.{Nothing, Opened, First}
-use Rattle.roff_scan.specs.declared.half.Read.TheVariants.{GoesOn, Escape, Asks}
-use Rattle.roff_store.specs.declared.register.Direction.{Direction}
-use Rattle.roff_store.specs.declared.register.Direction.TheVariants.{Up, Down}
+use Rattle.roff_scan.specs.declared.half.Read.{Read}
+use Rattle.roff_scan.specs.declared.half.Read.TheVariants.{GoesOn, Unit as GivesUnit, Holds, Escape, Asks, Motion, Measures, Tells}
+use Rattle.roff_scan.specs.declared.half.SizePart.{SizePart}
+use Rattle.roff_scan.specs.declared.half.SizePart.TheVariants.{Nothing as NoSize, Sign, Digit}
+use Rattle.roff_scan.specs.declared.measures.Measured.{Measured}
+use Rattle.roff_scan.proofs.NestedHalves.{IsNested-rest, IsNested-text_held, open-rest}
 
--- of two things that leave names within each other either does
-either : (c : Bool) (x y : Reads) → IsNested x.1 → IsNested y.1 → IsNested (if c then x else y).1
-either true x y of_x of_y = of_x
-either false x y of_x of_y = of_y
+-- of two readings either leaves it so, by a test
+either : (c : Bool) (x y : Reads) → (c ≡ true → IsNested x.1) → (c ≡ false → IsNested y.1) → IsNested (if c then x else y).1
+either true x y of_x of_y = of_x refl
+either false x y of_x of_y = of_y refl
 
--- names are names within each other
-IsNested-names : (names : List Half) → AreNames names → IsNested names
-IsNested-names [] are = are
-IsNested-names (Backslash ∷ rest) are = absurd (search (rules, are.all))
-IsNested-names (Comment ∷ rest) are = absurd (search (rules, are.all))
-IsNested-names (Name purpose part ∷ rest) are = are
-IsNested-names (Size part ∷ rest) are = absurd (search (rules, are.all))
+-- three tests that hold
+all_hold : (a b c : Bool) → a ≡ true → b ≡ true → c ≡ true → (a && b && c) ≡ true
+all_hold a b c first second third = rw (first, second, third) refl
 
--- without the innermost
-IsNested-rest : (purpose : NameUse) (part : NamePart) (rest : List Half) → AreNames (Name purpose part ∷ rest) → IsNested rest
-IsNested-rest purpose part rest are =
-    IsNested-names rest (record { all = are.all; few = let few : length rest + 1 ≤ most_names = search (rules, are.few) in omega arith })
+-- with one more
+above : (half : Half) (rest : List Half) → is_open rest ≡ true → may_stand half rest ≡ true → IsNested rest → IsNested (half ∷ rest)
+above half rest is_free may nested = all_hold (is_open rest) (may_stand half rest) (is_nested rest) is_free may nested
 
--- with another in the innermost's place
-AreNames-other :
-    (purpose other_purpose : NameUse) (part other_part : NamePart) (rest : List Half)
-    → AreNames (Name purpose part ∷ rest) → AreNames (Name other_purpose other_part ∷ rest)
-AreNames-other purpose other_purpose part other_part rest are = record { all = are.all; few = are.few }
+-- an escape of the text
+IsNested-escape_given : (b : ℕ) (rest : List Half) → IsNested rest → IsNested (escape_given rest b).1
+IsNested-escape_given b [] nested = nested
+IsNested-escape_given b (Backslash ∷ rest) nested = nested
+IsNested-escape_given b (Comment ∷ rest) nested = nested
+IsNested-escape_given b (Name purpose part ∷ rest) nested = nested
+IsNested-escape_given b (Size part ∷ rest) nested = nested
+IsNested-escape_given b (Delimited purpose d text ∷ rest) nested = nested
+IsNested-escape_given b (Width d width is_deep ∷ rest) nested = nested
+
+-- a motion
+IsNested-motion_given : (measured : Measured) (rest : List Half) → IsNested rest → IsNested (motion_given rest measured).1
+IsNested-motion_given measured [] nested = nested
+IsNested-motion_given measured (Backslash ∷ rest) nested = nested
+IsNested-motion_given measured (Comment ∷ rest) nested = nested
+IsNested-motion_given measured (Name purpose part ∷ rest) nested = nested
+IsNested-motion_given measured (Size part ∷ rest) nested = nested
+IsNested-motion_given measured (Delimited purpose d text ∷ rest) nested = nested
+IsNested-motion_given measured (Width d width is_deep ∷ rest) nested = nested
+
+-- a name
+IsNested-name_given : (purpose : NameUse) (name : Option (List ℕ)) (rest : List Half) → IsNested rest → IsNested (name_given rest purpose name).1
+IsNested-name_given purpose name [] nested = nested
+IsNested-name_given purpose name (Backslash ∷ rest) nested = nested
+IsNested-name_given purpose name (Comment ∷ rest) nested = nested
+IsNested-name_given purpose name (Name other part ∷ rest) nested = nested
+IsNested-name_given purpose name (Size part ∷ rest) nested = nested
+IsNested-name_given purpose name (Delimited other d text ∷ rest) nested = nested
+IsNested-name_given purpose name (Width d width is_deep ∷ rest) nested = either (is_copied purpose) _ _ (λ copied. nested) (λ other. nested)
+
+-- a text between delimiters
+IsNested-text_given : (purpose : TextUse) (text : List ℕ) (rest : List Half) → IsNested rest → IsNested (text_given rest purpose text).1
+IsNested-text_given OfMotion text rest nested = IsNested-motion_given (motion_of text) rest nested
+IsNested-text_given (LeftOutText b) text rest nested = IsNested-escape_given b rest nested
 
 -- a name, or the parenthesis of one
-IsNested-name_or_opening :
-    (purpose : NameUse) (b : ℕ) (rest : List Half)
-    → AreNames (Name purpose Nothing ∷ rest) → IsNested (name_or_opening rest purpose b).1
-IsNested-name_or_opening purpose b rest are =
-    either (b == 40) _ _ (AreNames-other purpose purpose Nothing Opened rest are) (IsNested-rest purpose Nothing rest are)
+IsNested-name_or_opening : (purpose : NameUse) (b : ℕ) (rest : List Half) → IsNested (Name purpose Nothing ∷ rest) → IsNested (name_or_opening rest purpose b).1
+IsNested-name_or_opening purpose b rest nested =
+    either (b == 40) _ _ (λ opening. nested) (λ other. IsNested-name_given purpose _ rest (IsNested-rest (Name purpose Nothing) rest nested))
 
 -- the first byte of a name
-IsNested-name_begun :
-    (purpose : NameUse) (b : ℕ) (rest : List Half)
-    → AreNames (Name purpose Nothing ∷ rest) → IsNested (name_begun rest purpose b).1
-IsNested-name_begun (Register None) b rest are =
-    let signed = λ (step : Option Direction). AreNames-other (Register None) (Register step) Nothing Nothing rest are in
-    either (b == 43) _ _ (signed (Some Up)) (either (b == 45) _ _ (signed (Some Down)) (IsNested-name_or_opening (Register None) b rest are))
-IsNested-name_begun (Register (Some direction)) b rest are = IsNested-name_or_opening (Register (Some direction)) b rest are
-IsNested-name_begun Text b rest are = IsNested-name_or_opening Text b rest are
-IsNested-name_begun Argument b rest are = IsNested-rest Argument Nothing rest are
-IsNested-name_begun Character b rest are = IsNested-name_or_opening Character b rest are
-IsNested-name_begun Font b rest are = IsNested-name_or_opening Font b rest are
-IsNested-name_begun (LeftOut byte) b rest are = IsNested-name_or_opening (LeftOut byte) b rest are
+IsNested-name_begun : (purpose : NameUse) (b : ℕ) (rest : List Half) → IsNested (Name purpose Nothing ∷ rest) → IsNested (name_begun rest purpose b).1
+IsNested-name_begun (Register None) b rest nested =
+    either (b == 43) _ _ (λ up. nested) (λ other. either (b == 45) _ _ (λ down. nested) (λ plain. IsNested-name_or_opening (Register None) b rest nested))
+IsNested-name_begun (Register (Some direction)) b rest nested = IsNested-name_or_opening (Register (Some direction)) b rest nested
+IsNested-name_begun Text b rest nested = IsNested-name_or_opening Text b rest nested
+IsNested-name_begun Argument b rest nested = IsNested-name_given Argument _ rest (IsNested-rest (Name Argument Nothing) rest nested)
+IsNested-name_begun Character b rest nested = IsNested-name_or_opening Character b rest nested
+IsNested-name_begun Font b rest nested = IsNested-name_or_opening Font b rest nested
+IsNested-name_begun (LeftOut byte) b rest nested = IsNested-name_or_opening (LeftOut byte) b rest nested
 
 -- a unit of a name
 IsNested-unit_of_name :
     (purpose : NameUse) (part : NamePart) (unit : CopyUnit) (rest : List Half)
-    → AreNames (Name purpose part ∷ rest) → IsNested (unit_of_name rest purpose part unit).1
-IsNested-unit_of_name purpose Nothing (Byte b) rest are = IsNested-name_begun purpose b rest are
-IsNested-unit_of_name purpose Nothing (Kept b) rest are = IsNested-rest purpose Nothing rest are
-IsNested-unit_of_name purpose Opened (Byte b) rest are = AreNames-other purpose purpose Opened (First b) rest are
-IsNested-unit_of_name purpose Opened (Kept b) rest are = IsNested-rest purpose Opened rest are
-IsNested-unit_of_name purpose (First a) unit rest are = IsNested-rest purpose (First a) rest are
+    → IsNested (Name purpose part ∷ rest) → IsNested (unit_of_name rest purpose part unit).1
+IsNested-unit_of_name purpose Nothing (Byte b) rest nested = IsNested-name_begun purpose b rest nested
+IsNested-unit_of_name purpose Nothing (Kept b) rest nested = IsNested-name_given purpose _ rest (IsNested-rest (Name purpose Nothing) rest nested)
+IsNested-unit_of_name purpose Opened (Byte b) rest nested = nested
+IsNested-unit_of_name purpose Opened (Kept b) rest nested = IsNested-name_given purpose _ rest (IsNested-rest (Name purpose Opened) rest nested)
+IsNested-unit_of_name purpose (First a) unit rest nested = IsNested-name_given purpose _ rest (IsNested-rest (Name purpose (First a)) rest nested)
+
+-- a unit of a text between delimiters
+IsNested-unit_of_text :
+    (purpose : TextUse) (d : Option ℕ) (text : List ℕ) (unit : CopyUnit) (rest : List Half)
+    → IsNested (Delimited purpose d text ∷ rest) → IsNested (unit_of_text rest purpose d text unit).1
+IsNested-unit_of_text OfMotion d text unit rest nested = nested
+IsNested-unit_of_text (LeftOutText b) d text unit rest nested = nested
 
 -- a unit
-IsNested-unit_taken : (unit : CopyUnit) (rest : List Half) → AreNames rest → IsNested (unit_taken rest unit).1
-IsNested-unit_taken unit [] are = are
-IsNested-unit_taken unit (Backslash ∷ rest) are = absurd (search (rules, are.all))
-IsNested-unit_taken unit (Comment ∷ rest) are = absurd (search (rules, are.all))
-IsNested-unit_taken unit (Name purpose part ∷ rest) are = IsNested-unit_of_name purpose part unit rest are
-IsNested-unit_taken unit (Size part ∷ rest) are = absurd (search (rules, are.all))
-
--- a byte of a size
-IsNested-size_read : (part : SizePart) (b : ℕ) (rest : List Half) → AreNames rest → IsNested (size_read rest part b).1
-IsNested-size_read NoSize b rest are =
-    either (is_sign b) _ _ are (either (is_first_digit b) _ _ are (IsNested-names rest are))
-IsNested-size_read Sign b rest are = IsNested-names rest are
-IsNested-size_read Digit b rest are = IsNested-names rest are
+IsNested-unit_taken : (unit : CopyUnit) (rest : List Half) → IsNested rest → IsNested (unit_taken rest unit).1
+IsNested-unit_taken unit [] nested = nested
+IsNested-unit_taken unit (Backslash ∷ rest) nested = nested
+IsNested-unit_taken unit (Comment ∷ rest) nested = nested
+IsNested-unit_taken unit (Name purpose part ∷ rest) nested = IsNested-unit_of_name purpose part unit rest nested
+IsNested-unit_taken unit (Size part ∷ rest) nested = nested
+IsNested-unit_taken unit (Delimited purpose d text ∷ rest) nested = IsNested-unit_of_text purpose d text unit rest nested
+IsNested-unit_taken unit (Width d width is_deep ∷ rest) nested = nested
 
 -- the byte behind a backslash of copy mode that begins nothing
-IsNested-copied_escape : (b : ℕ) (rest : List Half) → AreNames rest → IsNested (copied_escape rest b).1
-IsNested-copied_escape b rest are =
-    either (b == newline) _ _ (IsNested-names rest are)
-    (either (b == backslash) _ _ (IsNested-unit_taken (Byte backslash) rest are)
-    (either (b == dot) _ _ (IsNested-unit_taken (Byte dot) rest are) (IsNested-unit_taken (Kept b) rest are)))
+IsNested-copied_escape : (b : ℕ) (rest : List Half) → IsNested rest → IsNested (copied_escape rest b).1
+IsNested-copied_escape b rest nested =
+    let unit : (unit : CopyUnit) → IsNested (unit_taken rest unit).1 = λ unit. IsNested-unit_taken unit rest nested in
+    either (b == newline) _ _ (λ dropped. nested) λ other.
+    either (b == backslash) _ _ (λ is. unit (Byte backslash)) λ other.
+    either (b == dot) _ _ (λ is. unit (Byte dot)) λ other.
+    either (b == 116) _ _ (λ is. unit (Byte tab)) λ other. unit (Kept b)
 
 -- a name begins, unless it would be one too many
-IsNested-begun :
-    (purpose : NameUse) (is_full : Bool) (rest : List Half) → nat_le most_names (length rest) ≡ is_full → AreNames rest
+IsNested-name_beginning :
+    (purpose : NameUse) (is_full : Bool) (rest : List Half) → nat_le most_names (names_in rest) ≡ is_full → is_open rest ≡ true → IsNested rest
     → IsNested (if is_full then rest else Name purpose (part_at_first purpose) ∷ rest)
-IsNested-begun purpose true rest full are = IsNested-names rest are
-IsNested-begun purpose false rest room are =
-    record { all = are.all; few = let few : length rest < most_names = leb-false _ _ room in omega arith }
+IsNested-name_beginning purpose true rest full is_free nested = nested
+IsNested-name_beginning purpose false rest room is_free nested = above (Name purpose (part_at_first purpose)) rest is_free (rw room refl) nested
 
--- an escape that begins nothing
-IsNested-plain : (in_text : Bool) (b : ℕ) (rest : List Half) → AreNames rest → IsNested (if in_text then (Escape b, rest) else copied_escape rest b).1
-IsNested-plain in_text b rest are = either in_text _ _ (IsNested-names rest are) (IsNested-copied_escape b rest are)
+-- what is read above arguments is read above a text line too
+reads_text-above : (is_text : Bool) (rest : List Half) → reads_text (surroundings is_text rest) ≡ true → reads_text (surroundings true rest) ≡ true
+reads_text-above true rest reads = reads
+reads_text-above false [] reads = cc
+reads_text-above false (Backslash ∷ rest) reads = reads
+reads_text-above false (Comment ∷ rest) reads = reads
+reads_text-above false (Name purpose part ∷ rest) reads = reads
+reads_text-above false (Size part ∷ rest) reads = reads
+reads_text-above false (Delimited purpose d text ∷ rest) reads = reads
+reads_text-above false (Width d width is_deep ∷ rest) reads = reads
+
+reads_widths-above : (is_text : Bool) (rest : List Half) → reads_widths (surroundings is_text rest) ≡ true → reads_widths (surroundings true rest) ≡ true
+reads_widths-above true rest reads = reads
+reads_widths-above false [] reads = refl
+reads_widths-above false (Backslash ∷ rest) reads = reads
+reads_widths-above false (Comment ∷ rest) reads = reads
+reads_widths-above false (Name purpose part ∷ rest) reads = reads
+reads_widths-above false (Size part ∷ rest) reads = reads
+reads_widths-above false (Delimited purpose d text ∷ rest) reads = reads
+reads_widths-above false (Width d width is_deep ∷ rest) reads = reads
+
+-- a text that is measured begins, a deep one or not
+deep_or_not : (reads is_deep : Bool) → reads ≡ true → (reads && (if is_deep then is_deep else not is_deep)) ≡ true
+deep_or_not true true is = refl
+deep_or_not true false is = refl
+deep_or_not false is_deep is = cc
 
 -- the byte behind a backslash, by what it means
-IsNested-escape_read : (in_text : Bool) (b : ℕ) (kind : Kind) (rest : List Half) → AreNames rest → IsNested (escape_read in_text rest b kind).1
-IsNested-escape_read in_text b BeginsComment rest are = are
-IsNested-escape_read in_text b BeginsSize rest are = either in_text _ _ are (IsNested-copied_escape b rest are)
-IsNested-escape_read in_text b (BeginsName purpose) rest are =
-    either (is_copied purpose || in_text) _ _ (IsNested-begun purpose _ rest refl are) (IsNested-unit_taken (Kept b) rest are)
-IsNested-escape_read in_text b (Prints byte) rest are = IsNested-plain in_text b rest are
-IsNested-escape_read in_text b Blank rest are = IsNested-plain in_text b rest are
-IsNested-escape_read in_text b NoWidth rest are = IsNested-plain in_text b rest are
-IsNested-escape_read in_text b GivesNothing rest are = IsNested-plain in_text b rest are
-IsNested-escape_read in_text b IsLeftOut rest are = IsNested-plain in_text b rest are
+module _ (is_text : Bool) (b : ℕ) (rest : List Half) (is_free : is_open rest ≡ true) (nested : IsNested rest) where
+  -- an escape that begins nothing
+  plain : IsNested (if reads_text (surroundings is_text rest) then escape_given rest b else copied_escape rest b).1
+  plain = either (reads_text (surroundings is_text rest)) _ _ (λ reads. IsNested-escape_given b rest nested) (λ copies. IsNested-copied_escape b rest nested)
+
+  IsNested-escape_read : (kind : Kind) → IsNested (escape_read (surroundings is_text rest) rest b kind).1
+  IsNested-escape_read BeginsComment = above Comment rest is_free refl nested
+  IsNested-escape_read BeginsSize =
+      either (reads_text (surroundings is_text rest)) _ _ (λ reads. above (Size NoSize) rest is_free (reads_text-above is_text rest reads) nested)
+      (λ copies. IsNested-copied_escape b rest nested)
+  IsNested-escape_read (BeginsName purpose) =
+      either (is_copied purpose || reads_text (surroundings is_text rest)) _ _ (λ reads. IsNested-name_beginning purpose _ rest refl is_free nested)
+      (λ copies. IsNested-unit_taken (Kept b) rest nested)
+  IsNested-escape_read (BeginsText purpose) =
+      either (reads_text (surroundings is_text rest)) _ _ (λ reads. above (Delimited purpose None []) rest is_free (reads_text-above is_text rest reads) nested)
+      (λ copies. IsNested-copied_escape b rest nested)
+  IsNested-escape_read BeginsWidth =
+      let is_deep = nat_le most_widths (widths_in rest) in
+      either (reads_widths (surroundings is_text rest)) _ _
+      (λ reads. above (Width None 0 is_deep) rest is_free (deep_or_not (reads_widths (surroundings true rest)) is_deep (reads_widths-above is_text rest reads)) nested)
+      (λ copies. IsNested-copied_escape b rest nested)
+  IsNested-escape_read (Prints byte) = plain
+  IsNested-escape_read Blank = plain
+  IsNested-escape_read NoWidth = plain
+  IsNested-escape_read GivesNothing = plain
+  IsNested-escape_read IsLeftOut = plain
+
+-- a byte of a size
+IsNested-size_read : (part : SizePart) (b : ℕ) (rest : List Half) → IsNested (Size part ∷ rest) → IsNested (size_read rest part b).1
+IsNested-size_read NoSize b rest nested =
+    either (is_sign b) _ _ (λ is. nested) λ other.
+    either (is_first_digit b) _ _ (λ is. nested) λ other. IsNested-escape_given 115 rest (IsNested-rest (Size NoSize) rest nested)
+IsNested-size_read Sign b rest nested = IsNested-escape_given 115 rest (IsNested-rest (Size Sign) rest nested)
+IsNested-size_read Digit b rest nested = IsNested-escape_given 115 rest (IsNested-rest (Size Digit) rest nested)
+
+-- a byte of a text between delimiters
+IsNested-byte_of_text :
+    (purpose : TextUse) (d : Option ℕ) (text : List ℕ) (b : ℕ) (rest : List Half)
+    → IsNested (Delimited purpose d text ∷ rest) → IsNested (byte_of_text rest purpose d text b).1
+IsNested-byte_of_text purpose None text b rest nested = nested
+IsNested-byte_of_text purpose (Some d) text b rest nested =
+    either (b == d) _ _ (λ ends. IsNested-text_given purpose text rest (IsNested-rest (Delimited purpose (Some d) text) rest nested)) λ other.
+    either (b == backslash) _ _ (λ escape. nested) λ other. IsNested-unit_of_text purpose (Some d) text (Byte b) rest nested
+
+-- a byte of a text that is measured
+IsNested-byte_of_width :
+    (d : Option ℕ) (width : ℕ) (is_deep : Bool) (b : ℕ) (rest : List Half)
+    → IsNested (Width d width is_deep ∷ rest) → IsNested (byte_of_width rest d width is_deep b).1
+IsNested-byte_of_width None width is_deep b rest nested = nested
+IsNested-byte_of_width (Some d) width is_deep b rest nested =
+    either (b == d) _ _ (λ ends. IsNested-rest (Width (Some d) width is_deep) rest nested) λ other.
+    either (b == backslash) _ _ (λ escape. nested) λ other. either is_deep _ _ (λ deep. nested) (λ grows. nested)
 
 -- a byte
-IsNested-byte_read : (is_text : Bool) (b : ℕ) (half : List Half) → IsNested half → IsNested (byte_read is_text half b).1
-IsNested-byte_read is_text b [] nested = either (b == backslash) _ _ nested nested
-IsNested-byte_read is_text b (Backslash ∷ rest) nested = IsNested-escape_read (is_text && length rest == 0) b (escape_of b) rest nested
+pub IsNested-byte_read : (is_text : Bool) (b : ℕ) (half : List Half) → IsNested half → IsNested (byte_read is_text half b).1
+IsNested-byte_read is_text b [] nested = either (b == backslash) _ _ (λ escape. nested) (λ unit. nested)
+IsNested-byte_read is_text b (Backslash ∷ rest) nested =
+    IsNested-escape_read is_text b rest (open-rest Backslash rest nested) (IsNested-rest Backslash rest nested) (escape_of b)
 IsNested-byte_read is_text b (Comment ∷ rest) nested = nested
 IsNested-byte_read is_text b (Name purpose part ∷ rest) nested =
-    either (b == backslash) _ _ nested (IsNested-unit_of_name purpose part (Byte b) rest nested)
+    either (b == backslash) _ _ (λ escape. nested) (λ unit. IsNested-unit_of_name purpose part (Byte b) rest nested)
 IsNested-byte_read is_text b (Size part ∷ rest) nested = IsNested-size_read part b rest nested
+IsNested-byte_read is_text b (Delimited purpose d text ∷ rest) nested = IsNested-byte_of_text purpose d text b rest nested
+IsNested-byte_read is_text b (Width d width is_deep ∷ rest) nested = IsNested-byte_of_width d width is_deep b rest nested
+
+-- a name that ends before what stays
+IsNested-name_ended : (purpose : NameUse) (part : NamePart) (rest : List Half) → IsNested rest → IsNested (name_ended rest purpose part).1
+IsNested-name_ended purpose Nothing rest nested = IsNested-name_given purpose _ rest nested
+IsNested-name_ended purpose Opened rest nested = IsNested-name_given purpose _ rest nested
+IsNested-name_ended purpose (First a) rest nested = IsNested-name_given purpose _ rest nested
+
+-- an end
+pub IsNested-reading_ended : (is_text : Bool) (half : List Half) → IsNested half → IsNested (reading_ended is_text half).1
+IsNested-reading_ended is_text [] nested = nested
+IsNested-reading_ended is_text (Backslash ∷ rest) nested =
+    let below = IsNested-rest Backslash rest nested in
+    either (reads_text (surroundings is_text rest)) _ _ (λ reads. IsNested-escape_given newline rest below) (λ copies. IsNested-unit_taken (Byte backslash) rest below)
+IsNested-reading_ended is_text (Comment ∷ rest) nested =
+    let below = IsNested-rest Comment rest nested in
+    either (reads_text (surroundings is_text rest)) _ _ (λ reads. IsNested-escape_given quote rest below) (λ copies. below)
+IsNested-reading_ended is_text (Name purpose part ∷ rest) nested = IsNested-name_ended purpose part rest (IsNested-rest (Name purpose part) rest nested)
+IsNested-reading_ended is_text (Size part ∷ rest) nested = IsNested-escape_given 115 rest (IsNested-rest (Size part) rest nested)
+IsNested-reading_ended is_text (Delimited purpose d text ∷ rest) nested = IsNested-text_given purpose text rest (IsNested-rest (Delimited purpose d text) rest nested)
+IsNested-reading_ended is_text (Width d width is_deep ∷ rest) nested = IsNested-rest (Width d width is_deep) rest nested
+
+-- what is half read behind it
+IsNested-half_behind : (read : Read) (half : List Half) → IsNested half → IsNested (half_behind read half)
+IsNested-half_behind GoesOn half nested = nested
+IsNested-half_behind (GivesUnit unit) half nested = nested
+IsNested-half_behind (Holds unit) half nested = IsNested-text_held unit half nested
+IsNested-half_behind (Escape b) half nested = nested
+IsNested-half_behind (Asks purpose name) half nested = nested
+IsNested-half_behind (Motion columns remark) half nested = nested
+IsNested-half_behind (Measures width) half nested = nested
+IsNested-half_behind (Tells remark) half nested = nested
 
 -- bytes
-pub IsNested-reads_through :
-    (is_text : Bool) (half : List Half) (bytes : List ℕ) → IsNested half → IsNested (reads_through is_text half bytes).1
+pub IsNested-reads_through : (is_text : Bool) (half : List Half) (bytes : List ℕ) → IsNested half → IsNested (reads_through is_text half bytes).1
 IsNested-reads_through is_text half [] nested = nested
 IsNested-reads_through is_text half (b ∷ bytes) nested =
-    IsNested-reads_through is_text (byte_read is_text half b).1 bytes (IsNested-byte_read is_text b half nested)
-
--- a byte behind a backslash within names
-pub behind_backslash :
-    (is_text : Bool) (names : List Half) (b : ℕ) (bytes : List ℕ) → AreNames names
-    → reads_through is_text names (backslash ∷ b ∷ bytes) ≡ reads_through is_text (Backslash ∷ names) (b ∷ bytes)
-behind_backslash is_text [] b bytes are = refl
-behind_backslash is_text (Backslash ∷ rest) b bytes are = absurd (search (rules, are.all))
-behind_backslash is_text (Comment ∷ rest) b bytes are = absurd (search (rules, are.all))
-behind_backslash is_text (Size part ∷ rest) b bytes are = absurd (search (rules, are.all))
-behind_backslash is_text (Name purpose part ∷ rest) b bytes are = refl
-
--- an escape that copy mode reads begins a name, if fewer are half read than may be
-begun : (purpose : NameUse) (full in_text : Bool) (names : List Half) (b : ℕ) → is_copied purpose ≡ true → nat_le most_names (length names) ≡ full
-    → escape_read in_text names b (BeginsName purpose) ≡ (GoesOn, (if full then names else Name purpose (part_at_first purpose) ∷ names))
-begun purpose full in_text names b copied is =
-    ap (λ (c : Bool). if c || in_text then name_beginning names purpose else unit_taken names (Kept b)) copied
-    ∙ ap (λ (c : Bool). (GoesOn, (if c then names else Name purpose (part_at_first purpose) ∷ names))) is
-
--- and nothing of it is read, but what copy mode reads has no parenthesis in it
-part-copied : (purpose : NameUse) → is_copied purpose ≡ true → part_at_first purpose ≡ Nothing
-part-copied (Register step) copied = refl
-part-copied Text copied = refl
-part-copied Argument copied = refl
-part-copied Character copied = absurd (cc)
-part-copied Font copied = refl
-part-copied (LeftOut byte) copied = refl
-
--- so it does where it is read byte by byte
-byte_read-begins :
-    (is_text : Bool) (names : List Half) (b : ℕ) (purpose : NameUse) (full : Bool) → escape_of b ≡ BeginsName purpose → is_copied purpose ≡ true
-    → nat_le most_names (length names) ≡ full
-    → byte_read is_text (Backslash ∷ names) b ≡ (GoesOn, (if full then names else Name purpose Nothing ∷ names))
-byte_read-begins is_text names b purpose full is copied room =
-    ap (escape_read (is_text && length names == 0) names b) is
-    ∙ begun purpose full (is_text && length names == 0) names b copied room
-    ∙ ap (λ (part : NamePart). (GoesOn, (if full then names else Name purpose part ∷ names))) (part-copied purpose copied)
-
--- an escape that copy mode reads begins a name
-pub begins :
-    (is_text : Bool) (names : List Half) (b : ℕ) (purpose : NameUse) (bytes : List ℕ) → AreNames names → length names < most_names
-    → escape_of b ≡ BeginsName purpose → is_copied purpose ≡ true
-    → reads_through is_text names (backslash ∷ b ∷ bytes) ≡ reads_through is_text (Name purpose Nothing ∷ names) bytes
-begins is_text names b purpose bytes are room is copied =
-    behind_backslash is_text names b bytes are
-    ∙ ap (λ (r : Reads). (found_before r.0 (reads_through is_text r.1 bytes).0, (reads_through is_text r.1 bytes).1))
-    (byte_read-begins is_text names b purpose false is copied (lt-leb most_names (length names) room))
-
--- and gives nothing where it would be one too many
-pub begins_no_more :
-    (is_text : Bool) (names : List Half) (b : ℕ) (purpose : NameUse) (bytes : List ℕ) → AreNames names → length names ≡ most_names
-    → escape_of b ≡ BeginsName purpose → is_copied purpose ≡ true
-    → reads_through is_text names (backslash ∷ b ∷ bytes) ≡ reads_through is_text names bytes
-begins_no_more is_text names b purpose bytes are all is copied =
-    behind_backslash is_text names b bytes are
-    ∙ ap (λ (r : Reads). (found_before r.0 (reads_through is_text r.1 bytes).0, (reads_through is_text r.1 bytes).1))
-    (byte_read-begins is_text names b purpose true is copied (ap (nat_le most_names) all))
-
--- a register's name behind a parenthesis
-abbrev opened_name : Half
-opened_name = Name (Register None) Opened
-
--- many of them are all names
-all-opened : (k : ℕ) → are_all_names (replicate k opened_name) ≡ true
-all-opened zero = refl
-all-opened (suc k) = all-opened k
-
--- `\n(` so many times begins as many names, within so many
-opened-within :
-    (is_text : Bool) (k within : ℕ) → within + k ≤ most_names
-    → reads_through is_text (replicate within opened_name) (openings k) ≡ ([], replicate (within + k) opened_name)
-opened-within is_text zero within few = ap (λ n. ([], replicate n opened_name)) (omega arith)
-opened-within is_text (suc k) within few =
-    let long : length (replicate within opened_name) ≡ within = length-replicate within opened_name in
-    let room : length (replicate within opened_name) < most_names = omega arith in
-    let are : AreNames (replicate within opened_name) = record { all = all-opened within; few = omega arith } in
-    begins is_text (replicate within opened_name) 110 (Register None) (40 ∷ openings k) are room refl refl
-    ∙ opened-within is_text k (suc within) (omega arith)
-    ∙ ap (λ n. ([], replicate n opened_name)) (omega arith)
-
--- and where nothing is half read
-pub opened-names : (is_text : Bool) (k : ℕ) → k ≤ most_names → reads_through is_text [] (openings k) ≡ ([], replicate k opened_name)
-opened-names is_text k few =
-    opened-within is_text k 0 (omega arith) ∙ ap (λ n. ([], replicate n opened_name)) (omega arith)
-
--- in a comment nothing is found
-comment_within : (is_text : Bool) (names : List Half) (bytes : List ℕ) → reads_through is_text (Comment ∷ names) bytes ≡ ([], Comment ∷ names)
-comment_within is_text names [] = refl
-comment_within is_text names (b ∷ bytes) = comment_within is_text names bytes
-
--- so in one behind its escape
-pub comment_read : (is_text : Bool) (names : List Half) (bytes : List ℕ) → AreNames names
-    → reads_through is_text names (backslash ∷ quote ∷ bytes) ≡ ([], Comment ∷ names)
-comment_read is_text names bytes are = behind_backslash is_text names quote bytes are ∙ comment_within is_text names bytes
-
--- a byte that isn't a backslash goes to the name
-byte_of_name : (is_text : Bool) (names : List Half) (purpose : NameUse) (part : NamePart) (x : ℕ) → (x == backslash) ≡ false
-    → byte_read is_text (Name purpose part ∷ names) x ≡ unit_of_name names purpose part (Byte x)
-byte_of_name is_text names purpose part x plain =
-    ap (λ (c : Bool). if c then (GoesOn, Backslash ∷ Name purpose part ∷ names) else unit_of_name names purpose part (Byte x)) plain
-
--- two bytes behind a parenthesis are a name
-pub opened_read : (is_text : Bool) (names : List Half) (purpose : NameUse) (x y : ℕ) → (x == backslash) ≡ false → (y == backslash) ≡ false
-    → reads_through is_text (Name purpose Opened ∷ names) (x ∷ y ∷ []) ≡ (Asks purpose (Some (x ∷ y ∷ [])) ∷ [], names)
-opened_read is_text names purpose x y first second =
-    ap (λ (r : Reads). let others = reads_through is_text r.1 (y ∷ []) in (found_before r.0 others.0, others.1))
-    (byte_of_name is_text names purpose Opened x first)
-    ∙ ap (λ (r : Reads). (found_before r.0 [], r.1)) (byte_of_name is_text names purpose (First x) y second)
-
--- a string's name of one byte
-pub string_read : (is_text : Bool) (names : List Half) (x : ℕ) → (x == backslash) ≡ false → (x == 40) ≡ false
-    → reads_through is_text (Name Text Nothing ∷ names) (x ∷ []) ≡ (Asks Text (Some (x ∷ [])) ∷ [], names)
-string_read is_text names x plain no_opening =
-    ap (λ (r : Reads). (found_before r.0 [], r.1)) (byte_of_name is_text names Text Nothing x plain)
-    ∙ ap (λ (c : Bool). let r : Reads = if c then (GoesOn, Name Text Opened ∷ names) else (Asks Text (Some (x ∷ [])), names) in (found_before r.0 [], r.1)) no_opening
-
--- an argument's name
-pub argument_read : (is_text : Bool) (names : List Half) (x : ℕ) → (x == backslash) ≡ false
-    → reads_through is_text (Name Argument Nothing ∷ names) (x ∷ []) ≡ (Asks Argument (Some (x ∷ [])) ∷ [], names)
-argument_read is_text names x plain =
-    ap (λ (r : Reads). (found_before r.0 [], r.1)) (byte_of_name is_text names Argument Nothing x plain)
+    let read = byte_read is_text half b in
+    IsNested-reads_through is_text (half_behind read.0 read.1) bytes (IsNested-half_behind read.0 read.1 (IsNested-byte_read is_text b half nested))

@@ -1,27 +1,38 @@
--- Words for the laws of what is half read (manual, section 8).
-use Rattle.std.specs.Prelude.{ℕ, zero, suc, Bool, List, [], ◌∷◌, ◌++◌, Option, Some, None, ◌==◌}
-use Rattle.std.specs.List.{list_any}
-use Rattle.roff_scan.specs.Bytes.{backslash}
-use Rattle.roff_scan.specs.Halves.{byte_read}
-use Rattle.roff_scan.specs.declared.half.Half.{Half}
+-- Words for the laws of what is half read (manual, sections 7.2, 8, 10.1 and 11).
+use Rattle.std.specs.Prelude.{◌≡◌, ℕ, zero, suc, Bool, true, ◌&&◌, ◌||◌, not, List, [], ◌∷◌, ◌++◌, map, flat_map, sum_by, Option, Some, None, if◌then◌else◌, ◌==◌}
+use Rattle.std.specs.List.{list_all, list_any}
+use Rattle.roff_scan.specs.Bytes.{tab, newline, quote, dot, backslash}
+use Rattle.roff_scan.specs.Half.{Half, text_held, unit_bytes}
+use Rattle.roff_scan.specs.Halves.{byte_read, reading_ended}
+use Rattle.roff_scan.specs.Measures.{byte_columns}
+use Rattle.roff_scan.specs.declared.half.CopyUnit.{CopyUnit}
 use Rattle.roff_scan.specs.declared.half.Read.{Read}
-use Rattle.roff_scan.specs.declared.half.Read.TheVariants.{GoesOn, Unit as GivesUnit, Escape, Asks}
+use Rattle.roff_scan.specs.declared.half.Read.TheVariants.{GoesOn, Unit as GivesUnit, Holds, Escape, Asks, Motion, Measures, Tells}
 use Rattle.roff_store.specs.declared.register.Direction.{Direction}
 use Rattle.roff_store.specs.declared.register.Direction.TheVariants.{Up, Down}
 
 -- what a byte finds, if it finds something, stands before what the others find
 abbrev pub found_before : Read → List Read → List Read
 found_before GoesOn others = others
+found_before (Holds unit) others = others
 found_before (GivesUnit unit) others = GivesUnit unit ∷ others
 found_before (Escape b) others = Escape b ∷ others
 found_before (Asks purpose name) others = Asks purpose name ∷ others
+found_before (Motion columns remark) others = Motion columns remark ∷ others
+found_before (Measures width) others = Measures width ∷ others
+found_before (Tells remark) others = Tells remark ∷ others
+
+-- what is half read behind what a byte gives: a unit of a text between delimiters is held there
+abbrev pub half_behind : Read → List Half → List Half
+half_behind (Holds unit) half = text_held unit half
+half_behind (_) half = half
 
 -- bytes read one by one: what they find, in order, and what is half read behind them
 abbrev pub reads_through : Bool → List Half → List ℕ → List Read × List Half
 reads_through is_text half [] = ([], half)
 reads_through is_text half (b ∷ bytes) =
     let read = byte_read is_text half b in
-    let others = reads_through is_text read.1 bytes in
+    let others = reads_through is_text (half_behind read.0 read.1) bytes in
     (found_before read.0 others.0, others.1)
 
 -- the sign of a step
@@ -58,3 +69,57 @@ is_special b = list_any (λ c. b == c) (backslash ∷ 40 ∷ 43 ∷ 45 ∷ [])
 abbrev pub openings : ℕ → List ℕ
 openings zero = []
 openings (suc k) = register_escape (40 ∷ openings k)
+
+-- what bytes find where nothing is half read, up to their end
+abbrev pub reads_to_end : Bool → List ℕ → List Read
+reads_to_end is_text bytes =
+    let read = reads_through is_text [] bytes in
+    read.0 ++ found_before (reading_ended is_text read.1).0 []
+
+-- units were found, and their bytes are these
+pub record FindsBytes (found : List Read) (bytes : List ℕ) : Type 0 where
+  pub units : List CopyUnit
+  pub only : found ≡ map GivesUnit units
+  pub joined : flat_map unit_bytes units ≡ bytes
+
+-- a backslash and the byte behind it, copied: a newline is dropped with its backslash, `\\` is a backslash, `\.` a dot, `\t`
+-- a tab, and all others stay
+abbrev pub copied_escape : ℕ → List ℕ
+copied_escape b =
+    if b == newline then []
+    else if b == backslash then backslash ∷ []
+    else if b == dot then dot ∷ []
+    else if b == 116 then tab ∷ []
+    else backslash ∷ b ∷ []
+
+-- a text without interpolations, copied
+abbrev pub copied : List ℕ → List ℕ
+copied [] = []
+copied (b ∷ []) = b ∷ []
+copied (b ∷ c ∷ text) = if b == backslash then copied_escape c ++ copied text else b ∷ copied (c ∷ text)
+
+-- whether the byte behind a backslash begins an interpolation or a comment there: `\n`, `\*`, `\$`, `\w` or `\"`
+abbrev pub begins_reading : ℕ → Bool
+begins_reading b = list_any (λ c. b == c) (110 ∷ 42 ∷ 36 ∷ 119 ∷ quote ∷ [])
+
+-- whether a text has neither interpolations nor comments
+abbrev pub is_only_copied : List ℕ → Bool
+is_only_copied [] = true
+is_only_copied (b ∷ []) = true
+is_only_copied (b ∷ c ∷ text) = if b == backslash then not (begins_reading c) && is_only_copied text else is_only_copied (c ∷ text)
+
+-- a text with each backslash twice
+abbrev pub doubled : List ℕ → List ℕ
+doubled text = flat_map (λ b. if b == backslash then backslash ∷ backslash ∷ [] else b ∷ []) text
+
+-- an escape with a text between two delimiters: `\h'text'`, by the byte behind its backslash
+abbrev pub text_escape : ℕ → ℕ → List ℕ → List ℕ
+text_escape b delimiter text = backslash ∷ b ∷ delimiter ∷ text ++ delimiter ∷ []
+
+-- whether a text may stand between such delimiters as it is: no byte of it is the delimiter, a backslash or a newline
+abbrev pub is_between : ℕ → List ℕ → Bool
+is_between delimiter text = list_all (λ b. not (b == delimiter || b == backslash || b == newline)) text
+
+-- the columns of a text
+abbrev pub columns_in : List ℕ → ℕ
+columns_in text = sum_by byte_columns text

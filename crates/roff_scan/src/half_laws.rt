@@ -1,18 +1,21 @@
 //! Facts about what is half read, as contracts of functions that do nothing.
 
-ghost use Rattle.std.specs.Prelude.{◌≡◌, ℕ, ◌<◌, ◌≤◌, Bool, true, false, List, [], ◌∷◌, length, replicate, Option, None, Some, ◌==◌};
+ghost use Rattle.std.specs.Prelude.{◌≡◌, ℕ, ◌*◌, ◌<◌, ◌≤◌, Bool, true, false, List, [], ◌∷◌, codes, length, map, min, replicate, Option, None, Some, ◌==◌};
 ghost use Rattle.roff_scan.specs.Bytes.{backslash, quote};
 ghost use Rattle.roff_scan.specs.Escapes.{escape_of, is_copied};
-ghost use Rattle.roff_scan.specs.HalfLaws.{argument_escape, is_special, long_escape, openings, reads_through, register_escape, short_escape, string_escape};
-ghost use Rattle.roff_scan.specs.Halves.{most_names};
+ghost use Rattle.roff_scan.specs.Half.{Half, Comment, Name};
+ghost use Rattle.roff_scan.specs.HalfLaws.{FindsBytes, argument_escape, columns_in, copied, doubled, is_between, is_only_copied, is_special, long_escape, openings, reads_through, reads_to_end, register_escape, short_escape, string_escape, text_escape};
+ghost use Rattle.roff_scan.specs.Halves.{most_names, reading_ended};
+ghost use Rattle.roff_scan.specs.Measures.{columns_of, most_width, motion_of, remarked};
 ghost use Rattle.roff_scan.specs.Nesting.{AreNames, IsNested};
-ghost use Rattle.roff_scan.specs.declared.escapes.Escape.TheVariants.{Name as BeginsName};
+ghost use Rattle.roff_scan.specs.declared.escapes.Escape.TheVariants.{Name as BeginsName, Text as BeginsText};
 ghost use Rattle.roff_scan.specs.declared.escapes.NameUse.{NameUse};
 ghost use Rattle.roff_scan.specs.declared.escapes.NameUse.TheVariants.{Argument, Character, Register, Text};
-ghost use Rattle.roff_scan.specs.declared.half.Half.{Half};
-ghost use Rattle.roff_scan.specs.declared.half.Half.TheVariants.{Comment, Name};
+ghost use Rattle.roff_scan.specs.declared.escapes.TextUse.TheVariants.{LeftOut as LeftOutText};
+ghost use Rattle.roff_scan.specs.declared.half.CopyUnit.TheVariants.{Byte};
 ghost use Rattle.roff_scan.specs.declared.half.NamePart.TheVariants.{Nothing, Opened};
-ghost use Rattle.roff_scan.specs.declared.half.Read.TheVariants.{Asks};
+ghost use Rattle.roff_scan.specs.declared.half.Read.TheVariants.{Asks, Escape, Measures, Motion, Unit as GivesUnit};
+ghost use Rattle.roff_scan.specs.declared.half.Remark.TheVariants.{BackwardMotion, BadNumber};
 ghost use Rattle.roff_store.specs.declared.register.Direction.{Direction};
 
 /// The escapes of a register, read byte by byte in text or in copy mode, find its name and its
@@ -64,8 +67,9 @@ pub fn comments()
 
 /// Eight names are read within each other, and no ninth: where seven are half read an escape that
 /// copy mode reads begins an eighth, where eight are it gives nothing. So `\n(` up to eight times
-/// begins as many names; and whatever is read, no more are half read, and no backslash and no comment
-/// but on top of them.
+/// begins as many names. Whatever is read, and however it ends, each thing that is half read stands
+/// where it may: no more names are half read, no backslash, comment or size but on top, and what is
+/// read only in text stands only there. So they are few.
 pub fn nesting()
     ensures begun { (is_text : Bool) (names : List Half) (b : ℕ) (purpose : NameUse)
         → AreNames names → length names < most_names
@@ -80,4 +84,48 @@ pub fn nesting()
         ≡ ([], replicate k (Name (Register None) Opened)) }
     ensures always { (is_text : Bool) (half : List Half) (bytes : List ℕ) → IsNested half
         → IsNested (reads_through is_text half bytes).1 }
+    ensures ended { (is_text : Bool) (half : List Half) → IsNested half
+        → IsNested (reading_ended is_text half).1 }
+    ensures few { (half : List Half) → IsNested half → length half ≤ 28 }
+{}
+
+/// Copy mode changes a text without interpolations and comments as `copied` says, and nothing of it
+/// is read otherwise. So a text with each of its backslashes written twice is copied to itself, byte
+/// by byte, and with each written four times it is there behind two copies.
+pub fn copying()
+    ensures read { (text : List ℕ) → is_only_copied text ≡ true
+        → FindsBytes (reads_to_end false text) (copied text) }
+    ensures doubled { (text : List ℕ) → copied (doubled text) ≡ text }
+    ensures again { (text : List ℕ) → copied (copied (doubled (doubled text))) ≡ text }
+    ensures doubled_read { (text : List ℕ) → reads_through false [] (doubled text)
+        ≡ (map (λ b. GivesUnit (Byte b)) text, []) }
+{}
+
+/// `\w'text'` measures a text of glyphs: 24 basic units for each column, up to what a register may
+/// hold; in text and in arguments.
+pub fn widths()
+    ensures { (is_text : Bool) (delimiter : ℕ) (text : List ℕ) → is_between delimiter text ≡ true
+        → reads_through is_text [] (text_escape 119 delimiter text)
+        ≡ (Measures (min (24 * columns_in text) most_width) ∷ [], []) }
+{}
+
+/// `\h'text'` moves by the number that its text is, in columns. One below 0 is none, and is told,
+/// and so is one that isn't a number.
+pub fn motions()
+    ensures read { (delimiter : ℕ) (text : List ℕ) → is_between delimiter text ≡ true
+        → reads_through true [] (text_escape 104 delimiter text)
+        ≡ (Motion (motion_of text).columns (motion_of text).remark ∷ [], []) }
+    ensures columns { motion_of (codes "7") ≡ columns_of 7 }
+    ensures inches { motion_of (codes "1i-2") ≡ columns_of 8 }
+    ensures rounded { motion_of (codes "37u") ≡ columns_of 2 }
+    ensures backward { motion_of (codes "-1") ≡ remarked BackwardMotion }
+    ensures no_number { motion_of (codes "x") ≡ remarked BadNumber }
+    ensures no_place { motion_of (codes "|3") ≡ remarked BadNumber }
+{}
+
+/// An escape that is left out is found with nothing of the text between its delimiters.
+pub fn left_out_texts()
+    ensures { (b kind delimiter : ℕ) (text : List ℕ)
+        → escape_of b ≡ BeginsText (LeftOutText kind) → is_between delimiter text ≡ true
+        → reads_through true [] (text_escape b delimiter text) ≡ (Escape kind ∷ [], []) }
 {}

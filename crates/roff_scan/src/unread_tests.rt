@@ -1,6 +1,6 @@
 //! What is taken of some inputs, in order, by the public calls.
 
-use crate::{CopyUnit, Item, NameUse, Read, ReadSource, Sight, Unread};
+use crate::{CopyUnit, Item, NameUse, Read, ReadSource, Remark, Sight, Unread};
 use roff_num::{Limit, Limits};
 use std::test::Fail;
 
@@ -116,6 +116,55 @@ fn a_size_takes_only_what_belongs_to_it(rt: HostRuntime) -> Result<(), Fail> {
     assert!(rt; !unread.seen_stays(Some(b'9')));
     assert!(rt; unread.seen_stays(Some(b'x')) && unread.seen_stays(None));
     assert!(rt; matches!(unread.end_reading(true), Read::Escape(b's')));
+    assert!(rt; unread.is_bare());
+    Ok(())
+}
+
+#[test]
+fn a_motion_is_read_from_its_text(rt: HostRuntime) -> Result<(), Fail> {
+    let limits = Limits {
+        stack: 2,
+        ..Limits::DEFAULT
+    };
+    let mut unread: Unread<u8> = Unread::new(rt.alloc(), limits)?;
+    for byte in b"\\h'" {
+        assert!(rt; matches!(unread.read_byte(true, *byte), Read::GoesOn));
+    }
+    for byte in b"12" {
+        assert!(rt; matches!(unread.read_byte(true, *byte), Read::Holds(_)));
+        assert_eq!(rt; unread.hold_text(CopyUnit::Byte(*byte)), Ok(()));
+    }
+    assert_eq!(rt; unread.pushed(), 2);
+    assert_eq!(rt; unread.hold_text(CopyUnit::Byte(b'3')), Err(Limit::Stack));
+    assert!(rt; matches!(unread.read_byte(true, b'\''), Read::Motion(12, None)));
+    assert!(rt; unread.is_bare() && unread.pushed() == 0);
+    Ok(())
+}
+
+#[test]
+fn a_motion_below_0_is_none(rt: HostRuntime) -> Result<(), Fail> {
+    let mut unread: Unread<u8> = Unread::new(rt.alloc(), Limits::DEFAULT)?;
+    for byte in b"\\h'" {
+        assert!(rt; matches!(unread.read_byte(true, *byte), Read::GoesOn));
+    }
+    assert_eq!(rt; unread.hold_text(CopyUnit::Byte(b'-')), Ok(()));
+    assert_eq!(rt; unread.hold_text(CopyUnit::Byte(b'1')), Ok(()));
+    assert!(rt;
+        matches!(
+            unread.end_reading(true),
+            Read::Motion(0, Some(Remark::BackwardMotion))
+        )
+    );
+    Ok(())
+}
+
+#[test]
+fn a_text_is_measured_without_its_tabs(rt: HostRuntime) -> Result<(), Fail> {
+    let mut unread: Unread<u8> = Unread::new(rt.alloc(), Limits::DEFAULT)?;
+    for byte in b"\\w'a\tb\\(->" {
+        assert!(rt; matches!(unread.read_byte(false, *byte), Read::GoesOn));
+    }
+    assert!(rt; matches!(unread.read_byte(false, b'\''), Read::Measures(96)));
     assert!(rt; unread.is_bare());
     Ok(())
 }

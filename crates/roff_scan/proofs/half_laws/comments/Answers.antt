@@ -1,4 +1,4 @@
-use Rattle.roff_scan.proofs.Nesting.{comment_read}
+use Rattle.roff_scan.proofs.NamesRead.{comment_read}
 use Rattle.roff_scan.proofs.half_laws.comments.Goals as goal
 
 pub returns : goal.returns

@@ -1,5 +1,7 @@
 use Rattle.std.proofs.Common.{[]}
-use Rattle.roff_scan.proofs.Nesting.{IsNested-reads_through, begins, begins_no_more, opened-names}
+use Rattle.roff_scan.proofs.NamesRead.{begins, begins_no_more, opened-names}
+use Rattle.roff_scan.proofs.Nesting.{IsNested-reading_ended, IsNested-reads_through}
+use Rattle.roff_scan.proofs.NestedHalves.{length-nested}
 use Rattle.roff_scan.proofs.half_laws.nesting.Goals as goal
 
 pub returns-clause-begun : goal.returns-clause-begun
@@ -13,3 +15,9 @@ returns-clause-opened c = opened-names
 
 pub returns-clause-always : goal.returns-clause-always
 returns-clause-always c = IsNested-reads_through
+
+pub returns-clause-ended : goal.returns-clause-ended
+returns-clause-ended c = IsNested-reading_ended
+
+pub returns-clause-few : goal.returns-clause-few
+returns-clause-few c = length-nested

@@ -11,6 +11,7 @@ invariant_of-self g c =
       bytes = c.self.invariant.bytes;
       texts = c.self.invariant.texts;
       arguments = rw c.finish.ensures.value c.self.invariant.arguments;
+      held = c.self.invariant.held;
       small = c.self.invariant.small;
       within = rw c.finish.ensures.value (IsWithin-same_held (kept_by c.self.inside) (finished old) c.self.invariant.within (held-finished old));
     }

@@ -7,6 +7,7 @@ invariant_of-self g c = record {
   bytes = rw c.free.ensures c.self.invariant.bytes;
   texts = rw c.free.ensures c.self.invariant.texts;
   arguments = c.self.invariant.arguments;
+  held = c.self.invariant.held;
   small = c.self.invariant.small;
   within = rw c.free.ensures (IsWithin-freeing (kept_by c.self.inside) c.args.bytes.now c.self.invariant.within);
 }

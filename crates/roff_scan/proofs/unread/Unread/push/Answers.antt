@@ -26,6 +26,7 @@ invariant_of-self g c =
       bytes = rw c.push.ensures c.self.invariant.bytes;
       texts = rw c.push.ensures c.self.invariant.texts;
       arguments = c.self.invariant.arguments;
+      held = c.self.invariant.held;
       small = c.self.invariant.small;
       within = rw c.push.ensures (IsWithin-pushing kept c.args.text.now c.pushed.result counted c.self.invariant.within c.if-text-self.false shallow);
     }

@@ -1,8 +1,7 @@
-use Rattle.std.proofs.Common.{◌≡◌, ◌+◌, ◌<◌, Bool, false, Option, Some, None, if◌then◌else◌, arith, refl, rules, ap, sym, ◌∙◌}
+use Rattle.std.proofs.Common.{◌≡◌, ◌+◌, ◌<◌, false, Option, Some, None, arith, refl, rules, sym, ◌∙◌}
 use Rattle.std.specs.Prelude.{is_some, nat_lt}
 use Rattle.std.proofs.lemmas.Bool.{le-ltb}
 use Rattle.roff_scan.specs.Tape.{Gives, OneByte}
-use Rattle.roff_scan.specs.Unread.{Shown, ShowsByte, ShowsRefusal, Unread}
 use Rattle.roff_scan.proofs.Asking.{takes_asked}
 use Rattle.roff_scan.proofs.unread.Unread.take_ready.Goals as goal
 

@@ -1,0 +1,182 @@
+-- Reading makes no text between delimiters longer: only what is held does.
+use Rattle.std.proofs.Common.{◌≡◌, ℕ, ◌+◌, ◌≤◌, Bool, true, false, List, [], ◌∷◌, length, Option, Some, None, refl, arith}
+use Rattle.std.specs.Prelude.{◌==◌, ◌||◌, nat_le, if◌then◌else◌}
+use Rattle.roff_scan.specs.Bytes.{tab, newline, quote, dot, backslash}
+use Rattle.roff_scan.specs.Escapes.{escape_of, is_copied}
+use Rattle.roff_scan.specs.Half.{Half, Backslash, Comment, Name, Size, Delimited, Width, names_in, texts_held}
+use Rattle.roff_scan.specs.Halves.{Reads, byte_of_text, byte_of_width, byte_read, copied_escape, escape_given, escape_read, is_first_digit, is_sign, most_names, motion_given, name_begun, name_ended, name_given, name_or_opening, part_at_first, reading_ended, reads_text, reads_widths, size_read, surroundings, text_given, unit_of_name, unit_of_text, unit_taken}
+use Rattle.roff_scan.specs.Measures.{motion_of}
+use Rattle.roff_scan.specs.declared.escapes.Escape.{Escape as Kind}
+use Rattle.roff_scan.specs.declared.escapes.Escape.TheVariants.{Prints, Blank, NoWidth, Nothing as GivesNothing, LeftOut as IsLeftOut, Comment as BeginsComment, Size as BeginsSize, Name as BeginsName, Text as BeginsText, Width as BeginsWidth}
+use Rattle.roff_scan.specs.declared.escapes.NameUse.{NameUse}
+use Rattle.roff_scan.specs.declared.escapes.NameUse.TheVariants.{Register, Text, Argument, Character, Font, LeftOut}
+use Rattle.roff_scan.specs.declared.escapes.TextUse.{TextUse}
+use Rattle.roff_scan.specs.declared.escapes.TextUse.TheVariants.{Motion as OfMotion, LeftOut as LeftOutText}
+use Rattle.roff_scan.specs.declared.half.CopyUnit.{CopyUnit}
+use Rattle.roff_scan.specs.declared.half.CopyUnit.TheVariants.{Byte, Kept}
+use Rattle.roff_scan.specs.declared.half.NamePart.{NamePart}
+use Rattle.roff_scan.specs.declared.half.NamePart.TheVariants.{Nothing, Opened, First}
+use Rattle.roff_scan.specs.declared.half.SizePart.{SizePart}
+use Rattle.roff_scan.specs.declared.half.SizePart.TheVariants.{Nothing as NoSize, Sign, Digit}
+use Rattle.roff_scan.specs.declared.half.Surroundings.{Surroundings}
+use Rattle.roff_scan.specs.declared.measures.Measured.{Measured}
+
+-- of two readings behind which so much is held either is one
+either : (c : Bool) (x y : Reads) (held : ℕ) → texts_held x.1 ≡ held → texts_held y.1 ≡ held → texts_held (if c then x else y).1 ≡ held
+either true x y held of_x of_y = of_x
+either false x y held of_x of_y = of_y
+
+-- an escape of the text
+held-escape_given : (b : ℕ) (rest : List Half) → texts_held (escape_given rest b).1 ≡ texts_held rest
+held-escape_given b [] = refl
+held-escape_given b (Backslash ∷ rest) = refl
+held-escape_given b (Comment ∷ rest) = refl
+held-escape_given b (Name purpose part ∷ rest) = refl
+held-escape_given b (Size part ∷ rest) = refl
+held-escape_given b (Delimited purpose d text ∷ rest) = refl
+held-escape_given b (Width d width is_deep ∷ rest) = refl
+
+-- a motion
+held-motion_given : (measured : Measured) (rest : List Half) → texts_held (motion_given rest measured).1 ≡ texts_held rest
+held-motion_given measured [] = refl
+held-motion_given measured (Backslash ∷ rest) = refl
+held-motion_given measured (Comment ∷ rest) = refl
+held-motion_given measured (Name purpose part ∷ rest) = refl
+held-motion_given measured (Size part ∷ rest) = refl
+held-motion_given measured (Delimited purpose d text ∷ rest) = refl
+held-motion_given measured (Width d width is_deep ∷ rest) = refl
+
+-- a name
+held-name_given : (purpose : NameUse) (name : Option (List ℕ)) (rest : List Half) → texts_held (name_given rest purpose name).1 ≡ texts_held rest
+held-name_given purpose name [] = refl
+held-name_given purpose name (Backslash ∷ rest) = refl
+held-name_given purpose name (Comment ∷ rest) = refl
+held-name_given purpose name (Name other part ∷ rest) = refl
+held-name_given purpose name (Size part ∷ rest) = refl
+held-name_given purpose name (Delimited other d text ∷ rest) = refl
+held-name_given purpose name (Width d width is_deep ∷ rest) = either (is_copied purpose) _ _ _ refl refl
+
+-- a text between delimiters that is whole is held no more
+held-text_given : (purpose : TextUse) (text : List ℕ) (rest : List Half) → texts_held (text_given rest purpose text).1 ≡ texts_held rest
+held-text_given OfMotion text rest = held-motion_given (motion_of text) rest
+held-text_given (LeftOutText b) text rest = held-escape_given b rest
+
+-- a name, or the parenthesis of one
+held-name_or_opening : (purpose : NameUse) (b : ℕ) (rest : List Half) → texts_held (name_or_opening rest purpose b).1 ≡ texts_held rest
+held-name_or_opening purpose b rest = either (b == 40) _ _ _ refl (held-name_given purpose _ rest)
+
+-- the first byte of a name
+held-name_begun : (purpose : NameUse) (b : ℕ) (rest : List Half) → texts_held (name_begun rest purpose b).1 ≡ texts_held rest
+held-name_begun (Register None) b rest = either (b == 43) _ _ _ refl (either (b == 45) _ _ _ refl (held-name_or_opening (Register None) b rest))
+held-name_begun (Register (Some direction)) b rest = held-name_or_opening (Register (Some direction)) b rest
+held-name_begun Text b rest = held-name_or_opening Text b rest
+held-name_begun Argument b rest = held-name_given Argument _ rest
+held-name_begun Character b rest = held-name_or_opening Character b rest
+held-name_begun Font b rest = held-name_or_opening Font b rest
+held-name_begun (LeftOut byte) b rest = held-name_or_opening (LeftOut byte) b rest
+
+-- a unit of a name
+held-unit_of_name : (purpose : NameUse) (part : NamePart) (unit : CopyUnit) (rest : List Half) → texts_held (unit_of_name rest purpose part unit).1 ≡ texts_held rest
+held-unit_of_name purpose Nothing (Byte b) rest = held-name_begun purpose b rest
+held-unit_of_name purpose Nothing (Kept b) rest = held-name_given purpose _ rest
+held-unit_of_name purpose Opened (Byte b) rest = refl
+held-unit_of_name purpose Opened (Kept b) rest = held-name_given purpose _ rest
+held-unit_of_name purpose (First a) unit rest = held-name_given purpose _ rest
+
+-- a unit of a text between delimiters
+held-unit_of_text : (purpose : TextUse) (d : Option ℕ) (text : List ℕ) (unit : CopyUnit) (rest : List Half) → texts_held (unit_of_text rest purpose d text unit).1 ≡ length text + texts_held rest
+held-unit_of_text OfMotion d text unit rest = refl
+held-unit_of_text (LeftOutText b) d text unit rest = refl
+
+-- a unit
+held-unit_taken : (unit : CopyUnit) (rest : List Half) → texts_held (unit_taken rest unit).1 ≡ texts_held rest
+held-unit_taken unit [] = refl
+held-unit_taken unit (Backslash ∷ rest) = refl
+held-unit_taken unit (Comment ∷ rest) = refl
+held-unit_taken unit (Name purpose part ∷ rest) = held-unit_of_name purpose part unit rest
+held-unit_taken unit (Size part ∷ rest) = refl
+held-unit_taken unit (Delimited purpose d text ∷ rest) = held-unit_of_text purpose d text unit rest
+held-unit_taken unit (Width d width is_deep ∷ rest) = refl
+
+-- the byte behind a backslash of copy mode that begins nothing
+held-copied_escape : (b : ℕ) (rest : List Half) → texts_held (copied_escape rest b).1 ≡ texts_held rest
+held-copied_escape b rest =
+    either (b == newline) _ _ _ refl
+    (either (b == backslash) _ _ _ (held-unit_taken (Byte backslash) rest)
+    (either (b == dot) _ _ _ (held-unit_taken (Byte dot) rest)
+    (either (b == 116) _ _ _ (held-unit_taken (Byte tab) rest) (held-unit_taken (Kept b) rest))))
+
+-- a name begins, unless it would be one too many
+held-name_beginning : (purpose : NameUse) (is_full : Bool) (rest : List Half) → texts_held (if is_full then rest else Name purpose (part_at_first purpose) ∷ rest) ≡ texts_held rest
+held-name_beginning purpose true rest = refl
+held-name_beginning purpose false rest = refl
+
+-- an escape that begins nothing
+held-plain : (in_text : Bool) (b : ℕ) (rest : List Half) → texts_held (if in_text then escape_given rest b else copied_escape rest b).1 ≡ texts_held rest
+held-plain in_text b rest = either in_text _ _ _ (held-escape_given b rest) (held-copied_escape b rest)
+
+-- the byte behind a backslash, by what it means
+held-escape_read : (around : Surroundings) (b : ℕ) (kind : Kind) (rest : List Half) → texts_held (escape_read around rest b kind).1 ≡ texts_held rest
+held-escape_read around b BeginsComment rest = refl
+held-escape_read around b BeginsSize rest = either (reads_text around) _ _ _ refl (held-copied_escape b rest)
+held-escape_read around b (BeginsName purpose) rest =
+    either (is_copied purpose || reads_text around) _ _ _ (held-name_beginning purpose (nat_le most_names (names_in rest)) rest) (held-unit_taken (Kept b) rest)
+held-escape_read around b (BeginsText purpose) rest = either (reads_text around) _ _ (texts_held rest) (omega arith) (held-copied_escape b rest)
+held-escape_read around b BeginsWidth rest = either (reads_widths around) _ _ _ refl (held-copied_escape b rest)
+held-escape_read around b (Prints byte) rest = held-plain (reads_text around) b rest
+held-escape_read around b Blank rest = held-plain (reads_text around) b rest
+held-escape_read around b NoWidth rest = held-plain (reads_text around) b rest
+held-escape_read around b GivesNothing rest = held-plain (reads_text around) b rest
+held-escape_read around b IsLeftOut rest = held-plain (reads_text around) b rest
+
+-- a byte of a size
+held-size_read : (part : SizePart) (b : ℕ) (rest : List Half) → texts_held (size_read rest part b).1 ≡ texts_held rest
+held-size_read NoSize b rest = either (is_sign b) _ _ _ refl (either (is_first_digit b) _ _ _ refl (held-escape_given 115 rest))
+held-size_read Sign b rest = held-escape_given 115 rest
+held-size_read Digit b rest = held-escape_given 115 rest
+
+-- a byte of a text that is measured
+held-byte_of_width : (d : Option ℕ) (width : ℕ) (is_deep : Bool) (b : ℕ) (rest : List Half) → texts_held (byte_of_width rest d width is_deep b).1 ≡ texts_held rest
+held-byte_of_width None width is_deep b rest = refl
+held-byte_of_width (Some d) width is_deep b rest = either (b == d) _ _ _ refl (either (b == backslash) _ _ _ refl (either is_deep _ _ _ refl refl))
+
+-- of two readings behind which no more is held either is one
+either-within : (c : Bool) (x y : Reads) (held : ℕ) → texts_held x.1 ≤ held → texts_held y.1 ≤ held → texts_held (if c then x else y).1 ≤ held
+either-within true x y held of_x of_y = of_x
+either-within false x y held of_x of_y = of_y
+
+-- a byte of a text between delimiters
+held-byte_of_text : (purpose : TextUse) (d : Option ℕ) (text : List ℕ) (b : ℕ) (rest : List Half) → texts_held (byte_of_text rest purpose d text b).1 ≤ length text + texts_held rest
+held-byte_of_text purpose None text b rest = omega arith
+held-byte_of_text purpose (Some d) text b rest =
+    either-within (b == d) _ _ _ (omega (arith, held-text_given purpose text rest))
+    (either-within (b == backslash) _ _ _ (omega arith) (omega (arith, held-unit_of_text purpose (Some d) text (Byte b) rest)))
+
+-- a byte makes no text longer
+pub texts_held-byte_read : (is_text : Bool) (b : ℕ) (half : List Half) → texts_held (byte_read is_text half b).1 ≤ texts_held half
+texts_held-byte_read is_text b [] = either-within (b == backslash) _ _ _ (omega arith) (omega arith)
+texts_held-byte_read is_text b (Backslash ∷ rest) = omega (arith, held-escape_read (surroundings is_text rest) b (escape_of b) rest)
+texts_held-byte_read is_text b (Comment ∷ rest) = omega arith
+texts_held-byte_read is_text b (Name purpose part ∷ rest) =
+    either-within (b == backslash) _ _ _ (omega arith) (omega (arith, held-unit_of_name purpose part (Byte b) rest))
+texts_held-byte_read is_text b (Size part ∷ rest) = omega (arith, held-size_read part b rest)
+texts_held-byte_read is_text b (Delimited purpose d text ∷ rest) = held-byte_of_text purpose d text b rest
+texts_held-byte_read is_text b (Width d width is_deep ∷ rest) = omega (arith, held-byte_of_width d width is_deep b rest)
+
+-- a name that ends before what stays
+held-name_ended : (purpose : NameUse) (part : NamePart) (rest : List Half) → texts_held (name_ended rest purpose part).1 ≡ texts_held rest
+held-name_ended purpose Nothing rest = held-name_given purpose None rest
+held-name_ended purpose Opened rest = held-name_given purpose None rest
+held-name_ended purpose (First a) rest = held-name_given purpose (Some (a ∷ [])) rest
+
+-- nor does an end
+pub texts_held-reading_ended : (is_text : Bool) (half : List Half) → texts_held (reading_ended is_text half).1 ≤ texts_held half
+texts_held-reading_ended is_text [] = omega arith
+texts_held-reading_ended is_text (Backslash ∷ rest) =
+    either-within (reads_text (surroundings is_text rest)) _ _ _ (omega (arith, held-escape_given newline rest)) (omega (arith, held-unit_taken (Byte backslash) rest))
+texts_held-reading_ended is_text (Comment ∷ rest) =
+    either-within (reads_text (surroundings is_text rest)) _ _ _ (omega (arith, held-escape_given quote rest)) (omega arith)
+texts_held-reading_ended is_text (Name purpose part ∷ rest) = omega (arith, held-name_ended purpose part rest)
+texts_held-reading_ended is_text (Size part ∷ rest) = omega (arith, held-escape_given 115 rest)
+texts_held-reading_ended is_text (Delimited purpose d text ∷ rest) = omega (arith, held-text_given purpose text rest)
+texts_held-reading_ended is_text (Width d width is_deep ∷ rest) = omega arith

@@ -1,0 +1,95 @@
+-- Texts between delimiters, read as they are.
+use Rattle.std.proofs.Common.{◌≡◌, ℕ, ◌+◌, ◌*◌, ◌≤◌, Bool, true, false, ◌&&◌, List, [], ◌∷◌, ◌++◌, Some, refl, sym, ap, append_assoc, arith, ◌∙◌}
+use Rattle.std.specs.Prelude.{◌==◌, ◌||◌, min, not, if◌then◌else◌}
+use Rattle.std.proofs.lemmas.Bool.{eq-eqb}
+use Rattle.std.proofs.lemmas.List.{append-nil}
+use Rattle.std.proofs.lemmas.List.Sums.{sum_by-cons}
+use Rattle.roff_scan.specs.Bytes.{newline, backslash}
+use Rattle.roff_scan.specs.Escapes.{escape_of}
+use Rattle.roff_scan.specs.Half.{Half, Backslash, Delimited, Width}
+use Rattle.roff_scan.specs.HalfLaws.{columns_in, is_between, reads_through, text_escape}
+use Rattle.roff_scan.specs.Halves.{Reads, byte_measured, escape_read, text_given, unit_of_text}
+use Rattle.roff_scan.specs.Measures.{byte_columns, most_width, motion_of, wider}
+use Rattle.roff_scan.specs.declared.escapes.Escape.{Escape as Kind}
+use Rattle.roff_scan.specs.declared.escapes.Escape.TheVariants.{Text as BeginsText}
+use Rattle.roff_scan.specs.declared.escapes.TextUse.TheVariants.{Motion as OfMotion, LeftOut as LeftOutText}
+use Rattle.roff_scan.specs.declared.half.CopyUnit.TheVariants.{Byte}
+use Rattle.roff_scan.specs.declared.half.Read.{Read}
+use Rattle.roff_scan.specs.declared.half.Read.TheVariants.{GoesOn, Escape, Measures, Motion}
+use Rattle.roff_scan.specs.declared.half.Surroundings.TheVariants.{Text as InText}
+use Rattle.roff_scan.proofs.NamesRead.{read_on}
+
+-- a byte that may stand between delimiters, and those behind it
+between_parts : (a b c rest : Bool) → (not (a || b || c) && rest) ≡ true → (a ≡ false) × (b ≡ false) × (rest ≡ true)
+between_parts true b c rest all = cc
+between_parts false true c rest all = cc
+between_parts false false true rest all = cc
+between_parts false false false rest all = (refl, refl, all)
+
+-- what a byte gives there, unless it is the delimiter or a backslash
+inner_byte : (delimits escapes : Bool) (x y z : Reads) → delimits ≡ false → escapes ≡ false → (if delimits then x else if escapes then y else z) ≡ z
+inner_byte delimits escapes x y z other plain = rw (other, plain) refl
+
+-- a width that grows twice
+wider-twice : (width a b both : ℕ) → both ≡ a + b → min (min (width + 24 * a) most_width + 24 * b) most_width ≡ min (width + 24 * both) most_width
+wider-twice width a b both is = omega (arith, is)
+
+module _ (is_text : Bool) (d : ℕ) where
+  -- a text that is measured
+  width_within :
+      (text : List ℕ) (width : ℕ) → is_between d text ≡ true → width ≤ most_width
+      → reads_through is_text (Width (Some d) width false ∷ []) (text ++ d ∷ []) ≡ (Measures (min (width + 24 * columns_in text) most_width) ∷ [], [])
+  width_within [] width between small =
+      ap (λ (c : Bool). read_on is_text [] (if c then (Measures width, []) else if d == backslash then (GoesOn, Backslash ∷ Width (Some d) width false ∷ []) else byte_measured [] (Some d) width false d)) (eq-eqb d d refl)
+      ∙ ap (λ (w : ℕ). (Measures w ∷ [], [])) (omega (arith, small))
+  width_within (b ∷ text) width between small =
+      let parts = between_parts (b == d) (b == backslash) (b == newline) (is_between d text) between in
+      ap (read_on is_text (text ++ d ∷ [])) (inner_byte (b == d) (b == backslash) _ _ _ parts.0 parts.1)
+      ∙ width_within text (wider width (byte_columns b)) parts.2 (omega arith)
+      ∙ ap (λ (w : ℕ). (Measures w ∷ [], [])) (wider-twice width (byte_columns b) (columns_in text) (columns_in (b ∷ text)) (sum_by-cons byte_columns b text))
+
+-- its escape
+width_begun : (is_text : Bool) (d : ℕ) (text : List ℕ) → reads_through is_text [] (text_escape 119 d text) ≡ reads_through is_text (Width (Some d) 0 false ∷ []) (text ++ d ∷ [])
+width_begun true d text = refl
+width_begun false d text = refl
+
+pub width_read :
+    (is_text : Bool) (d : ℕ) (text : List ℕ) → is_between d text ≡ true
+    → reads_through is_text [] (text_escape 119 d text) ≡ (Measures (min (24 * columns_in text) most_width) ∷ [], [])
+width_read is_text d text between =
+    width_begun is_text d text ∙ width_within is_text d text 0 between (omega arith)
+    ∙ ap (λ (w : ℕ). (Measures (min w most_width) ∷ [], [])) (omega arith)
+
+-- what a motion's text finds
+abbrev moved : List ℕ → List Read × List Half
+moved text = (Motion (motion_of text).columns (motion_of text).remark ∷ [], [])
+
+-- the text of a motion is held
+motion_within : (d : ℕ) (text so_far : List ℕ) → is_between d text ≡ true
+    → reads_through true (Delimited OfMotion (Some d) so_far ∷ []) (text ++ d ∷ []) ≡ moved (so_far ++ text)
+motion_within d [] so_far between =
+    ap (λ (c : Bool). read_on true [] (if c then text_given [] OfMotion so_far else if d == backslash then (GoesOn, Backslash ∷ Delimited OfMotion (Some d) so_far ∷ []) else unit_of_text [] OfMotion (Some d) so_far (Byte d))) (eq-eqb d d refl)
+    ∙ ap moved (sym (append-nil so_far))
+motion_within d (b ∷ text) so_far between =
+    let parts = between_parts (b == d) (b == backslash) (b == newline) (is_between d text) between in
+    ap (read_on true (text ++ d ∷ [])) (inner_byte (b == d) (b == backslash) _ _ _ parts.0 parts.1)
+    ∙ motion_within d text (so_far ++ b ∷ []) parts.2
+    ∙ ap moved (append_assoc so_far (b ∷ []) text)
+
+pub motion_read : (d : ℕ) (text : List ℕ) → is_between d text ≡ true → reads_through true [] (text_escape 104 d text) ≡ moved text
+motion_read d text between = motion_within d text [] between
+
+-- a text that is left out is dropped
+left_out_within : (kind d : ℕ) (text : List ℕ) → is_between d text ≡ true
+    → reads_through true (Delimited (LeftOutText kind) (Some d) [] ∷ []) (text ++ d ∷ []) ≡ (Escape kind ∷ [], [])
+left_out_within kind d [] between =
+    ap (λ (c : Bool). read_on true [] (if c then text_given [] (LeftOutText kind) [] else if d == backslash then (GoesOn, Backslash ∷ Delimited (LeftOutText kind) (Some d) [] ∷ []) else unit_of_text [] (LeftOutText kind) (Some d) [] (Byte d))) (eq-eqb d d refl)
+left_out_within kind d (b ∷ text) between =
+    let parts = between_parts (b == d) (b == backslash) (b == newline) (is_between d text) between in
+    ap (read_on true (text ++ d ∷ [])) (inner_byte (b == d) (b == backslash) _ _ _ parts.0 parts.1)
+    ∙ left_out_within kind d text parts.2
+
+pub left_out_read : (b kind d : ℕ) (text : List ℕ) → escape_of b ≡ BeginsText (LeftOutText kind) → is_between d text ≡ true
+    → reads_through true [] (text_escape b d text) ≡ (Escape kind ∷ [], [])
+left_out_read b kind d text is between =
+    ap (λ (kind : Kind). read_on true (d ∷ text ++ d ∷ []) (escape_read InText [] b kind)) is ∙ left_out_within kind d text between

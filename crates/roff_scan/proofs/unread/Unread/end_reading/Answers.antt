@@ -1,0 +1,21 @@
+use Rattle.std.proofs.Common.{ap}
+use Rattle.roff_scan.specs.Halves.{reading_ended}
+use Rattle.roff_scan.specs.Unread.Kept.{kept_by}
+use Rattle.roff_scan.proofs.Changing.{IsWithin-with_half}
+use Rattle.roff_scan.proofs.TextsHeld.{texts_held-reading_ended}
+use Rattle.roff_scan.proofs.unread.Unread.end_reading.Goals as goal
+
+pub invariant_of-self : goal.invariant_of-self
+invariant_of-self g c =
+    let left = ap (λ p. p.1) c.end_reading.ensures in
+    record {
+      bytes = c.self.invariant.bytes;
+      texts = c.self.invariant.texts;
+      arguments = c.self.invariant.arguments;
+      held = rw left c.self.invariant.held;
+      small = c.self.invariant.small;
+      within = rw left (IsWithin-with_half (kept_by c.self.inside) (reading_ended c.args.is_text c.self.inside.half.half).1 c.self.invariant.within (texts_held-reading_ended c.args.is_text c.self.inside.half.half));
+    }
+
+pub returns-clause-within : goal.returns-clause-within
+returns-clause-within g c = (invariant_of-self g c).within

@@ -1,0 +1,21 @@
+use Rattle.std.proofs.Common.{ap}
+use Rattle.roff_scan.specs.Halves.{byte_read}
+use Rattle.roff_scan.specs.Unread.Kept.{kept_by}
+use Rattle.roff_scan.proofs.Changing.{IsWithin-with_half}
+use Rattle.roff_scan.proofs.TextsHeld.{texts_held-byte_read}
+use Rattle.roff_scan.proofs.unread.Unread.read_byte.Goals as goal
+
+pub invariant_of-self : goal.invariant_of-self
+invariant_of-self g c =
+    let left = ap (λ p. p.1) c.read_byte.ensures in
+    record {
+      bytes = c.self.invariant.bytes;
+      texts = c.self.invariant.texts;
+      arguments = c.self.invariant.arguments;
+      held = rw left c.self.invariant.held;
+      small = c.self.invariant.small;
+      within = rw left (IsWithin-with_half (kept_by c.self.inside) (byte_read c.args.is_text c.self.inside.half.half c.args.byte).1 c.self.invariant.within (texts_held-byte_read c.args.is_text c.args.byte c.self.inside.half.half));
+    }
+
+pub returns-clause-within : goal.returns-clause-within
+returns-clause-within g c = (invariant_of-self g c).within
