@@ -1,5 +1,5 @@
 -- What the code does with an item that it took, as a step of the definition.
-use Rattle.std.proofs.Common.{◌≡◌, ℕ, ◌+◌, Bool, true, false, List, [], ◌∷◌, ◌++◌, length, Option, Some, None, Result, Ok, Err, OnOk, inl, inr, refl, subst, sym, ap, append-nil, ◌∙◌}
+use Rattle.std.proofs.Common.{◌≡◌, ℕ, Bool, true, false, List, [], ◌∷◌, ◌++◌, length, Option, Some, None, Result, Ok, Err, OnOk, inl, inr, refl, subst, sym, ap, append-nil, ◌∙◌}
 use Rattle.std.proofs.Math.Dec.{eqb-suc-zero}
 use Rattle.std.specs.Prelude.{not, ◌==◌}
 use Rattle.roff_lines.specs.declared.env.Env.{Env}
@@ -7,9 +7,8 @@ use Rattle.roff_lines.specs.Env.Stands.{Stands}
 use Rattle.roff_num.specs.declared.limit.Limit.{Limit}
 use Rattle.roff_num.specs.declared.limit.Limit.TheVariants.{Names, Stack, Depth}
 use Rattle.roff_num.specs.declared.limits.Limits.{Limits}
-use Rattle.roff_scan.specs.Arguments.{settled}
 use Rattle.roff_scan.specs.Halves.{reading_ended}
-use Rattle.roff_scan.specs.Input.{DoAhead, bytes_ahead, depth}
+use Rattle.roff_scan.specs.Input.{DoAhead, depth}
 use Rattle.roff_scan.specs.Tape.{Tape}
 use Rattle.roff_scan.specs.Unread.{looked_then}
 use Rattle.roff_scan.specs.Half.{Half}
@@ -32,9 +31,9 @@ use Rattle.roff_run.specs.declared.reading.Reading.{Reading}
 use Rattle.roff_run.specs.declared.reading.Reading.TheVariants.{LineStart, Text as InText, Control, Name, Arguments as InArguments, Dropped}
 use Rattle.roff_run.specs.declared.status.Status.{Status}
 use Rattle.roff_run.specs.declared.status.Status.TheVariants.{Done}
+use Rattle.roff_run.proofs.InputCounts.{pushed-settling}
 use Rattle.roff_run.proofs.Keeping.{Keeps-half_ended, Keeps-interrupted}
 use Rattle.roff_run.proofs.Leads.{Leads-to}
-use Rattle.roff_scan.proofs.KeptArguments.{held-only_kept, held-settled}
 
 -- a tape is what is left of itself behind a byte that was looked at
 pub IsLeftOf-looked_then : (looked : Option ℕ) (tape : Tape) → IsLeftOf tape (looked_then looked tape)
@@ -279,7 +278,7 @@ counts_in-interrupted rs (InText line) i = refl
 counts_in-interrupted rs (Control breaks) i = refl
 counts_in-interrupted rs (Name breaks byte) i = refl
 counts_in-interrupted rs (InArguments breaks request) i =
-    ap (λ bytes. (Names, length rs.named) ∷ (Stack, bytes_ahead i.ahead + bytes) ∷ (Depth, depth i) ∷ []) (held-only_kept (settled i.arguments) ∙ held-settled i.arguments)
+    ap (λ bytes. (Names, length rs.named) ∷ (Stack, bytes) ∷ (Depth, depth i) ∷ []) (pushed-settling i)
 counts_in-interrupted rs Dropped i = refl
 
 -- so no limit refuses what it didn't refuse before
