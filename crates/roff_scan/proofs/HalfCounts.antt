@@ -1,5 +1,5 @@
 -- How many of what the code keeps are names, and texts that are measured.
-use Rattle.std.proofs.Common.{◌≡◌, ℕ, ◌+◌, List, [], ◌∷◌, ◌++◌, reverse, take, refl, sym, ap, ◌∙◌, arith}
+use Rattle.std.proofs.Common.{◌≡◌, ℕ, ◌+◌, List, [], ◌∷◌, reverse, take, refl, ap, ◌∙◌, arith}
 use Rattle.std.specs.List.{sum_by}
 use Rattle.std.proofs.lemmas.List.{reverse-append}
 use Rattle.std.proofs.lemmas.List.Sums.{sum_by-append}
@@ -21,8 +21,8 @@ sum_by-reverse f (item ∷ items) =
     ap (sum_by f) (reverse-append (item ∷ []) items)
     ∙ sum_by-append f (reverse items) (item ∷ [])
     ∙ (
-        let none : sum_by f [] ≡ 0 = refl in
-        omega (arith, none, sum_by-cons f item items, sum_by-cons f item [], sum_by-reverse f items)
+    let none : sum_by f [] ≡ 0 = refl in
+    omega (arith, none, sum_by-cons f item items, sum_by-cons f item [], sum_by-reverse f items)
     )
 
 -- names, from the back on

@@ -1,5 +1,5 @@
 -- What the code keeps of what is half read.
-use Rattle.std.specs.Prelude.{◌≡◌, ℕ, ◌+◌, ◌≤◌, ◌<◌, ◌^◌, List, [], ◌∷◌, length, reverse, take, drop, vec_capacity}
+use Rattle.std.specs.Prelude.{◌≡◌, ℕ, ◌≤◌, ◌<◌, ◌^◌, List, [], ◌∷◌, length, reverse, take, drop, vec_capacity}
 use Rattle.std.specs.List.{sum_by}
 use Rattle.roff_scan.specs.Half.{Half, Backslash, Comment, Name, Size, Delimited, Width, texts_held}
 use Rattle.roff_scan.specs.Halves.{Reads}

@@ -1,13 +1,11 @@
 //! Reading behind backslashes: units of copy mode, comments, and the names, sizes and texts behind escapes.
 
 ghost use Rattle.std.specs.Prelude.{◌≡◌, ◌≤◌, ◌+◌, ◌==◌, ℕ, true, List, Option, Some, None, [], ◌∷◌, drop, length, IfOk, MatchOption};
-ghost use Rattle.roff_scan.specs.Escapes.{escape_of as kind_of};
-ghost use Rattle.roff_scan.specs.Half.{Half, Backslash as BackslashHalf, Delimited as DelimitedHalf, Name as NameHalf, Size as SizeHalf, Width as WidthHalf, names_in, text_held, texts_held, widths_in};
+ghost use Rattle.roff_scan.specs.Half.{Half, Backslash as BackslashHalf, Delimited as DelimitedHalf, Name as NameHalf, Size as SizeHalf, names_in, text_held, texts_held, widths_in};
 ghost use Rattle.roff_scan.specs.HalfTexts.{BeginsBehind, IsOnTop, begun, leaving, names_among, widths_among};
 ghost use Rattle.roff_scan.specs.Halves.{byte_of_text, byte_of_width, byte_read, copied_escape, escape_given, escape_taken, grown, is_of_size, motion_given, name_beginning, name_begun, name_ended, name_given, newline_stays, part_at_first, reading_ended, reads_widths, seen_stays, size_read, surroundings, text_given, unit_of_name, unit_of_text, unit_taken, width_beginning};
 ghost use Rattle.roff_scan.specs.Measures.{motion_of};
-ghost use Rattle.roff_scan.specs.Nesting.{IsNested, is_open};
-ghost use Rattle.roff_scan.specs.declared.half.Read.TheVariants.{Asks};
+ghost use Rattle.roff_scan.specs.Nesting.{IsNested};
 ghost use Rattle.roff_scan.specs.declared.escapes.NameUse.{NameUse as UseOf};
 ghost use Rattle.roff_scan.specs.declared.escapes.TextUse.{TextUse as PurposeOf};
 
@@ -533,13 +531,7 @@ impl Halves {
     }
 
     /// The text on top that is measured grows.
-    fn grow(
-        &mut self,
-        delimiter: Option<u8>,
-        width: u32,
-        is_deep: bool,
-        measured: Measured,
-    ) -> Read
+    fn grow(&mut self, delimiter: Option<u8>, width: u32, is_deep: bool, measured: Measured) -> Read
         requires nested { IsNested self.old.half }
         requires on_top { IsOnTop (HalfRead.Width delimiter width is_deep) self.old.half }
         ensures { (result, self.new) ≡ leaving
@@ -577,11 +569,13 @@ impl Halves {
         ensures { (purpose : PurposeOf) (text : List ℕ) (rest : List Half)
             → self.old.half ≡ DelimitedHalf purpose None text ∷ rest
             → self.new ≡ record self.old {
-                half = DelimitedHalf purpose (Some delimiter) text ∷ rest } }
+              half = DelimitedHalf purpose (Some delimiter) text ∷ rest;
+            } }
     {
         if let Some(HalfRead::Delimited(purpose, _, begin)) = self.top() {
             self.items.pop();
-            self.items.push(HalfRead::Delimited(purpose, Some(delimiter), begin));
+            self.items
+                .push(HalfRead::Delimited(purpose, Some(delimiter), begin));
         }
     }
 

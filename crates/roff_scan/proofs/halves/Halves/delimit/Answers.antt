@@ -1,9 +1,8 @@
-use Rattle.std.proofs.Common.{◌≡◌, ◌≤◌, ◌-◌, ◌∷◌, ◌∙◌, List, Some, length, reverse, take, sym, ap, subst, arith}
+use Rattle.std.proofs.Common.{◌-◌, ◌∙◌, List, Some, length, reverse, sym, ap, subst, arith}
 use Rattle.std.proofs.lemmas.List.{length-reverse, length-take}
 use Rattle.roff_scan.specs.Half.{Half}
-use Rattle.roff_scan.specs.HalfTexts.{KeptHalves, AreJoined, joined}
+use Rattle.roff_scan.specs.HalfTexts.{KeptHalves, joined}
 use Rattle.roff_scan.specs.Nesting.{IsNested}
-use Rattle.roff_scan.specs.declared.half.HalfRead.{HalfRead}
 use Rattle.roff_scan.specs.declared.half.HalfRead.TheVariants.{Delimited}
 use Rattle.roff_scan.proofs.HalfTexts.{joined-delimited, AreJoined-delimited, length-joined, reverse-replaced, with_delimiter}
 use Rattle.roff_scan.proofs.NestedHalves.{length-nested, IsNested-with_delimiter}
@@ -13,8 +12,7 @@ pub push-requires : goal.push-requires
 push-requires c =
     let inside = c.self.inside in
     let front = ap length c.pop.ensures.rest in
-    let half : List Half = joined (reverse inside.items.items) inside.texts.items in
-    (
+    let half : List Half = joined (reverse inside.items.items) inside.texts.items in (
       omega arith,
       omega (
         arith,
@@ -39,13 +37,13 @@ invariant_of-self c =
       reserved = c.self.invariant.reserved;
       within = c.self.invariant.within;
       joined =
-        rw (items, replaced)
-        (AreJoined-delimited back block c.in-Some-Delimited.purpose _ c.in-Some-Delimited.begin c.args.delimiter c.self.invariant.joined top);
+          rw (items, replaced)
+          (AreJoined-delimited back block c.in-Some-Delimited.purpose _ c.in-Some-Delimited.begin c.args.delimiter c.self.invariant.joined top);
       nested =
-        rw (items, replaced)
-        (subst IsNested
-        (sym (joined-delimited back block c.in-Some-Delimited.purpose _ c.in-Some-Delimited.begin c.args.delimiter c.self.invariant.joined top))
-        (IsNested-with_delimiter c.args.delimiter (joined back block) c.self.invariant.nested));
+          rw (items, replaced)
+          (subst IsNested
+          (sym (joined-delimited back block c.in-Some-Delimited.purpose _ c.in-Some-Delimited.begin c.args.delimiter c.self.invariant.joined top))
+          (IsNested-with_delimiter c.args.delimiter (joined back block) c.self.invariant.nested));
     }
 
 pub returns-in-Some-Delimited : goal.returns-in-Some-Delimited

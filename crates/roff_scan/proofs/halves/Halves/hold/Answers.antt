@@ -1,7 +1,7 @@
-use Rattle.std.proofs.Common.{◌≡◌, ℕ, ◌≤◌, ◌<◌, ◌+◌, ◌∷◌, [], ◌++◌, ◌∙◌, List, length, reverse, vec_len, vec_capacity, sym, ap, arith, length-append, append_assoc, subst}
+use Rattle.std.proofs.Common.{ℕ, ◌<◌, ◌∷◌, [], ◌++◌, ◌∙◌, List, length, reverse, vec_len, vec_capacity, ap, arith, length-append, append_assoc}
 use Rattle.roff_scan.specs.Bytes.{backslash}
-use Rattle.roff_scan.specs.Half.{Half, text_held, texts_held, unit_bytes}
-use Rattle.roff_scan.specs.HalfTexts.{KeptHalves, AreJoined, joined}
+use Rattle.roff_scan.specs.Half.{Half, unit_bytes}
+use Rattle.roff_scan.specs.HalfTexts.{KeptHalves, joined}
 use Rattle.roff_scan.specs.declared.half.CopyUnit.TheVariants.{Byte, Kept}
 use Rattle.roff_scan.proofs.HalfTexts.{held-append, AreJoined-held, held-joined, held-more}
 use Rattle.roff_scan.proofs.NestedHalves.{IsNested-text_held}
@@ -41,8 +41,8 @@ invariant_of-self c =
       within = omega (arith, longer, room, held-more unit (joined back block) _ _ _ _ top.same, held-joined back block c.self.invariant.joined);
       joined = rw items (AreJoined-held back block unit _ _ _ _ c.self.invariant.joined top.same);
       nested =
-        rw (items, held-append back block unit _ _ _ _ c.self.invariant.joined top.same)
-        (IsNested-text_held unit (joined back block) c.self.invariant.nested);
+          rw (items, held-append back block unit _ _ _ _ c.self.invariant.joined top.same)
+          (IsNested-text_held unit (joined back block) c.self.invariant.nested);
     }
 
 pub returns-in-Byte : goal.returns-in-Byte
@@ -115,8 +115,8 @@ invariant_of-self-in-Kept c =
       within = omega (arith, longer, room, held-more unit (joined back block) _ _ _ _ top.same, held-joined back block c.self.invariant.joined);
       joined = rw items (AreJoined-held back block unit _ _ _ _ c.self.invariant.joined top.same);
       nested =
-        rw (items, held-append back block unit _ _ _ _ c.self.invariant.joined top.same)
-        (IsNested-text_held unit (joined back block) c.self.invariant.nested);
+          rw (items, held-append back block unit _ _ _ _ c.self.invariant.joined top.same)
+          (IsNested-text_held unit (joined back block) c.self.invariant.nested);
     }
 
 pub returns-in-Kept : goal.returns-in-Kept

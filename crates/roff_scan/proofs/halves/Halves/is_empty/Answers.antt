@@ -1,4 +1,4 @@
-use Rattle.std.proofs.Common.{◌≡◌, ◌∙◌, length, reverse, sym, ap}
+use Rattle.std.proofs.Common.{◌∙◌, reverse, sym, ap}
 use Rattle.std.specs.Prelude.{◌==◌}
 use Rattle.std.proofs.lemmas.List.{length-reverse}
 use Rattle.roff_scan.proofs.HalfTexts.{length-joined}

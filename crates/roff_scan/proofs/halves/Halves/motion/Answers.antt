@@ -1,6 +1,4 @@
-use Rattle.std.proofs.Common.{◌≡◌, ◌-◌, ◌≤◌, ◌∙◌, ℕ, List, length, drop, take, take_all, reverse, sym, ap, arith, length-drop}
-use Rattle.roff_scan.specs.Half.{Half, texts_held}
-use Rattle.roff_scan.specs.HalfTexts.{joined}
+use Rattle.std.proofs.Common.{◌≡◌, ◌-◌, ◌∙◌, length, drop, take, take_all, reverse, ap, arith, length-drop}
 use Rattle.roff_scan.specs.Measures.{motion_of}
 use Rattle.roff_scan.proofs.HalfTexts.{drop-held, held-rest, text_on_top}
 use Rattle.roff_scan.proofs.halves.Halves.motion.Goals as goal

@@ -1,5 +1,4 @@
-use Rattle.std.proofs.Common.{reverse, sym, ◌∙◌, ap}
-use Rattle.roff_scan.specs.HalfTexts.{names_among}
+use Rattle.std.proofs.Common.{sym}
 use Rattle.roff_scan.proofs.HalfCounts.{names_in-joined}
 use Rattle.roff_scan.proofs.halves.Halves.names.Goals as goal
 

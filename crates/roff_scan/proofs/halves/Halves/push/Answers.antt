@@ -1,10 +1,10 @@
-use Rattle.std.proofs.Common.{◌≡◌, ◌+◌, ◌≤◌, ◌∷◌, [], List, length, reverse, sym, ◌∙◌, ap, subst, arith}
-use Rattle.std.proofs.lemmas.List.{length-reverse, reverse-append}
+use Rattle.std.proofs.Common.{◌≤◌, ◌∷◌, List, length, reverse, sym, ap, subst, arith}
+use Rattle.std.proofs.lemmas.List.{length-reverse}
 use Rattle.roff_scan.specs.Half.{Half}
 use Rattle.roff_scan.specs.Nesting.{IsNested}
-use Rattle.roff_scan.specs.HalfTexts.{KeptHalves, joined, begun, AreJoined}
-use Rattle.roff_scan.proofs.HalfTexts.{joined-begun, AreJoined-begun, length-joined, pushed, AreJoined-pushed}
-use Rattle.roff_scan.proofs.NestedHalves.{length-nested, IsNested-rest}
+use Rattle.roff_scan.specs.HalfTexts.{KeptHalves, joined, begun}
+use Rattle.roff_scan.proofs.HalfTexts.{length-joined, pushed, AreJoined-pushed}
+use Rattle.roff_scan.proofs.NestedHalves.{length-nested}
 use Rattle.roff_scan.proofs.halves.Halves.push.Goals as goal
 
 pub push-requires : goal.push-requires
@@ -24,8 +24,8 @@ invariant_of-self c =
       within = c.self.invariant.within;
       joined = rw c.push.ensures.items (AreJoined-pushed c.args.half inside.items.items inside.texts.items c.self.invariant.joined begins);
       nested =
-        rw c.push.ensures.items
-        (subst IsNested (sym (pushed c.args.half inside.items.items inside.texts.items c.self.invariant.joined begins)) (rw (← c.self.view_is) at c.requires.stands));
+          rw c.push.ensures.items
+          (subst IsNested (sym (pushed c.args.half inside.items.items inside.texts.items c.self.invariant.joined begins)) (rw (← c.self.view_is) at c.requires.stands));
     }
 
 pub returns : goal.returns

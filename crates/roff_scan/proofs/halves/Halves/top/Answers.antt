@@ -1,4 +1,3 @@
-use Rattle.std.proofs.Common.{sym}
 use Rattle.roff_scan.proofs.HalfTexts.{on_top-last}
 use Rattle.roff_scan.proofs.halves.Halves.top.Goals as goal
 

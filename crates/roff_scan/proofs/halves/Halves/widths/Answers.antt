@@ -1,5 +1,4 @@
-use Rattle.std.proofs.Common.{reverse, sym, ◌∙◌, ap}
-use Rattle.roff_scan.specs.HalfTexts.{widths_among}
+use Rattle.std.proofs.Common.{sym}
 use Rattle.roff_scan.proofs.HalfCounts.{widths_in-joined}
 use Rattle.roff_scan.proofs.halves.Halves.widths.Goals as goal
 
