@@ -6,7 +6,6 @@ use Rattle.roff_scan.specs.declared.escapes.Escape.TheVariants.{Prints, Blank, N
 use Rattle.roff_scan.specs.declared.escapes.NameUse.{NameUse}
 use Rattle.roff_scan.specs.declared.escapes.NameUse.TheVariants.{Register, Text, Argument, Character, Font, LeftOut as LeftOutName}
 use Rattle.roff_scan.specs.declared.escapes.Row.{Row}
-use Rattle.roff_scan.specs.declared.escapes.TextUse.{TextUse}
 use Rattle.roff_scan.specs.declared.escapes.TextUse.TheVariants.{Motion, LeftOut as LeftOutText}
 
 -- a row of the table

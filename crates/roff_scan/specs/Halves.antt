@@ -11,7 +11,7 @@ use Rattle.roff_scan.specs.Measures.{columns_of, wider, byte_columns, escape_mea
 use Rattle.roff_scan.specs.declared.escapes.Escape.{Escape as Kind}
 use Rattle.roff_scan.specs.declared.escapes.Escape.TheVariants.{Comment as BeginsComment, Size as BeginsSize, Name as BeginsName, Text as BeginsText, Width as BeginsWidth}
 use Rattle.roff_scan.specs.declared.escapes.NameUse.{NameUse}
-use Rattle.roff_scan.specs.declared.escapes.NameUse.TheVariants.{Register, Text, Argument, Character, Font, LeftOut as LeftOutName}
+use Rattle.roff_scan.specs.declared.escapes.NameUse.TheVariants.{Register, Argument, Character}
 use Rattle.roff_scan.specs.declared.escapes.TextUse.{TextUse}
 use Rattle.roff_scan.specs.declared.escapes.TextUse.TheVariants.{Motion as OfMotion, LeftOut as LeftOutText}
 use Rattle.roff_scan.specs.declared.half.SizePart.{SizePart}

@@ -12,7 +12,6 @@ use Rattle.roff_scan.specs.declared.escapes.Escape.{Escape}
 use Rattle.roff_scan.specs.declared.escapes.Escape.TheVariants.{Prints, Blank, LeftOut as IsLeftOut, Text as BeginsText}
 use Rattle.roff_scan.specs.declared.escapes.NameUse.{NameUse}
 use Rattle.roff_scan.specs.declared.escapes.NameUse.TheVariants.{Character, LeftOut as LeftOutName}
-use Rattle.roff_scan.specs.declared.escapes.TextUse.{TextUse}
 use Rattle.roff_scan.specs.declared.escapes.TextUse.TheVariants.{LeftOut as LeftOutText}
 use Rattle.roff_scan.specs.declared.measures.Measured.{Measured}
 use Rattle.roff_scan.specs.declared.half.Remark.{Remark}

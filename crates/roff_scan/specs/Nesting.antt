@@ -1,5 +1,5 @@
 -- How deep things may be half read within each other (manual, section 8).
-use Rattle.std.specs.Prelude.{◌≡◌, ◌≤◌, Bool, true, false, not, ◌&&◌, ◌||◌, is_some, List, [], ◌∷◌, length, nat_le, Some, None, if◌then◌else◌}
+use Rattle.std.specs.Prelude.{◌≡◌, ◌≤◌, Bool, true, false, not, ◌&&◌, is_some, List, [], ◌∷◌, length, nat_le, if◌then◌else◌}
 use Rattle.roff_scan.specs.Half.{Half, Backslash, Comment, Name, Size, Delimited, Width, names_in, widths_in}
 use Rattle.roff_scan.specs.Halves.{most_names, most_widths, surroundings, reads_text, reads_widths}
 

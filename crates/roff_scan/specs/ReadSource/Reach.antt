@@ -1,5 +1,5 @@
 -- How far a source over a reader has come.
-use Rattle.std.specs.Prelude.{◌≡◌, ℕ, List, [], map, take, drop, Option, Some, None}
+use Rattle.std.specs.Prelude.{◌≡◌, ℕ, List, map, take, drop, Option, Some, None}
 use Rattle.std.specs.Io.KnownBytes.{Consumes, IsAtEnd, prepend_known}
 use Rattle.roff_scan.specs.declared.source.Reach.{Reach}
 use Rattle.roff_scan.specs.declared.source.ReadSource.{ReadSource}
