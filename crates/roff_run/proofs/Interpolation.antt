@@ -1,8 +1,7 @@
 -- What is read in the place of an escape.
-use Rattle.std.proofs.Common.{◌≡◌, ℕ, ◌+◌, ◌<◌, ◌≤◌, Bool, true, false, List, [], ◌∷◌, ◌++◌, length, Option, Some, None, refl, ap, sym, subst, ◌∙◌, arith, rules, inl, inr}
+use Rattle.std.proofs.Common.{◌≡◌, ℕ, ◌+◌, ◌<◌, ◌≤◌, Bool, true, false, List, [], ◌∷◌, ◌++◌, length, Option, Some, None, refl, ap, sym, subst, ◌∙◌, arith, rules}
 use Rattle.std.specs.Prelude.{nat_le, nat_lt, not, ◌||◌, map, IsTrue, if◌then◌else◌, ◌==◌}
-use Rattle.std.proofs.lemmas.Bool.{cases_Bool, le-ltb, lt-leb}
-use Rattle.std.proofs.lemmas.Bool.Decides.{nat_tests}
+use Rattle.std.proofs.lemmas.Bool.{le-ltb, lt-leb}
 use Rattle.std.specs.List.{list_any}
 use Rattle.std.proofs.lemmas.List.{append-nil}
 use Rattle.std.proofs.lemmas.List.Sums.{sum_by-cons}
@@ -15,17 +14,14 @@ use Rattle.roff_scan.specs.Bytes.{newline, backslash, is_dropped}
 use Rattle.roff_scan.specs.HalfLaws.{is_special, sign}
 use Rattle.roff_scan.specs.declared.escapes.NameUse.{NameUse}
 use Rattle.roff_scan.specs.declared.escapes.NameUse.TheVariants.{Register, Text as OfText, Argument}
-use Rattle.roff_scan.specs.Halves.{ends_size, is_digit, is_first_digit, is_sign, seen_stays, size_read, Reads, byte_read, most_names, newline_stays}
+use Rattle.roff_scan.specs.Halves.{seen_stays, Reads, byte_read, name_given, most_names, newline_stays}
 use Rattle.roff_scan.specs.Input.{Ahead, ByteAhead, EndAhead, cost, counting, item_taken, pushing, pushed, depth}
 use Rattle.roff_scan.specs.Tape.{Tape, Answer, Gives, OneByte, front, items_then}
 use Rattle.roff_scan.specs.Unread.{seen_ahead}
-use Rattle.roff_scan.specs.Nesting.{AreNames}
-use Rattle.roff_scan.specs.Half.{Half, Backslash, Comment, Name, Size}
-use Rattle.roff_scan.specs.declared.half.SizePart.{SizePart}
-use Rattle.roff_scan.specs.declared.half.SizePart.TheVariants.{Nothing as NoSize, Sign, Digit}
+use Rattle.roff_scan.specs.Nesting.{AreNames, are_all_names}
+use Rattle.roff_scan.specs.Half.{Half, Backslash, Comment, Name, Size, Delimited, Width, names_in, texts_held}
 use Rattle.roff_scan.specs.declared.half.NamePart.TheVariants.{Nothing, Opened, First}
-use Rattle.roff_scan.specs.declared.half.Read.{Read}
-use Rattle.roff_scan.specs.declared.half.Read.TheVariants.{Escape, GoesOn, Asks}
+use Rattle.roff_scan.specs.declared.half.Read.TheVariants.{GoesOn, Asks}
 use Rattle.roff_store.specs.declared.register.Direction.{Direction}
 use Rattle.roff_store.specs.declared.register.Direction.TheVariants.{Up, Down}
 use Rattle.roff_run.specs.declared.reading.Reading.{Reading}
@@ -169,31 +165,25 @@ not-second true second neither = absurd (cc)
 not-second false true neither = absurd (cc)
 not-second false false neither = refl
 
--- a digit behind which another may follow is one
-first_digit-is_digit : (b : ℕ) → is_first_digit b ≡ true → not (is_digit b) ≡ false
-first_digit-is_digit b first = grind (arith, nat_tests)
+-- whether a size is what is being read
+abbrev is_in_size : List Half → Bool
+is_in_size [] = false
+is_in_size (Backslash ∷ rest) = false
+is_in_size (Comment ∷ rest) = false
+is_in_size (Name purpose part ∷ rest) = false
+is_in_size (Size part ∷ rest) = true
+is_in_size (Delimited purpose delimiter text ∷ rest) = false
+is_in_size (Width delimiter width is_deep ∷ rest) = false
 
--- a byte of a size doesn't end it
-goes_on-size : (part : SizePart) (rest : List Half) (b : ℕ) → ((size_read rest part b).0 ≡ Escape 115 → ⊥) → ends_size part (Some b) ≡ false
-goes_on-size NoSize rest b goes = elim (cases_Bool (is_sign b)) [
-  | inl sign ↦ rw sign refl
-  | inr none ↦ elim (cases_Bool (is_first_digit b)) [
-    | inl first ↦ rw none (first_digit-is_digit b first)
-    | inr other ↦ absurd (goes (rw (none, other) refl))
-  ]
-]
-goes_on-size Sign rest b goes = absurd (goes refl)
-goes_on-size Digit rest b goes = absurd (goes refl)
-
--- nor does a byte that is read what is half read, where no size is over with it
-goes_on : (is_text : Bool) (half behind : List Half) (b : ℕ) (found : Read) → (b == newline) ≡ false → byte_read is_text half b ≡ (found, behind)
-    → (found ≡ Escape 115 → ⊥) → seen_stays half (Some b) ≡ false
-goes_on is_text [] behind b found plain reads goes = refl
-goes_on is_text (Backslash ∷ rest) behind b found plain reads goes = refl
-goes_on is_text (Comment ∷ rest) behind b found plain reads goes = plain
-goes_on is_text (Name purpose part ∷ rest) behind b found plain reads goes = plain
-goes_on is_text (Size part ∷ rest) behind b found plain reads goes =
-    goes_on-size part rest b (λ over. goes (sym (ap (λ (r : Reads). r.0) reads) ∙ over))
+-- but in a size only a newline ends what is half read
+goes_on : (half : List Half) (b : ℕ) → is_in_size half ≡ false → (b == newline) ≡ false → seen_stays half (Some b) ≡ false
+goes_on [] b none plain = refl
+goes_on (Backslash ∷ rest) b none plain = refl
+goes_on (Comment ∷ rest) b none plain = plain
+goes_on (Name purpose part ∷ rest) b none plain = plain
+goes_on (Size part ∷ rest) b none plain = absurd (cc)
+goes_on (Delimited purpose delimiter text ∷ rest) b none plain = plain
+goes_on (Width delimiter width is_deep ∷ rest) b none plain = plain
 
 -- a reading that reads escapes, and whether it is that of text
 data ReadsEscapes : Reading → Bool → Type 0 where
@@ -310,16 +300,17 @@ taken_as-asking s reading from a before half charge line _ name AnArgument =
 
 -- bytes of which the last asks for a text and the others find nothing
 data AsksAtLast (is_text : Bool) (asks : NameUse) (name : List ℕ) (behind : List Half) : List Half → List ℕ → Type 0 where
-  AtLast : (half : List Half) (b : ℕ) → IsRead b → byte_read is_text half b ≡ (Asks asks (Some name), behind) → AsksAtLast is_text asks name behind half (b ∷ [])
-  Behind : (half other : List Half) (b : ℕ) (bytes : List ℕ) → IsRead b → byte_read is_text half b ≡ (GoesOn, other)
-      → AsksAtLast is_text asks name behind other bytes → AsksAtLast is_text asks name behind half (b ∷ bytes)
+  AtLast : (half : List Half) (b : ℕ) → IsRead b → is_in_size half ≡ false → byte_read is_text half b ≡ (Asks asks (Some name), behind)
+      → AsksAtLast is_text asks name behind half (b ∷ [])
+  Behind : (half other : List Half) (b : ℕ) (bytes : List ℕ) → IsRead b → is_in_size half ≡ false → byte_read is_text half b ≡ (GoesOn, other)
+      → texts_held other ≡ texts_held half → AsksAtLast is_text asks name behind other bytes → AsksAtLast is_text asks name behind half (b ∷ bytes)
 
 -- behind a byte
 Fits-behind : (l : Limits) (registers : AllRegisters) (s : State) (from : Origin) (b : ℕ) (bytes : List ℕ) (a there : Arguments) (half other : List Half) (charge more line next : ℕ)
-    → held there ≡ held a → Fits l registers (input_of s from (b ∷ bytes) a half charge line) → Fits l registers (input_of s from bytes there other more next)
-Fits-behind l registers s (FromAhead rest) b bytes a there half other charge more line next same fits =
+    → held there ≡ held a → texts_held other ≡ texts_held half → Fits l registers (input_of s from (b ∷ bytes) a half charge line) → Fits l registers (input_of s from bytes there other more next)
+Fits-behind l registers s (FromAhead rest) b bytes a there half other charge more line next same held_same fits =
     record { names = fits.names; stack = omega (arith, fits.stack); depth = fits.depth }
-Fits-behind l registers s (FromSource tape) b bytes a there half other charge more line next same fits =
+Fits-behind l registers s (FromSource tape) b bytes a there half other charge more line next same held_same fits =
     record { names = fits.names; stack = omega (arith, fits.stack); depth = fits.depth }
 
 -- the steps at them
@@ -329,7 +320,7 @@ after-asks : (l : Limits) (s : State) (reading : Reading) (is_text : Bool) (from
     → charge + length bytes ≡ total → total ≤ l.bytes → Fits l s.registers (input_of s from bytes a half charge line)
     → let t : State = asked s reading from a behind total line asks name in
     Fits l t.registers t.input → after l (length bytes) (going s reading from bytes a half charge line) ≡ t
-after-asks l s reading is_text from a line asks name behind _ _ charge total of on same stays (AtLast half b read reads) sum within fits fits_behind =
+after-asks l s reading is_text from a line asks name behind _ _ charge total of on same stays (AtLast half b read none reads) sum within fits fits_behind =
     let t : State = asked s reading from a behind total line asks name in
     let before : State = going s reading from [] a half (charge + 1) line in
     let one : charge + 1 ≡ total = sum in
@@ -338,19 +329,49 @@ after-asks l s reading is_text from a line asks name behind _ _ charge total of 
     ∙ taken_as-asking s reading from a half behind (charge + 1) line asks name of
     ∙ ap (λ (c : ℕ). asked s reading from a behind c line asks name) one in
     step-byte l s reading from b [] a half charge line t read
-    (goes_on is_text half behind b (Asks asks (Some name)) (not-second (is_dropped b) (b == newline) read) reads (λ is. cc)) (omega arith)
+    (goes_on half b none (not-second (is_dropped b) (b == newline) read)) (omega arith)
     (ap (λ (n : ℕ). byte_taken b (going s reading from [] a half (charge + 1) n)) stays ∙ is) fits_behind
-after-asks l s reading is_text from a line asks name behind _ _ charge total of on same stays (Behind half other b others read reads last) sum within fits fits_behind =
+after-asks l s reading is_text from a line asks name behind _ _ charge total of on same stays (Behind half other b others read none reads as_many last) sum within fits fits_behind =
     let t : State = going s reading from others a other (charge + 1) line in
     let before : State = going s reading from others a half (charge + 1) line in
     let is : byte_taken b before ≡ t =
     ap (λ (taking : Taking). taken_as taking before) (taking-nothing (known s) reading is_text before.input b other on read reads same)
     ∙ taken_as-going_on t.input reading before in
-    let fits_there : Fits l s.registers t.input = Fits-behind l s.registers s from b others a a half other charge (charge + 1) line line refl fits in
+    let fits_there : Fits l s.registers t.input = Fits-behind l s.registers s from b others a a half other charge (charge + 1) line line refl as_many fits in
     ap (after l (length others)) (step-byte l s reading from b others a half charge line t read
-    (goes_on is_text half other b GoesOn (not-second (is_dropped b) (b == newline) read) reads (λ is. cc)) (omega arith)
+    (goes_on half b none (not-second (is_dropped b) (b == newline) read)) (omega arith)
     (ap (λ (n : ℕ). byte_taken b (going s reading from others a half (charge + 1) n)) stays ∙ is) fits_there)
     ∙ after-asks l s reading is_text from a line asks name behind other others (charge + 1) total of on same stays last (omega arith) within fits_there fits_behind
+
+-- a name is no size
+in_size-names : (names : List Half) → AreNames names → is_in_size names ≡ false
+in_size-names [] are = refl
+in_size-names (Backslash ∷ rest) are = refl
+in_size-names (Comment ∷ rest) are = refl
+in_size-names (Size part ∷ rest) are = absurd (search (rules, are.all))
+in_size-names (Name asks part ∷ rest) are = refl
+in_size-names (Delimited purpose delimiter text ∷ rest) are = refl
+in_size-names (Width delimiter width is_deep ∷ rest) are = refl
+
+-- within names as many are half read as stand there
+names_in-names : (names : List Half) → are_all_names names ≡ true → names_in names ≡ length names
+names_in-names [] are = refl
+names_in-names (Backslash ∷ rest) are = absurd (cc)
+names_in-names (Comment ∷ rest) are = absurd (cc)
+names_in-names (Size part ∷ rest) are = absurd (cc)
+names_in-names (Name asks part ∷ rest) are = omega (arith, names_in-names rest are)
+names_in-names (Delimited purpose delimiter text ∷ rest) are = absurd (cc)
+names_in-names (Width delimiter width is_deep ∷ rest) are = absurd (cc)
+
+-- and what a name asks for is read there
+name_given-names : (names : List Half) (asks : NameUse) (name : Option (List ℕ)) → AreNames names → name_given names asks name ≡ (Asks asks name, names)
+name_given-names [] asks name are = refl
+name_given-names (Backslash ∷ rest) asks name are = refl
+name_given-names (Comment ∷ rest) asks name are = refl
+name_given-names (Size part ∷ rest) asks name are = refl
+name_given-names (Name other part ∷ rest) asks name are = refl
+name_given-names (Delimited purpose delimiter text ∷ rest) asks name are = refl
+name_given-names (Width delimiter width is_deep ∷ rest) asks name are = absurd (search (rules, are.all))
 
 -- a backslash within names
 byte_read-backslash : (is_text : Bool) (names : List Half) → AreNames names → byte_read is_text names backslash ≡ (GoesOn, Backslash ∷ names)
@@ -358,6 +379,8 @@ byte_read-backslash is_text [] are = refl
 byte_read-backslash is_text (Backslash ∷ rest) are = absurd (search (rules, are.all))
 byte_read-backslash is_text (Comment ∷ rest) are = absurd (search (rules, are.all))
 byte_read-backslash is_text (Size part ∷ rest) are = absurd (search (rules, are.all))
+byte_read-backslash is_text (Delimited purpose delimiter text ∷ rest) are = absurd (search (rules, are.all))
+byte_read-backslash is_text (Width delimiter width is_deep ∷ rest) are = absurd (search (rules, are.all))
 byte_read-backslash is_text (Name asks part ∷ rest) are = refl
 
 taking-backslash : (k : Known) (reading : Reading) (is_text : Bool) (i : PageInput) → ReadsEscapes reading is_text → AreNames i.half
@@ -398,9 +421,9 @@ after-escape l s reading is_text from a asks name names bytes charge line of on 
     ∙ taken_as-going_on t.input reading taken in
     let fits_there : Fits l s.registers t.input =
     Fits-behind l s.registers s from backslash bytes a there names (Backslash ∷ names) charge (charge + 1) line next
-    (held-settled_for reading is_text a on) fits in
+    (held-settled_for reading is_text a on) refl fits in
     ap (after l (length bytes)) (step-byte l s reading from backslash bytes a names charge line t refl
-    (goes_on is_text names (Backslash ∷ names) backslash GoesOn refl (byte_read-backslash is_text names are) (λ is. cc)) (omega arith) is fits_there)
+    (goes_on names backslash (in_size-names names are) refl) (omega arith) is fits_there)
     ∙ after-asks l s reading is_text from there next asks name names (Backslash ∷ names) bytes (charge + 1) (charge + length (backslash ∷ bytes))
     of on (settled_for-settled_for reading is_text a on) (line_behind-again from s line)
     last (omega arith) within fits_there fits_behind
@@ -425,67 +448,76 @@ name_begun-stepped false true others a b c none = absurd (cc)
 name_begun-stepped false false others a b c none = refl
 
 -- a name of one byte
-byte_read-short : (is_text : Bool) (asks : Option Direction) (x : ℕ) (names : List Half) → is_special x ≡ false
+byte_read-short : (is_text : Bool) (asks : Option Direction) (x : ℕ) (names : List Half) → AreNames names → is_special x ≡ false
     → byte_read is_text (Name (Register asks) Nothing ∷ names) x ≡ (Asks (Register asks) (Some (x ∷ [])), names)
-byte_read-short is_text None x names plain = name_begun-plain (x == backslash) (x == 40) (x == 43) (x == 45) _ _ _ _ _ plain
-byte_read-short is_text (Some direction) x names plain = name_begun-stepped (x == backslash) (x == 40) (list_any (λ c. x == c) (43 ∷ 45 ∷ [])) _ _ _ plain
+byte_read-short is_text None x names are plain =
+    name_begun-plain (x == backslash) (x == 40) (x == 43) (x == 45) _ _ _ _ _ plain ∙ name_given-names names (Register None) (Some (x ∷ [])) are
+byte_read-short is_text (Some direction) x names are plain =
+    name_begun-stepped (x == backslash) (x == 40) (list_any (λ c. x == c) (43 ∷ 45 ∷ [])) _ _ _ plain
+    ∙ name_given-names names (Register (Some direction)) (Some (x ∷ [])) are
 
 -- a string's
-byte_read-string : (is_text : Bool) (x : ℕ) (names : List Half) → (x == backslash) ≡ false → (x == 40) ≡ false
+byte_read-string : (is_text : Bool) (x : ℕ) (names : List Half) → AreNames names → (x == backslash) ≡ false → (x == 40) ≡ false
     → byte_read is_text (Name OfText Nothing ∷ names) x ≡ (Asks OfText (Some (x ∷ [])), names)
-byte_read-string is_text x names plain no_opening =
-    ap (λ (c : Bool). if c then (GoesOn, Backslash ∷ Name OfText Nothing ∷ names) else if x == 40 then (GoesOn, Name OfText Opened ∷ names) else (Asks OfText (Some (x ∷ [])), names)) plain
-    ∙ ap (λ (c : Bool). if c then (GoesOn, Name OfText Opened ∷ names) else (Asks OfText (Some (x ∷ [])), names)) no_opening
+byte_read-string is_text x names are plain no_opening =
+    let whole : Reads = name_given names OfText (Some (x ∷ [])) in
+    ap (λ (c : Bool). if c then (GoesOn, Backslash ∷ Name OfText Nothing ∷ names) else if x == 40 then (GoesOn, Name OfText Opened ∷ names) else whole) plain
+    ∙ ap (λ (c : Bool). if c then (GoesOn, Name OfText Opened ∷ names) else whole) no_opening
+    ∙ name_given-names names OfText (Some (x ∷ [])) are
 
 -- and an argument's
-byte_read-argument : (is_text : Bool) (x : ℕ) (names : List Half) → (x == backslash) ≡ false
+byte_read-argument : (is_text : Bool) (x : ℕ) (names : List Half) → AreNames names → (x == backslash) ≡ false
     → byte_read is_text (Name Argument Nothing ∷ names) x ≡ (Asks Argument (Some (x ∷ [])), names)
-byte_read-argument is_text x names plain =
-    ap (λ (c : Bool). if c then (GoesOn, Backslash ∷ Name Argument Nothing ∷ names) else (Asks Argument (Some (x ∷ [])), names)) plain
+byte_read-argument is_text x names are plain =
+    ap (λ (c : Bool). if c then (GoesOn, Backslash ∷ Name Argument Nothing ∷ names) else name_given names Argument (Some (x ∷ []))) plain
+    ∙ name_given-names names Argument (Some (x ∷ [])) are
 
 -- the byte behind a backslash begins a name
-begun-names : (names : List Half) (asks : NameUse) → length names < most_names
-    → ◌≡◌ {A = Reads} (GoesOn, (if nat_le most_names (length names) then names else Name asks Nothing ∷ names)) (GoesOn, Name asks Nothing ∷ names)
-begun-names names asks few =
-    ap (λ (full : Bool). (GoesOn, (if full then names else Name asks Nothing ∷ names))) (lt-leb most_names (length names) few)
+begun-names : (names : List Half) (asks : NameUse) → AreNames names → length names < most_names
+    → ◌≡◌ {A = Reads} (GoesOn, (if nat_le most_names (names_in names) then names else Name asks Nothing ∷ names)) (GoesOn, Name asks Nothing ∷ names)
+begun-names names asks are few =
+    ap (λ (full : Bool). (GoesOn, (if full then names else Name asks Nothing ∷ names)))
+    (ap (nat_le most_names) (names_in-names names are.all) ∙ lt-leb most_names (length names) few)
 
 -- `n`
-byte_read-n : (is_text : Bool) (names : List Half) → length names < most_names
+byte_read-n : (is_text : Bool) (names : List Half) → AreNames names → length names < most_names
     → byte_read is_text (Backslash ∷ names) 110 ≡ (GoesOn, Name (Register None) Nothing ∷ names)
-byte_read-n is_text names few = begun-names names (Register None) few
+byte_read-n is_text names are few = begun-names names (Register None) are few
 
 -- the bytes behind the backslash: `n`, the sign of the step, and the name
-asks-signed : (is_text : Bool) (asks : Option Direction) (name bytes : List ℕ) (names : List Half) → length names < most_names
+asks-signed : (is_text : Bool) (asks : Option Direction) (name bytes : List ℕ) (names : List Half) → AreNames names → length names < most_names
     → AsksAtLast is_text (Register asks) name names (Name (Register asks) Nothing ∷ names) bytes
     → AsksAtLast is_text (Register asks) name names (Backslash ∷ names) (110 ∷ sign asks ++ bytes)
-asks-signed is_text None name bytes names few last = Behind _ _ 110 bytes refl (byte_read-n is_text names few) last
-asks-signed is_text (Some Up) name bytes names few last =
-    Behind _ _ 110 (43 ∷ bytes) refl (byte_read-n is_text names few) (Behind _ _ 43 bytes refl refl last)
-asks-signed is_text (Some Down) name bytes names few last =
-    Behind _ _ 110 (45 ∷ bytes) refl (byte_read-n is_text names few) (Behind _ _ 45 bytes refl refl last)
+asks-signed is_text None name bytes names are few last = Behind _ _ 110 bytes refl refl (byte_read-n is_text names are few) refl last
+asks-signed is_text (Some Up) name bytes names are few last =
+    Behind _ _ 110 (43 ∷ bytes) refl refl (byte_read-n is_text names are few) refl (Behind _ _ 43 bytes refl refl refl refl last)
+asks-signed is_text (Some Down) name bytes names are few last =
+    Behind _ _ 110 (45 ∷ bytes) refl refl (byte_read-n is_text names are few) refl (Behind _ _ 45 bytes refl refl refl refl last)
 
 -- a string's: `*`, and the name
-asks-string : (is_text : Bool) (name bytes : List ℕ) (names : List Half) → length names < most_names
+asks-string : (is_text : Bool) (name bytes : List ℕ) (names : List Half) → AreNames names → length names < most_names
     → AsksAtLast is_text OfText name names (Name OfText Nothing ∷ names) bytes
     → AsksAtLast is_text OfText name names (Backslash ∷ names) (42 ∷ bytes)
-asks-string is_text name bytes names few last = Behind _ _ 42 bytes refl (begun-names names OfText few) last
+asks-string is_text name bytes names are few last = Behind _ _ 42 bytes refl refl (begun-names names OfText are few) refl last
 
 -- an argument's: `$`, and the name
-asks-argument : (is_text : Bool) (name bytes : List ℕ) (names : List Half) → length names < most_names
+asks-argument : (is_text : Bool) (name bytes : List ℕ) (names : List Half) → AreNames names → length names < most_names
     → AsksAtLast is_text Argument name names (Name Argument Nothing ∷ names) bytes
     → AsksAtLast is_text Argument name names (Backslash ∷ names) (36 ∷ bytes)
-asks-argument is_text name bytes names few last = Behind _ _ 36 bytes refl (begun-names names Argument few) last
+asks-argument is_text name bytes names are few last = Behind _ _ 36 bytes refl refl (begun-names names Argument are few) refl last
 
 -- two bytes behind a parenthesis
-asks-opened : (is_text : Bool) (asks : NameUse) (x y : ℕ) (names : List Half) → StandsForItself x → StandsForItself y
+asks-opened : (is_text : Bool) (asks : NameUse) (x y : ℕ) (names : List Half) → AreNames names → StandsForItself x → StandsForItself y
     → AsksAtLast is_text asks (x ∷ y ∷ []) names (Name asks Opened ∷ names) (x ∷ y ∷ [])
-asks-opened is_text asks x y names first second =
+asks-opened is_text asks x y names are first second =
     let begun : List Half = Name asks (First x) ∷ names in
     let of_first : byte_read is_text (Name asks Opened ∷ names) x ≡ (GoesOn, begun) =
     ap (λ (c : Bool). if c then (GoesOn, Backslash ∷ Name asks Opened ∷ names) else (GoesOn, begun)) (not-first (x == backslash) (is_dropped x || x == newline) first) in
     let of_second : byte_read is_text begun y ≡ (Asks asks (Some (x ∷ y ∷ [])), names) =
-    ap (λ (c : Bool). if c then (GoesOn, Backslash ∷ begun) else (Asks asks (Some (x ∷ y ∷ [])), names)) (not-first (y == backslash) (is_dropped y || y == newline) second) in
-    Behind _ _ x (y ∷ []) (IsRead-itself x first) of_first (AtLast _ y (IsRead-itself y second) of_second)
+    ap (λ (c : Bool). if c then (GoesOn, Backslash ∷ begun) else name_given names asks (Some (x ∷ y ∷ [])))
+    (not-first (y == backslash) (is_dropped y || y == newline) second)
+    ∙ name_given-names names asks (Some (x ∷ y ∷ [])) are in
+    Behind _ _ x (y ∷ []) (IsRead-itself x first) refl of_first refl (AtLast _ y (IsRead-itself y second) refl of_second)
 
 -- a register's parenthesis
 byte_read-opening : (is_text : Bool) (asks : Option Direction) (names : List Half)
@@ -594,30 +626,30 @@ escapes_read_from : (l : Limits) (s : State) (from : Origin) (asks : NameUse) (n
 escapes_read_from l s from _ _ _ (Short step x may plain) takes are few reads ahead tape =
     let on = ReadsEscapes-reads_escapes s.reading reads in
     escape-reads l s on.0 from (Register step) (x ∷ []) (110 ∷ sign step ++ x ∷ []) (ARegister step) takes on.1 are
-    (asks-signed on.0 step (x ∷ []) (x ∷ []) s.input.half few
-    (AtLast (Name (Register step) Nothing ∷ s.input.half) x (IsRead-itself x may) (byte_read-short on.0 step x s.input.half plain))) ahead tape
+    (asks-signed on.0 step (x ∷ []) (x ∷ []) s.input.half are few
+    (AtLast (Name (Register step) Nothing ∷ s.input.half) x (IsRead-itself x may) refl (byte_read-short on.0 step x s.input.half are plain))) ahead tape
 escapes_read_from l s from _ _ _ (Long step x y first second) takes are few reads ahead tape =
     let on = ReadsEscapes-reads_escapes s.reading reads in
     escape-reads l s on.0 from (Register step) (x ∷ y ∷ []) (110 ∷ sign step ++ 40 ∷ x ∷ y ∷ []) (ARegister step) takes on.1 are
-    (asks-signed on.0 step (x ∷ y ∷ []) (40 ∷ x ∷ y ∷ []) s.input.half few
-    (Behind _ _ 40 (x ∷ y ∷ []) refl (byte_read-opening on.0 step s.input.half) (asks-opened on.0 (Register step) x y s.input.half first second))) ahead tape
+    (asks-signed on.0 step (x ∷ y ∷ []) (40 ∷ x ∷ y ∷ []) s.input.half are few
+    (Behind _ _ 40 (x ∷ y ∷ []) refl refl (byte_read-opening on.0 step s.input.half) refl (asks-opened on.0 (Register step) x y s.input.half are first second))) ahead tape
 escapes_read_from l s from _ _ _ (ShortString x may no_opening) takes are few reads ahead tape =
     let on = ReadsEscapes-reads_escapes s.reading reads in
     escape-reads l s on.0 from OfText (x ∷ []) (42 ∷ x ∷ []) AString takes on.1 are
-    (asks-string on.0 (x ∷ []) (x ∷ []) s.input.half few
-    (AtLast (Name OfText Nothing ∷ s.input.half) x (IsRead-itself x may)
-    (byte_read-string on.0 x s.input.half (not-first (x == backslash) (is_dropped x || x == newline) may) no_opening))) ahead tape
+    (asks-string on.0 (x ∷ []) (x ∷ []) s.input.half are few
+    (AtLast (Name OfText Nothing ∷ s.input.half) x (IsRead-itself x may) refl
+    (byte_read-string on.0 x s.input.half are (not-first (x == backslash) (is_dropped x || x == newline) may) no_opening))) ahead tape
 escapes_read_from l s from _ _ _ (LongString x y first second) takes are few reads ahead tape =
     let on = ReadsEscapes-reads_escapes s.reading reads in
     escape-reads l s on.0 from OfText (x ∷ y ∷ []) (42 ∷ 40 ∷ x ∷ y ∷ []) AString takes on.1 are
-    (asks-string on.0 (x ∷ y ∷ []) (40 ∷ x ∷ y ∷ []) s.input.half few
-    (Behind _ _ 40 (x ∷ y ∷ []) refl refl (asks-opened on.0 OfText x y s.input.half first second))) ahead tape
+    (asks-string on.0 (x ∷ y ∷ []) (40 ∷ x ∷ y ∷ []) s.input.half are few
+    (Behind _ _ 40 (x ∷ y ∷ []) refl refl refl refl (asks-opened on.0 OfText x y s.input.half are first second))) ahead tape
 escapes_read_from l s from _ _ _ (OfArgument x may) takes are few reads ahead tape =
     let on = ReadsEscapes-reads_escapes s.reading reads in
     escape-reads l s on.0 from Argument (x ∷ []) (36 ∷ x ∷ []) AnArgument takes on.1 are
-    (asks-argument on.0 (x ∷ []) (x ∷ []) s.input.half few
-    (AtLast (Name Argument Nothing ∷ s.input.half) x (IsRead-itself x may)
-    (byte_read-argument on.0 x s.input.half (not-first (x == backslash) (is_dropped x || x == newline) may)))) ahead tape
+    (asks-argument on.0 (x ∷ []) (x ∷ []) s.input.half are few
+    (AtLast (Name Argument Nothing ∷ s.input.half) x (IsRead-itself x may) refl
+    (byte_read-argument on.0 x s.input.half are (not-first (x == backslash) (is_dropped x || x == newline) may)))) ahead tape
 
 pub escapes_read_as_texts : EscapesReadAsTexts
 escapes_read_as_texts l s asks name escape rest is_escape takes are few reads ahead =
