@@ -3,8 +3,8 @@
 ghost use Rattle.std.specs.Prelude.{◌≡◌, ℕ, ◌+◌, ◌<◌, ◌≤◌, [], ◌∷◌, ◌++◌, length, replicate, IfOk};
 ghost use Rattle.roff_lines.specs.Clauses.{text_width, gaps_in};
 
-use roff_num::width_of_byte;
 use crate::line::GAP;
+use roff_num::width_of_byte;
 use std::alloc::{AllocError, Global};
 use std::marker::Model;
 
