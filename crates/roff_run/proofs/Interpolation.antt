@@ -21,6 +21,7 @@ use Rattle.roff_scan.specs.Unread.{seen_ahead}
 use Rattle.roff_scan.specs.Nesting.{AreNames, are_all_names}
 use Rattle.roff_scan.specs.Half.{Half, Backslash, Comment, Name, Size, Delimited, Width, names_in, texts_held}
 use Rattle.roff_scan.specs.declared.half.NamePart.TheVariants.{Nothing, Opened, First}
+use Rattle.roff_scan.specs.declared.half.Read.{Read}
 use Rattle.roff_scan.specs.declared.half.Read.TheVariants.{GoesOn, Asks}
 use Rattle.roff_store.specs.declared.register.Direction.{Direction}
 use Rattle.roff_store.specs.declared.register.Direction.TheVariants.{Up, Down}
@@ -37,22 +38,22 @@ use Rattle.roff_run.specs.Requests.{PageEvent}
 use Rattle.roff_run.specs.Run.{State, known, made, byte_taken, front_seen, half_ends, awaited, awaited_of_source, answered, moved, in_front_taken, taking_ahead, taking_byte, taken_as, first_passed, grown, unless_refused, stopped_by, reading_on, step, after}
 
 -- where bytes come from: they stand ahead of these items, or in the source in front of this tape
-data Origin : Type 0 where
+pub data Origin : Type 0 where
   FromAhead : (rest : List (Ahead PageEvent)) → Origin
   FromSource : (tape : Tape) → Origin
 
 -- what is ahead of the source, where these bytes come first
-abbrev ahead_at : Origin → List ℕ → List (Ahead PageEvent)
+abbrev pub ahead_at : Origin → List ℕ → List (Ahead PageEvent)
 ahead_at (FromAhead rest) bytes = map ByteAhead bytes ++ rest
 ahead_at (FromSource tape) bytes = []
 
 -- the source's tape
-abbrev tape_at : Origin → List ℕ → Tape → Tape
+abbrev pub tape_at : Origin → List ℕ → Tape → Tape
 tape_at (FromAhead rest) bytes tape = tape
 tape_at (FromSource behind) bytes tape = items_then (map OneByte bytes) behind
 
 -- the line behind one of them
-abbrev line_behind : Origin → State → ℕ → ℕ
+abbrev pub line_behind : Origin → State → ℕ → ℕ
 line_behind (FromAhead rest) s line = line
 line_behind (FromSource tape) s line = s.input.newlines + 1
 
@@ -61,12 +62,12 @@ line_behind-again (FromAhead rest) s line = refl
 line_behind-again (FromSource tape) s line = refl
 
 -- an input where these bytes come first
-abbrev input_of : State → Origin → List ℕ → Arguments → List Half → ℕ → ℕ → PageInput
+abbrev pub input_of : State → Origin → List ℕ → Arguments → List Half → ℕ → ℕ → PageInput
 input_of s from bytes arguments half charge line =
     record s.input { ahead = ahead_at from bytes; arguments = arguments; half = half; charge = charge; line = line }
 
 -- a run that reads this, where these bytes come first
-abbrev going : State → Reading → Origin → List ℕ → Arguments → List Half → ℕ → ℕ → State
+abbrev pub going : State → Reading → Origin → List ℕ → Arguments → List Half → ℕ → ℕ → State
 going s reading from bytes arguments half charge line = record s {
   tape = tape_at from bytes s.tape;
   input = input_of s from bytes arguments half charge line;
@@ -77,7 +78,7 @@ going s reading from bytes arguments half charge line = record s {
 }
 
 -- a state of a run that takes items is one of these
-is-going : (s : State) (from : Origin) (bytes : List ℕ) → TakesItems s → s.input.ahead ≡ ahead_at from bytes → s.tape ≡ tape_at from bytes s.tape
+pub is-going : (s : State) (from : Origin) (bytes : List ℕ) → TakesItems s → s.input.ahead ≡ ahead_at from bytes → s.tape ≡ tape_at from bytes s.tape
     → going s s.reading from bytes s.input.arguments s.input.half s.input.charge s.input.line ≡ s
 is-going s from bytes on ahead tape =
     let of : Tape → List (Ahead PageEvent) → List PageEvent → Bool → Option Status → State = λ t items es c e.
@@ -112,7 +113,7 @@ taking_ahead-within l b behind s within =
     ap (λ (c : Bool). if c then stopped_by l Bytes s else done) (le-ltb l.bytes (s.input.charge + 1) (omega arith))
 
 -- a step of a run that takes items
-step-TakesItems : (l : Limits) (s : State) → TakesItems s → step l s ≡ reading_on l s
+pub step-TakesItems : (l : Limits) (s : State) → TakesItems s → step l s ≡ reading_on l s
 step-TakesItems l s on = rw (on.going, on.idle, on.not_closing) refl
 
 pub bytes_ahead_are_taken : BytesAheadAreTaken
@@ -186,13 +187,13 @@ goes_on (Delimited purpose delimiter text ∷ rest) b none plain = plain
 goes_on (Width delimiter width is_deep ∷ rest) b none plain = plain
 
 -- a reading that reads escapes, and whether it is that of text
-data ReadsEscapes : Reading → Bool → Type 0 where
+pub data ReadsEscapes : Reading → Bool → Type 0 where
   AtBeginning : ReadsEscapes LineStart true
   OnText : (line : TextLine) → ReadsEscapes (InText line) true
   OnArguments : (breaks : Bool) (request : Request) → ReadsEscapes (InArguments breaks request) false
 
 -- the arguments of a line where no quote follows the quote before
-abbrev settled_for : Reading → Arguments → Arguments
+abbrev pub settled_for : Reading → Arguments → Arguments
 settled_for (InArguments breaks request) a = only_kept (settled a)
 settled_for (_) a = a
 
@@ -244,13 +245,13 @@ taking-asks k reading is_text i b half asks name of (OnArguments breaks request)
     ∙ ap (λ (a : Arguments). asking k (record i { half = half; arguments = a }) (InArguments breaks request) asks (Some name)) settled
 
 -- what is within the limits on names, on the stack and on the depth
-record Fits (l : Limits) (registers : AllRegisters) (i : PageInput) : Type 0 where
+pub record Fits (l : Limits) (registers : AllRegisters) (i : PageInput) : Type 0 where
   names : length registers.named ≤ l.names
   stack : pushed i ≤ l.stack
   depth : depth i ≤ l.depth
 
 -- a step that leads within them is made
-made-Fits : (l : Limits) (from done : State) → Fits l done.registers done.input → made l from done ≡ done
+pub made-Fits : (l : Limits) (from done : State) → Fits l done.registers done.input → made l from done ≡ done
 made-Fits l from done fits =
     let names : nat_lt l.names (length done.registers.named) ≡ false = le-ltb _ _ fits.names in
     let stack : nat_lt l.stack (pushed done.input) ≡ false = le-ltb _ _ fits.stack in
@@ -259,11 +260,11 @@ made-Fits l from done fits =
     ap (λ (r : Option Limit). unless_refused l r from done) allowed
 
 -- this is read on, and nothing is meant
-taken_as-going_on : (i : PageInput) (reading : Reading) (s : State) → taken_as (going_on i reading) s ≡ record s { input = i; reading = reading }
+pub taken_as-going_on : (i : PageInput) (reading : Reading) (s : State) → taken_as (going_on i reading) s ≡ record s { input = i; reading = reading }
 taken_as-going_on i reading s = ap (λ (m : List ℕ). record s { input = i; reading = reading; messages = m }) (append-nil s.messages)
 
 -- a step at a byte
-step-byte : (l : Limits) (s : State) (reading : Reading) (from : Origin) (b : ℕ) (bytes : List ℕ) (a : Arguments) (half : List Half) (charge line : ℕ) (t : State)
+pub step-byte : (l : Limits) (s : State) (reading : Reading) (from : Origin) (b : ℕ) (bytes : List ℕ) (a : Arguments) (half : List Half) (charge line : ℕ) (t : State)
     → IsRead b → seen_stays half (Some b) ≡ false → charge + 1 ≤ l.bytes → byte_taken b (going s reading from bytes a half (charge + 1) (line_behind from s line)) ≡ t
     → Fits l t.registers t.input → step l (going s reading from (b ∷ bytes) a half charge line) ≡ t
 step-byte l s reading (FromAhead rest) b bytes a half charge line t read goes within is fits =
@@ -298,12 +299,21 @@ taken_as-asking s reading from a before half charge line _ name AString =
 taken_as-asking s reading from a before half charge line _ name AnArgument =
     ap (λ (m : List ℕ). record (asked s reading from a half charge line Argument name) { messages = m }) (append-nil s.messages)
 
--- bytes of which the last asks for a text and the others find nothing
-data AsksAtLast (is_text : Bool) (asks : NameUse) (name : List ℕ) (behind : List Half) : List Half → List ℕ → Type 0 where
-  AtLast : (half : List Half) (b : ℕ) → IsRead b → is_in_size half ≡ false → byte_read is_text half b ≡ (Asks asks (Some name), behind)
-      → AsksAtLast is_text asks name behind half (b ∷ [])
+-- bytes of which the last finds this and the others find nothing
+pub data FindsAtLast (is_text : Bool) (found : Read) (behind : List Half) : List Half → List ℕ → Type 0 where
+  AtLast : (half : List Half) (b : ℕ) → IsRead b → is_in_size half ≡ false → byte_read is_text half b ≡ (found, behind)
+      → FindsAtLast is_text found behind half (b ∷ [])
   Behind : (half other : List Half) (b : ℕ) (bytes : List ℕ) → IsRead b → is_in_size half ≡ false → byte_read is_text half b ≡ (GoesOn, other)
-      → texts_held other ≡ texts_held half → AsksAtLast is_text asks name behind other bytes → AsksAtLast is_text asks name behind half (b ∷ bytes)
+      → texts_held other ≡ texts_held half → FindsAtLast is_text found behind other bytes → FindsAtLast is_text found behind half (b ∷ bytes)
+
+-- of which the last asks for a text
+abbrev AsksAtLast : Bool → NameUse → List ℕ → List Half → List Half → List ℕ → Type 0
+AsksAtLast is_text asks name behind half bytes = FindsAtLast is_text (Asks asks (Some name)) behind half bytes
+
+-- a byte that finds this leads to that state
+abbrev pub Means : State → Reading → Bool → Origin → Arguments → ℕ → ℕ → Read → List Half → State → Type 0
+Means s reading is_text from a charge line found behind t =
+    (half : List Half) (b : ℕ) → IsRead b → byte_read is_text half b ≡ (found, behind) → byte_taken b (going s reading from [] a half charge line) ≡ t
 
 -- behind a byte
 Fits-behind : (l : Limits) (registers : AllRegisters) (s : State) (from : Origin) (b : ℕ) (bytes : List ℕ) (a there : Arguments) (half other : List Half) (charge more line next : ℕ)
@@ -314,34 +324,30 @@ Fits-behind l registers s (FromSource tape) b bytes a there half other charge mo
     record { names = fits.names; stack = omega (arith, fits.stack); depth = fits.depth }
 
 -- the steps at them
-after-asks : (l : Limits) (s : State) (reading : Reading) (is_text : Bool) (from : Origin) (a : Arguments) (line : ℕ)
-    (asks : NameUse) (name : List ℕ) (behind half : List Half) (bytes : List ℕ) (charge total : ℕ)
-    → Interpolates asks → ReadsEscapes reading is_text → settled_for reading a ≡ a → line_behind from s line ≡ line → AsksAtLast is_text asks name behind half bytes
+after-finds : (l : Limits) (s : State) (reading : Reading) (is_text : Bool) (from : Origin) (a : Arguments) (line : ℕ)
+    (found : Read) (behind half : List Half) (bytes : List ℕ) (charge total : ℕ) (t : State)
+    → ReadsEscapes reading is_text → settled_for reading a ≡ a → line_behind from s line ≡ line → FindsAtLast is_text found behind half bytes
     → charge + length bytes ≡ total → total ≤ l.bytes → Fits l s.registers (input_of s from bytes a half charge line)
-    → let t : State = asked s reading from a behind total line asks name in
-    Fits l t.registers t.input → after l (length bytes) (going s reading from bytes a half charge line) ≡ t
-after-asks l s reading is_text from a line asks name behind _ _ charge total of on same stays (AtLast half b read none reads) sum within fits fits_behind =
-    let t : State = asked s reading from a behind total line asks name in
-    let before : State = going s reading from [] a half (charge + 1) line in
+    → Means s reading is_text from a total line found behind t → Fits l t.registers t.input
+    → after l (length bytes) (going s reading from bytes a half charge line) ≡ t
+after-finds l s reading is_text from a line found behind _ _ charge total t on same stays (AtLast half b read none reads) sum within fits means fits_behind =
     let one : charge + 1 ≡ total = sum in
-    let is : byte_taken b before ≡ t =
-    ap (λ (taking : Taking). taken_as taking before) (taking-asks (known s) reading is_text before.input b behind asks name of on read reads same)
-    ∙ taken_as-asking s reading from a half behind (charge + 1) line asks name of
-    ∙ ap (λ (c : ℕ). asked s reading from a behind c line asks name) one in
+    let is : byte_taken b (going s reading from [] a half (charge + 1) line) ≡ t =
+    ap (λ (c : ℕ). byte_taken b (going s reading from [] a half c line)) one ∙ means half b read reads in
     step-byte l s reading from b [] a half charge line t read
     (goes_on half b none (not-second (is_dropped b) (b == newline) read)) (omega arith)
     (ap (λ (n : ℕ). byte_taken b (going s reading from [] a half (charge + 1) n)) stays ∙ is) fits_behind
-after-asks l s reading is_text from a line asks name behind _ _ charge total of on same stays (Behind half other b others read none reads as_many last) sum within fits fits_behind =
-    let t : State = going s reading from others a other (charge + 1) line in
+after-finds l s reading is_text from a line found behind _ _ charge total t on same stays (Behind half other b others read none reads as_many last) sum within fits means fits_behind =
+    let next : State = going s reading from others a other (charge + 1) line in
     let before : State = going s reading from others a half (charge + 1) line in
-    let is : byte_taken b before ≡ t =
+    let is : byte_taken b before ≡ next =
     ap (λ (taking : Taking). taken_as taking before) (taking-nothing (known s) reading is_text before.input b other on read reads same)
-    ∙ taken_as-going_on t.input reading before in
-    let fits_there : Fits l s.registers t.input = Fits-behind l s.registers s from b others a a half other charge (charge + 1) line line refl as_many fits in
-    ap (after l (length others)) (step-byte l s reading from b others a half charge line t read
+    ∙ taken_as-going_on next.input reading before in
+    let fits_there : Fits l s.registers next.input = Fits-behind l s.registers s from b others a a half other charge (charge + 1) line line refl as_many fits in
+    ap (after l (length others)) (step-byte l s reading from b others a half charge line next read
     (goes_on half b none (not-second (is_dropped b) (b == newline) read)) (omega arith)
     (ap (λ (n : ℕ). byte_taken b (going s reading from others a half (charge + 1) n)) stays ∙ is) fits_there)
-    ∙ after-asks l s reading is_text from a line asks name behind other others (charge + 1) total of on same stays last (omega arith) within fits_there fits_behind
+    ∙ after-finds l s reading is_text from a line found behind other others (charge + 1) total t on same stays last (omega arith) within fits_there means fits_behind
 
 -- a name is no size
 in_size-names : (names : List Half) → AreNames names → is_in_size names ≡ false
@@ -383,15 +389,15 @@ byte_read-backslash is_text (Delimited purpose delimiter text ∷ rest) are = ab
 byte_read-backslash is_text (Width delimiter width is_deep ∷ rest) are = absurd (search (rules, are.all))
 byte_read-backslash is_text (Name asks part ∷ rest) are = refl
 
-taking-backslash : (k : Known) (reading : Reading) (is_text : Bool) (i : PageInput) → ReadsEscapes reading is_text → AreNames i.half
+taking-backslash : (k : Known) (reading : Reading) (is_text : Bool) (i : PageInput) → ReadsEscapes reading is_text
+    → byte_read is_text i.half backslash ≡ (GoesOn, Backslash ∷ i.half)
     → taking k reading i backslash ≡ going_on (record i { half = Backslash ∷ i.half; arguments = settled_for reading i.arguments }) reading
-taking-backslash k _ _ i AtBeginning names = ap (beginning_read k i) (byte_read-backslash true i.half names)
-taking-backslash k _ _ i (OnText line) names = ap (text_read k i line) (byte_read-backslash true i.half names)
-taking-backslash k _ _ i (OnArguments breaks request) names =
-    ap (arguments_read_on k i breaks request) (byte_read-backslash false i.half names)
+taking-backslash k _ _ i AtBeginning opens = ap (beginning_read k i) opens
+taking-backslash k _ _ i (OnText line) opens = ap (text_read k i line) opens
+taking-backslash k _ _ i (OnArguments breaks request) opens = ap (arguments_read_on k i breaks request) opens
 
 -- arguments where no quote follows the quote before stay so
-settled_for-settled_for : (reading : Reading) (is_text : Bool) (a : Arguments) → ReadsEscapes reading is_text
+pub settled_for-settled_for : (reading : Reading) (is_text : Bool) (a : Arguments) → ReadsEscapes reading is_text
     → settled_for reading (settled_for reading a) ≡ settled_for reading a
 settled_for-settled_for _ _ a AtBeginning = refl
 settled_for-settled_for _ _ a (OnText line) = refl
@@ -403,30 +409,39 @@ held-settled_for _ _ a AtBeginning = refl
 held-settled_for _ _ a (OnText line) = refl
 held-settled_for _ _ a (OnArguments breaks request) = held-only_kept-settled a
 
--- the steps at an escape
-after-escape : (l : Limits) (s : State) (reading : Reading) (is_text : Bool) (from : Origin) (a : Arguments)
-    (asks : NameUse) (name : List ℕ) (names : List Half) (bytes : List ℕ) (charge line : ℕ)
-    → Interpolates asks → ReadsEscapes reading is_text → AreNames names → AsksAtLast is_text asks name names (Backslash ∷ names) bytes
-    → let total : ℕ = charge + length (backslash ∷ bytes) in
-    let t : State = asked s reading from (settled_for reading a) names total (line_behind from s line) asks name in
-    total ≤ l.bytes → Fits l s.registers (input_of s from (backslash ∷ bytes) a names charge line)
-    → Fits l t.registers t.input → after l (length (backslash ∷ bytes)) (going s reading from (backslash ∷ bytes) a names charge line) ≡ t
-after-escape l s reading is_text from a asks name names bytes charge line of on are last within fits fits_behind =
+-- the steps at an escape, where a backslash begins one
+pub after-escape : (l : Limits) (s : State) (reading : Reading) (is_text : Bool) (from : Origin) (a : Arguments)
+    (found : Read) (half behind : List Half) (bytes : List ℕ) (charge line : ℕ) (t : State)
+    → ReadsEscapes reading is_text → is_in_size half ≡ false → byte_read is_text half backslash ≡ (GoesOn, Backslash ∷ half)
+    → FindsAtLast is_text found behind (Backslash ∷ half) bytes
+    → charge + length (backslash ∷ bytes) ≤ l.bytes → Fits l s.registers (input_of s from (backslash ∷ bytes) a half charge line)
+    → Means s reading is_text from (settled_for reading a) (charge + length (backslash ∷ bytes)) (line_behind from s line) found behind t
+    → Fits l t.registers t.input → after l (length (backslash ∷ bytes)) (going s reading from (backslash ∷ bytes) a half charge line) ≡ t
+after-escape l s reading is_text from a found half behind bytes charge line t on none opens last within fits means fits_behind =
     let there : Arguments = settled_for reading a in
     let next : ℕ = line_behind from s line in
-    let taken : State = going s reading from bytes a names (charge + 1) next in
-    let t : State = going s reading from bytes there (Backslash ∷ names) (charge + 1) next in
-    let is : byte_taken backslash taken ≡ t =
-    ap (λ (taking : Taking). taken_as taking taken) (taking-backslash (known s) reading is_text taken.input on are)
-    ∙ taken_as-going_on t.input reading taken in
-    let fits_there : Fits l s.registers t.input =
-    Fits-behind l s.registers s from backslash bytes a there names (Backslash ∷ names) charge (charge + 1) line next
+    let taken : State = going s reading from bytes a half (charge + 1) next in
+    let begun : State = going s reading from bytes there (Backslash ∷ half) (charge + 1) next in
+    let is : byte_taken backslash taken ≡ begun =
+    ap (λ (taking : Taking). taken_as taking taken) (taking-backslash (known s) reading is_text taken.input on opens)
+    ∙ taken_as-going_on begun.input reading taken in
+    let fits_there : Fits l s.registers begun.input =
+    Fits-behind l s.registers s from backslash bytes a there half (Backslash ∷ half) charge (charge + 1) line next
     (held-settled_for reading is_text a on) refl fits in
-    ap (after l (length bytes)) (step-byte l s reading from backslash bytes a names charge line t refl
-    (goes_on names backslash (in_size-names names are) refl) (omega arith) is fits_there)
-    ∙ after-asks l s reading is_text from there next asks name names (Backslash ∷ names) bytes (charge + 1) (charge + length (backslash ∷ bytes))
-    of on (settled_for-settled_for reading is_text a on) (line_behind-again from s line)
-    last (omega arith) within fits_there fits_behind
+    ap (after l (length bytes)) (step-byte l s reading from backslash bytes a half charge line begun refl
+    (goes_on half backslash none refl) (omega arith) is fits_there)
+    ∙ after-finds l s reading is_text from there next found behind (Backslash ∷ half) bytes (charge + 1) (charge + length (backslash ∷ bytes)) t
+    on (settled_for-settled_for reading is_text a on) (line_behind-again from s line)
+    last (omega arith) within fits_there means fits_behind
+
+-- a byte that asks for a text
+means-asks : (s : State) (reading : Reading) (is_text : Bool) (from : Origin) (a : Arguments) (charge line : ℕ) (asks : NameUse) (name : List ℕ)
+    (behind : List Half) → Interpolates asks → ReadsEscapes reading is_text → settled_for reading a ≡ a
+    → Means s reading is_text from a charge line (Asks asks (Some name)) behind (asked s reading from a behind charge line asks name)
+means-asks s reading is_text from a charge line asks name behind of on same half b read reads =
+    let before : State = going s reading from [] a half charge line in
+    ap (λ (taking : Taking). taken_as taking before) (taking-asks (known s) reading is_text before.input b behind asks name of on read reads same)
+    ∙ taken_as-asking s reading from a half behind charge line asks name of
 
 -- a byte that stands for itself is read
 pub IsRead-itself : (b : ℕ) → StandsForItself b → IsRead b
@@ -526,7 +541,7 @@ byte_read-opening is_text None names = refl
 byte_read-opening is_text (Some direction) names = refl
 
 -- a state behind bytes that were taken
-abbrev source_behind : Origin → State → State
+abbrev pub source_behind : Origin → State → State
 source_behind (FromAhead rest) s = s
 source_behind (FromSource tape) s = with_source_behind tape s
 
@@ -573,11 +588,11 @@ charge-asked s reading from a half charge line _ name AString = refl
 charge-asked s reading from a half charge line _ name AnArgument = refl
 
 -- a state within the limits is within those that a step looks at
-Fits-IsWithin : (l : Limits) (s : State) → IsWithin l s → Fits l s.registers s.input
+pub Fits-IsWithin : (l : Limits) (s : State) → IsWithin l s → Fits l s.registers s.input
 Fits-IsWithin l s within = record { names = within.names; stack = within.stack; depth = within.depth }
 
 -- where escapes are read, text is or arguments are
-ReadsEscapes-reads_escapes : (reading : Reading) → reads_escapes reading ≡ true → (is_text : Bool) × ReadsEscapes reading is_text
+pub ReadsEscapes-reads_escapes : (reading : Reading) → reads_escapes reading ≡ true → (is_text : Bool) × ReadsEscapes reading is_text
 ReadsEscapes-reads_escapes LineStart is = (true, AtBeginning)
 ReadsEscapes-reads_escapes (InText line) is = (true, OnText line)
 ReadsEscapes-reads_escapes (InArguments breaks request) is = (false, OnArguments breaks request)
@@ -600,8 +615,10 @@ escape-going l s reading is_text from a asks name names bytes charge line of on 
     let is : read ≡ t = read_from-asked s reading is_text from (backslash ∷ bytes) a names charge (length (backslash ∷ bytes)) line asks name of on in
     let within_t : IsWithin l t = subst (IsWithin l) is within_read in
     let charged : t.input.charge ≡ total = charge-asked s reading from (settled_for reading a) names total (line_behind from s line) asks name of in
-    after-escape l s reading is_text from a asks name names bytes charge line of on are last (omega (arith, within_t.bytes, charged))
-    (Fits-IsWithin l first within) (Fits-IsWithin l t within_t)
+    after-escape l s reading is_text from a (Asks asks (Some name)) names names bytes charge line t on (in_size-names names are) (byte_read-backslash is_text names are)
+    last (omega (arith, within_t.bytes, charged)) (Fits-IsWithin l first within)
+    (means-asks s reading is_text from (settled_for reading a) total (line_behind from s line) asks name names of on (settled_for-settled_for reading is_text a on))
+    (Fits-IsWithin l t within_t)
     ∙ sym is
 
 -- and in any state of such a run

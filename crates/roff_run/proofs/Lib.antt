@@ -23,6 +23,7 @@ pub mod Obeying
 pub mod RemovedRegisters
 pub mod InFront
 pub mod Interpolation
+pub mod WidthLaws
 pub mod QuotedArguments
 pub mod Printing
 pub mod HalfCounts

@@ -2,6 +2,8 @@
 
 ghost use Rattle.roff_run.specs.InterpolationLaws.{UnreadInputIsTheTape, StepsFollowTheTape, BytesAheadAreTaken, BytesOfTheSourceAreTaken, EscapesReadAsTexts, EscapesOfTheSourceReadAsTexts, EscapesOfTextReadAsTexts, PushedBytesCostAsOthers, TextsCostTheirBytesAndOne};
 ghost use Rattle.roff_run.specs.Quoting.{RequestsGetQuotedArguments};
+ghost use Rattle.roff_run.specs.WidthLaws.{WidthsReadAsDigits, WidthsOfTheSourceReadAsDigits, MeasuredTextsReadAsDigits, MeasuredTextsOfTheSourceReadAsDigits, WidthsEndWithTheirLine};
+ghost use Rattle.roff_run.specs.WidthLaws.{MotionsAreAsLongAsTheirColumns, MotionsCountInTheLine};
 
 /// Where nothing stands ahead of the source and nothing is half read, the unread input is the
 /// source's tape: a step does what the front of the tape says.
@@ -39,4 +41,23 @@ pub fn costs()
 /// A request gets the arguments that are written in quotes, those that are kept.
 pub fn quoted_arguments()
     ensures { RequestsGetQuotedArguments }
+{}
+
+/// Where a text that is measured ends, at its delimiter or with its line, the digits of its width,
+/// and an end, are read in its place.
+/// A whole escape `\w'text'` with a plain text is read as 24 basic units for each column of the
+/// text, in so many steps and at the cost of so many as the escape has bytes.
+pub fn widths()
+    ensures delimiter { WidthsReadAsDigits }
+    ensures delimiter_of_the_source { WidthsOfTheSourceReadAsDigits }
+    ensures line { WidthsEndWithTheirLine }
+    ensures text { MeasuredTextsReadAsDigits }
+    ensures text_of_the_source { MeasuredTextsOfTheSourceReadAsDigits }
+{}
+
+/// A motion makes the pending line as much longer as it has columns, and counts so in the limit on
+/// a line.
+pub fn motions()
+    ensures length { MotionsAreAsLongAsTheirColumns }
+    ensures limit { MotionsCountInTheLine }
 {}
