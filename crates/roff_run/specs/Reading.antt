@@ -13,7 +13,6 @@ use Rattle.roff_scan.specs.declared.escapes.Escape.{Escape as Kind}
 use Rattle.roff_scan.specs.declared.escapes.Escape.TheVariants.{Prints, Blank, NoWidth, LeftOut as IsLeftOut, Text as BeginsText}
 use Rattle.roff_scan.specs.declared.escapes.NameUse.{NameUse}
 use Rattle.roff_scan.specs.declared.escapes.NameUse.TheVariants.{Register, Character, Font, LeftOut as NameLeftOut}
-use Rattle.roff_scan.specs.declared.escapes.TextUse.{TextUse}
 use Rattle.roff_scan.specs.declared.escapes.TextUse.TheVariants.{LeftOut as LeftOutText}
 use Rattle.roff_scan.specs.declared.half.CopyUnit.{CopyUnit}
 use Rattle.roff_scan.specs.declared.half.CopyUnit.TheVariants.{Byte, Kept}
