@@ -1,10 +1,10 @@
 -- How much is half read behind what is read.
 use Rattle.std.proofs.Common.{ℕ, ◌+◌, ◌≤◌, Bool, true, false, List, [], ◌∷◌, length, Option, Some, None, arith}
-use Rattle.std.specs.Prelude.{◌&&◌, ◌||◌, nat_le, if◌then◌else◌, ◌==◌}
+use Rattle.std.specs.Prelude.{◌||◌, nat_le, if◌then◌else◌, ◌==◌}
 use Rattle.roff_scan.specs.Bytes.{tab, newline, quote, dot, backslash}
 use Rattle.roff_scan.specs.Escapes.{escape_of, is_copied}
 use Rattle.roff_scan.specs.Half.{Half, Backslash, Comment, Name, Size, Delimited, Width, names_in}
-use Rattle.roff_scan.specs.Halves.{Reads, most_names, surroundings, reads_text, reads_widths, escape_given, motion_given, name_given, text_given, name_beginning, width_beginning, name_or_opening, name_begun, unit_of_name, unit_of_text, unit_taken, copied_escape, escape_read, is_sign, is_first_digit, size_read, byte_of_text, byte_of_width, byte_read, name_ended, reading_ended}
+use Rattle.roff_scan.specs.Halves.{Reads, most_names, surroundings, reads_text, reads_widths, escape_given, motion_given, name_given, text_given, name_beginning, name_or_opening, name_begun, unit_of_name, unit_of_text, unit_taken, copied_escape, escape_read, is_sign, is_first_digit, size_read, byte_of_text, byte_of_width, byte_read, name_ended, reading_ended}
 use Rattle.roff_scan.specs.Measures.{motion_of}
 use Rattle.roff_scan.specs.declared.escapes.Escape.{Escape as Kind}
 use Rattle.roff_scan.specs.declared.escapes.Escape.TheVariants.{Prints, Blank, NoWidth, Nothing as GivesNothing, LeftOut as IsLeftOut, Comment as BeginsComment, Size as BeginsSize, Name as BeginsName, Text as BeginsText, Width as BeginsWidth}
