@@ -78,7 +78,7 @@ abbrev pub motion_given : List Half → Measured → Reads
 motion_given (Width d width is_deep ∷ rest) measured = grown rest d width is_deep measured
 motion_given rest measured = (Motion measured.columns measured.remark, rest)
 
--- whether what a name asks for is read in the place of its escape: a register, a string or an argument
+-- a name within a text that is measured: a register, a string or an argument is asked for, and else the text grows
 abbrev pub name_measured : List Half → Option ℕ → ℕ → Bool → NameUse → Option (List ℕ) → Reads
 name_measured rest d width is_deep purpose name =
     if is_copied purpose then (Asks purpose name, Width d width is_deep ∷ rest)
