@@ -1,8 +1,11 @@
 -- Kinds of input bytes (manual, sections 1.1 and 10.1).
-use Rattle.std.specs.Prelude.{ℕ, Bool, ◌&&◌, ◌||◌, not, [], ◌∷◌, nat_lt, ◌==◌}
+use Rattle.std.specs.Prelude.{ℕ, Bool, ◌&&◌, ◌||◌, not, [], ◌∷◌, nat_le, nat_lt, ◌==◌}
 use Rattle.std.specs.List.{list_any}
 
 -- bytes with a meaning
+abbrev pub start_of_text : ℕ
+start_of_text = 2
+
 abbrev pub tab : ℕ
 tab = 9
 
@@ -23,6 +26,9 @@ dot = 46
 
 abbrev pub backslash : ℕ
 backslash = 92
+
+abbrev pub is_digit : ℕ → Bool
+is_digit b = nat_le 48 b && nat_le b 57
 
 -- STX, ETX, ENQ, ACK and BEL: they stand in the input, and print nothing
 abbrev pub is_silent : ℕ → Bool

@@ -2,7 +2,7 @@
 use Rattle.std.specs.Prelude.{ℕ, Bool, true, false, List, [], ◌∷◌, find, Option, Some, None, ◌==◌}
 use Rattle.roff_scan.specs.Bytes.{backslash}
 use Rattle.roff_scan.specs.declared.escapes.Escape.{Escape}
-use Rattle.roff_scan.specs.declared.escapes.Escape.TheVariants.{Prints, Blank, NoWidth, Nothing, LeftOut, Comment, Size, Name as NameOf, Text as TextOf, Width}
+use Rattle.roff_scan.specs.declared.escapes.Escape.TheVariants.{Prints, Blank, NoWidth, Nothing, Brace, LeftOut, Comment, Size, Name as NameOf, Text as TextOf, Width}
 use Rattle.roff_scan.specs.declared.escapes.NameUse.{NameUse}
 use Rattle.roff_scan.specs.declared.escapes.NameUse.TheVariants.{Register, Text, Argument, Character, Font, LeftOut as LeftOutName}
 use Rattle.roff_scan.specs.declared.escapes.Row.{Row}
@@ -25,9 +25,10 @@ escapes =
     ∷ row 94 Nothing  -- \^
     ∷ row 99 Nothing  -- \c
     ∷ row 116 Nothing  -- \t
-    ∷ row 123 Nothing  -- \{
-    ∷ row 125 Nothing  -- \}
+    ∷ row 123 Brace  -- \{
+    ∷ row 125 Brace  -- \}
     ∷ row 10 Nothing  -- \ and a newline
+    ∷ row 9 Nothing  -- \ and a tab
     ∷ row 2 Nothing  -- \ and STX
     ∷ row 3 Nothing  -- \ and ETX
     ∷ row 5 Nothing  -- \ and ENQ

@@ -1,11 +1,13 @@
--- What may be half read (manual, sections 2.3, 7.2, 8, 10.1 and 11).
+-- What may be half read (manual, sections 2.3, 7.2, 8, 10.1, 11 and 16).
 use Rattle.std.specs.Prelude.{ℕ, ◌+◌, Bool, List, [], ◌∷◌, ◌++◌, length, Option}
 use Rattle.roff_scan.specs.Bytes.{backslash}
 use Rattle.roff_scan.specs.declared.escapes.NameUse.{NameUse}
 use Rattle.roff_scan.specs.declared.escapes.TextUse.{TextUse}
+use Rattle.roff_scan.specs.declared.half.ConditionPart.{ConditionPart}
 use Rattle.roff_scan.specs.declared.half.CopyUnit.{CopyUnit}
 use Rattle.roff_scan.specs.declared.half.CopyUnit.TheVariants.{Byte, Kept}
 use Rattle.roff_scan.specs.declared.half.NamePart.{NamePart}
+use Rattle.roff_scan.specs.declared.half.Read.{Read}
 use Rattle.roff_scan.specs.declared.half.SizePart.{SizePart}
 
 -- something that is half read
@@ -22,13 +24,19 @@ pub data Half : Type 0 where
   Delimited : (purpose : TextUse) → (delimiter : Option ℕ) → (text : List ℕ) → Half
   -- a text that is measured: its delimiter, its width so far in basic units, and whether it stands too deep to be measured
   Width : (delimiter : Option ℕ) → (width : ℕ) → (is_deep : Bool) → Half
+  -- a condition, and its expression or its texts as copied so far, the second behind the first
+  Condition : (part : ConditionPart) → (text : List ℕ) → Half
+
+-- what a byte, a unit or an ending gives, and what is half read then
+abbrev pub Reads : Type 0
+Reads = Read × List Half
 
 -- the bytes of a unit: a byte, or a backslash and the byte behind it
 abbrev pub unit_bytes : CopyUnit → List ℕ
 unit_bytes (Byte b) = b ∷ []
 unit_bytes (Kept b) = backslash ∷ b ∷ []
 
--- the bytes that are held of texts between delimiters
+-- the bytes that are held of texts
 abbrev pub texts_held : List Half → ℕ
 texts_held [] = 0
 texts_held (Backslash ∷ rest) = texts_held rest
@@ -37,6 +45,7 @@ texts_held (Name purpose part ∷ rest) = texts_held rest
 texts_held (Size part ∷ rest) = texts_held rest
 texts_held (Delimited purpose delimiter text ∷ rest) = length text + texts_held rest
 texts_held (Width delimiter width is_deep ∷ rest) = texts_held rest
+texts_held (Condition part text ∷ rest) = length text + texts_held rest
 
 -- one unit more of the text that is being read
 abbrev pub text_held : CopyUnit → List Half → List Half
@@ -47,6 +56,7 @@ text_held unit (Name purpose part ∷ rest) = Name purpose part ∷ rest
 text_held unit (Size part ∷ rest) = Size part ∷ rest
 text_held unit (Delimited purpose delimiter text ∷ rest) = Delimited purpose delimiter (text ++ unit_bytes unit) ∷ rest
 text_held unit (Width delimiter width is_deep ∷ rest) = Width delimiter width is_deep ∷ rest
+text_held unit (Condition part text ∷ rest) = Condition part (text ++ unit_bytes unit) ∷ rest
 
 -- how many names are half read
 abbrev pub names_in : List Half → ℕ
@@ -57,6 +67,7 @@ names_in (Name purpose part ∷ rest) = names_in rest + 1
 names_in (Size part ∷ rest) = names_in rest
 names_in (Delimited purpose delimiter text ∷ rest) = names_in rest
 names_in (Width delimiter width is_deep ∷ rest) = names_in rest
+names_in (Condition part text ∷ rest) = names_in rest
 
 -- how many texts are being measured
 abbrev pub widths_in : List Half → ℕ
@@ -67,3 +78,4 @@ widths_in (Name purpose part ∷ rest) = widths_in rest
 widths_in (Size part ∷ rest) = widths_in rest
 widths_in (Delimited purpose delimiter text ∷ rest) = widths_in rest
 widths_in (Width delimiter width is_deep ∷ rest) = widths_in rest + 1
+widths_in (Condition part text ∷ rest) = widths_in rest

@@ -1,13 +1,16 @@
--- Words for the laws of what is half read (manual, sections 7.2, 8, 10.1 and 11).
-use Rattle.std.specs.Prelude.{◌≡◌, ℕ, zero, suc, Bool, true, ◌&&◌, ◌||◌, not, List, [], ◌∷◌, ◌++◌, map, flat_map, sum_by, Option, Some, None, if◌then◌else◌, ◌==◌}
+-- Words for the laws of what is half read (manual, sections 7.2, 8, 10.1, 11 and 16).
+use Rattle.std.specs.Prelude.{◌≡◌, ℕ, zero, suc, Bool, true, false, codes, ◌&&◌, ◌||◌, not, List, [], ◌∷◌, ◌++◌, map, flat_map, sum_by, Option, Some, None, if◌then◌else◌, ◌==◌}
 use Rattle.std.specs.List.{list_all, list_any}
 use Rattle.roff_scan.specs.Bytes.{tab, newline, quote, dot, backslash}
-use Rattle.roff_scan.specs.Half.{Half, text_held, unit_bytes}
+use Rattle.roff_scan.specs.Conditions.{begins_expression, is_among}
+use Rattle.roff_scan.specs.Half.{Half, Condition, text_held, unit_bytes}
 use Rattle.roff_scan.specs.Halves.{byte_read, reading_ended}
 use Rattle.roff_scan.specs.Measures.{byte_columns}
+use Rattle.roff_scan.specs.declared.half.ConditionPart.TheVariants.{Choice, Decided}
 use Rattle.roff_scan.specs.declared.half.CopyUnit.{CopyUnit}
+use Rattle.roff_scan.specs.declared.half.Decision.{Decision}
 use Rattle.roff_scan.specs.declared.half.Read.{Read}
-use Rattle.roff_scan.specs.declared.half.Read.TheVariants.{GoesOn, Unit as GivesUnit, Holds, Escape, Asks, Motion, Measures, Tells}
+use Rattle.roff_scan.specs.declared.half.Read.TheVariants.{GoesOn, Unit as GivesUnit, Holds, Escape, Asks, Motion, Measures, Tells, Decides}
 use Rattle.roff_store.specs.declared.register.Direction.{Direction}
 use Rattle.roff_store.specs.declared.register.Direction.TheVariants.{Up, Down}
 
@@ -21,6 +24,7 @@ found_before (Asks purpose name) others = Asks purpose name ∷ others
 found_before (Motion columns remark) others = Motion columns remark ∷ others
 found_before (Measures width) others = Measures width ∷ others
 found_before (Tells remark) others = Tells remark ∷ others
+found_before (Decides decision freed) others = Decides decision freed ∷ others
 
 -- what is half read behind what a byte gives: a unit of a text between delimiters is held there
 abbrev pub half_behind : Read → List Half → List Half
@@ -123,3 +127,19 @@ is_between delimiter text = list_all (λ b. not (b == delimiter || b == backslas
 -- the columns of a text
 abbrev pub columns_in : List ℕ → ℕ
 columns_in text = sum_by byte_columns text
+
+-- two texts between delimiters, as a condition has them: `'text'text'`
+abbrev pub two_texts : ℕ → List ℕ → List ℕ → List ℕ
+two_texts delimiter first second = delimiter ∷ first ++ delimiter ∷ second ++ delimiter ∷ []
+
+-- whether a byte delimits the texts of a condition where one begins: it asks for nothing else
+abbrev pub delimits_texts : ℕ → Bool
+delimits_texts b = not (is_among (codes " !oetn\\\n") b || begins_expression b)
+
+-- what the bytes of a condition give, and what is half read behind them
+abbrev pub asked : List ℕ → List Read × List Half
+asked bytes = reads_through false (Condition (Choice false) [] ∷ []) bytes
+
+-- a condition is read, of which this is held, and decides so next
+abbrev pub decided : Decision → List ℕ → List Read × List Half
+decided decision text = ([], Condition (Decided decision None) text ∷ [])

@@ -1,15 +1,15 @@
 -- What the code keeps of what is half read.
-use Rattle.std.specs.Prelude.{◌≡◌, ℕ, ◌≤◌, ◌<◌, ◌^◌, List, [], ◌∷◌, length, reverse, take, drop, vec_capacity}
+use Rattle.std.specs.Prelude.{◌≡◌, ℕ, Bool, true, false, ◌≤◌, ◌<◌, ◌^◌, List, [], ◌∷◌, length, reverse, take, drop, vec_capacity}
 use Rattle.std.specs.List.{sum_by}
-use Rattle.roff_scan.specs.Half.{Half, Backslash, Comment, Name, Size, Delimited, Width, texts_held}
+use Rattle.roff_scan.specs.Half.{Half, Backslash, Comment, Name, Size, Delimited, Width, Condition, texts_held}
 use Rattle.roff_scan.specs.Halves.{Reads}
 use Rattle.roff_scan.specs.Nesting.{IsNested}
 use Rattle.roff_scan.specs.declared.half.HalfRead.{HalfRead}
-use Rattle.roff_scan.specs.declared.half.HalfRead.TheVariants.{Backslash as BackslashRead, Comment as CommentRead, Name as NameRead, Size as SizeRead, Delimited as DelimitedRead, Width as WidthRead}
+use Rattle.roff_scan.specs.declared.half.HalfRead.TheVariants.{Backslash as BackslashRead, Comment as CommentRead, Name as NameRead, Size as SizeRead, Delimited as DelimitedRead, Width as WidthRead, Condition as ConditionRead}
 use Rattle.roff_scan.specs.declared.half.Read.{Read}
 use Rattle.roff_scan.specs.declared.halves.Halves.TheInside.{Inside}
 
--- what is half read, and how many bytes of texts between delimiters there is room for
+-- what is half read, and how many bytes of texts there is room for
 pub record KeptHalves : Type 0 where
   pub half : List Half
   pub room : ℕ
@@ -23,11 +23,13 @@ joined (NameRead purpose part ∷ items) block = Name purpose part ∷ joined it
 joined (SizeRead part ∷ items) block = Size part ∷ joined items block
 joined (DelimitedRead purpose delimiter begin ∷ items) block = Delimited purpose delimiter (drop begin block) ∷ joined items (take begin block)
 joined (WidthRead delimiter width is_deep ∷ items) block = Width delimiter width is_deep ∷ joined items block
+joined (ConditionRead part begin ∷ items) block = Condition part (drop begin block) ∷ joined items (take begin block)
 
 -- each of them begins within the block, and no byte stands before the first
 abbrev pub AreJoined : List HalfRead → List ℕ → Type 0
 AreJoined [] block = block ≡ []
 AreJoined (DelimitedRead purpose delimiter begin ∷ items) block = (begin ≤ length block) × AreJoined items (take begin block)
+AreJoined (ConditionRead part begin ∷ items) block = (begin ≤ length block) × AreJoined items (take begin block)
 AreJoined (item ∷ items) block = AreJoined items block
 
 -- what the fields keep: the innermost stands at the back
@@ -54,10 +56,12 @@ begun (NameRead purpose part) = Name purpose part
 begun (SizeRead part) = Size part
 begun (DelimitedRead purpose delimiter begin) = Delimited purpose delimiter []
 begun (WidthRead delimiter width is_deep) = Width delimiter width is_deep
+begun (ConditionRead part begin) = Condition part []
 
 -- a text begins behind these bytes
 abbrev pub BeginsBehind : ℕ → HalfRead → Type 0
 BeginsBehind bytes (DelimitedRead purpose delimiter begin) = begin ≡ bytes
+BeginsBehind bytes (ConditionRead part begin) = begin ≡ bytes
 BeginsBehind bytes (item) = Unit {0}
 
 -- something that is kept, with its text, if it has one
@@ -68,6 +72,19 @@ with_text (NameRead purpose part) text = Name purpose part
 with_text (SizeRead part) text = Size part
 with_text (DelimitedRead purpose delimiter begin) text = Delimited purpose delimiter text
 with_text (WidthRead delimiter width is_deep) text = Width delimiter width is_deep
+with_text (ConditionRead part begin) text = Condition part text
+
+-- whether something has a text
+abbrev pub holds_text : HalfRead → Bool
+holds_text (DelimitedRead purpose delimiter begin) = true
+holds_text (ConditionRead part begin) = true
+holds_text (item) = false
+
+-- the text of what is on top, if it has one
+abbrev pub text_on_top : List Half → List ℕ
+text_on_top (Delimited purpose delimiter text ∷ rest) = text
+text_on_top (Condition part text ∷ rest) = text
+text_on_top (_) = []
 
 -- it stands on top, with its text, which begins behind those below
 pub record IsOnTop (item : HalfRead) (half : List Half) : Type 0 where

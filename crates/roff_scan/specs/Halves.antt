@@ -1,12 +1,14 @@
--- What is half read: backslashes, comments, and names, sizes and texts behind escapes (manual, sections 2.3, 7.2, 8, 10.1
--- and 11).
+-- What is half read: backslashes, comments, conditions, and names, sizes and texts behind escapes (manual, sections 2.3,
+-- 7.2, 8, 10.1, 11 and 16).
 --
 -- Units of copy mode are handed down from what stands above: a byte, or an escape that is kept.
 use Rattle.std.specs.Prelude.{ℕ, Bool, true, false, ◌&&◌, ◌||◌, not, List, [], ◌∷◌, take, nat_le, Option, Some, None, if◌then◌else◌, ◌==◌}
 use Rattle.roff_store.specs.declared.register.Direction.TheVariants.{Up, Down}
-use Rattle.roff_scan.specs.Bytes.{tab, newline, quote, dot, backslash}
+use Rattle.roff_scan.specs.Bytes.{start_of_text, tab, newline, quote, dot, backslash, is_digit, is_dropped}
+use Rattle.roff_scan.specs.Conditions.{byte_of_condition, condition_ended, ends_at_backslash, is_decided, ends_at_newline, ends_condition, is_read_in_arguments, unit_of_condition}
 use Rattle.roff_scan.specs.Escapes.{escape_of, is_copied}
-use Rattle.roff_scan.specs.Half.{Half, Backslash, Comment, Name, Size, Delimited, Width, unit_bytes, names_in, widths_in}
+pub use Rattle.roff_scan.specs.Half.{Reads}
+use Rattle.roff_scan.specs.Half.{Half, Backslash, Comment, Name, Size, Delimited, Width, Condition, unit_bytes, names_in, widths_in}
 use Rattle.roff_scan.specs.Measures.{columns_of, wider, byte_columns, escape_measures, name_measures, motion_of}
 use Rattle.roff_scan.specs.declared.escapes.Escape.{Escape as Kind}
 use Rattle.roff_scan.specs.declared.escapes.Escape.TheVariants.{Comment as BeginsComment, Size as BeginsSize, Name as BeginsName, Text as BeginsText, Width as BeginsWidth}
@@ -27,10 +29,6 @@ use Rattle.roff_scan.specs.declared.half.Surroundings.{Surroundings}
 use Rattle.roff_scan.specs.declared.measures.Measured.{Measured}
 use Rattle.roff_scan.specs.declared.half.Surroundings.TheVariants.{Text as InText, Arguments as InArguments, Copy as InCopy}
 
--- what a byte, a unit or an ending gives, and what is half read then
-abbrev pub Reads : Type 0
-Reads = Read × List Half
-
 -- within so many names a further one isn't read
 abbrev pub most_names : ℕ
 most_names = 8
@@ -40,11 +38,12 @@ abbrev pub most_widths : ℕ
 most_widths = 8
 
 -- how a backslash is read above these: within names and texts too deep to be measured in copy mode, within texts between
--- delimiters as in arguments, and within measured ones as in text
+-- delimiters and conditions as in arguments, and within measured ones as in text
 abbrev pub surroundings : Bool → List Half → Surroundings
 surroundings is_text [] = if is_text then InText else InArguments
 surroundings is_text (Delimited purpose d text ∷ rest) = InArguments
 surroundings is_text (Width d width is_deep ∷ rest) = if is_deep then InCopy else InText
+surroundings is_text (Condition part text ∷ rest) = InArguments
 surroundings is_text (half ∷ rest) = InCopy
 
 -- whether every escape is read there
@@ -134,6 +133,7 @@ unit_taken (Name purpose part ∷ rest) unit = unit_of_name rest purpose part un
 unit_taken (Size part ∷ rest) unit = (GoesOn, Size part ∷ rest)
 unit_taken (Delimited purpose d text ∷ rest) unit = unit_of_text rest purpose d text unit
 unit_taken (Width d width is_deep ∷ rest) unit = (GoesOn, Width d width is_deep ∷ rest)
+unit_taken (Condition part text ∷ rest) unit = unit_of_condition rest part text unit
 
 -- the byte behind a backslash of copy mode that begins nothing: a newline is dropped with its backslash
 abbrev pub copied_escape : List Half → ℕ → Reads
@@ -162,12 +162,9 @@ width_beginning rest = (GoesOn, Width None 0 (nat_le most_widths (widths_in rest
 abbrev pub size_over : List Half → Reads
 size_over rest = escape_given rest 115
 
--- whether a byte is a sign, a digit, or a digit behind which another belongs to a size
+-- whether a byte is a sign, or a digit behind which another belongs to a size
 abbrev pub is_sign : ℕ → Bool
 is_sign b = b == 43 || b == 45
-
-abbrev pub is_digit : ℕ → Bool
-is_digit b = nat_le 48 b && nat_le b 57
 
 abbrev pub is_first_digit : ℕ → Bool
 is_first_digit b = nat_le 49 b && nat_le b 51
@@ -227,6 +224,7 @@ byte_read is_text (Name purpose part ∷ rest) b =
 byte_read is_text (Size part ∷ rest) b = size_read rest part b
 byte_read is_text (Delimited purpose d text ∷ rest) b = byte_of_text rest purpose d text b
 byte_read is_text (Width d width is_deep ∷ rest) b = byte_of_width rest d width is_deep b
+byte_read is_text (Condition part text ∷ rest) b = byte_of_condition rest part text b
 
 -- a name that ends before a newline or the input's end: without a byte it is none
 abbrev pub name_ended : List Half → NameUse → NamePart → Reads
@@ -235,22 +233,33 @@ name_ended rest purpose Opened = name_given rest purpose None
 name_ended rest purpose (First a) = name_whole rest purpose (a ∷ [])
 
 -- The reading on top ends before what stays. A backslash of copy mode is a byte, and one of the text an escape
--- that gives nothing, as before a newline. A comment of the text is an escape. Texts end as at their delimiter.
+-- that gives nothing, as before STX. A comment of the text is an escape. Texts end as at their delimiter.
 abbrev pub reading_ended : Bool → List Half → Reads
 reading_ended is_text [] = (GoesOn, [])
 reading_ended is_text (Backslash ∷ rest) =
-    if reads_text (surroundings is_text rest) then escape_given rest newline else unit_taken rest (Byte backslash)
+    if reads_text (surroundings is_text rest) then escape_given rest start_of_text else unit_taken rest (Byte backslash)
 reading_ended is_text (Comment ∷ rest) =
     if reads_text (surroundings is_text rest) then escape_given rest quote else (GoesOn, rest)
 reading_ended is_text (Name purpose part ∷ rest) = name_ended rest purpose part
 reading_ended is_text (Size part ∷ rest) = size_over rest
 reading_ended is_text (Delimited purpose d text ∷ rest) = text_given rest purpose text
 reading_ended is_text (Width d width is_deep ∷ rest) = (Measures width, rest)
+reading_ended is_text (Condition part text ∷ rest) = condition_ended rest part text
 
--- whether the reading on top looks at what stands in front before it is taken: a newline stays then, and ends it
+-- whether the reading on top is a condition that decides, before anything is taken or seen
+abbrev pub decides_now : List Half → Bool
+decides_now (Condition part text ∷ rest) = is_decided part
+decides_now (_) = false
+
+-- whether a backslash above these is taken alone where its escape would be kept: the byte behind it stays then
+abbrev pub takes_backslash_alone : List Half → Bool
+takes_backslash_alone (Condition part text ∷ rest) = ends_at_backslash part
+takes_backslash_alone (_) = false
+
+-- whether the reading on top looks at what stands in front before it is taken: a newline stays then, and ends most
 abbrev pub newline_stays : List Half → Bool
 newline_stays [] = false
-newline_stays (Backslash ∷ rest) = false
+newline_stays (Backslash ∷ rest) = takes_backslash_alone rest
 newline_stays (half ∷ rest) = true
 
 -- whether a byte belongs to a size of which so much is read
@@ -264,17 +273,18 @@ abbrev pub ends_size : SizePart → Option ℕ → Bool
 ends_size part None = true
 ends_size part (Some b) = not (is_of_size part b)
 
--- whether it stays, and ends a name, a comment or a text: a newline
-abbrev pub ends_at_newline : Option ℕ → Bool
-ends_at_newline None = false
-ends_at_newline (Some b) = b == newline
+-- whether it stays, and ends a backslash that is taken alone before a byte that isn't read behind one in arguments
+abbrev pub ends_backslash : Option ℕ → Bool
+ends_backslash None = false
+ends_backslash (Some b) = not (is_read_in_arguments b || is_dropped b)
 
 -- whether what is seen in front stays, and ends the reading on top: a byte, or nothing that can be read
 abbrev pub seen_stays : List Half → Option ℕ → Bool
 seen_stays [] seen = false
-seen_stays (Backslash ∷ rest) seen = false
+seen_stays (Backslash ∷ rest) seen = takes_backslash_alone rest && ends_backslash seen
 seen_stays (Comment ∷ rest) seen = ends_at_newline seen
 seen_stays (Name purpose part ∷ rest) seen = ends_at_newline seen
 seen_stays (Size part ∷ rest) seen = ends_size part seen
 seen_stays (Delimited purpose d text ∷ rest) seen = ends_at_newline seen
 seen_stays (Width d width is_deep ∷ rest) seen = ends_at_newline seen
+seen_stays (Condition part text ∷ rest) seen = ends_condition part seen

@@ -1,10 +1,11 @@
 -- The input: what stands in front of the source, what is half read, and what is counted (manual, section 7).
 --
 -- Pushed texts, each with its end, and events put back stand ahead of the source's items in one list.
-use Rattle.std.specs.Prelude.{ℕ, ◌+◌, ◌*◌, Bool, true, false, List, [], ◌∷◌, ◌++◌, map, if◌then◌else◌, ◌==◌}
+use Rattle.std.specs.Prelude.{ℕ, ◌+◌, ◌*◌, Bool, true, false, List, [], ◌∷◌, ◌++◌, drop, length, map, Option, Some, None, if◌then◌else◌, ◌==◌}
 use Rattle.roff_scan.specs.Arguments.{Arguments, no_arguments, only_kept, held}
 use Rattle.roff_scan.specs.Bytes.{newline}
-use Rattle.roff_scan.specs.Half.{Half, texts_held, text_held}
+use Rattle.roff_scan.specs.Half.{Half, Condition, texts_held, text_held}
+use Rattle.roff_scan.specs.declared.half.ConditionPart.TheVariants.{Choice}
 use Rattle.roff_scan.specs.declared.half.CopyUnit.{CopyUnit}
 
 -- an item ahead of the source
@@ -26,6 +27,8 @@ pub record Input (E : Type 0) : Type 0 where
   pub arguments : Arguments
   -- what is half read, the innermost first
   pub half : List Half
+  -- the results of conditions that are kept for their other branch, the newest first
+  pub kept : List Bool
   -- how much was taken: bytes, ends of texts, events put back
   pub charge : ℕ
   -- how many newlines were taken of the source
@@ -35,7 +38,7 @@ pub record Input (E : Type 0) : Type 0 where
 
 -- before the first item
 abbrev pub initial_input : {E : Type 0} → Input E
-initial_input = record { ahead = []; arguments = no_arguments; half = []; charge = 0; newlines = 0; line = 1 }
+initial_input = record { ahead = []; arguments = no_arguments; half = []; kept = []; charge = 0; newlines = 0; line = 1 }
 
 -- whether nothing stands ahead
 abbrev pub is_none_ahead : {E : Type 0} → List (Ahead E) → Bool
@@ -90,6 +93,10 @@ pushed i = bytes_ahead i.ahead + held i.arguments + texts_held i.half
 abbrev pub depth : {E : Type 0} → Input E → ℕ
 depth i = ends_ahead i.ahead
 
+-- what counts in the limit on conditions: the results that are kept
+abbrev pub results : {E : Type 0} → Input E → ℕ
+results i = length i.kept
+
 -- a text and its end are put in front
 abbrev pub pushing : {E : Type 0} → List ℕ → Input E → Input E
 pushing text i = record i { ahead = map ByteAhead text ++ EndAhead ∷ i.ahead }
@@ -141,3 +148,19 @@ with_arguments a i = record i { arguments = only_kept a }
 -- one unit more is held of the text between delimiters that is being read
 abbrev pub holding_text : {E : Type 0} → CopyUnit → Input E → Input E
 holding_text unit i = record i { half = text_held unit i.half }
+
+-- a condition begins to be read, and nothing else is half read
+abbrev pub choosing : {E : Type 0} → Input E → Input E
+choosing i = record i { half = Condition (Choice false) [] ∷ [] }
+
+-- a result is kept
+abbrev pub keeping : {E : Type 0} → Bool → Input E → Input E
+keeping so i = record i { kept = so ∷ i.kept }
+
+-- the result that was kept last, if one is
+abbrev pub kept_last : {E : Type 0} → Input E → Option Bool
+kept_last i = elim i.kept [ [] ↦ None | so ∷ others ↦ Some so ]
+
+-- it is kept no more
+abbrev pub without_last : {E : Type 0} → Input E → Input E
+without_last i = record i { kept = drop 1 i.kept }

@@ -4,6 +4,7 @@ pub mod ReadSource
 pub mod Escapes
 pub mod Characters
 pub mod Half
+pub mod Conditions
 pub mod Measures
 pub mod Halves
 pub mod Nesting

@@ -1,6 +1,6 @@
--- How deep things may be half read within each other (manual, section 8).
+-- How deep things may be half read within each other (manual, sections 8 and 16).
 use Rattle.std.specs.Prelude.{◌≡◌, ◌≤◌, Bool, true, false, not, ◌&&◌, is_some, List, [], ◌∷◌, length, nat_le, if◌then◌else◌}
-use Rattle.roff_scan.specs.Half.{Half, Backslash, Comment, Name, Size, Delimited, Width, names_in, widths_in}
+use Rattle.roff_scan.specs.Half.{Half, Backslash, Comment, Name, Size, Delimited, Width, Condition, names_in, widths_in}
 use Rattle.roff_scan.specs.Halves.{most_names, most_widths, surroundings, reads_text, reads_widths}
 
 -- whether all of these are names
@@ -23,9 +23,16 @@ is_open (Name purpose part ∷ rest) = true
 is_open (Size part ∷ rest) = false
 is_open (Delimited purpose delimiter text ∷ rest) = is_some delimiter
 is_open (Width delimiter width is_deep ∷ rest) = is_some delimiter
+is_open (Condition part text ∷ rest) = true
+
+-- whether nothing is half read
+abbrev pub is_nothing : List Half → Bool
+is_nothing [] = true
+is_nothing (half ∷ rest) = false
 
 -- whether this may stand above these, if anything may: sizes and texts between delimiters where text is read, widths where
--- text or arguments are, deep ones within as many as may be, and names if there are fewer than may be
+-- text or arguments are, deep ones within as many as may be, names if there are fewer than may be, and conditions within
+-- nothing
 abbrev pub may_stand : Half → List Half → Bool
 may_stand Backslash rest = true
 may_stand Comment rest = true
@@ -34,6 +41,7 @@ may_stand (Size part) rest = reads_text (surroundings true rest)
 may_stand (Delimited purpose delimiter text) rest = reads_text (surroundings true rest)
 may_stand (Width delimiter width is_deep) rest =
     reads_widths (surroundings true rest) && (if is_deep then nat_le most_widths (widths_in rest) else not (nat_le most_widths (widths_in rest)))
+may_stand (Condition part text) rest = is_nothing rest
 
 -- whether each stands where it may
 abbrev pub is_nested : List Half → Bool

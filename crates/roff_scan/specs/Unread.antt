@@ -6,10 +6,10 @@ pub mod Calls
 pub mod Kept
 use Rattle.std.specs.Prelude.{ℕ, ◌+◌, ◌≤◌, ◌&&◌, is_none, Bool, true, false, List, [], ◌∷◌, length, ◌==◌, nat_lt, Option, Some, None, if◌then◌else◌, Result, Ok, Err}
 use Rattle.roff_num.specs.declared.limit.Limit.{Limit}
-use Rattle.roff_num.specs.declared.limit.Limit.TheVariants.{Bytes, Stack, Depth}
+use Rattle.roff_num.specs.declared.limit.Limit.TheVariants.{Bytes, Stack, Depth, Conditions}
 use Rattle.roff_num.specs.declared.limits.Limits.{Limits}
 use Rattle.roff_scan.specs.Halves.{Reads}
-use Rattle.roff_scan.specs.Input.{with_half, Input, initial_input, is_none_ahead, Ahead, ByteAhead, FreeAhead, EndAhead, DoAhead, cost, counting, item_taken, pushed, depth}
+use Rattle.roff_scan.specs.Input.{with_half, Input, initial_input, is_none_ahead, Ahead, ByteAhead, FreeAhead, EndAhead, DoAhead, cost, counting, item_taken, pushed, depth, results}
 use Rattle.roff_scan.specs.Tape.{Tape, Answer, Answers, Gives, Ends, OneByte, OneNote, Ending, Ended, Failed, Stopped, items_then}
 use Rattle.roff_scan.specs.declared.half.Read.{Read}
 use Rattle.roff_scan.specs.declared.unread.Item.{Item}
@@ -30,6 +30,7 @@ pub record IsWithin {E : Type 0} (u : Unread E) : Type 0 where
   pub newlines : u.input.newlines ≤ u.input.charge
   pub pushed : pushed u.input ≤ u.limits.stack
   pub depth : depth u.input ≤ u.limits.depth
+  pub results : results u.input ≤ u.limits.conditions
 
 -- before anything is read
 abbrev pub initial_unread : {E : Type 0} → Limits → Unread E
@@ -168,7 +169,10 @@ asks_to_look u = is_none (seen_ahead u.input.ahead) && is_none u.looked
 -- the first limit that a count of this input is above
 abbrev pub input_refusal : {E : Type 0} → Limits → Input E → Option Limit
 input_refusal l i =
-    if nat_lt l.stack (pushed i) then Some Stack else if nat_lt l.depth (depth i) then Some Depth else None
+    if nat_lt l.stack (pushed i) then Some Stack
+    else if nat_lt l.depth (depth i) then Some Depth
+    else if nat_lt l.conditions (results i) then Some Conditions
+    else None
 
 -- a change of the input is made, unless a count would pass its limit
 abbrev pub unless_passed : {E : Type 0} → Option Limit → Input E → Unread E → Result (Unit {0}) Limit × Unread E

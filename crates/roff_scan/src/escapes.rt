@@ -17,6 +17,8 @@ pub enum Escape {
     NoWidth,
     /// It gives nothing.
     Nothing,
+    /// It begins or ends a branch of a condition over several lines, and gives nothing elsewhere.
+    Brace,
     /// It is left out, and has neither name nor text behind it.
     LeftOut,
     /// It begins a comment.
@@ -68,7 +70,7 @@ pub(crate) struct Row {
 
 /// The table of escapes. A byte that isn't in it prints itself.
 #[rattlefmt::skip]
-static ROWS: [Row; 48] = [
+static ROWS: [Row; 49] = [
     Row { byte: b'\\', escape: Escape::Prints(b'\\') },
     Row { byte: b'e', escape: Escape::Prints(b'\\') },
     Row { byte: b' ', escape: Escape::Blank },
@@ -79,9 +81,10 @@ static ROWS: [Row; 48] = [
     Row { byte: b'^', escape: Escape::Nothing },
     Row { byte: b'c', escape: Escape::Nothing },
     Row { byte: b't', escape: Escape::Nothing },
-    Row { byte: b'{', escape: Escape::Nothing },
-    Row { byte: b'}', escape: Escape::Nothing },
+    Row { byte: b'{', escape: Escape::Brace },
+    Row { byte: b'}', escape: Escape::Brace },
     Row { byte: b'\n', escape: Escape::Nothing },
+    Row { byte: b'\t', escape: Escape::Nothing },
     Row { byte: 2, escape: Escape::Nothing },
     Row { byte: 3, escape: Escape::Nothing },
     Row { byte: 5, escape: Escape::Nothing },

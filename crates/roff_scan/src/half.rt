@@ -1,4 +1,4 @@
-//! What is half read: backslashes, comments, and names, sizes and texts behind escapes.
+//! What is half read: backslashes, comments, conditions, and names, sizes and texts behind escapes.
 
 use crate::escapes::{NameUse, TextUse};
 use roff_num::Name;
@@ -34,6 +34,46 @@ pub enum SizePart {
     Digit,
 }
 
+/// How much of a condition is read.
+#[derive(Clone, Copy, Debug, PartialEq, Eq)]
+pub enum ConditionPart {
+    /// Nothing but blanks and a `!`: the next byte says what is asked.
+    Choice {
+        /// Whether a `!` stands before it.
+        negated: bool,
+    },
+    /// An expression.
+    Expression {
+        /// Whether a `!` stands before it.
+        negated: bool,
+    },
+    /// Two texts that are compared.
+    Compared {
+        /// Whether a `!` stands before them.
+        negated: bool,
+        /// The byte that delimits them.
+        delimiter: u8,
+        /// How many of the bytes held are the first text's, where the second is read.
+        first: Option<usize>,
+    },
+    /// It is read, and decides next.
+    Decided {
+        /// What it asks.
+        decision: Decision,
+        /// The byte that ended it, if that is the first of what follows.
+        freed: Option<u8>,
+    },
+}
+
+/// What a condition was found to ask.
+#[derive(Clone, Copy, Debug, PartialEq, Eq)]
+pub enum Decision {
+    /// It is so, or isn't.
+    Is(bool),
+    /// It is so on odd pages, or on even ones.
+    OnPages(bool),
+}
+
 /// How the byte behind a backslash is read.
 #[derive(Clone, Copy, Debug, PartialEq, Eq)]
 pub enum Surroundings {
@@ -45,7 +85,7 @@ pub enum Surroundings {
     Copy,
 }
 
-/// Something that is half read. The texts between delimiters stand behind each other in one block.
+/// Something that is half read. The texts stand behind each other in one block.
 #[derive(Clone, Copy, Debug, Default, PartialEq, Eq)]
 pub(crate) enum HalfRead {
     /// A backslash: the byte behind it comes next.
@@ -63,6 +103,8 @@ pub(crate) enum HalfRead {
     /// A text that is measured: its delimiter, its width so far in basic units, and whether it
     /// stands too deep within others to be measured.
     Width(Option<u8>, u32, bool),
+    /// A condition, and where its expression or its texts begin in the block.
+    Condition(ConditionPart, usize),
 }
 
 /// What is said of something that is read.
@@ -72,7 +114,7 @@ pub enum Remark {
     LeftOut(u8),
     /// No character has this name; none, if it ended before a byte of it.
     UnknownCharacter(Option<Name>),
-    /// The length of a motion isn't a number, or is out of range.
+    /// The length of a motion or the expression of a condition isn't a number, or is out of range.
     BadNumber,
     /// The length of a motion is below 0.
     BackwardMotion,
@@ -85,7 +127,7 @@ pub enum Read {
     GoesOn,
     /// A unit for the line: nothing is half read.
     Unit(CopyUnit),
-    /// A unit for the text between delimiters that is being read.
+    /// A unit for the text that is being read.
     Holds(CopyUnit),
     /// An escape of the text without a name, or a comment, a size or a left-out text that ended, by
     /// the byte behind the backslash: nothing is half read.
@@ -96,6 +138,9 @@ pub enum Read {
     Motion(u32, Option<Remark>),
     /// A text was measured: its width in basic units is read in its place.
     Measures(u32),
-    /// This is said of something within a text that is measured.
+    /// This is said of something within a text that is measured, or of a condition's expression.
     Tells(Remark),
+    /// A condition that was read decides. This byte was taken behind it, and is the first of what
+    /// follows.
+    Decides(Decision, Option<u8>),
 }

@@ -1,22 +1,33 @@
-//! Reading behind backslashes: units of copy mode, comments, and the names, sizes and texts behind escapes.
+//! What is half read: units of copy mode, comments, conditions, and the names, sizes and texts behind escapes.
 
-ghost use Rattle.std.specs.Prelude.{◌≡◌, ◌≤◌, ◌+◌, ◌==◌, ℕ, true, List, Option, Some, None, [], ◌∷◌, drop, length, IfOk, MatchOption};
-ghost use Rattle.roff_scan.specs.Half.{Half, Backslash as BackslashHalf, Delimited as DelimitedHalf, Name as NameHalf, Size as SizeHalf, names_in, text_held, texts_held, widths_in};
-ghost use Rattle.roff_scan.specs.HalfTexts.{BeginsBehind, IsOnTop, begun, leaving, names_among, widths_among};
-ghost use Rattle.roff_scan.specs.Halves.{byte_of_text, byte_of_width, byte_read, copied_escape, escape_given, escape_taken, grown, is_of_size, motion_given, name_beginning, name_begun, name_ended, name_given, newline_stays, part_at_first, reading_ended, reads_widths, seen_stays, size_read, surroundings, text_given, unit_of_name, unit_of_text, unit_taken, width_beginning};
-ghost use Rattle.roff_scan.specs.Measures.{motion_of};
+ghost use Rattle.std.specs.Prelude.{◌≡◌, ◌≤◌, ◌+◌, ◌==◌, ℕ, true, false, List, Option, Some, None, [], ◌∷◌, drop, length, IfOk, MatchOption};
+ghost use Rattle.roff_scan.specs.Half.{Half, Backslash as BackslashHalf, Delimited as DelimitedHalf, Name as NameHalf, Size as SizeHalf, Condition as ConditionHalf, names_in, text_held, texts_held, widths_in};
+ghost use Rattle.roff_scan.specs.HalfTexts.{BeginsBehind, IsOnTop, begun, holds_text, leaving, names_among, text_on_top, widths_among};
+ghost use Rattle.roff_scan.specs.Halves.{byte_of_text, byte_of_width, byte_read, copied_escape, decides_now, ends_backslash, escape_given, escape_taken, grown, is_of_size, motion_given, name_beginning, name_begun, name_ended, name_given, newline_stays, part_at_first, reading_ended, reads_widths, seen_stays, size_read, surroundings, takes_backslash_alone, text_given, unit_of_name, unit_of_text, unit_taken, width_beginning};
+ghost use Rattle.roff_scan.specs.Conditions.{byte_of_condition, byte_or_backslash, choice_made, condition_ended, delimiter_met, expression_over, to_decide, texts_compared, unit_of_condition};
 ghost use Rattle.roff_scan.specs.Nesting.{IsNested};
 ghost use Rattle.roff_scan.specs.declared.escapes.NameUse.{NameUse as UseOf};
 ghost use Rattle.roff_scan.specs.declared.escapes.TextUse.{TextUse as PurposeOf};
+ghost use Rattle.roff_scan.specs.declared.half.ConditionPart.{ConditionPart as PartOf};
 
+use crate::bytes::is_dropped;
+use crate::conditions::{
+    begins_expression, ends_at_backslash, ends_condition, is_read_in_arguments, is_text_same,
+    so_unless,
+};
 use crate::escapes::{Escape, NameUse, TextUse, escape_of};
-use crate::half::{CopyUnit, HalfRead, NamePart, Read, SizePart, Surroundings};
+use crate::half::{
+    ConditionPart, CopyUnit, Decision, HalfRead, NamePart, Read, Remark, SizePart, Surroundings,
+};
 use crate::measures::{Measured, byte_columns, wider};
 use arrayvec::ArrayVec;
-use roff_num::Name;
+use roff_num::{Name, Scale, eval};
 use roff_store::Direction;
 use std::alloc::{AllocError, Global};
 use std::marker::Model;
+
+/// STX: behind a backslash it prints nothing.
+const START_OF_TEXT: u8 = 2;
 
 /// Within so many names a further one isn't read.
 const MOST_NAMES: usize = 8;
@@ -24,15 +35,15 @@ const MOST_NAMES: usize = 8;
 /// Within so many texts that are measured a further one isn't measured.
 const MOST_WIDTHS: usize = 8;
 
-/// What is half read: names and texts within each other, and a backslash, a comment or a size on top
-/// of them.
+/// What is half read: a condition, names and texts within each other, and a backslash, a comment or a
+/// size on top of them.
 ///
 /// All its memory is reserved as it is made.
 #[derive(Drop)]
 pub(crate) struct Halves {
     /// The innermost at the back.
     items: ArrayVec<HalfRead, 32>,
-    /// The texts between delimiters, behind each other.
+    /// The texts, behind each other.
     texts: Vec<u8>,
     room: u32,
 }
@@ -66,14 +77,24 @@ impl Halves {
         self.items.is_empty()
     }
 
+    /// Whether a condition decides, before anything is taken or seen.
+    pub(crate) fn decides_now(&self) -> bool
+        ensures { result ≡ decides_now self.now.half }
+    {
+        match self.top() {
+            Some(HalfRead::Condition(ConditionPart::Decided { .. }, _)) => true,
+            _ => false,
+        }
+    }
+
     /// Whether the reading on top looks at what stands in front before it is taken: a newline stays
-    /// then, and ends it.
+    /// then, and ends most.
     pub(crate) fn newline_stays(&self) -> bool
         ensures { result ≡ newline_stays self.now.half }
     {
         match self.top() {
             None => false,
-            Some(HalfRead::Backslash) => false,
+            Some(HalfRead::Backslash) => self.takes_backslash_alone(),
             Some(_) => true,
         }
     }
@@ -84,16 +105,27 @@ impl Halves {
     {
         match self.top() {
             None => false,
-            Some(HalfRead::Backslash) => false,
+            Some(HalfRead::Backslash) => self.takes_backslash_alone() && ends_backslash(seen),
             Some(HalfRead::Size(part)) => match seen {
                 Some(byte) => !is_of_size(part, byte),
                 None => true,
             },
+            Some(HalfRead::Condition(part, _)) => ends_condition(part, seen),
             Some(_) => seen == Some(b'\n'),
         }
     }
 
-    /// How many bytes of texts between delimiters are held.
+    /// Whether the backslash on top is taken alone where its escape would be kept.
+    fn takes_backslash_alone(&self) -> bool
+        ensures { result ≡ takes_backslash_alone (drop 1 self.now.half) }
+    {
+        match self.below() {
+            Some(HalfRead::Condition(part, _)) => ends_at_backslash(part),
+            _ => false,
+        }
+    }
+
+    /// How many bytes of texts are held.
     pub(crate) fn held(&self) -> usize
         ensures { result ≡ texts_held self.now.half }
     {
@@ -105,7 +137,7 @@ impl Halves {
         ensures { texts_held (text_held unit self.now.half) ≡ texts_held self.now.half + result }
     {
         match self.top() {
-            Some(HalfRead::Delimited(..)) => match unit {
+            Some(item) if holds_text(item) => match unit {
                 CopyUnit::Byte(_) => 1,
                 CopyUnit::Kept(_) => 2,
             },
@@ -118,14 +150,15 @@ impl Halves {
         requires { texts_held (text_held unit self.old.half) ≤ self.old.room }
         ensures { self.new ≡ record self.old { half = text_held unit self.old.half } }
     {
-        if let Some(HalfRead::Delimited(..)) = self.top() {
-            match unit {
+        match self.top() {
+            Some(item) if holds_text(item) => match unit {
                 CopyUnit::Byte(byte) => self.texts.push(byte).unwrap(),
                 CopyUnit::Kept(byte) => {
                     self.texts.push(b'\\').unwrap();
                     self.texts.push(byte).unwrap();
                 }
-            }
+            },
+            _ => {}
         }
     }
 
@@ -166,6 +199,9 @@ impl Halves {
             Some(HalfRead::Width(delimiter, width, is_deep)) => {
                 self.read_byte_of_width(delimiter, width, is_deep, byte)
             }
+            Some(HalfRead::Condition(part, begin)) => {
+                self.read_byte_of_condition(part, begin, byte)
+            }
         }
     }
 
@@ -178,7 +214,7 @@ impl Halves {
             Some(HalfRead::Backslash) => {
                 self.pop();
                 if self.surroundings(is_text) == Surroundings::Text {
-                    self.give_escape(b'\n')
+                    self.give_escape(START_OF_TEXT)
                 } else {
                     self.read_unit(CopyUnit::Byte(b'\\'))
                 }
@@ -204,6 +240,7 @@ impl Halves {
                 self.pop();
                 Read::Measures(width)
             }
+            Some(HalfRead::Condition(part, begin)) => self.end_condition(part, begin),
         }
     }
 
@@ -220,6 +257,7 @@ impl Halves {
                 }
             }
             Some(HalfRead::Delimited(..)) => Surroundings::Arguments,
+            Some(HalfRead::Condition(..)) => Surroundings::Arguments,
             Some(HalfRead::Width(_, _, false)) => Surroundings::Text,
             Some(_) => Surroundings::Copy,
         }
@@ -336,6 +374,9 @@ impl Halves {
                 self.read_unit_of_name(purpose, part, unit)
             }
             Some(HalfRead::Delimited(purpose, _, _)) => unit_of_text(purpose, unit),
+            Some(HalfRead::Condition(part, begin)) => self.read_unit_of_condition(
+                part, begin, unit,
+            ),
             Some(_) => Read::GoesOn,
         }
     }
@@ -472,7 +513,7 @@ impl Halves {
     {
         match purpose {
             TextUse::Motion => {
-                let measured = self.motion(begin);
+                let measured = Measured::of_motion(self.text(begin));
                 self.pop();
                 self.give_motion(measured)
             }
@@ -483,15 +524,229 @@ impl Halves {
         }
     }
 
-    /// The motion that the text on top asks for, which begins there in the block.
-    fn motion(&self, begin: usize) -> Measured
+    /// The text on top, which begins there in the block.
+    fn text(&self, begin: usize) -> &[u8]
         requires { begin ≡ texts_held (drop 1 self.now.half) }
-        ensures { (purpose : PurposeOf) (delimiter : Option ℕ) (text : List ℕ) (rest : List Half)
-            → self.now.half ≡ DelimitedHalf purpose delimiter text ∷ rest
-            → result ≡ motion_of text }
+        ensures { result.now ≡ text_on_top self.now.half }
     {
-        let text = &self.texts[begin..];
-        Measured::of_motion(text)
+        &self.texts[begin..]
+    }
+
+    /// A byte of the condition on top.
+    fn read_byte_of_condition(&mut self, part: ConditionPart, begin: usize, byte: u8) -> Read
+        requires nested { IsNested self.old.half }
+        requires on_top { IsOnTop (HalfRead.Condition part begin) self.old.half }
+        ensures { (text : List ℕ) (rest : List Half)
+            → self.old.half ≡ ConditionHalf part text ∷ rest
+            → (result, self.new) ≡ leaving (byte_of_condition rest part text byte) self.old }
+    {
+        if let ConditionPart::Compared {
+            negated,
+            delimiter,
+            first,
+        } = part
+        {
+            if byte == delimiter {
+                return self.meet_delimiter(negated, delimiter, first, begin);
+            }
+        }
+        self.read_undelimited(part, begin, byte)
+    }
+
+    /// A byte of the condition on top that is no delimiter.
+    fn read_undelimited(&mut self, part: ConditionPart, begin: usize, byte: u8) -> Read
+        requires nested { IsNested self.old.half }
+        requires on_top { IsOnTop (HalfRead.Condition part begin) self.old.half }
+        ensures { (text : List ℕ) (rest : List Half)
+            → self.old.half ≡ ConditionHalf part text ∷ rest
+            → (result, self.new) ≡ leaving (byte_or_backslash rest part text byte) self.old }
+    {
+        if byte == b'\\' {
+            self.begin(HalfRead::Backslash)
+        } else {
+            self.read_unit_of_condition(part, begin, CopyUnit::Byte(byte))
+        }
+    }
+
+    /// A unit of the condition on top.
+    fn read_unit_of_condition(&mut self, part: ConditionPart, begin: usize, unit: CopyUnit) -> Read
+        requires nested { IsNested self.old.half }
+        requires on_top { IsOnTop (HalfRead.Condition part begin) self.old.half }
+        ensures { (text : List ℕ) (rest : List Half)
+            → self.old.half ≡ ConditionHalf part text ∷ rest
+            → (result, self.new) ≡ leaving (unit_of_condition rest part text unit) self.old }
+    {
+        match (part, unit) {
+            (ConditionPart::Choice { negated }, CopyUnit::Byte(byte)) => self.choose(negated, byte),
+            (ConditionPart::Choice { negated }, CopyUnit::Kept(byte)) => {
+                let _ = self.begin_texts(negated, b'\\');
+                Read::Holds(CopyUnit::Byte(byte))
+            }
+            (ConditionPart::Expression { negated }, CopyUnit::Byte(byte @ (b'\\' | b'\t'))) => {
+                self.end_expression(negated, Some(byte), begin)
+            }
+            (ConditionPart::Decided { .. }, _) => Read::GoesOn,
+            (_, _) => Read::Holds(unit),
+        }
+    }
+
+    /// The byte that says what the condition on top asks.
+    fn choose(&mut self, negated: bool, byte: u8) -> Read
+        requires { IsNested self.old.half }
+        ensures { (text : List ℕ) (rest : List Half)
+            → self.old.half ≡ ConditionHalf (ConditionPart.Choice negated) text ∷ rest
+            → (result, self.new) ≡ leaving (choice_made rest negated text byte) self.old }
+    {
+        let decision = match byte {
+            b' ' if !negated => return Read::GoesOn,
+            b'!' if !negated => return self.turn(ConditionPart::Choice { negated: true }),
+            b'o' => Decision::OnPages(!negated),
+            b'e' => Decision::OnPages(negated),
+            b't' => Decision::Is(negated),
+            b'n' => Decision::Is(!negated),
+            _ if begins_expression(byte) => {
+                let _ = self.turn(ConditionPart::Expression { negated });
+                return Read::Holds(CopyUnit::Byte(byte));
+            }
+            _ => return self.begin_texts(negated, byte),
+        };
+        self.decide_next(decision, None)
+    }
+
+    /// The condition on top compares two texts with this delimiter.
+    fn begin_texts(&mut self, negated: bool, delimiter: u8) -> Read
+        requires { IsNested self.old.half }
+        ensures { (part : PartOf) (text : List ℕ) (rest : List Half)
+            → self.old.half ≡ ConditionHalf part text ∷ rest
+            → (result, self.new) ≡ leaving (
+              Read.GoesOn,
+              ConditionHalf (ConditionPart.Compared negated delimiter None) text ∷ rest,
+            ) self.old }
+    {
+        self.turn(ConditionPart::Compared {
+            negated,
+            delimiter,
+            first: None,
+        })
+    }
+
+    /// The delimiter of the texts on top: behind it is the second, or both are read.
+    fn meet_delimiter(
+        &mut self,
+        negated: bool,
+        delimiter: u8,
+        first: Option<usize>,
+        begin: usize,
+    ) -> Read
+        requires nested { IsNested self.old.half }
+        requires begins { begin ≡ texts_held (drop 1 self.old.half) }
+        ensures { (part : PartOf) (text : List ℕ) (rest : List Half)
+            → self.old.half ≡ ConditionHalf part text ∷ rest
+            → (result, self.new)
+            ≡ leaving (delimiter_met rest negated delimiter first text) self.old }
+    {
+        match first {
+            None => {
+                let first = Some(self.text(begin).len());
+                self.turn(ConditionPart::Compared {
+                    negated,
+                    delimiter,
+                    first,
+                })
+            }
+            Some(first) => self.compare_texts(negated, Some(first), begin),
+        }
+    }
+
+    /// The condition on top ends before what stays, or decides.
+    fn end_condition(&mut self, part: ConditionPart, begin: usize) -> Read
+        requires nested { IsNested self.old.half }
+        requires on_top { IsOnTop (HalfRead.Condition part begin) self.old.half }
+        ensures { (text : List ℕ) (rest : List Half)
+            → self.old.half ≡ ConditionHalf part text ∷ rest
+            → (result, self.new) ≡ leaving (condition_ended rest part text) self.old }
+    {
+        match part {
+            ConditionPart::Choice { .. } => self.decide_next(Decision::Is(false), None),
+            ConditionPart::Expression { negated } => self.end_expression(negated, None, begin),
+            ConditionPart::Compared { negated, first, .. } => {
+                self.compare_texts(negated, first, begin)
+            }
+            ConditionPart::Decided { decision, freed } => {
+                self.pop();
+                Read::Decides(decision, freed)
+            }
+        }
+    }
+
+    /// The condition on top is read, and decides next; the byte that ended it may be the first of
+    /// what follows.
+    fn decide_next(&mut self, decision: Decision, freed: Option<u8>) -> Read
+        requires nested { IsNested self.old.half }
+        ensures { (part : PartOf) (text : List ℕ) (rest : List Half)
+            → self.old.half ≡ ConditionHalf part text ∷ rest
+            → (result, self.new)
+            ≡ leaving (Read.GoesOn, to_decide rest text decision freed) self.old }
+    {
+        self.turn(ConditionPart::Decided { decision, freed })
+    }
+
+    /// The expression on top is whole; the byte that ended it may be the first of what follows.
+    fn end_expression(&mut self, negated: bool, freed: Option<u8>, begin: usize) -> Read
+        requires nested { IsNested self.old.half }
+        requires begins { begin ≡ texts_held (drop 1 self.old.half) }
+        ensures { (part : PartOf) (text : List ℕ) (rest : List Half)
+            → self.old.half ≡ ConditionHalf part text ∷ rest
+            → (result, self.new) ≡ leaving (expression_over rest negated freed text) self.old }
+    {
+        match eval(self.text(begin), 0, Scale::Units, Some(0)) {
+            Ok((value, _)) => {
+                let is_true = so_unless(negated, value.0 > 0);
+                self.decide_next(Decision::Is(is_true), freed)
+            }
+            Err(_) => {
+                let _ = self.decide_next(Decision::Is(false), freed);
+                Read::Tells(Remark::BadNumber)
+            }
+        }
+    }
+
+    /// The texts on top are compared: the first has so many bytes, or all that are held.
+    fn compare_texts(&mut self, negated: bool, first: Option<usize>, begin: usize) -> Read
+        requires nested { IsNested self.old.half }
+        requires begins { begin ≡ texts_held (drop 1 self.old.half) }
+        ensures { (part : PartOf) (text : List ℕ) (rest : List Half)
+            → self.old.half ≡ ConditionHalf part text ∷ rest
+            → (result, self.new) ≡ leaving (texts_compared rest negated first text) self.old }
+    {
+        let same = is_text_same(self.text(begin), first);
+        self.decide_next(Decision::Is(so_unless(negated, same)), None)
+    }
+
+    /// The condition on top is read so far; its text stays.
+    fn turn(&mut self, part: ConditionPart) -> Read
+        requires { IsNested self.old.half }
+        ensures { (before : PartOf) (text : List ℕ) (rest : List Half)
+            → self.old.half ≡ ConditionHalf before text ∷ rest
+            → (result, self.new)
+            ≡ leaving (Read.GoesOn, ConditionHalf part text ∷ rest) self.old }
+    {
+        if let Some(HalfRead::Condition(_, begin)) = self.top() {
+            self.items.pop();
+            self.items.push(HalfRead::Condition(part, begin));
+        }
+        Read::GoesOn
+    }
+
+    /// A condition begins, and nothing else is half read.
+    pub(crate) fn begin_condition(&mut self)
+        ensures { self.new ≡ record self.old {
+          half = ConditionHalf (ConditionPart.Choice false) [] ∷ [];
+        } }
+    {
+        self.items.clear();
+        self.texts.clear();
+        self.items.push(HalfRead::Condition(ConditionPart::Choice { negated: false }, 0));
     }
 
     /// An escape of the text without a name: a text that is measured grows by it.
@@ -555,6 +810,18 @@ impl Halves {
         self.items.as_slice().last().copied()
     }
 
+    /// What stands below the top.
+    fn below(&self) -> Option<HalfRead>
+        ensures { MatchOption result (drop 1 self.now.half ≡ [])
+            (λ item. IsOnTop item (drop 1 self.now.half)) }
+    {
+        let items = self.items.as_slice();
+        if items.len() < 2 {
+            return None;
+        }
+        Some(items[items.len() - 2])
+    }
+
     /// Puts something on top, which may stand there.
     fn push(&mut self, half: HalfRead)
         requires stands { IsNested (begun half ∷ self.old.half) }
@@ -583,9 +850,33 @@ impl Halves {
     fn pop(&mut self)
         ensures { self.new ≡ record self.old { half = drop 1 self.old.half } }
     {
-        if let Some(HalfRead::Delimited(_, _, begin)) = self.items.pop() {
-            self.texts.truncate(begin);
+        match self.items.pop() {
+            Some(HalfRead::Delimited(_, _, begin)) => self.texts.truncate(begin),
+            Some(HalfRead::Condition(_, begin)) => self.texts.truncate(begin),
+            _ => {}
         }
+    }
+}
+
+/// Whether something has a text.
+fn holds_text(item: HalfRead) -> bool
+    ensures { result ≡ holds_text item }
+{
+    match item {
+        HalfRead::Delimited(..) => true,
+        HalfRead::Condition(..) => true,
+        _ => false,
+    }
+}
+
+/// Whether what is seen in front stays, and ends a backslash that is taken alone: a byte that isn't
+/// read behind one in arguments.
+fn ends_backslash(seen: Option<u8>) -> bool
+    ensures { result ≡ ends_backslash seen }
+{
+    match seen {
+        None => false,
+        Some(byte) => !(is_read_in_arguments(byte) || is_dropped(byte)),
     }
 }
 

@@ -5,6 +5,7 @@
 mod arguments;
 mod bytes;
 mod characters;
+mod conditions;
 mod escapes;
 mod half;
 pub mod half_laws;
@@ -21,6 +22,6 @@ pub use arguments::{ArgumentList, Place};
 pub use bytes::{is_dropped, is_silent};
 pub use characters::character;
 pub use escapes::{Escape, NameUse, TextUse, escape_of};
-pub use half::{CopyUnit, NamePart, Read, Remark, SizePart, Surroundings};
+pub use half::{ConditionPart, CopyUnit, Decision, NamePart, Read, Remark, SizePart, Surroundings};
 pub use source::{ByteSource, Note, ReadSource, Taken};
 pub use unread::{Item, Sight, Unread};

@@ -2,10 +2,10 @@
 
 ghost use Rattle.roff_scan.specs.Arguments.{with_unit, settled, finished};
 ghost use Rattle.roff_scan.specs.ArgumentList.{listed};
-ghost use Rattle.roff_scan.specs.Halves.{byte_read, reading_ended, newline_stays, seen_stays};
+ghost use Rattle.roff_scan.specs.Halves.{byte_read, decides_now, reading_ended, newline_stays, seen_stays};
 ghost use Rattle.std.specs.Prelude.{reverse, true, false, not, ◌≡◌, ◌==◌, ◌+◌, ◌<◌, ◌≤◌, length, None, IfOk, IfSome};
 ghost use Rattle.roff_scan.specs.Tape.{Answer, OneByte, OneNote, Gives, Failed, Rises};
-ghost use Rattle.roff_scan.specs.Input.{is_none_ahead, counting, events_ahead, frees_ahead, most_events, most_frees, holding_text, pushed, depth, pushing, putting_back, freeing, with_arguments, without_arguments};
+ghost use Rattle.roff_scan.specs.Input.{is_none_ahead, counting, choosing, keeping, kept_last, without_last, events_ahead, frees_ahead, most_events, most_frees, holding_text, pushed, depth, pushing, putting_back, freeing, with_arguments, without_arguments};
 
 use crate::arguments::{ArgumentList, ArgumentTexts};
 use crate::half::{CopyUnit, Read};
@@ -63,6 +63,8 @@ pub struct Unread<E> {
     slots: Slots<E>,
     arguments: ArgumentTexts,
     half: Halves,
+    /// The results of conditions that are kept for their other branch, the newest at the back.
+    kept: Vec<bool>,
     /// The byte of the source that was looked at and isn't taken yet.
     looked: Option<u8>,
     charge: u32,
@@ -95,6 +97,7 @@ impl<E: Copy> Unread<E> {
             slots: Slots::new(alloc, limits.stack, limits.depth)?,
             arguments: ArgumentTexts::new(alloc, limits.stack)?,
             half: Halves::new(alloc, limits.stack)?,
+            kept: Vec::with_capacity(alloc, limits.conditions as usize)?,
             looked: None,
             charge: 0,
             newlines: 0,
@@ -125,7 +128,7 @@ impl<E: Copy> Unread<E> {
     }
 
     /// What counts in the limit on the stack: the pushed bytes that aren't read yet, and the bytes
-    /// of the arguments and of the texts between delimiters that are held.
+    /// of the arguments and of other texts that are held while they are read.
     pub fn pushed(&self) -> usize
         ensures { result ≡ pushed self.now.input }
     {
@@ -324,8 +327,15 @@ impl<E: Copy> Unread<E> {
         !self.half.is_empty()
     }
 
+    /// Whether a condition decides, before anything is taken or seen.
+    pub fn decides_now(&self) -> bool
+        ensures { result ≡ decides_now self.now.input.half }
+    {
+        self.half.decides_now()
+    }
+
     /// Whether the reading on top looks at what stands in front before it is taken: a newline stays
-    /// then, and ends it.
+    /// then, and ends most.
     pub fn newline_stays(&self) -> bool
         ensures { result ≡ newline_stays self.now.input.half }
     {
@@ -357,7 +367,7 @@ impl<E: Copy> Unread<E> {
         self.half.end_reading(is_text)
     }
 
-    /// Holds one unit more of the text between delimiters that is being read.
+    /// Holds one unit more of the text that is being read.
     ///
     /// # Errors
     ///
@@ -372,6 +382,39 @@ impl<E: Copy> Unread<E> {
         }
         self.half.hold(unit);
         Ok(())
+    }
+
+    /// Begins to read a condition; nothing else is half read then.
+    pub fn begin_condition(&mut self)
+        ensures change { self.new ≡ record self.old { input = choosing self.old.input } }
+        ensures within { IsWithin self.new }
+    {
+        self.half.begin_condition();
+    }
+
+    /// Keeps the result of a condition for its other branch.
+    ///
+    /// # Errors
+    ///
+    /// [`Limit::Conditions`] if as many are kept as may be.
+    pub fn keep(&mut self, so: bool) -> Result<(), Limit>
+        ensures change { (result, self.new) ≡ changing (keeping so self.old.input) self.old }
+        ensures within { IsWithin self.new }
+    {
+        if self.kept.len() >= self.limits.conditions as usize {
+            return Err(Limit::Conditions);
+        }
+        self.kept.push(so).unwrap();
+        Ok(())
+    }
+
+    /// Takes the result that was kept last, if one is.
+    pub fn take_kept(&mut self) -> Option<bool>
+        ensures last { result ≡ kept_last self.old.input }
+        ensures change { self.new ≡ record self.old { input = without_last self.old.input } }
+        ensures within { IsWithin self.new }
+    {
+        self.kept.pop()
     }
 
     /// Drops the arguments of the line before.

@@ -1,5 +1,5 @@
 -- What the unread input keeps.
-use Rattle.std.specs.Prelude.{◌≡◌, ◌<◌, ◌^◌}
+use Rattle.std.specs.Prelude.{◌≡◌, ◌≤◌, ◌<◌, ◌^◌, reverse, vec_capacity}
 use Rattle.roff_scan.specs.Unread.{Unread, IsWithin}
 use Rattle.roff_scan.specs.declared.unread.Unread.TheInside.{Inside}
 
@@ -10,6 +10,7 @@ kept_by a = record {
     ahead = a.slots.ahead;
     arguments = a.arguments.arguments;
     half = a.half.half;
+    kept = reverse a.kept.items;
     charge = a.charge;
     newlines = a.newlines;
     line = a.line;
@@ -25,4 +26,5 @@ pub record IsSound {E : Type 0} (a : Inside E) : Type 0 where
   pub arguments : a.arguments.room ≡ a.limits.stack
   pub held : a.half.room ≡ a.limits.stack
   pub small : a.limits.stack < 2 ^ 32
+  pub results : a.limits.conditions ≤ vec_capacity a.kept
   pub within : IsWithin (kept_by a)
