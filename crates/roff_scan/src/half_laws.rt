@@ -1,10 +1,10 @@
 //! Facts about what is half read, as contracts of functions that do nothing.
 
-ghost use Rattle.std.specs.Prelude.{◌≡◌, ℕ, ◌*◌, ◌<◌, ◌≤◌, Bool, true, false, List, [], ◌∷◌, codes, length, map, min, replicate, Option, None, Some, ◌==◌};
-ghost use Rattle.roff_scan.specs.Bytes.{backslash, quote};
+ghost use Rattle.std.specs.Prelude.{◌++◌, ◌≡◌, ℕ, ◌*◌, ◌<◌, ◌≤◌, Bool, true, false, not, List, [], ◌∷◌, bytes_eq, codes, length, map, min, replicate, Option, None, Some, ◌==◌};
+ghost use Rattle.roff_scan.specs.Bytes.{backslash, blank, quote};
 ghost use Rattle.roff_scan.specs.Escapes.{escape_of, is_copied};
 ghost use Rattle.roff_scan.specs.Half.{Half, Comment, Name};
-ghost use Rattle.roff_scan.specs.HalfLaws.{FindsBytes, argument_escape, columns_in, copied, doubled, is_between, is_only_copied, is_special, long_escape, openings, reads_through, reads_to_end, register_escape, short_escape, string_escape, text_escape};
+ghost use Rattle.roff_scan.specs.HalfLaws.{FindsBytes, argument_escape, asked, columns_in, copied, decided, delimits_texts, doubled, is_between, is_only_copied, is_special, long_escape, openings, reads_through, reads_to_end, register_escape, short_escape, string_escape, text_escape, two_texts};
 ghost use Rattle.roff_scan.specs.Halves.{most_names, reading_ended};
 ghost use Rattle.roff_scan.specs.Measures.{columns_of, most_width, motion_of, remarked};
 ghost use Rattle.roff_scan.specs.Nesting.{AreNames, IsNested};
@@ -13,6 +13,7 @@ ghost use Rattle.roff_scan.specs.declared.escapes.NameUse.{NameUse};
 ghost use Rattle.roff_scan.specs.declared.escapes.NameUse.TheVariants.{Argument, Character, Register, Text};
 ghost use Rattle.roff_scan.specs.declared.escapes.TextUse.TheVariants.{LeftOut as LeftOutText};
 ghost use Rattle.roff_scan.specs.declared.half.CopyUnit.TheVariants.{Byte};
+ghost use Rattle.roff_scan.specs.declared.half.Decision.TheVariants.{Is, OnPages};
 ghost use Rattle.roff_scan.specs.declared.half.NamePart.TheVariants.{Nothing, Opened};
 ghost use Rattle.roff_scan.specs.declared.half.Read.TheVariants.{Asks, Escape, Measures, Motion, Unit as GivesUnit};
 ghost use Rattle.roff_scan.specs.declared.half.Remark.TheVariants.{BackwardMotion, BadNumber};
@@ -128,4 +129,26 @@ pub fn left_out_texts()
     ensures { (b kind delimiter : ℕ) (text : List ℕ)
         → escape_of b ≡ BeginsText (LeftOutText kind) → is_between delimiter text ≡ true
         → reads_through true [] (text_escape b delimiter text) ≡ (Escape kind ∷ [], []) }
+{}
+
+/// A condition of two texts is whether they are the same bytes, and behind a `!` whether they
+/// aren't. `o` and `e` ask for odd and even pages, `t` is never so and `n` always, and behind a `!`
+/// the other way round. Blanks before a condition say nothing.
+pub fn conditions()
+    ensures same { (delimiter : ℕ) (first second : List ℕ) → delimits_texts delimiter ≡ true
+        → is_between delimiter first ≡ true → is_between delimiter second ≡ true
+        → asked (two_texts delimiter first second) ≡ decided (Is (bytes_eq first second)) (first ++ second) }
+    ensures other { (delimiter : ℕ) (first second : List ℕ) → delimits_texts delimiter ≡ true
+        → is_between delimiter first ≡ true → is_between delimiter second ≡ true
+        → asked (33 ∷ two_texts delimiter first second)
+        ≡ decided (Is (not (bytes_eq first second))) (first ++ second) }
+    ensures odd { asked (codes "o") ≡ decided (OnPages true) [] }
+    ensures not_odd { asked (codes "!o") ≡ decided (OnPages false) [] }
+    ensures even { asked (codes "e") ≡ decided (OnPages false) [] }
+    ensures not_even { asked (codes "!e") ≡ decided (OnPages true) [] }
+    ensures never { asked (codes "t") ≡ decided (Is false) [] }
+    ensures not_never { asked (codes "!t") ≡ decided (Is true) [] }
+    ensures always { asked (codes "n") ≡ decided (Is true) [] }
+    ensures not_always { asked (codes "!n") ≡ decided (Is false) [] }
+    ensures blanks { (bytes : List ℕ) → asked (blank ∷ bytes) ≡ asked bytes }
 {}
