@@ -68,6 +68,9 @@ impl Formatter {
         if self.reader.goes_on_with_gap(byte, unread) {
             return self.gap_behind_word(out);
         }
+        if self.reader.passes_over(byte) {
+            return Ok(());
+        }
         self.take_as_read(byte, unread, out, err)
     }
 

@@ -1,7 +1,7 @@
 //! A run under way: what each item of the input does.
 
 ghost use Rattle.std.specs.Prelude.{◌≡◌, ◌≤◌, ℕ, length, true, None, Result, Err, IsOkUnless, OnOk};
-ghost use Rattle.roff_run.specs.Run.{ahead_taken, awaited, byte_taken, end_met, half_ends, in_front_taken, step};
+ghost use Rattle.roff_run.specs.Run.{ahead_taken, awaited, byte_taken, end_met, half_ends, in_front_taken, step, waiting};
 ghost use Rattle.roff_scan.specs.Halves.{newline_stays};
 ghost use Rattle.roff_scan.specs.Input.{DoAhead};
 ghost use Rattle.roff_scan.specs.Unread.{seen_ahead};
@@ -48,10 +48,31 @@ impl Running {
         }
     }
 
-    /// The same where what is half read looks at what stands in front: that stays, and ends it, or is
-    /// taken.
+    /// The same where what is half read waits: a condition that is read decides, and else what stands
+    /// in front stays, and ends it, or is taken.
     #[inline(never)]
     fn turn_waiting<S: ByteSource, O: ByteSink, E: ByteSink>(
+        &mut self,
+        source: &mut S,
+        out: &mut O,
+        err: &mut E,
+    ) -> Result<(), Status>
+        requires { newline_stays self.old.unread.input.half ≡ true }
+        ensures { TurnsBy (λ s. waiting self.old.limits s)
+            (S.gives source.old) (S.gives source.new) (S.notes source.old) (S.notes source.new)
+            self.old self.new
+            (seen (S.failures source.old) (O.sunk out.old) (E.sunk err.old))
+            (seen (S.failures source.new) (O.sunk out.new) (E.sunk err.new)) result }
+    {
+        if self.unread.decides_now() {
+            self.end_half(out, err)
+        } else {
+            self.turn_looking(source, out, err)
+        }
+    }
+
+    /// The same where it looks.
+    fn turn_looking<S: ByteSource, O: ByteSink, E: ByteSink>(
         &mut self,
         source: &mut S,
         out: &mut O,

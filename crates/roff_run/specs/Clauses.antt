@@ -2,15 +2,15 @@
 pub use Rattle.roff_run.specs.Output.{PageHistory, text_of}
 pub use Rattle.roff_run.specs.Reader.State.{fresh_reader}
 pub use Rattle.roff_run.specs.Reader.Taken.{Changed, PageUnread, TakesAs}
-pub use Rattle.roff_run.specs.Reading.{arguments_found, asking, beginning_found, end_taking, first_taking, going_on, half_ended, holding, interpolating, interrupted, kept_taking, line_ended, meaning_events, measuring, name_taking, no_unit_found, putting_nothing, taking, telling, text_found, unit_found}
+pub use Rattle.roff_run.specs.Reading.{PageInput, arguments_found, asking, beginning_found, behind_name, branch_of, condition_found, decided, end_taking, first_escape, first_taking, going_on, half_ended, holding, interpolating, interrupted, is_so, kept_if, kept_taking, line_begun, line_ended, meaning_events, measuring, name_taking, name_whole_taking, no_unit_found, putting_nothing, reads_else, taking, telling, text_found, unit_found}
 pub use Rattle.roff_scan.specs.Input.{holding_text}
 pub use Rattle.roff_run.specs.Registers.{AllRegisters, Remove, changed_by, value_in_force}
 pub use Rattle.roff_run.specs.Registers.Coded.{known_of}
 pub use Rattle.roff_run.specs.Request.Coded.{changes_of, effect_of, register_named}
-pub use Rattle.roff_run.specs.Requests.{request_effect}
+pub use Rattle.roff_run.specs.Requests.{request_effect, row_of}
 pub use Rattle.roff_run.specs.Requests.Numbering.{names_given}
 pub use Rattle.roff_run.specs.Run.{known_at}
-pub use Rattle.roff_run.specs.declared.reading.Reading.TheVariants.{LineStart}
+pub use Rattle.roff_run.specs.declared.reading.Reading.TheVariants.{LineStart, Name as NameOf}
 pub use Rattle.roff_lines.specs.Env.Stands.{Stands}
 pub use Rattle.roff_lines.specs.declared.env.Env.{Env}
 pub use Rattle.roff_scan.specs.ArgumentList.{listed}

@@ -1,5 +1,5 @@
--- What is being read, and what each byte means there (manual, sections 1.1, 4.1, 8 and 10.1).
-use Rattle.std.specs.Prelude.{ℕ, ◌+◌, Bool, true, false, ◌||◌, List, [], ◌∷◌, ◌++◌, decimal, map, reverse, min, Some, None, Option, if◌then◌else◌, ◌==◌}
+-- What is being read, and what each byte means there (manual, sections 1.1, 4.1, 8, 10.1 and 16).
+use Rattle.std.specs.Prelude.{ℕ, ◌+◌, Bool, true, false, ◌||◌, ◌&&◌, not, nat_le, List, [], ◌∷◌, ◌++◌, decimal, map, reverse, min, Some, None, Option, if◌then◌else◌, ◌==◌}
 use Rattle.roff_lines.specs.declared.event.Event.TheVariants.{Print, WordEnd, Gap, LineEnd, Break}
 use Rattle.roff_lines.specs.declared.glyph.Glyph.{Glyph}
 use Rattle.roff_lines.specs.declared.glyph.Glyph.TheVariants.{Printed, Blanks}
@@ -8,28 +8,30 @@ use Rattle.roff_scan.specs.Bytes.{tab, newline, blank, apostrophe, dot, backslas
 use Rattle.roff_scan.specs.Characters.{character}
 use Rattle.roff_scan.specs.Escapes.{escape_of}
 use Rattle.roff_scan.specs.Halves.{Reads, byte_read, reading_ended}
-use Rattle.roff_scan.specs.Input.{Input, pushing, holding_text}
+use Rattle.roff_scan.specs.Input.{Input, pushing, holding_text, choosing, keeping, kept_last, without_last}
 use Rattle.roff_scan.specs.declared.escapes.Escape.{Escape as Kind}
-use Rattle.roff_scan.specs.declared.escapes.Escape.TheVariants.{Prints, Blank, NoWidth, LeftOut as IsLeftOut, Text as BeginsText}
+use Rattle.roff_scan.specs.declared.escapes.Escape.TheVariants.{Prints, Blank, NoWidth, Brace, LeftOut as IsLeftOut, Text as BeginsText}
 use Rattle.roff_scan.specs.declared.escapes.NameUse.{NameUse}
 use Rattle.roff_scan.specs.declared.escapes.NameUse.TheVariants.{Register, Character, Font, LeftOut as NameLeftOut}
 use Rattle.roff_scan.specs.declared.escapes.TextUse.TheVariants.{LeftOut as LeftOutText}
 use Rattle.roff_scan.specs.declared.half.CopyUnit.{CopyUnit}
 use Rattle.roff_scan.specs.declared.half.CopyUnit.TheVariants.{Byte, Kept}
+use Rattle.roff_scan.specs.declared.half.Decision.{Decision}
+use Rattle.roff_scan.specs.declared.half.Decision.TheVariants.{Is, OnPages}
 use Rattle.roff_scan.specs.declared.half.Read.{Read}
-use Rattle.roff_scan.specs.declared.half.Read.TheVariants.{GoesOn, Unit, Holds, Escape, Asks, Motion, Measures, Tells}
+use Rattle.roff_scan.specs.declared.half.Read.TheVariants.{GoesOn, Unit, Holds, Escape, Asks, Motion, Measures, Tells, Decides}
 use Rattle.roff_scan.specs.declared.half.Remark.{Remark}
 use Rattle.roff_store.specs.declared.register.Direction.{Direction}
 use Rattle.roff_run.specs.Messages.{character_name, remark_message, remark_messages}
 use Rattle.roff_run.specs.declared.message.Message.{Message}
 use Rattle.roff_run.specs.declared.message.Message.TheVariants.{LeftOut, UnknownCharacter}
 use Rattle.roff_run.specs.declared.reading.Reading.{Reading}
-use Rattle.roff_run.specs.declared.reading.Reading.TheVariants.{LineStart, Text as InText, Control, Name, Arguments as InArguments, Dropped}
+use Rattle.roff_run.specs.declared.reading.Reading.TheVariants.{LineStart, Branch, Braced, Text as InText, Control, Name, Arguments as InArguments, Deciding, Skipping, Dropped}
 use Rattle.roff_run.specs.declared.reading.TextLine.{TextLine}
 use Rattle.roff_run.specs.declared.request.Request.{Request}
 use Rattle.roff_run.specs.declared.request.LineReading.{LineReading}
-use Rattle.roff_run.specs.declared.request.LineReading.TheVariants.{ByArguments}
-use Rattle.roff_run.specs.Registers.{Known, known_behind, step_changes, step_messages, text_of_register}
+use Rattle.roff_run.specs.declared.request.LineReading.TheVariants.{ByArguments, ByCondition, ByElse}
+use Rattle.roff_run.specs.Registers.{Known, is_page_odd, known_behind, step_changes, step_messages, text_of_register}
 use Rattle.roff_run.specs.Requests.{PageEvent, Text, Space, Effect, doing, row_of, request_named, request_effect}
 
 -- the input, as a run of the formatter has it
@@ -42,6 +44,14 @@ pub record Taking : Type 0 where
   pub reading : Reading
   pub effect : Effect
 
+-- a count of braces in a skipped branch above this stays
+abbrev pub most_braces : ℕ
+most_braces = 4294967295
+
+-- a brace more is counted, if this is so
+abbrev pub counted_if : Bool → ℕ → ℕ
+counted_if so count = if so then min (count + 1) most_braces else count
+
 -- this is read on, and nothing is meant yet
 abbrev pub going_on : PageInput → Reading → Taking
 going_on i reading = record { input = i; reading = reading; effect = doing [] }
@@ -52,15 +62,18 @@ meaning_events i reading events = record { input = i; reading = reading; effect 
 
 -- a text line on which nothing stands
 abbrev pub fresh_line : TextLine
-fresh_line = record { has_glyph = false; has_other = false; leading = 0 }
+fresh_line = record { has_glyph = false; has_other = false; has_brace = false; leading = 0 }
 
 -- a line of blanks alone: a break and a blank line
 abbrev pub blank_line : List PageEvent
 blank_line = Text WordEnd ∷ Text Break ∷ Space 1 ∷ []
 
--- the end of a text line
+-- the end of a text line: one on which nothing but braces and blanks stand does nothing
 abbrev pub text_line_end : TextLine → List PageEvent
-text_line_end line = if line.has_glyph || line.has_other then Text WordEnd ∷ Text LineEnd ∷ [] else blank_line
+text_line_end line =
+    if line.has_glyph || line.has_other then Text WordEnd ∷ Text LineEnd ∷ []
+    else if line.has_brace then []
+    else blank_line
 
 -- the leading blanks, as a glyph of their own
 abbrev pub leading_glyph : ℕ → List PageEvent
@@ -83,6 +96,10 @@ glyph_taking i line glyph = glyphs_taking i line (glyph ∷ [])
 abbrev pub other_taking : PageInput → TextLine → Taking
 other_taking i line = going_on i (InText (record line { has_other = true }))
 
+-- a brace of a text line: it prints nothing
+abbrev pub brace_taking : PageInput → TextLine → Taking
+brace_taking i line = going_on i (InText (record line { has_brace = true }))
+
 -- something that prints nothing, and of which this is said
 abbrev pub told_taking : PageInput → TextLine → Message → Taking
 told_taking i line message = record {
@@ -91,7 +108,7 @@ told_taking i line message = record {
   effect = record { messages = message ∷ []; changes = []; events = [] };
 }
 
--- something that was read within a text that is measured, and of which this is said
+-- something that was read within a text that is measured, or a condition, and of which this is said
 abbrev pub telling : PageInput → Reading → Remark → Taking
 telling i reading remark = record {
   input = i;
@@ -138,6 +155,7 @@ abbrev pub escape_meant : PageInput → TextLine → ℕ → Kind → Taking
 escape_meant i line b (Prints byte) = glyph_taking i line (Printed byte)
 escape_meant i line b Blank = glyph_taking i line (Blanks 1)
 escape_meant i line b NoWidth = glyph_taking i line (Blanks 0)
+escape_meant i line b Brace = brace_taking i line
 escape_meant i line b IsLeftOut = left_out_taking i line b
 escape_meant i line b (BeginsText (LeftOutText byte)) = left_out_taking i line byte
 escape_meant i line b (_) = other_taking i line
@@ -186,11 +204,27 @@ name_taking k i reading line (NameLeftOut b) name = left_out_taking i line b
 name_taking k i reading line purpose name = asking k i reading purpose name
 
 -- the first byte of a line
-abbrev pub first_taking : PageInput → ℕ → Taking
-first_taking i b =
+abbrev pub line_begun : PageInput → ℕ → Taking
+line_begun i b =
     if b == dot then going_on i (Control true)
     else if b == apostrophe then going_on i (Control false)
     else text_taking i fresh_line b
+
+-- a byte where a line begins, or a branch, or its rest behind its brace: there blanks come first, and a newline behind
+-- the brace
+abbrev pub first_taking : PageInput → Reading → ℕ → Taking
+first_taking i Branch b = if b == blank then going_on i Branch else line_begun i b
+first_taking i Braced b =
+    if b == blank then going_on i Braced
+    else if b == newline then going_on i LineStart
+    else line_begun i b
+first_taking i (_) b = line_begun i b
+
+-- an escape there: the brace of a branch, and a newline behind it
+abbrev pub first_escape : PageInput → Reading → ℕ → Taking
+first_escape i Branch b = if b == 123 then going_on i Braced else escape_taking i fresh_line b
+first_escape i Braced b = if b == newline then going_on i LineStart else escape_taking i fresh_line b
+first_escape i (_) b = escape_taking i fresh_line b
 
 -- what was found of a text line
 abbrev pub text_found : Known → PageInput → TextLine → Read → Taking
@@ -203,22 +237,25 @@ text_found k i line (Asks purpose name) = name_taking k i (InText line) line pur
 text_found k i line (Motion columns remark) = motion_taking i line columns remark
 text_found k i line (Measures width) = measuring i (InText line) width
 text_found k i line (Tells remark) = telling i (InText line) remark
+text_found k i line (Decides decision freed) = going_on i (InText line)
 
--- what was found where a line begins: an interpolation leaves it at its beginning
-abbrev pub beginning_found : Known → PageInput → Read → Taking
-beginning_found k i GoesOn = going_on i LineStart
-beginning_found k i (Unit (Byte b)) = first_taking i b
-beginning_found k i (Unit (Kept b)) = escape_taking i fresh_line b
-beginning_found k i (Holds unit) = going_on (holding_text unit i) LineStart
-beginning_found k i (Escape b) = escape_taking i fresh_line b
-beginning_found k i (Asks purpose name) = name_taking k i LineStart fresh_line purpose name
-beginning_found k i (Motion columns remark) = motion_taking i fresh_line columns remark
-beginning_found k i (Measures width) = measuring i LineStart width
-beginning_found k i (Tells remark) = telling i LineStart remark
+-- What was found where a line begins, or a branch: an interpolation leaves it at its beginning. Text gives no kept unit,
+-- and decides nothing.
+abbrev pub beginning_found : Known → PageInput → Reading → Read → Taking
+beginning_found k i reading GoesOn = going_on i reading
+beginning_found k i reading (Unit (Byte b)) = first_taking i reading b
+beginning_found k i reading (Unit (Kept b)) = first_escape i reading b
+beginning_found k i reading (Holds unit) = going_on (holding_text unit i) reading
+beginning_found k i reading (Escape b) = first_escape i reading b
+beginning_found k i reading (Asks purpose name) = name_taking k i reading fresh_line purpose name
+beginning_found k i reading (Motion columns remark) = motion_taking i fresh_line columns remark
+beginning_found k i reading (Measures width) = measuring i reading width
+beginning_found k i reading (Tells remark) = telling i reading remark
+beginning_found k i reading (Decides decision freed) = going_on i reading
 
--- what something reads where a line begins, with what is half read then
-abbrev pub beginning_read : Known → PageInput → Reads → Taking
-beginning_read k i r = beginning_found k (record i { half = r.1 }) r.0
+-- what something reads there, with what is half read then
+abbrev pub beginning_read : Known → PageInput → Reading → Reads → Taking
+beginning_read k i reading r = beginning_found k (record i { half = r.1 }) reading r.0
 
 -- what something reads of a text line, with what is half read then
 abbrev pub text_read : Known → PageInput → TextLine → Reads → Taking
@@ -251,7 +288,8 @@ unit_found k i breaks request (Byte b) =
     else going_on (holding (Byte b) i) (InArguments breaks request)
 unit_found k i breaks request (Kept b) = going_on (holding (Kept b) i) (InArguments breaks request)
 
--- what was found behind a request's name that is no unit of an argument; a motion is none there, as it is copied
+-- what was found behind the name of a request that is no unit of an argument; a motion is none there, as it is copied, and
+-- a condition decides elsewhere
 abbrev pub no_unit_found : Known → PageInput → Reading → Read → Taking
 no_unit_found k i reading (Holds unit) = going_on (holding_text unit i) reading
 no_unit_found k i reading (Asks purpose name) = asking k i reading purpose name
@@ -269,6 +307,53 @@ arguments_found k i breaks request found = no_unit_found k (settling i) (InArgum
 abbrev pub arguments_read_on : Known → PageInput → Bool → Request → Reads → Taking
 arguments_read_on k i breaks request r = arguments_found k (record i { half = r.1 }) breaks request r.0
 
+-- a byte of a branch that is skipped, in which so many braces were opened and closed: one behind a backslash belongs to
+-- that, and a newline ends the branch unless more were opened
+abbrev pub skipping_taking : PageInput → ℕ → ℕ → Bool → ℕ → Taking
+skipping_taking i opened closed true b = going_on i (Skipping (counted_if (b == 123) opened) (counted_if (b == 125) closed) false)
+skipping_taking i opened closed false b =
+    if b == backslash then going_on i (Skipping opened closed true)
+    else if b == newline && nat_le opened closed then going_on i LineStart
+    else going_on i (Skipping opened closed false)
+
+-- where a branch begins that is read, or skipped
+abbrev pub branch_of : Bool → Reading
+branch_of true = Branch
+branch_of false = Skipping 0 0 false
+
+-- its first byte
+abbrev pub branch_taking : Known → PageInput → Bool → ℕ → Taking
+branch_taking k i true b = beginning_read k i Branch (byte_read true i.half b)
+branch_taking k i false b = skipping_taking i 0 0 false b
+
+-- whether a condition is so that asks this
+abbrev pub is_so : Known → Decision → Bool
+is_so k (Is so) = so
+is_so k (OnPages odd) = if odd then is_page_odd k.registers else not (is_page_odd k.registers)
+
+-- a condition decided: its result is kept, if it is to be, and the branch comes, of which a byte was taken already or none
+abbrev pub decided : Known → PageInput → Bool → Option ℕ → Taking
+decided k i so None = going_on i (branch_of so)
+decided k i so (Some b) = branch_taking k i so b
+
+-- the input with a result kept, if it is to be
+abbrev pub kept_if : Bool → Bool → PageInput → PageInput
+kept_if keeps so i = if keeps then keeping so i else i
+
+-- what was found of a condition
+abbrev pub condition_found : Known → PageInput → Bool → Read → Taking
+condition_found k i keeps (Decides decision freed) = decided k (kept_if keeps (is_so k decision) i) (is_so k decision) freed
+condition_found k i keeps found = no_unit_found k i (Deciding keeps) found
+
+-- what something reads of a condition, with what is half read then
+abbrev pub condition_read : Known → PageInput → Bool → Reads → Taking
+condition_read k i keeps r = condition_found k (record i { half = r.1 }) keeps r.0
+
+-- whether the other branch is read: a result was kept, and was that it isn't so
+abbrev pub reads_else : Option Bool → Bool
+reads_else None = false
+reads_else (Some so) = not so
+
 -- a byte of a dropped line
 abbrev pub dropped_taking : PageInput → ℕ → Taking
 dropped_taking i b = going_on i (if b == newline then LineStart else Dropped)
@@ -280,6 +365,8 @@ ends_name b = b == blank || (b == tab || (b == newline || b == backslash))
 -- the first byte behind a request's name, by how its line is read
 abbrev pub line_taking : Known → PageInput → Bool → Request → LineReading → ℕ → Taking
 line_taking k i breaks request ByArguments b = arguments_read_on k i breaks request (byte_read false i.half b)
+line_taking k i breaks request (ByCondition keeps) b = condition_read k i keeps (byte_read false (choosing i).half b)
+line_taking k i breaks request ByElse b = branch_taking k (without_last i) (reads_else (kept_last i)) b
 
 -- a byte behind a name that it doesn't belong to: the line of an unknown name is dropped
 abbrev pub name_ended_taking : Known → PageInput → Bool → List ℕ → ℕ → Taking
@@ -288,20 +375,25 @@ name_ended_taking k i breaks name b = elim (request_named name) [
   | Some request ↦ line_taking k i breaks request (row_of request).line b
 ]
 
--- what is read behind a request's name, by how its line is read
-abbrev pub behind_name : Bool → Request → LineReading → Reading
-behind_name breaks request ByArguments = InArguments breaks request
+-- what is read behind a request's name, by how its line is read: a condition, or the other branch of the last one whose
+-- result was kept
+abbrev pub behind_name : PageInput → Bool → Request → LineReading → Taking
+behind_name i breaks request ByArguments = going_on i (InArguments breaks request)
+behind_name i breaks request (ByCondition keeps) = going_on (choosing i) (Deciding keeps)
+behind_name i breaks request ByElse = going_on (without_last i) (branch_of (reads_else (kept_last i)))
 
 -- the last byte of a name of two bytes
 abbrev pub name_whole_taking : PageInput → Bool → List ℕ → Taking
 name_whole_taking i breaks name = elim (request_named name) [
   | None ↦ going_on i Dropped
-  | Some request ↦ going_on i (behind_name breaks request (row_of request).line)
+  | Some request ↦ behind_name i breaks request (row_of request).line
 ]
 
 -- a byte that isn't dropped
 abbrev pub kept_taking : Known → Reading → PageInput → ℕ → Taking
-kept_taking k LineStart i b = beginning_read k i (byte_read true i.half b)
+kept_taking k LineStart i b = beginning_read k i LineStart (byte_read true i.half b)
+kept_taking k Branch i b = beginning_read k i Branch (byte_read true i.half b)
+kept_taking k Braced i b = beginning_read k i Braced (byte_read true i.half b)
 kept_taking k (InText line) i b = text_read k i line (byte_read true i.half b)
 kept_taking k (Control breaks) i b =
     if b == blank || b == tab then going_on i (Control breaks)
@@ -311,6 +403,8 @@ kept_taking k (Name breaks first) i b =
     if ends_name b then name_ended_taking k i breaks (first ∷ []) b
     else name_whole_taking i breaks (first ∷ b ∷ [])
 kept_taking k (InArguments breaks request) i b = arguments_read_on k i breaks request (byte_read false i.half b)
+kept_taking k (Deciding keeps) i b = condition_read k i keeps (byte_read false i.half b)
+kept_taking k (Skipping opened closed behind) i b = skipping_taking i opened closed behind b
 kept_taking k Dropped i b = dropped_taking i b
 
 -- what isn't a byte of the line: no quote follows the quote before it
@@ -322,11 +416,14 @@ interrupted (_) i = i
 abbrev pub taking : Known → Reading → PageInput → ℕ → Taking
 taking k reading i b = if is_dropped b then going_on (interrupted reading i) reading else kept_taking k reading i b
 
--- what is half read ends before a newline that stays, or at the input's end
+-- what is half read ends before what stays, or at the input's end
 abbrev pub half_ended : Known → Reading → PageInput → Taking
-half_ended k LineStart i = beginning_read k i (reading_ended true i.half)
+half_ended k LineStart i = beginning_read k i LineStart (reading_ended true i.half)
+half_ended k Branch i = beginning_read k i Branch (reading_ended true i.half)
+half_ended k Braced i = beginning_read k i Braced (reading_ended true i.half)
 half_ended k (InText line) i = text_read k i line (reading_ended true i.half)
 half_ended k (InArguments breaks request) i = arguments_read_on k i breaks request (reading_ended false i.half)
+half_ended k (Deciding keeps) i = condition_read k i keeps (reading_ended false i.half)
 half_ended k reading i = going_on (record i { half = (reading_ended true i.half).1 }) reading
 
 -- the end of the input: an unfinished line ends as by a newline

@@ -1,6 +1,6 @@
 -- The number registers of a run: those that a document sets, the page number, and the read-only ones (manual,
 -- section 8 and the lists of registers before section 1).
-use Rattle.std.specs.Prelude.{ℕ, ◌*◌, Bool, ◌&&◌, not, List, [], ◌∷◌, ℤ, pos, bytes_eq, codes, decimal, find, fold, min, is_some, option_map, Option, Some, None, if◌then◌else◌}
+use Rattle.std.specs.Prelude.{ℕ, ◌*◌, ◌%◌, ◌==◌, unsigned_abs, Bool, ◌&&◌, not, List, [], ◌∷◌, ℤ, pos, bytes_eq, codes, decimal, find, fold, min, is_some, option_map, Option, Some, None, if◌then◌else◌}
 use Rattle.roff_lines.specs.declared.settings.Settings.{Settings}
 use Rattle.roff_num.specs.Ranges.{is_in_range}
 use Rattle.roff_num.specs.RegisterText.{register_text}
@@ -97,6 +97,10 @@ value_asked None k name = (settable name k.registers).value
 -- the value that is in force under a name
 abbrev pub value_in_force : Known → List ℕ → Num
 value_in_force k name = value_asked (query_of name) k name
+
+-- whether the page number is odd
+abbrev pub is_page_odd : AllRegisters → Bool
+is_page_odd rs = unsigned_abs rs.page.value.0 % 2 == 1
 
 -- a change of the registers; one of a read-only register changes nothing
 pub data Change : Type 0 where

@@ -6,10 +6,10 @@ use Rattle.roff_lines.specs.Lines.{pending_length}
 use Rattle.roff_lines.specs.declared.event.Event.TheVariants.{WordEnd, Break}
 use Rattle.roff_num.specs.LimitValues.{value_of}
 use Rattle.roff_num.specs.declared.limit.Limit.{Limit}
-use Rattle.roff_num.specs.declared.limit.Limit.TheVariants.{Bytes, Names, Stack, Depth, Line}
+use Rattle.roff_num.specs.declared.limit.Limit.TheVariants.{Bytes, Names, Stack, Depth, Line, Conditions}
 use Rattle.roff_num.specs.declared.limits.Limits.{Limits}
-use Rattle.roff_scan.specs.Halves.{newline_stays, seen_stays}
-use Rattle.roff_scan.specs.Input.{Ahead, ByteAhead, FreeAhead, EndAhead, DoAhead, initial_input, pushed, depth, cost, item_taken, counting}
+use Rattle.roff_scan.specs.Halves.{decides_now, newline_stays, seen_stays}
+use Rattle.roff_scan.specs.Input.{Ahead, ByteAhead, FreeAhead, EndAhead, DoAhead, initial_input, pushed, depth, results, cost, item_taken, counting}
 use Rattle.roff_scan.specs.Tape.{Tape, Answer, OneByte, OneNote, Ended, Failed, Stopped, Gives, Ends, front, behind_front}
 use Rattle.roff_scan.specs.Unread.{Sighted, SeesByte, SeesNothing, SeesNote, SeesEnding, seen_ahead}
 use Rattle.roff_scan.specs.Half.{Half}
@@ -124,7 +124,7 @@ performing l e rest s = unless_refused l (refusal l s.history e) s (record s { t
 
 -- what a step may make grow, as it is behind the step, in the order in which it is looked at
 abbrev pub counts_in : AllRegisters → PageInput → List (Limit × ℕ)
-counts_in rs i = (Names, length rs.named) ∷ (Stack, pushed i) ∷ (Depth, depth i) ∷ []
+counts_in rs i = (Names, length rs.named) ∷ (Stack, pushed i) ∷ (Depth, depth i) ∷ (Conditions, results i) ∷ []
 
 -- the same of a state
 abbrev pub grown : State → List (Limit × ℕ)
@@ -212,11 +212,13 @@ awaited l (Some (SeesNote message)) s = front_seen l None s
 awaited l (Some (SeesEnding ending)) s = front_seen l None s
 awaited l None s = awaited_of_source l (front s.tape) s
 
+-- what is half read waits: a condition that is read decides, and else something is seen
+abbrev pub waiting : Limits → State → State
+waiting l s = if decides_now s.input.half then made l s (half_ends s) else awaited l (seen_ahead s.input.ahead) s
+
 -- one item of the input, or how it ends
 abbrev pub reading_on : Limits → State → State
-reading_on l s =
-    if newline_stays s.input.half then awaited l (seen_ahead s.input.ahead) s
-    else in_front_taken l s.input.ahead s
+reading_on l s = if newline_stays s.input.half then waiting l s else in_front_taken l s.input.ahead s
 
 -- one step of a run that hasn't ended: the first of the events to do, the end, or an item
 abbrev pub step_with : Limits → List PageEvent → State → State

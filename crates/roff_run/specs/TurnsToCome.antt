@@ -1,7 +1,9 @@
 -- How many turns of a run are still to come at the most: each takes something, or ends what is half read.
-use Rattle.std.specs.Prelude.{ℕ, ◌+◌, ◌-◌, ◌*◌, List, [], ◌∷◌, length}
+use Rattle.std.specs.Prelude.{ℕ, ◌+◌, ◌-◌, ◌*◌, List, [], ◌∷◌, Option, None}
+use Rattle.roff_scan.specs.Half.{Half, Condition}
 use Rattle.roff_scan.specs.Input.{Ahead, ByteAhead, FreeAhead, EndAhead, DoAhead}
 use Rattle.roff_scan.specs.Unread.{Unread}
+use Rattle.roff_scan.specs.declared.half.ConditionPart.TheVariants.{Decided}
 use Rattle.roff_run.specs.Reading.{PageInput}
 use Rattle.roff_run.specs.Requests.{PageEvent}
 
@@ -13,9 +15,17 @@ free_ahead (FreeAhead b ∷ items) = free_ahead items + 1
 free_ahead (EndAhead ∷ items) = free_ahead items
 free_ahead (DoAhead event ∷ items) = free_ahead items
 
--- what falls with each turn that takes an item, within so many bytes: each item is paid for or free, and may begin one reading
+-- how many turns it takes to end these at the most: a condition is read before it decides, and a byte behind it may begin
+-- a reading
+abbrev pub endings_of : List Half → ℕ
+endings_of [] = 0
+endings_of (Condition (Decided decision None) text ∷ rest) = endings_of rest + 1
+endings_of (Condition part text ∷ rest) = endings_of rest + 2
+endings_of (half ∷ rest) = endings_of rest + 1
+
+-- what falls with each turn, within so many bytes: each item is paid for or free, and may begin two endings
 abbrev pub turns_within : ℕ → PageInput → ℕ
-turns_within bytes i = 2 * (bytes - i.charge) + 2 * free_ahead i.ahead + length i.half
+turns_within bytes i = 3 * (bytes - i.charge) + 3 * free_ahead i.ahead + endings_of i.half
 
 -- the same of the unread input, within its limit
 abbrev pub turns_to_come : Unread PageEvent → ℕ

@@ -1,22 +1,24 @@
 //! Reading: what each item of the input means, before it is done.
 
-ghost use Rattle.std.specs.Prelude.{◌≡◌, ℕ, List, [], ◌∷◌, None, true, IfOk, IfSome, Ok, reverse, slice_get};
+ghost use Rattle.std.specs.Prelude.{◌≡◌, ℕ, List, [], ◌∷◌, None, Some, true, IfOk, IfSome, Ok, reverse, slice_get};
 ghost use Rattle.std.specs.Option.{option_copied};
 ghost use Rattle.roff_lines.specs.declared.event.Event.TheVariants.{Gap, Print, WordEnd};
 ghost use Rattle.roff_lines.specs.declared.glyph.Glyph.TheVariants.{Printed};
 ghost use Rattle.roff_run.specs.Requests.{Text};
 ghost use Rattle.roff_run.specs.Registers.{Known as KnownOf};
-ghost use Rattle.roff_run.specs.Clauses.{AllRegisters, Changed, Env, LineStart, PageHistory, PageUnread, Remove, Stands, TakesAs, arguments_found, asking, beginning_found, changed_by, changes_of, effect_of, end_taking, first_taking, fresh_reader, going_on, meaning_events, half_ended, holding, holding_text, interpolating, interrupted, kept_taking, known_at, known_of, line_ended, listed, measuring, name_taking, names_given, no_unit_found, putting_nothing, register_named, request_effect, taking, telling, text_found, text_of, unit_found, value_in_force};
+ghost use Rattle.roff_run.specs.Clauses.{AllRegisters, Changed, Env, LineStart, NameOf, PageHistory, PageInput, PageUnread, Remove, Stands, TakesAs, arguments_found, asking, beginning_found, behind_name, branch_of, changed_by, changes_of, condition_found, decided, effect_of, end_taking, first_escape, first_taking, fresh_reader, going_on, meaning_events, half_ended, holding, holding_text, interpolating, interrupted, is_so, kept_if, kept_taking, known_at, known_of, line_begun, line_ended, listed, name_whole_taking, reads_else, row_of, measuring, name_taking, names_given, no_unit_found, putting_nothing, register_named, request_effect, taking, telling, text_found, text_of, unit_found, value_in_force};
 
 use crate::event::{Events, PageEvent};
 use crate::message::Message;
-use crate::reading::{Reading, TextLine, TextStep};
+use crate::reading::{Reading, TextLine, TextStep, ends_name};
 use crate::registers::{Facts, RunRegisters};
-use crate::request::{Changes, Effect, Given, Known, Request, name_given, register_named};
+use crate::request::{
+    Changes, Effect, Given, Known, LineReading, Request, name_given, register_named,
+};
 use itoa::Buffer;
 use roff_lines::Env;
 use roff_num::{Limit, Name, Num};
-use roff_scan::{ArgumentList, CopyUnit, NameUse, Read, Remark, Unread, is_dropped};
+use roff_scan::{ArgumentList, CopyUnit, Decision, NameUse, Read, Remark, Unread, is_dropped};
 use roff_store::Direction;
 use std::alloc::{AllocError, Global};
 use std::marker::Model;
@@ -83,6 +85,24 @@ impl Reader {
         }
     }
 
+    /// Whether a byte changes nothing: most of a line that is dropped, and of a branch that is
+    /// skipped.
+    #[inline(always)]
+    pub fn passes_over(&self, byte: u8) -> bool
+        ensures { result ≡ true → (k : KnownOf) (i : PageInput)
+            → taking k self.now.reading i byte ≡ going_on i self.now.reading }
+    {
+        match self.reading {
+            Reading::Dropped => byte != b'\n',
+            Reading::Skipping {
+                opened,
+                closed,
+                behind,
+            } => !behind && byte != b'\\' && (byte != b'\n' || opened > closed),
+            _ => false,
+        }
+    }
+
     /// What a byte does that was taken: the input behind it, what is read, and what it means.
     ///
     /// # Errors
@@ -117,25 +137,40 @@ impl Reader {
         match self.reading {
             Reading::LineStart => {
                 let found = unread.read_byte(true, byte);
-                self.begin_line(found, env, unread)
+                self.begin_line(Reading::LineStart, found, env, unread)
+            }
+            Reading::Branch => {
+                let found = unread.read_byte(true, byte);
+                self.begin_line(Reading::Branch, found, env, unread)
+            }
+            Reading::Braced => {
+                let found = unread.read_byte(true, byte);
+                self.begin_line(Reading::Braced, found, env, unread)
             }
             Reading::Text(line) => {
                 let found = unread.read_byte(true, byte);
                 self.read_text(line, found, env, unread)
             }
             Reading::Control { breaks } => Ok(self.read_on(Reading::behind_control(breaks, byte))),
-            Reading::Name { breaks, first } => {
-                Ok(self.read_on(Reading::behind_first(breaks, first, byte)))
-            }
+            Reading::Name { breaks, first } => Ok(self.end_name(breaks, first, byte, unread)),
             Reading::Arguments { breaks, request } => {
                 let found = unread.read_byte(false, byte);
                 self.read_arguments(breaks, request, found, env, unread)
             }
+            Reading::Deciding { keeps } => {
+                let found = unread.read_byte(false, byte);
+                self.read_condition(keeps, found, env, unread)
+            }
+            Reading::Skipping {
+                opened,
+                closed,
+                behind,
+            } => Ok(self.read_on(Reading::behind_skipped(opened, closed, behind, byte))),
             Reading::Dropped => Ok(self.read_on(Reading::behind_dropped(byte))),
         }
     }
 
-    /// What is half read ends, before a newline that stays or at the end of the input.
+    /// What is half read ends, before what stays or at the end of the input.
     ///
     /// # Errors
     ///
@@ -147,7 +182,15 @@ impl Reader {
         match self.reading {
             Reading::LineStart => {
                 let found = unread.end_reading(true);
-                self.begin_line(found, env, unread)
+                self.begin_line(Reading::LineStart, found, env, unread)
+            }
+            Reading::Branch => {
+                let found = unread.end_reading(true);
+                self.begin_line(Reading::Branch, found, env, unread)
+            }
+            Reading::Braced => {
+                let found = unread.end_reading(true);
+                self.begin_line(Reading::Braced, found, env, unread)
             }
             Reading::Text(line) => {
                 let found = unread.end_reading(true);
@@ -156,6 +199,10 @@ impl Reader {
             Reading::Arguments { breaks, request } => {
                 let found = unread.end_reading(false);
                 self.read_arguments(breaks, request, found, env, unread)
+            }
+            Reading::Deciding { keeps } => {
+                let found = unread.end_reading(false);
+                self.read_condition(keeps, found, env, unread)
             }
             _ => {
                 let _ = unread.end_reading(true);
@@ -216,10 +263,23 @@ impl Reader {
         }
     }
 
-    /// The first byte of a line: a dot or an apostrophe begins a control line, another a text line.
-    fn begin_with(&mut self, byte: u8) -> Meaning
+    /// A byte where a line begins, or a branch, or its rest behind its brace.
+    fn begin_with(&mut self, at: Reading, byte: u8) -> Meaning
         ensures { (env : Env) (u : PageUnread)
-            → TakesAs (λ k. first_taking u.input byte) env self.old self.new u u (Ok result) }
+            → TakesAs (λ k. first_taking u.input at byte) env self.old self.new u u (Ok result) }
+    {
+        match (at, byte) {
+            (Reading::Branch, b' ') => self.read_on(Reading::Branch),
+            (Reading::Braced, b' ') => self.read_on(Reading::Braced),
+            (Reading::Braced, b'\n') => self.read_on(Reading::LineStart),
+            (_, _) => self.begin_with_any(byte),
+        }
+    }
+
+    /// The first byte of a line: a dot or an apostrophe begins a control line, another a text line.
+    fn begin_with_any(&mut self, byte: u8) -> Meaning
+        ensures { (env : Env) (u : PageUnread)
+            → TakesAs (λ k. line_begun u.input byte) env self.old self.new u u (Ok result) }
     {
         match byte {
             b'.' => self.read_on(Reading::Control { breaks: true }),
@@ -228,32 +288,46 @@ impl Reader {
         }
     }
 
-    /// Something where a line begins.
+    /// An escape where a line begins, or a branch, or its rest behind its brace.
+    fn begin_with_escape(&mut self, at: Reading, byte: u8) -> Meaning
+        ensures { (env : Env) (u : PageUnread)
+            → TakesAs (λ k. first_escape u.input at byte) env self.old self.new u u (Ok result) }
+    {
+        match (at, byte) {
+            (Reading::Branch, b'{') => self.read_on(Reading::Braced),
+            (Reading::Braced, b'\n') => self.read_on(Reading::LineStart),
+            (_, _) => self.step(TextLine::new().escape(byte)),
+        }
+    }
+
+    /// Something where a line begins, or a branch, or its rest behind its brace.
     fn begin_line(
         &mut self,
+        at: Reading,
         found: Read,
         env: &Env,
         unread: &mut Unread<PageEvent>,
     ) -> Result<Meaning, Limit>
-        ensures { TakesAs (λ k. beginning_found k unread.old.input found)
+        ensures { TakesAs (λ k. beginning_found k unread.old.input at found)
             env.now self.old self.new unread.old unread.new result }
     {
         match found {
-            Read::GoesOn => Ok(self.read_on(Reading::LineStart)),
-            Read::Unit(CopyUnit::Byte(byte)) => Ok(self.begin_with(byte)),
+            Read::GoesOn => Ok(self.read_on(at)),
+            Read::Unit(CopyUnit::Byte(byte)) => Ok(self.begin_with(at, byte)),
             Read::Unit(CopyUnit::Kept(byte)) | Read::Escape(byte) => {
-                Ok(self.step(TextLine::new().escape(byte)))
+                Ok(self.begin_with_escape(at, byte))
             }
-            Read::Holds(unit) => self.hold_text(unit, Reading::LineStart, unread),
+            Read::Holds(unit) => self.hold_text(unit, at, unread),
             Read::Motion(columns, remark) => {
                 Ok(self.step(TextLine::new().motion(columns, remark)))
             }
-            Read::Measures(width) => self.measure(width, Reading::LineStart, unread),
-            Read::Tells(remark) => Ok(self.tell(remark, Reading::LineStart)),
+            Read::Measures(width) => self.measure(width, at, unread),
+            Read::Tells(remark) => Ok(self.tell(remark, at)),
             Read::Asks(purpose, name) => {
-                self.reading = Reading::LineStart;
+                self.reading = at;
                 self.read_name(TextLine::new(), purpose, name, env, unread)
             }
+            Read::Decides(..) => Ok(self.read_on(at)),
         }
     }
 
@@ -282,6 +356,7 @@ impl Reader {
                 self.reading = Reading::Text(line);
                 self.read_name(line, purpose, name, env, unread)
             }
+            Read::Decides(..) => Ok(self.read_on(Reading::Text(line))),
         }
     }
 
@@ -304,6 +379,105 @@ impl Reader {
             NameUse::Register(_) => self.ask(purpose, name, env, unread),
             NameUse::Text => self.ask(purpose, name, env, unread),
             NameUse::Argument => self.ask(purpose, name, env, unread),
+        }
+    }
+
+    /// The byte behind the first one of a name. No request has a name of one byte.
+    fn end_name(
+        &mut self,
+        breaks: bool,
+        first: u8,
+        byte: u8,
+        unread: &mut Unread<PageEvent>,
+    ) -> Meaning
+        ensures { (env : Env)
+            → TakesAs (λ k. kept_taking k (NameOf breaks first) unread.old.input byte)
+            env self.old self.new unread.old unread.new (Ok result) }
+    {
+        if ends_name(byte) {
+            return self.read_on(Reading::behind_dropped(byte));
+        }
+        match Request::named(first, byte) {
+            Some(request) => self.begin_request(breaks, request, unread),
+            None => self.read_on(Reading::Dropped),
+        }
+    }
+
+    /// What is read behind a request's name.
+    fn begin_request(
+        &mut self,
+        breaks: bool,
+        request: Request,
+        unread: &mut Unread<PageEvent>,
+    ) -> Meaning
+        ensures { (env : Env)
+            → TakesAs (λ k. behind_name unread.old.input breaks request (row_of request).line)
+            env self.old self.new unread.old unread.new (Ok result) }
+    {
+        let reading = match request.row().line {
+            LineReading::ByArguments => Reading::Arguments { breaks, request },
+            LineReading::ByCondition { keeps } => {
+                unread.begin_condition();
+                Reading::Deciding { keeps }
+            }
+            LineReading::ByElse => Reading::branch(unread.take_kept() == Some(false)),
+        };
+        self.read_on(reading)
+    }
+
+    /// Something of a condition.
+    fn read_condition(
+        &mut self,
+        keeps: bool,
+        found: Read,
+        env: &Env,
+        unread: &mut Unread<PageEvent>,
+    ) -> Result<Meaning, Limit>
+        ensures { TakesAs (λ k. condition_found k unread.old.input keeps found)
+            env.now self.old self.new unread.old unread.new result }
+    {
+        match found {
+            Read::Decides(decision, freed) => {
+                let so = self.is_so(decision);
+                if keeps {
+                    unread.keep(so)?;
+                }
+                self.begin_branch(so, freed, env, unread)
+            }
+            _ => self.read_in_arguments(Reading::Deciding { keeps }, found, env, unread),
+        }
+    }
+
+    /// Whether a condition is so that asks this.
+    fn is_so(&self, decision: Decision) -> bool
+        ensures { (k : KnownOf) → k.registers ≡ self.now.registers.all
+            → result ≡ is_so k decision }
+    {
+        match decision {
+            Decision::Is(so) => so,
+            Decision::OnPages(odd) => self.registers.is_page_odd() == odd,
+        }
+    }
+
+    /// A condition decided: its branch is read or skipped, and its first byte may be there.
+    fn begin_branch(
+        &mut self,
+        so: bool,
+        freed: Option<u8>,
+        env: &Env,
+        unread: &mut Unread<PageEvent>,
+    ) -> Result<Meaning, Limit>
+        ensures { TakesAs (λ k. decided k unread.old.input so freed)
+            env.now self.old self.new unread.old unread.new result }
+    {
+        let branch = Reading::branch(so);
+        match freed {
+            None => Ok(self.read_on(branch)),
+            Some(byte) if so => {
+                let found = unread.read_byte(true, byte);
+                self.begin_line(branch, found, env, unread)
+            }
+            Some(byte) => Ok(self.read_on(Reading::behind_skipped(0, 0, false, byte))),
         }
     }
 
@@ -332,7 +506,7 @@ impl Reader {
         }
     }
 
-    /// Something behind a request's name that is no unit of an argument.
+    /// Something behind the name of a request that is no unit of an argument, and decides nothing.
     fn read_in_arguments(
         &mut self,
         reading: Reading,
@@ -388,7 +562,7 @@ impl Reader {
         Ok(self.read_on(reading))
     }
 
-    /// A unit of a text between delimiters is held, and this is read on.
+    /// A unit of a text is held, and this is read on.
     fn hold_text(
         &mut self,
         unit: CopyUnit,
@@ -418,7 +592,7 @@ impl Reader {
         Ok(self.read_on(reading))
     }
 
-    /// This is said of something within a text that is measured, and this is read on.
+    /// This is said of something within a text that is measured or a condition, and this is read on.
     fn tell(&mut self, remark: Remark, reading: Reading) -> Meaning
         ensures { (env : Env) (u : PageUnread)
             → TakesAs (λ k. telling u.input reading remark) env self.old self.new u u (Ok result) }

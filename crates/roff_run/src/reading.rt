@@ -3,17 +3,17 @@
 ghost use Rattle.std.specs.Prelude.{◌≡◌, ℕ, ◌≤◌, ◌+◌, ◌++◌, ◌∷◌, [], length, map, true, min};
 ghost use Rattle.roff_lines.specs.declared.event.Event.TheVariants.{Gap, Print, WordEnd};
 ghost use Rattle.roff_lines.specs.declared.glyph.Glyph.TheVariants.{Printed};
-ghost use Rattle.roff_run.specs.Reading.{PageInput, behind_name, going_on, kept_taking, dropped_taking, ends_name, character_taking, escape_taking, fresh_line, glyph_taking, glyphs_taking, blank_taking, leading_blank_events, leading_glyph, left_out_taking, meaning_events, most_leading, motion_taking, other_taking, taking, told_taking, text_line_end, text_taking};
+ghost use Rattle.roff_run.specs.Reading.{PageInput, branch_of, counted_if, going_on, kept_taking, dropped_taking, skipping_taking, ends_name, brace_taking, character_taking, escape_taking, fresh_line, glyph_taking, glyphs_taking, blank_taking, leading_blank_events, leading_glyph, left_out_taking, meaning_events, most_leading, motion_taking, other_taking, taking, told_taking, text_line_end, text_taking};
 ghost use Rattle.std.specs.Option.{option_to_list};
 ghost use Rattle.roff_run.specs.Messages.{remark_messages};
-ghost use Rattle.roff_run.specs.Requests.{Text, row_of};
+ghost use Rattle.roff_run.specs.Requests.{Text};
 ghost use Rattle.roff_run.specs.TextLine.Stepping.{step_at};
 ghost use Rattle.roff_run.specs.Registers.{Known};
-ghost use Rattle.roff_run.specs.declared.reading.Reading.TheVariants.{Control as BehindControl, Name as InName, Text as InText};
+ghost use Rattle.roff_run.specs.declared.reading.Reading.TheVariants.{Control as BehindControl, Text as InText};
 
 use crate::event::{Events, PageEvent};
 use crate::message::{CharacterName, Message};
-use crate::request::{LineReading, Request};
+use crate::request::Request;
 use roff_lines::{Event, Glyph};
 use roff_num::Name;
 use roff_scan::{Escape, Remark, TextUse, character, escape_of, is_silent};
@@ -26,14 +26,37 @@ const MOST_LEADING: u32 = 2_147_483_647;
 pub(crate) enum Reading {
     /// A line begins.
     LineStart,
+    /// A branch of a condition begins.
+    Branch,
+    /// Behind the brace with which a branch began.
+    Braced,
     /// A text line.
     Text(TextLine),
     /// Behind the dot or apostrophe of a control line; requests break behind a dot.
-    Control { breaks: bool },
+    Control {
+        breaks: bool,
+    },
     /// Behind the first byte of a name.
-    Name { breaks: bool, first: u8 },
+    Name {
+        breaks: bool,
+        first: u8,
+    },
     /// Behind a request's name.
-    Arguments { breaks: bool, request: Request },
+    Arguments {
+        breaks: bool,
+        request: Request,
+    },
+    /// A condition, whose result may be kept.
+    Deciding {
+        keeps: bool,
+    },
+    /// A branch that is skipped: how many braces were opened and closed in it, and whether a
+    /// backslash stands in front.
+    Skipping {
+        opened: u32,
+        closed: u32,
+        behind: bool,
+    },
     /// A line that is dropped.
     Dropped,
 }
@@ -45,6 +68,8 @@ pub(crate) struct TextLine {
     pub(crate) has_glyph: bool,
     /// Whether something else does that prints nothing.
     pub(crate) has_other: bool,
+    /// Whether a brace does.
+    pub(crate) has_brace: bool,
     /// The blanks before its first glyph.
     pub(crate) leading: u32,
 }
@@ -59,12 +84,41 @@ pub(crate) struct TextStep {
 }
 
 impl Reading {
-    /// What is read behind a request's name.
-    fn behind_name(breaks: bool, request: Request) -> Reading
-        ensures { result ≡ behind_name breaks request (row_of request).line }
+    /// Where a branch of a condition begins, which is read or skipped.
+    pub(crate) fn branch(is_read: bool) -> Reading
+        ensures { result ≡ branch_of is_read }
     {
-        match request.row().line {
-            LineReading::ByArguments => Reading::Arguments { breaks, request },
+        if is_read {
+            Reading::Branch
+        } else {
+            Reading::Skipping {
+                opened: 0,
+                closed: 0,
+                behind: false,
+            }
+        }
+    }
+
+    /// What is read behind a byte of a branch that is skipped, in which so many braces were opened
+    /// and closed.
+    #[inline(always)]
+    pub(crate) fn behind_skipped(opened: u32, closed: u32, behind: bool, byte: u8) -> Reading
+        ensures { (i : PageInput) → skipping_taking i opened closed behind byte ≡ going_on i result }
+    {
+        if behind {
+            return Reading::Skipping {
+                opened: counted_if(byte == b'{', opened),
+                closed: counted_if(byte == b'}', closed),
+                behind: false,
+            };
+        }
+        if byte == b'\n' && opened <= closed {
+            return Reading::LineStart;
+        }
+        Reading::Skipping {
+            opened,
+            closed,
+            behind: byte == b'\\',
         }
     }
 
@@ -82,20 +136,6 @@ impl Reading {
                 breaks,
                 first: byte,
             }
-        }
-    }
-
-    /// What is read behind the byte behind the first one of a name. No request has a name of one byte.
-    pub(crate) fn behind_first(breaks: bool, first: u8, byte: u8) -> Reading
-        ensures { (k : Known) (i : PageInput)
-            → kept_taking k (InName breaks first) i byte ≡ going_on i result }
-    {
-        if ends_name(byte) {
-            return Reading::behind_dropped(byte);
-        }
-        match Request::named(first, byte) {
-            Some(request) => Reading::behind_name(breaks, request),
-            None => Reading::Dropped,
         }
     }
 
@@ -119,6 +159,7 @@ impl TextLine {
         TextLine {
             has_glyph: false,
             has_other: false,
+            has_brace: false,
             leading: 0,
         }
     }
@@ -141,7 +182,8 @@ impl TextLine {
         self.has_glyph && byte == b' '
     }
 
-    /// The events of the line's end: a line of blanks alone is a break and a blank line.
+    /// The events of the line's end: a line of blanks alone is a break and a blank line, and one of
+    /// braces and blanks nothing.
     pub(crate) fn end(self) -> Events
         ensures { result.items ≡ text_line_end self }
     {
@@ -150,6 +192,8 @@ impl TextLine {
                 PageEvent::Text(Event::WordEnd),
                 PageEvent::Text(Event::LineEnd),
             ])
+        } else if self.has_brace {
+            Events::new()
         } else {
             events(&[
                 PageEvent::Text(Event::WordEnd),
@@ -186,6 +230,7 @@ impl TextLine {
             Escape::Prints(printed) => self.glyph(Glyph::Printed(printed)),
             Escape::Blank => self.glyph(Glyph::Blanks(1)),
             Escape::NoWidth => self.glyph(Glyph::Blanks(0)),
+            Escape::Brace => self.brace(),
             Escape::LeftOut => self.left_out(byte),
             Escape::Nothing => self.other(),
             Escape::Comment => self.other(),
@@ -235,6 +280,19 @@ impl TextLine {
         TextStep {
             reading: Reading::Text(behind),
             message: Some(message),
+            events: Events::new(),
+        }
+    }
+
+    /// A brace: it prints nothing.
+    fn brace(self) -> TextStep
+        ensures { (i : PageInput) → step_at i result ≡ brace_taking i self }
+    {
+        let mut behind = self;
+        behind.has_brace = true;
+        TextStep {
+            reading: Reading::Text(behind),
+            message: None,
             events: Events::new(),
         }
     }
@@ -374,6 +432,14 @@ fn message_of(remark: Option<Remark>) -> Option<Message>
         None => None,
         Some(remark) => Some(Message::of_remark(remark)),
     }
+}
+
+/// A count of braces, with one more if this is so.
+#[inline(always)]
+fn counted_if(so: bool, count: u32) -> u32
+    ensures { result ≡ counted_if so count }
+{
+    if so { count.saturating_add(1) } else { count }
 }
 
 /// Whether a byte ends a name, and doesn't belong to it.

@@ -100,7 +100,7 @@ impl Model for RunRegisters {
 }
 
 impl RunRegisters {
-    ghost use Rattle.roff_run.specs.Registers.{Remove, SetTo, FormatAs, StepBy, changed_by_all, is_page, known_behind, no_registers, settable, step_changes, step_messages, text_of_register, value_in_force};
+    ghost use Rattle.roff_run.specs.Registers.{Remove, SetTo, FormatAs, StepBy, changed_by_all, is_page, is_page_odd, known_behind, no_registers, settable, step_changes, step_messages, text_of_register, value_in_force};
     ghost use Rattle.roff_run.specs.Registers.Capped.{admitted, after, with_change};
     ghost use Rattle.roff_run.specs.Registers.Coded.{change_of, known_of};
 
@@ -123,6 +123,13 @@ impl RunRegisters {
         } else {
             self.named.get(name).unwrap_or_default()
         }
+    }
+
+    /// Whether the page number is odd.
+    pub(crate) fn is_page_odd(&self) -> bool
+        ensures { result ≡ is_page_odd self.now.all }
+    {
+        self.page.value.0.unsigned_abs() % 2 == 1
     }
 
     /// The text of a register.

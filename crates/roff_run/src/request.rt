@@ -14,7 +14,7 @@ mod spacing;
 #[cfg(test)]
 mod tests;
 
-use LineReading::ByArguments;
+use LineReading::{ByArguments, ByCondition, ByElse};
 use Request::{LeftOut, WithoutEffect};
 pub(crate) use effects::{Changes, Done, Effect, Known};
 pub(crate) use numbering::{name_given, register_named};
@@ -29,8 +29,14 @@ pub(crate) enum Request {
     AssignFormat,
     /// `br`: a break.
     Break,
+    /// `el`: the other branch of a condition.
+    Else,
     /// `fi`: filling on.
     Fill,
+    /// `if`: a condition.
+    If,
+    /// `ie`: a condition with another branch.
+    IfElse,
     /// `in`: the indent.
     Indent,
     /// `ll`: the line length.
@@ -56,6 +62,13 @@ pub(crate) enum Request {
 pub(crate) enum LineReading {
     /// As arguments, with blanks between them.
     ByArguments,
+    /// As a condition, and then its branch; its result may be kept for the other one.
+    ByCondition {
+        /// Whether it is.
+        keeps: bool,
+    },
+    /// As the other branch of the condition whose result was kept last.
+    ByElse,
 }
 
 /// The first arguments of a request, as far as they are given.
@@ -78,11 +91,14 @@ pub(crate) struct Row {
 }
 
 /// The requests that are built, in the order of their names.
-static BUILT: [Request; 11] = [
+static BUILT: [Request; 14] = [
     Request::Adjust,
     Request::AssignFormat,
     Request::Break,
+    Request::Else,
     Request::Fill,
+    Request::IfElse,
+    Request::If,
     Request::Indent,
     Request::LineLength,
     Request::NoAdjust,
@@ -136,7 +152,10 @@ impl Request {
             Request::Adjust => Row { name: *b"ad", line: ByArguments, breaks: false },
             Request::AssignFormat => Row { name: *b"af", line: ByArguments, breaks: false },
             Request::Break => Row { name: *b"br", line: ByArguments, breaks: true },
+            Request::Else => Row { name: *b"el", line: ByElse, breaks: false },
             Request::Fill => Row { name: *b"fi", line: ByArguments, breaks: true },
+            Request::IfElse => Row { name: *b"ie", line: ByCondition { keeps: true }, breaks: false },
+            Request::If => Row { name: *b"if", line: ByCondition { keeps: false }, breaks: false },
             Request::Indent => Row { name: *b"in", line: ByArguments, breaks: true },
             Request::LineLength => Row { name: *b"ll", line: ByArguments, breaks: false },
             Request::NoAdjust => Row { name: *b"na", line: ByArguments, breaks: false },
@@ -168,7 +187,10 @@ impl Request {
             Request::Adjust => adjustment::adjust(given.first),
             Request::AssignFormat => numbering::assign_format(given.first, given.second),
             Request::Break => Done::nothing(),
+            Request::Else => Done::nothing(),
             Request::Fill => Done::setting(Param::Filling(true)),
+            Request::IfElse => Done::nothing(),
+            Request::If => Done::nothing(),
             Request::Indent => lengths::indent(known, given.first),
             Request::LineLength => lengths::line_length(known, given.first),
             Request::NoAdjust => Done::setting(Param::Adjusting(false)),
