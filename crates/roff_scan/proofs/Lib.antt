@@ -20,3 +20,4 @@ pub mod Taking
 pub mod TextsHeld
 pub mod TextsRead
 pub mod Copying
+pub mod ConditionsRead
