@@ -11,7 +11,7 @@ use Rattle.roff_scan.specs.Half.{Half, Backslash, unit_bytes}
 use Rattle.roff_scan.specs.HalfLaws.{FindsBytes, begins_reading, copied, copied_escape, doubled, found_before, half_behind, is_only_copied, reads_through, reads_to_end}
 use Rattle.roff_scan.specs.Halves.{Reads, copied_escape as copies_escape, escape_read, escape_taken, name_beginning, reading_ended, unit_taken}
 use Rattle.roff_scan.specs.declared.escapes.Escape.{Escape as Kind}
-use Rattle.roff_scan.specs.declared.escapes.Escape.TheVariants.{Prints, Blank, NoWidth, Nothing as GivesNothing, LeftOut as IsLeftOut, Comment as BeginsComment, Size as BeginsSize, Name as BeginsName, Text as BeginsText, Width as BeginsWidth}
+use Rattle.roff_scan.specs.declared.escapes.Escape.TheVariants.{Prints, Blank, NoWidth, Nothing as GivesNothing, Brace, LeftOut as IsLeftOut, Comment as BeginsComment, Size as BeginsSize, Name as BeginsName, Text as BeginsText, Width as BeginsWidth}
 use Rattle.roff_scan.specs.declared.escapes.Row.{Row}
 use Rattle.roff_scan.specs.declared.half.CopyUnit.{CopyUnit}
 use Rattle.roff_scan.specs.declared.half.CopyUnit.TheVariants.{Byte, Kept}
@@ -135,6 +135,7 @@ read-plain b (Prints byte) plain = refl
 read-plain b Blank plain = refl
 read-plain b NoWidth plain = refl
 read-plain b GivesNothing plain = refl
+read-plain b Brace plain = refl
 read-plain b IsLeftOut plain = refl
 read-plain b BeginsSize plain = refl
 read-plain b (BeginsText purpose) plain = refl

@@ -20,3 +20,5 @@ pub mod Taking
 pub mod TextsHeld
 pub mod TextsRead
 pub mod Copying
+pub mod ConditionHalves
+pub mod ConditionsRead

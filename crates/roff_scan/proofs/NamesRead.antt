@@ -5,7 +5,7 @@ use Rattle.std.proofs.lemmas.Bool.{lt-leb}
 use Rattle.std.proofs.lemmas.List.{length-replicate}
 use Rattle.roff_scan.specs.Bytes.{quote, backslash}
 use Rattle.roff_scan.specs.Escapes.{escape_of, is_copied}
-use Rattle.roff_scan.specs.Half.{Half, Backslash, Comment, Name, Size, Delimited, Width, names_in}
+use Rattle.roff_scan.specs.Half.{Half, Backslash, Comment, Name, Size, Delimited, Width, Condition, names_in}
 use Rattle.roff_scan.specs.HalfLaws.{found_before, half_behind, is_special, long_escape, openings, reads_through, short_escape, sign}
 use Rattle.roff_scan.specs.Halves.{Reads, byte_read, escape_read, most_names, name_beginning, name_begun, name_given, name_or_opening, part_at_first, reads_text, surroundings, unit_of_name, unit_taken}
 use Rattle.roff_scan.specs.Nesting.{AreNames, are_all_names}
@@ -30,6 +30,7 @@ names_in-names (Name purpose part ∷ rest) all = omega (arith, names_in-names r
 names_in-names (Size part ∷ rest) all = cc
 names_in-names (Delimited purpose d text ∷ rest) all = cc
 names_in-names (Width d width is_deep ∷ rest) all = cc
+names_in-names (Condition part text ∷ rest) all = cc
 
 -- a name above them asks for what it names
 name_given-names : (names : List Half) (purpose : NameUse) (name : Option (List ℕ)) → AreNames names → name_given names purpose name ≡ (Asks purpose name, names)
@@ -40,6 +41,7 @@ name_given-names (Name other part ∷ rest) purpose name are = refl
 name_given-names (Size part ∷ rest) purpose name are = absurd (search (rules, are.all))
 name_given-names (Delimited other d text ∷ rest) purpose name are = absurd (search (rules, are.all))
 name_given-names (Width d width is_deep ∷ rest) purpose name are = absurd (search (rules, are.all))
+name_given-names (Condition part text ∷ rest) purpose name are = absurd (search (rules, are.all))
 
 -- what is read on behind a reading
 abbrev pub read_on : Bool → List ℕ → Reads → List Read × List Half
@@ -58,6 +60,7 @@ behind_backslash is_text (Name purpose part ∷ rest) b bytes are = refl
 behind_backslash is_text (Size part ∷ rest) b bytes are = absurd (search (rules, are.all))
 behind_backslash is_text (Delimited purpose d text ∷ rest) b bytes are = absurd (search (rules, are.all))
 behind_backslash is_text (Width d width is_deep ∷ rest) b bytes are = absurd (search (rules, are.all))
+behind_backslash is_text (Condition part text ∷ rest) b bytes are = absurd (search (rules, are.all))
 
 -- an escape that copy mode reads begins a name, if fewer are half read than may be
 begun : (purpose : NameUse) (is_full : Bool) (around : Surroundings) (names : List Half) (b : ℕ) → is_copied purpose ≡ true → nat_le most_names (names_in names) ≡ is_full

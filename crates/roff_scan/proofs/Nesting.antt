@@ -1,25 +1,30 @@
 -- What is half read stays within each other as it may be, whatever is read.
-use Rattle.std.proofs.Common.{◌≡◌, ℕ, Bool, true, false, ◌&&◌, List, [], ◌∷◌, Option, Some, None, refl}
+use Rattle.std.proofs.Common.{◌≡◌, ℕ, Bool, true, false, ◌&&◌, List, [], ◌∷◌, Option, Some, None, Result, Ok, Err, refl}
 use Rattle.std.specs.Prelude.{◌==◌, ◌||◌, not, nat_le, if◌then◌else◌}
-use Rattle.roff_scan.specs.Bytes.{tab, newline, dot, backslash, quote}
+use Rattle.roff_num.specs.declared.num.Num.{Num}
+use Rattle.roff_num.specs.declared.num.NumFault.{NumFault}
+use Rattle.roff_scan.specs.Bytes.{start_of_text, tab, newline, blank, dot, backslash, quote}
+use Rattle.roff_scan.specs.Conditions.{begins_expression, byte_of_condition, byte_or_backslash, choice_made, condition_ended, delimiter_met, expression_valued, unit_of_condition}
 use Rattle.roff_scan.specs.Escapes.{escape_of, is_copied}
-use Rattle.roff_scan.specs.Half.{Half, Backslash, Comment, Name, Size, Delimited, Width, names_in, widths_in}
+use Rattle.roff_scan.specs.Half.{Half, Backslash, Comment, Name, Size, Delimited, Width, Condition, names_in, widths_in}
 use Rattle.roff_scan.specs.HalfLaws.{half_behind, reads_through}
 use Rattle.roff_scan.specs.Halves.{Reads, byte_of_text, byte_of_width, byte_read, copied_escape, escape_given, escape_read, is_first_digit, is_sign, most_names, most_widths, motion_given, name_begun, name_ended, name_given, name_or_opening, part_at_first, reading_ended, reads_text, reads_widths, size_read, surroundings, text_given, unit_of_name, unit_of_text, unit_taken}
 use Rattle.roff_scan.specs.Measures.{motion_of}
 use Rattle.roff_scan.specs.Nesting.{IsNested, is_nested, is_open, may_stand}
 use Rattle.roff_scan.specs.declared.escapes.Escape.{Escape as Kind}
-use Rattle.roff_scan.specs.declared.escapes.Escape.TheVariants.{Prints, Blank, NoWidth, Nothing as GivesNothing, LeftOut as IsLeftOut, Comment as BeginsComment, Size as BeginsSize, Name as BeginsName, Text as BeginsText, Width as BeginsWidth}
+use Rattle.roff_scan.specs.declared.escapes.Escape.TheVariants.{Prints, Blank, NoWidth, Nothing as GivesNothing, Brace, LeftOut as IsLeftOut, Comment as BeginsComment, Size as BeginsSize, Name as BeginsName, Text as BeginsText, Width as BeginsWidth}
 use Rattle.roff_scan.specs.declared.escapes.NameUse.{NameUse}
 use Rattle.roff_scan.specs.declared.escapes.NameUse.TheVariants.{Register, Text, Argument, Character, Font, LeftOut}
 use Rattle.roff_scan.specs.declared.escapes.TextUse.{TextUse}
 use Rattle.roff_scan.specs.declared.escapes.TextUse.TheVariants.{Motion as OfMotion, LeftOut as LeftOutText}
+use Rattle.roff_scan.specs.declared.half.ConditionPart.{ConditionPart}
+use Rattle.roff_scan.specs.declared.half.ConditionPart.TheVariants.{Choice, Expression, Decided, Compared}
 use Rattle.roff_scan.specs.declared.half.CopyUnit.{CopyUnit}
 use Rattle.roff_scan.specs.declared.half.CopyUnit.TheVariants.{Byte, Kept}
 use Rattle.roff_scan.specs.declared.half.NamePart.{NamePart}
 use Rattle.roff_scan.specs.declared.half.NamePart.TheVariants.{Nothing, Opened, First}
 use Rattle.roff_scan.specs.declared.half.Read.{Read}
-use Rattle.roff_scan.specs.declared.half.Read.TheVariants.{GoesOn, Unit as GivesUnit, Holds, Escape, Asks, Motion, Measures, Tells}
+use Rattle.roff_scan.specs.declared.half.Read.TheVariants.{GoesOn, Unit as GivesUnit, Holds, Escape, Asks, Motion, Measures, Tells, Decides}
 use Rattle.roff_scan.specs.declared.half.SizePart.{SizePart}
 use Rattle.roff_scan.specs.declared.half.SizePart.TheVariants.{Nothing as NoSize, Sign, Digit}
 use Rattle.roff_scan.specs.declared.measures.Measured.{Measured}
@@ -47,6 +52,7 @@ IsNested-escape_given b (Name purpose part ∷ rest) nested = nested
 IsNested-escape_given b (Size part ∷ rest) nested = nested
 IsNested-escape_given b (Delimited purpose d text ∷ rest) nested = nested
 IsNested-escape_given b (Width d width is_deep ∷ rest) nested = nested
+IsNested-escape_given b (Condition part text ∷ rest) nested = nested
 
 -- a motion
 IsNested-motion_given : (measured : Measured) (rest : List Half) → IsNested rest → IsNested (motion_given rest measured).1
@@ -57,6 +63,7 @@ IsNested-motion_given measured (Name purpose part ∷ rest) nested = nested
 IsNested-motion_given measured (Size part ∷ rest) nested = nested
 IsNested-motion_given measured (Delimited purpose d text ∷ rest) nested = nested
 IsNested-motion_given measured (Width d width is_deep ∷ rest) nested = nested
+IsNested-motion_given measured (Condition part text ∷ rest) nested = nested
 
 -- a name
 IsNested-name_given : (purpose : NameUse) (name : Option (List ℕ)) (rest : List Half) → IsNested rest → IsNested (name_given rest purpose name).1
@@ -67,6 +74,7 @@ IsNested-name_given purpose name (Name other part ∷ rest) nested = nested
 IsNested-name_given purpose name (Size part ∷ rest) nested = nested
 IsNested-name_given purpose name (Delimited other d text ∷ rest) nested = nested
 IsNested-name_given purpose name (Width d width is_deep ∷ rest) nested = either (is_copied purpose) _ _ (λ copied. nested) (λ other. nested)
+IsNested-name_given purpose name (Condition part text ∷ rest) nested = nested
 
 -- a text between delimiters
 IsNested-text_given : (purpose : TextUse) (text : List ℕ) (rest : List Half) → IsNested rest → IsNested (text_given rest purpose text).1
@@ -106,6 +114,72 @@ IsNested-unit_of_text :
 IsNested-unit_of_text OfMotion d text unit rest nested = nested
 IsNested-unit_of_text (LeftOutText b) d text unit rest nested = nested
 
+-- an expression by its value
+IsNested-expression_valued :
+    (part : ConditionPart) (text : List ℕ) (negated : Bool) (freed : Option ℕ) (value : Result (Num × ℕ) NumFault) (rest : List Half)
+    → IsNested (Condition part text ∷ rest) → IsNested (expression_valued rest negated freed text value).1
+IsNested-expression_valued part text negated freed (Ok r) rest nested = nested
+IsNested-expression_valued part text negated freed (Err fault) rest nested = nested
+
+-- the byte that says what a condition asks
+IsNested-choice_made :
+    (negated : Bool) (text : List ℕ) (b : ℕ) (rest : List Half)
+    → IsNested (Condition (Choice negated) text ∷ rest) → IsNested (choice_made rest negated text b).1
+IsNested-choice_made negated text b rest nested =
+    either (b == blank && not negated) _ _ (λ is. nested) λ other.
+    either (b == 33 && not negated) _ _ (λ is. nested) λ other.
+    either (b == 111) _ _ (λ is. nested) λ other.
+    either (b == 101) _ _ (λ is. nested) λ other.
+    either (b == 116) _ _ (λ is. nested) λ other.
+    either (b == 110) _ _ (λ is. nested) λ other.
+    either (begins_expression b) _ _ (λ is. nested) (λ other. nested)
+
+-- a unit of a condition
+IsNested-unit_of_condition :
+    (part : ConditionPart) (text : List ℕ) (unit : CopyUnit) (rest : List Half)
+    → IsNested (Condition part text ∷ rest) → IsNested (unit_of_condition rest part text unit).1
+IsNested-unit_of_condition (Choice negated) text (Byte b) rest nested = IsNested-choice_made negated text b rest nested
+IsNested-unit_of_condition (Choice negated) text (Kept b) rest nested = nested
+IsNested-unit_of_condition (Expression negated) text (Byte b) rest nested =
+    either (b == backslash || b == tab) _ _ (λ ends. IsNested-expression_valued (Expression negated) text negated (Some b) _ rest nested) (λ other. nested)
+IsNested-unit_of_condition (Expression negated) text (Kept b) rest nested = nested
+IsNested-unit_of_condition (Compared negated d first) text unit rest nested = nested
+IsNested-unit_of_condition (Decided decision freed) text unit rest nested = nested
+
+-- a byte of a condition that is no delimiter
+IsNested-byte_or_backslash :
+    (part : ConditionPart) (text : List ℕ) (b : ℕ) (rest : List Half)
+    → IsNested (Condition part text ∷ rest) → IsNested (byte_or_backslash rest part text b).1
+IsNested-byte_or_backslash part text b rest nested =
+    either (b == backslash) _ _ (λ escape. nested) (λ other. IsNested-unit_of_condition part text (Byte b) rest nested)
+
+-- the delimiter of its texts
+IsNested-delimiter_met :
+    (negated : Bool) (d : ℕ) (first : Option ℕ) (text : List ℕ) (rest : List Half)
+    → IsNested (Condition (Compared negated d first) text ∷ rest) → IsNested (delimiter_met rest negated d first text).1
+IsNested-delimiter_met negated d None text rest nested = nested
+IsNested-delimiter_met negated d (Some first) text rest nested = nested
+
+-- a byte of a condition
+IsNested-byte_of_condition :
+    (part : ConditionPart) (text : List ℕ) (b : ℕ) (rest : List Half)
+    → IsNested (Condition part text ∷ rest) → IsNested (byte_of_condition rest part text b).1
+IsNested-byte_of_condition (Choice negated) text b rest nested = IsNested-byte_or_backslash (Choice negated) text b rest nested
+IsNested-byte_of_condition (Expression negated) text b rest nested = IsNested-byte_or_backslash (Expression negated) text b rest nested
+IsNested-byte_of_condition (Compared negated d first) text b rest nested =
+    either (b == d) _ _ (λ ends. IsNested-delimiter_met negated d first text rest nested)
+    (λ other. IsNested-byte_or_backslash (Compared negated d first) text b rest nested)
+IsNested-byte_of_condition (Decided decision freed) text b rest nested = IsNested-byte_or_backslash (Decided decision freed) text b rest nested
+
+-- a condition that ends before what stays
+IsNested-condition_ended :
+    (part : ConditionPart) (text : List ℕ) (rest : List Half) → IsNested (Condition part text ∷ rest) → IsNested (condition_ended rest part text).1
+IsNested-condition_ended (Choice negated) text rest nested = nested
+IsNested-condition_ended (Expression negated) text rest nested =
+    IsNested-expression_valued (Expression negated) text negated None _ rest nested
+IsNested-condition_ended (Compared negated d first) text rest nested = nested
+IsNested-condition_ended (Decided decision freed) text rest nested = IsNested-rest (Condition (Decided decision freed) text) rest nested
+
 -- a unit
 IsNested-unit_taken : (unit : CopyUnit) (rest : List Half) → IsNested rest → IsNested (unit_taken rest unit).1
 IsNested-unit_taken unit [] nested = nested
@@ -115,6 +189,7 @@ IsNested-unit_taken unit (Name purpose part ∷ rest) nested = IsNested-unit_of_
 IsNested-unit_taken unit (Size part ∷ rest) nested = nested
 IsNested-unit_taken unit (Delimited purpose d text ∷ rest) nested = IsNested-unit_of_text purpose d text unit rest nested
 IsNested-unit_taken unit (Width d width is_deep ∷ rest) nested = nested
+IsNested-unit_taken unit (Condition part text ∷ rest) nested = IsNested-unit_of_condition part text unit rest nested
 
 -- the byte behind a backslash of copy mode that begins nothing
 IsNested-copied_escape : (b : ℕ) (rest : List Half) → IsNested rest → IsNested (copied_escape rest b).1
@@ -142,6 +217,7 @@ reads_text-above false (Name purpose part ∷ rest) reads = reads
 reads_text-above false (Size part ∷ rest) reads = reads
 reads_text-above false (Delimited purpose d text ∷ rest) reads = reads
 reads_text-above false (Width d width is_deep ∷ rest) reads = reads
+reads_text-above false (Condition part text ∷ rest) reads = reads
 
 reads_widths-above : (is_text : Bool) (rest : List Half) → reads_widths (surroundings is_text rest) ≡ true → reads_widths (surroundings true rest) ≡ true
 reads_widths-above true rest reads = reads
@@ -152,6 +228,7 @@ reads_widths-above false (Name purpose part ∷ rest) reads = reads
 reads_widths-above false (Size part ∷ rest) reads = reads
 reads_widths-above false (Delimited purpose d text ∷ rest) reads = reads
 reads_widths-above false (Width d width is_deep ∷ rest) reads = reads
+reads_widths-above false (Condition part text ∷ rest) reads = reads
 
 -- a text that is measured begins, a deep one or not
 deep_or_not : (reads is_deep : Bool) → reads ≡ true → (reads && (if is_deep then is_deep else not is_deep)) ≡ true
@@ -185,6 +262,7 @@ module _ (is_text : Bool) (b : ℕ) (rest : List Half) (is_free : is_open rest �
   IsNested-escape_read Blank = plain
   IsNested-escape_read NoWidth = plain
   IsNested-escape_read GivesNothing = plain
+  IsNested-escape_read Brace = plain
   IsNested-escape_read IsLeftOut = plain
 
 -- a byte of a size
@@ -224,6 +302,7 @@ IsNested-byte_read is_text b (Name purpose part ∷ rest) nested =
 IsNested-byte_read is_text b (Size part ∷ rest) nested = IsNested-size_read part b rest nested
 IsNested-byte_read is_text b (Delimited purpose d text ∷ rest) nested = IsNested-byte_of_text purpose d text b rest nested
 IsNested-byte_read is_text b (Width d width is_deep ∷ rest) nested = IsNested-byte_of_width d width is_deep b rest nested
+IsNested-byte_read is_text b (Condition part text ∷ rest) nested = IsNested-byte_of_condition part text b rest nested
 
 -- a name that ends before what stays
 IsNested-name_ended : (purpose : NameUse) (part : NamePart) (rest : List Half) → IsNested rest → IsNested (name_ended rest purpose part).1
@@ -236,7 +315,7 @@ pub IsNested-reading_ended : (is_text : Bool) (half : List Half) → IsNested ha
 IsNested-reading_ended is_text [] nested = nested
 IsNested-reading_ended is_text (Backslash ∷ rest) nested =
     let below = IsNested-rest Backslash rest nested in
-    either (reads_text (surroundings is_text rest)) _ _ (λ reads. IsNested-escape_given newline rest below) (λ copies. IsNested-unit_taken (Byte backslash) rest below)
+    either (reads_text (surroundings is_text rest)) _ _ (λ reads. IsNested-escape_given start_of_text rest below) (λ copies. IsNested-unit_taken (Byte backslash) rest below)
 IsNested-reading_ended is_text (Comment ∷ rest) nested =
     let below = IsNested-rest Comment rest nested in
     either (reads_text (surroundings is_text rest)) _ _ (λ reads. IsNested-escape_given quote rest below) (λ copies. below)
@@ -244,6 +323,7 @@ IsNested-reading_ended is_text (Name purpose part ∷ rest) nested = IsNested-na
 IsNested-reading_ended is_text (Size part ∷ rest) nested = IsNested-escape_given 115 rest (IsNested-rest (Size part) rest nested)
 IsNested-reading_ended is_text (Delimited purpose d text ∷ rest) nested = IsNested-text_given purpose text rest (IsNested-rest (Delimited purpose d text) rest nested)
 IsNested-reading_ended is_text (Width d width is_deep ∷ rest) nested = IsNested-rest (Width d width is_deep) rest nested
+IsNested-reading_ended is_text (Condition part text ∷ rest) nested = IsNested-condition_ended part text rest nested
 
 -- what is half read behind it
 IsNested-half_behind : (read : Read) (half : List Half) → IsNested half → IsNested (half_behind read half)
@@ -255,6 +335,7 @@ IsNested-half_behind (Asks purpose name) half nested = nested
 IsNested-half_behind (Motion columns remark) half nested = nested
 IsNested-half_behind (Measures width) half nested = nested
 IsNested-half_behind (Tells remark) half nested = nested
+IsNested-half_behind (Decides decision freed) half nested = nested
 
 -- bytes
 pub IsNested-reads_through : (is_text : Bool) (half : List Half) (bytes : List ℕ) → IsNested half → IsNested (reads_through is_text half bytes).1

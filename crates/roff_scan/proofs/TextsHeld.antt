@@ -1,17 +1,24 @@
--- Reading makes no text between delimiters longer: only what is held does.
-use Rattle.std.proofs.Common.{◌≡◌, ℕ, ◌+◌, ◌≤◌, Bool, true, false, List, [], ◌∷◌, length, Option, Some, None, refl, arith}
-use Rattle.std.specs.Prelude.{◌==◌, ◌||◌, nat_le, if◌then◌else◌}
-use Rattle.roff_scan.specs.Bytes.{tab, newline, quote, dot, backslash}
+-- Reading makes no text longer: only what is held does.
+use Rattle.std.proofs.Common.{◌≡◌, ℕ, ◌+◌, ◌≤◌, Bool, true, false, ◌&&◌, List, [], ◌∷◌, length, Option, Some, None, Result, Ok, Err, refl, arith}
+use Rattle.std.specs.Prelude.{pos, ◌==◌, ◌||◌, not, nat_le, if◌then◌else◌}
+use Rattle.roff_num.specs.Expressions.{value_at}
+use Rattle.roff_num.specs.declared.num.Num.{Num}
+use Rattle.roff_num.specs.declared.num.NumFault.{NumFault}
+use Rattle.roff_num.specs.declared.num.Scale.TheVariants.{Units}
+use Rattle.roff_scan.specs.Bytes.{start_of_text, tab, newline, blank, quote, dot, backslash}
+use Rattle.roff_scan.specs.Conditions.{begins_expression, byte_of_condition, byte_or_backslash, choice_made, condition_ended, delimiter_met, expression_over, expression_valued, unit_of_condition}
 use Rattle.roff_scan.specs.Escapes.{escape_of, is_copied}
-use Rattle.roff_scan.specs.Half.{Half, Backslash, Comment, Name, Size, Delimited, Width, names_in, texts_held}
+use Rattle.roff_scan.specs.Half.{Half, Backslash, Comment, Name, Size, Delimited, Width, Condition, names_in, texts_held}
 use Rattle.roff_scan.specs.Halves.{Reads, byte_of_text, byte_of_width, byte_read, copied_escape, escape_given, escape_read, is_first_digit, is_sign, most_names, motion_given, name_begun, name_ended, name_given, name_or_opening, part_at_first, reading_ended, reads_text, reads_widths, size_read, surroundings, text_given, unit_of_name, unit_of_text, unit_taken}
 use Rattle.roff_scan.specs.Measures.{motion_of}
 use Rattle.roff_scan.specs.declared.escapes.Escape.{Escape as Kind}
-use Rattle.roff_scan.specs.declared.escapes.Escape.TheVariants.{Prints, Blank, NoWidth, Nothing as GivesNothing, LeftOut as IsLeftOut, Comment as BeginsComment, Size as BeginsSize, Name as BeginsName, Text as BeginsText, Width as BeginsWidth}
+use Rattle.roff_scan.specs.declared.escapes.Escape.TheVariants.{Prints, Blank, NoWidth, Nothing as GivesNothing, Brace, LeftOut as IsLeftOut, Comment as BeginsComment, Size as BeginsSize, Name as BeginsName, Text as BeginsText, Width as BeginsWidth}
 use Rattle.roff_scan.specs.declared.escapes.NameUse.{NameUse}
 use Rattle.roff_scan.specs.declared.escapes.NameUse.TheVariants.{Register, Text, Argument, Character, Font, LeftOut}
 use Rattle.roff_scan.specs.declared.escapes.TextUse.{TextUse}
 use Rattle.roff_scan.specs.declared.escapes.TextUse.TheVariants.{Motion as OfMotion, LeftOut as LeftOutText}
+use Rattle.roff_scan.specs.declared.half.ConditionPart.{ConditionPart}
+use Rattle.roff_scan.specs.declared.half.ConditionPart.TheVariants.{Choice, Expression, Decided, Compared}
 use Rattle.roff_scan.specs.declared.half.CopyUnit.{CopyUnit}
 use Rattle.roff_scan.specs.declared.half.CopyUnit.TheVariants.{Byte, Kept}
 use Rattle.roff_scan.specs.declared.half.NamePart.{NamePart}
@@ -35,6 +42,7 @@ held-escape_given b (Name purpose part ∷ rest) = refl
 held-escape_given b (Size part ∷ rest) = refl
 held-escape_given b (Delimited purpose d text ∷ rest) = refl
 held-escape_given b (Width d width is_deep ∷ rest) = refl
+held-escape_given b (Condition part text ∷ rest) = refl
 
 -- a motion
 held-motion_given : (measured : Measured) (rest : List Half) → texts_held (motion_given rest measured).1 ≡ texts_held rest
@@ -45,6 +53,7 @@ held-motion_given measured (Name purpose part ∷ rest) = refl
 held-motion_given measured (Size part ∷ rest) = refl
 held-motion_given measured (Delimited purpose d text ∷ rest) = refl
 held-motion_given measured (Width d width is_deep ∷ rest) = refl
+held-motion_given measured (Condition part text ∷ rest) = refl
 
 -- a name
 held-name_given : (purpose : NameUse) (name : Option (List ℕ)) (rest : List Half) → texts_held (name_given rest purpose name).1 ≡ texts_held rest
@@ -55,6 +64,7 @@ held-name_given purpose name (Name other part ∷ rest) = refl
 held-name_given purpose name (Size part ∷ rest) = refl
 held-name_given purpose name (Delimited other d text ∷ rest) = refl
 held-name_given purpose name (Width d width is_deep ∷ rest) = either (is_copied purpose) _ _ _ refl refl
+held-name_given purpose name (Condition part text ∷ rest) = refl
 
 -- a text between delimiters that is whole is held no more
 held-text_given : (purpose : TextUse) (text : List ℕ) (rest : List Half) → texts_held (text_given rest purpose text).1 ≡ texts_held rest
@@ -88,6 +98,43 @@ held-unit_of_text : (purpose : TextUse) (d : Option ℕ) (text : List ℕ) (unit
 held-unit_of_text OfMotion d text unit rest = refl
 held-unit_of_text (LeftOutText b) d text unit rest = refl
 
+-- an expression that is whole is held until it decides
+held-expression_valued : (negated : Bool) (freed : Option ℕ) (text : List ℕ) (value : Result (Num × ℕ) NumFault) (rest : List Half)
+    → texts_held (expression_valued rest negated freed text value).1 ≡ length text + texts_held rest
+held-expression_valued negated freed text (Ok r) rest = refl
+held-expression_valued negated freed text (Err fault) rest = refl
+
+held-expression_over : (negated : Bool) (freed : Option ℕ) (text : List ℕ) (rest : List Half) → texts_held (expression_over rest negated freed text).1 ≡ length text + texts_held rest
+held-expression_over negated freed text rest = held-expression_valued negated freed text (value_at text 0 Units (Some (pos 0))) rest
+
+-- so are texts behind a delimiter
+held-delimiter_met : (negated : Bool) (d : ℕ) (first : Option ℕ) (text : List ℕ) (rest : List Half)
+    → texts_held (delimiter_met rest negated d first text).1 ≡ length text + texts_held rest
+held-delimiter_met negated d None text rest = refl
+held-delimiter_met negated d (Some first) text rest = refl
+
+-- the byte that says what a condition asks
+held-choice_made : (negated : Bool) (text : List ℕ) (b : ℕ) (rest : List Half) → texts_held (choice_made rest negated text b).1 ≡ length text + texts_held rest
+held-choice_made negated text b rest =
+    either (b == blank && not negated) _ _ _ refl
+    (either (b == 33 && not negated) _ _ _ refl
+    (either (b == 111) _ _ _ refl
+    (either (b == 101) _ _ _ refl
+    (either (b == 116) _ _ _ refl
+    (either (b == 110) _ _ _ refl
+    (either (begins_expression b) _ _ _ refl refl))))))
+
+-- a unit of a condition
+held-unit_of_condition : (part : ConditionPart) (text : List ℕ) (unit : CopyUnit) (rest : List Half)
+    → texts_held (unit_of_condition rest part text unit).1 ≡ length text + texts_held rest
+held-unit_of_condition (Choice negated) text (Byte b) rest = held-choice_made negated text b rest
+held-unit_of_condition (Choice negated) text (Kept b) rest = refl
+held-unit_of_condition (Expression negated) text (Byte b) rest =
+    either (b == backslash || b == tab) _ _ _ (held-expression_over negated (Some b) text rest) refl
+held-unit_of_condition (Expression negated) text (Kept b) rest = refl
+held-unit_of_condition (Compared negated d first) text unit rest = refl
+held-unit_of_condition (Decided decision freed) text unit rest = refl
+
 -- a unit
 held-unit_taken : (unit : CopyUnit) (rest : List Half) → texts_held (unit_taken rest unit).1 ≡ texts_held rest
 held-unit_taken unit [] = refl
@@ -97,6 +144,7 @@ held-unit_taken unit (Name purpose part ∷ rest) = held-unit_of_name purpose pa
 held-unit_taken unit (Size part ∷ rest) = refl
 held-unit_taken unit (Delimited purpose d text ∷ rest) = held-unit_of_text purpose d text unit rest
 held-unit_taken unit (Width d width is_deep ∷ rest) = refl
+held-unit_taken unit (Condition part text ∷ rest) = held-unit_of_condition part text unit rest
 
 -- the byte behind a backslash of copy mode that begins nothing
 held-copied_escape : (b : ℕ) (rest : List Half) → texts_held (copied_escape rest b).1 ≡ texts_held rest
@@ -127,6 +175,7 @@ held-escape_read around b (Prints byte) rest = held-plain (reads_text around) b 
 held-escape_read around b Blank rest = held-plain (reads_text around) b rest
 held-escape_read around b NoWidth rest = held-plain (reads_text around) b rest
 held-escape_read around b GivesNothing rest = held-plain (reads_text around) b rest
+held-escape_read around b Brace rest = held-plain (reads_text around) b rest
 held-escape_read around b IsLeftOut rest = held-plain (reads_text around) b rest
 
 -- a byte of a size
@@ -139,6 +188,18 @@ held-size_read Digit b rest = held-escape_given 115 rest
 held-byte_of_width : (d : Option ℕ) (width : ℕ) (is_deep : Bool) (b : ℕ) (rest : List Half) → texts_held (byte_of_width rest d width is_deep b).1 ≡ texts_held rest
 held-byte_of_width None width is_deep b rest = refl
 held-byte_of_width (Some d) width is_deep b rest = either (b == d) _ _ _ refl (either (b == backslash) _ _ _ refl (either is_deep _ _ _ refl refl))
+
+-- a byte of a condition that is no delimiter
+held-byte_or_backslash : (part : ConditionPart) (text : List ℕ) (b : ℕ) (rest : List Half) → texts_held (byte_or_backslash rest part text b).1 ≡ length text + texts_held rest
+held-byte_or_backslash part text b rest = either (b == backslash) _ _ _ refl (held-unit_of_condition part text (Byte b) rest)
+
+-- a byte of a condition
+held-byte_of_condition : (part : ConditionPart) (text : List ℕ) (b : ℕ) (rest : List Half) → texts_held (byte_of_condition rest part text b).1 ≡ length text + texts_held rest
+held-byte_of_condition (Choice negated) text b rest = held-byte_or_backslash (Choice negated) text b rest
+held-byte_of_condition (Expression negated) text b rest = held-byte_or_backslash (Expression negated) text b rest
+held-byte_of_condition (Compared negated d first) text b rest =
+    either (b == d) _ _ _ (held-delimiter_met negated d first text rest) (held-byte_or_backslash (Compared negated d first) text b rest)
+held-byte_of_condition (Decided decision freed) text b rest = held-byte_or_backslash (Decided decision freed) text b rest
 
 -- of two readings behind which no more is held either is one
 either-within : (c : Bool) (x y : Reads) (held : ℕ) → texts_held x.1 ≤ held → texts_held y.1 ≤ held → texts_held (if c then x else y).1 ≤ held
@@ -162,6 +223,7 @@ texts_held-byte_read is_text b (Name purpose part ∷ rest) =
 texts_held-byte_read is_text b (Size part ∷ rest) = omega (arith, held-size_read part b rest)
 texts_held-byte_read is_text b (Delimited purpose d text ∷ rest) = held-byte_of_text purpose d text b rest
 texts_held-byte_read is_text b (Width d width is_deep ∷ rest) = omega (arith, held-byte_of_width d width is_deep b rest)
+texts_held-byte_read is_text b (Condition part text ∷ rest) = omega (arith, held-byte_of_condition part text b rest)
 
 -- a name that ends before what stays
 held-name_ended : (purpose : NameUse) (part : NamePart) (rest : List Half) → texts_held (name_ended rest purpose part).1 ≡ texts_held rest
@@ -169,14 +231,22 @@ held-name_ended purpose Nothing rest = held-name_given purpose None rest
 held-name_ended purpose Opened rest = held-name_given purpose None rest
 held-name_ended purpose (First a) rest = held-name_given purpose (Some (a ∷ [])) rest
 
+-- a condition that ends before what stays: one that decides is held no more
+held-condition_ended : (part : ConditionPart) (text : List ℕ) (rest : List Half) → texts_held (condition_ended rest part text).1 ≤ length text + texts_held rest
+held-condition_ended (Choice negated) text rest = omega arith
+held-condition_ended (Expression negated) text rest = omega (arith, held-expression_over negated None text rest)
+held-condition_ended (Compared negated d first) text rest = omega arith
+held-condition_ended (Decided decision freed) text rest = omega arith
+
 -- nor does an end
 pub texts_held-reading_ended : (is_text : Bool) (half : List Half) → texts_held (reading_ended is_text half).1 ≤ texts_held half
 texts_held-reading_ended is_text [] = omega arith
 texts_held-reading_ended is_text (Backslash ∷ rest) =
-    either-within (reads_text (surroundings is_text rest)) _ _ _ (omega (arith, held-escape_given newline rest)) (omega (arith, held-unit_taken (Byte backslash) rest))
+    either-within (reads_text (surroundings is_text rest)) _ _ _ (omega (arith, held-escape_given start_of_text rest)) (omega (arith, held-unit_taken (Byte backslash) rest))
 texts_held-reading_ended is_text (Comment ∷ rest) =
     either-within (reads_text (surroundings is_text rest)) _ _ _ (omega (arith, held-escape_given quote rest)) (omega arith)
 texts_held-reading_ended is_text (Name purpose part ∷ rest) = omega (arith, held-name_ended purpose part rest)
 texts_held-reading_ended is_text (Size part ∷ rest) = omega (arith, held-escape_given 115 rest)
 texts_held-reading_ended is_text (Delimited purpose d text ∷ rest) = omega (arith, held-text_given purpose text rest)
 texts_held-reading_ended is_text (Width d width is_deep ∷ rest) = omega arith
+texts_held-reading_ended is_text (Condition part text ∷ rest) = held-condition_ended part text rest

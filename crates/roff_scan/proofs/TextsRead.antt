@@ -20,14 +20,14 @@ use Rattle.roff_scan.specs.declared.half.Surroundings.TheVariants.{Text as InTex
 use Rattle.roff_scan.proofs.NamesRead.{read_on}
 
 -- a byte that may stand between delimiters, and those behind it
-between_parts : (a b c rest : Bool) → (not (a || b || c) && rest) ≡ true → (a ≡ false) × (b ≡ false) × (rest ≡ true)
+pub between_parts : (a b c rest : Bool) → (not (a || b || c) && rest) ≡ true → (a ≡ false) × (b ≡ false) × (rest ≡ true)
 between_parts true b c rest all = cc
 between_parts false true c rest all = cc
 between_parts false false true rest all = cc
 between_parts false false false rest all = (refl, refl, all)
 
 -- what a byte gives there, unless it is the delimiter or a backslash
-inner_byte : (delimits escapes : Bool) (x y z : Reads) → delimits ≡ false → escapes ≡ false → (if delimits then x else if escapes then y else z) ≡ z
+pub inner_byte : (delimits escapes : Bool) (x y z : Reads) → delimits ≡ false → escapes ≡ false → (if delimits then x else if escapes then y else z) ≡ z
 inner_byte delimits escapes x y z other plain = rw (other, plain) refl
 
 -- a width that grows twice
