@@ -33,7 +33,8 @@ module _ {E : Type 0} (u : Unread E) (i : Input E) where
   pub changing_past_depth : pushed i ≤ u.limits.stack → u.limits.depth < depth i → changing i u ≡ (Err Depth, u)
   changing_past_depth within above = rw (not_above u.limits.stack (pushed i) within, is_above u.limits.depth (depth i) above) refl
 
-  pub changing_within : pushed i ≤ u.limits.stack → depth i ≤ u.limits.depth → results i ≤ u.limits.conditions → changing i u ≡ (Ok tt, record u { input = i })
+  pub changing_within : pushed i ≤ u.limits.stack → depth i ≤ u.limits.depth → results i ≤ u.limits.conditions
+      → changing i u ≡ (Ok tt, record u { input = i })
   changing_within within inside few =
       rw (not_above u.limits.stack (pushed i) within, not_above u.limits.depth (depth i) inside, not_above u.limits.conditions (results i) few) refl
 
