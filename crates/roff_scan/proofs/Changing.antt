@@ -5,7 +5,7 @@ use Rattle.std.proofs.lemmas.Bool.Decides.{nat_tests}
 use Rattle.roff_num.specs.declared.limit.Limit.TheVariants.{Stack, Depth}
 use Rattle.roff_scan.specs.Arguments.{Arguments, held}
 use Rattle.roff_scan.specs.Half.{Half, texts_held}
-use Rattle.roff_scan.specs.Input.{Input, EndAhead, pushed, depth, pushing, freeing, with_arguments, with_half, bytes_ahead}
+use Rattle.roff_scan.specs.Input.{Input, EndAhead, pushed, depth, results, pushing, freeing, with_arguments, with_half, bytes_ahead}
 use Rattle.roff_scan.specs.Unread.{Unread, IsWithin, changing}
 use Rattle.roff_scan.proofs.KeptArguments.{held-only_kept}
 use Rattle.roff_scan.proofs.Counts.{bytes_ahead-bytes, ends_ahead-bytes, bytes_ahead-frees, ends_ahead-frees}
@@ -33,8 +33,10 @@ module _ {E : Type 0} (u : Unread E) (i : Input E) where
   pub changing_past_depth : pushed i ≤ u.limits.stack → u.limits.depth < depth i → changing i u ≡ (Err Depth, u)
   changing_past_depth within above = rw (not_above u.limits.stack (pushed i) within, is_above u.limits.depth (depth i) above) refl
 
-  pub changing_within : pushed i ≤ u.limits.stack → depth i ≤ u.limits.depth → changing i u ≡ (Ok tt, record u { input = i })
-  changing_within within inside = rw (not_above u.limits.stack (pushed i) within, not_above u.limits.depth (depth i) inside) refl
+  pub changing_within : pushed i ≤ u.limits.stack → depth i ≤ u.limits.depth → results i ≤ u.limits.conditions
+      → changing i u ≡ (Ok tt, record u { input = i })
+  changing_within within inside few =
+      rw (not_above u.limits.stack (pushed i) within, not_above u.limits.depth (depth i) inside, not_above u.limits.conditions (results i) few) refl
 
 module _ {E : Type 0} (u : Unread E) (text : List ℕ) (bytes : ℕ) (counted : bytes ≡ pushed u.input) where
   -- a text that doesn't fit is refused
@@ -56,10 +58,11 @@ module _ {E : Type 0} (u : Unread E) (text : List ℕ) (bytes : ℕ) (counted : 
       depth_within = rw (depth-pushing text u.input) (omega (arith, inside))
 
       pub push_within : changing (pushing text u.input) u ≡ (Ok tt, record u { input = pushing text u.input })
-      push_within = changing_within u (pushing text u.input) stack_within depth_within
+      push_within = changing_within u (pushing text u.input) stack_within depth_within within.results
 
       pub IsWithin-pushing : IsWithin (record u { input = pushing text u.input })
-      IsWithin-pushing = record { charge = within.charge; newlines = within.newlines; pushed = stack_within; depth = depth_within }
+      IsWithin-pushing =
+          record { charge = within.charge; newlines = within.newlines; pushed = stack_within; depth = depth_within; results = within.results }
 
 -- bytes in front again count nowhere
 pub IsWithin-freeing : {E : Type 0} (u : Unread E) (bytes : List ℕ) → IsWithin u → IsWithin (record u { input = freeing bytes u.input })
@@ -68,6 +71,7 @@ IsWithin-freeing u bytes within = record {
   newlines = within.newlines;
   pushed = rw (bytes_ahead-frees bytes u.input.ahead) within.pushed;
   depth = rw (ends_ahead-frees bytes u.input.ahead) within.depth;
+  results = within.results;
 }
 
 module _ {E : Type 0} (u : Unread E) (a : Arguments) where
@@ -78,7 +82,13 @@ module _ {E : Type 0} (u : Unread E) (a : Arguments) where
   -- other arguments that fit
   pub IsWithin-with_arguments : IsWithin u → bytes_ahead u.input.ahead + held a + texts_held u.input.half ≤ u.limits.stack
       → IsWithin (record u { input = with_arguments a u.input })
-  IsWithin-with_arguments within fits = record { charge = within.charge; newlines = within.newlines; pushed = rw pushed-with_arguments fits; depth = within.depth }
+  IsWithin-with_arguments within fits = record {
+    charge = within.charge;
+    newlines = within.newlines;
+    pushed = rw pushed-with_arguments fits;
+    depth = within.depth;
+    results = within.results;
+  }
 
   -- arguments with no more bytes
   pub IsWithin-same_held : IsWithin u → held a ≡ held u.input.arguments → IsWithin (record u { input = with_arguments a u.input })
@@ -95,7 +105,7 @@ module _ {E : Type 0} (u : Unread E) (a : Arguments) where
 
       -- and those that fit are held
       pub hold_within : changing (with_arguments a u.input) u ≡ (Ok tt, record u { input = with_arguments a u.input })
-      hold_within = changing_within u (with_arguments a u.input) (rw pushed-with_arguments held_within) within.depth
+      hold_within = changing_within u (with_arguments a u.input) (rw pushed-with_arguments held_within) within.depth within.results
 
       pub IsWithin-holding : IsWithin (record u { input = with_arguments a u.input })
       IsWithin-holding = IsWithin-with_arguments within held_within
@@ -104,4 +114,4 @@ module _ {E : Type 0} (u : Unread E) (a : Arguments) where
 pub IsWithin-with_half :
     {E : Type 0} (u : Unread E) (half : List Half) → IsWithin u → texts_held half ≤ texts_held u.input.half → IsWithin (record u { input = with_half half u.input })
 IsWithin-with_half u half within fewer =
-    record { charge = within.charge; newlines = within.newlines; pushed = omega (arith, within.pushed, fewer); depth = within.depth }
+    record { charge = within.charge; newlines = within.newlines; pushed = omega (arith, within.pushed, fewer); depth = within.depth; results = within.results }

@@ -1,6 +1,6 @@
 //! What is taken of some inputs, in order, by the public calls.
 
-use crate::{CopyUnit, Item, NameUse, Read, ReadSource, Remark, Sight, Unread};
+use crate::{CopyUnit, Decision, Item, NameUse, Read, ReadSource, Remark, Sight, Unread};
 use roff_num::{Limit, Limits};
 use std::test::Fail;
 
@@ -166,5 +166,98 @@ fn a_text_is_measured_without_its_tabs(rt: HostRuntime) -> Result<(), Fail> {
     }
     assert!(rt; matches!(unread.read_byte(false, b'\''), Read::Measures(96)));
     assert!(rt; unread.is_bare());
+    Ok(())
+}
+
+#[test]
+fn results_are_kept_up_to_their_limit(rt: HostRuntime) -> Result<(), Fail> {
+    let limits = Limits {
+        conditions: 2,
+        ..Limits::DEFAULT
+    };
+    let mut unread: Unread<u8> = Unread::new(rt.alloc(), limits)?;
+    assert_eq!(rt; unread.take_kept(), None);
+    assert_eq!(rt; unread.push(b"a"), Ok(()));
+    assert_eq!(rt; unread.keep(true), Ok(()));
+    assert_eq!(rt; unread.keep(false), Ok(()));
+    assert_eq!(rt; unread.keep(true), Err(Limit::Conditions));
+    assert_eq!(rt;
+        (unread.pushed(), unread.depth(), unread.charge()),
+        (1, 1, 0)
+    );
+    assert_eq!(rt; unread.take_kept(), Some(false));
+    assert_eq!(rt; unread.keep(true), Ok(()));
+    assert_eq!(rt; unread.take_kept(), Some(true));
+    assert_eq!(rt; unread.take_kept(), Some(true));
+    assert_eq!(rt; unread.take_kept(), None);
+    Ok(())
+}
+
+#[test]
+fn a_letter_of_a_condition_decides(rt: HostRuntime) -> Result<(), Fail> {
+    let mut unread: Unread<u8> = Unread::new(rt.alloc(), Limits::DEFAULT)?;
+    unread.begin_condition();
+    assert!(rt; unread.is_half_read() && !unread.decides_now());
+    for byte in b" !o" {
+        assert!(rt; matches!(unread.read_byte(false, *byte), Read::GoesOn));
+    }
+    assert!(rt; unread.decides_now() && unread.newline_stays() && unread.seen_stays(None));
+    assert!(rt;
+        matches!(
+            unread.end_reading(false),
+            Read::Decides(Decision::OnPages(false), None)
+        )
+    );
+    assert!(rt; unread.is_bare() && !unread.decides_now());
+    Ok(())
+}
+
+#[test]
+fn an_escape_that_makes_a_tab_ends_an_expression(rt: HostRuntime) -> Result<(), Fail> {
+    let mut unread: Unread<u8> = Unread::new(rt.alloc(), Limits::DEFAULT)?;
+    unread.begin_condition();
+    for byte in b"3-2" {
+        assert!(rt; matches!(unread.read_byte(false, *byte), Read::Holds(_)));
+        assert_eq!(rt; unread.hold_text(CopyUnit::Byte(*byte)), Ok(()));
+    }
+    assert_eq!(rt; unread.pushed(), 3);
+    assert!(rt; unread.seen_stays(Some(b' ')) && !unread.seen_stays(Some(b'\\')));
+    for byte in b"\\t" {
+        assert!(rt; matches!(unread.read_byte(false, *byte), Read::GoesOn));
+    }
+    assert!(rt; unread.decides_now());
+    assert!(rt;
+        matches!(
+            unread.end_reading(false),
+            Read::Decides(Decision::Is(true), Some(b'\t'))
+        )
+    );
+    assert!(rt; unread.is_bare() && unread.pushed() == 0);
+    Ok(())
+}
+
+#[test]
+fn two_texts_are_compared(rt: HostRuntime) -> Result<(), Fail> {
+    let limits = Limits {
+        stack: 2,
+        ..Limits::DEFAULT
+    };
+    let mut unread: Unread<u8> = Unread::new(rt.alloc(), limits)?;
+    unread.begin_condition();
+    assert!(rt; matches!(unread.read_byte(false, b'/'), Read::GoesOn));
+    for _ in 0..2 {
+        assert!(rt; matches!(unread.read_byte(false, b'a'), Read::Holds(_)));
+        assert_eq!(rt; unread.hold_text(CopyUnit::Byte(b'a')), Ok(()));
+        assert!(rt; !unread.decides_now());
+        assert!(rt; matches!(unread.read_byte(false, b'/'), Read::GoesOn));
+    }
+    assert!(rt; unread.decides_now());
+    assert!(rt;
+        matches!(
+            unread.end_reading(false),
+            Read::Decides(Decision::Is(true), None)
+        )
+    );
+    assert!(rt; unread.is_bare() && unread.pushed() == 0);
     Ok(())
 }

@@ -14,6 +14,7 @@ invariant_of-self g c =
       arguments = c.self.invariant.arguments;
       held = rw left c.self.invariant.held;
       small = c.self.invariant.small;
+      results = c.self.invariant.results;
       within = rw left (IsWithin-with_half (kept_by c.self.inside) (reading_ended c.args.is_text c.self.inside.half.half).1 c.self.invariant.within (texts_held-reading_ended c.args.is_text c.self.inside.half.half));
     }
 

@@ -28,6 +28,7 @@ invariant_of-self g c =
       arguments = c.self.invariant.arguments;
       held = c.self.invariant.held;
       small = c.self.invariant.small;
+      results = c.self.invariant.results;
       within = rw c.push.ensures (IsWithin-pushing kept c.args.text.now c.pushed.result counted c.self.invariant.within c.if-text-self.false shallow);
     }
 
