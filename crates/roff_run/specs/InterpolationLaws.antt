@@ -1,13 +1,16 @@
--- Laws of what is read in the place of an escape, of what that costs, and of the source behind it (manual, section 8).
+-- Laws of what is read in the place of an escape, of what that costs, and of the source behind it (manual, sections 8 and
+-- 16).
 use Rattle.std.specs.Prelude.{◌≡◌, ℕ, ◌+◌, ◌<◌, Bool, true, false, not, ◌||◌, List, [], ◌∷◌, ◌++◌, length, map, sum_by, IsTrue, Option, Some, None, ◌==◌}
 use Rattle.roff_num.specs.declared.limits.Limits.{Limits}
 use Rattle.roff_scan.specs.Bytes.{newline, backslash, is_dropped}
 use Rattle.roff_scan.specs.HalfLaws.{is_special, short_escape, long_escape, string_escape, argument_escape}
+use Rattle.roff_scan.specs.Half.{Half, Backslash, Comment, Name as NameHalf, Size, Delimited, Width, Condition, names_in}
 use Rattle.roff_scan.specs.Halves.{most_names, seen_stays}
 use Rattle.roff_scan.specs.Input.{Ahead, ByteAhead, pushing, item_taken, cost, counting}
-use Rattle.roff_scan.specs.Nesting.{AreNames}
 use Rattle.roff_scan.specs.declared.escapes.NameUse.{NameUse}
 use Rattle.roff_scan.specs.declared.escapes.NameUse.TheVariants.{Register, Text as OfText, Argument}
+use Rattle.roff_scan.specs.declared.half.ConditionPart.{ConditionPart}
+use Rattle.roff_scan.specs.declared.half.ConditionPart.TheVariants.{Choice, Expression, Compared, Decided}
 use Rattle.roff_scan.specs.Tape.{Tape, Gives, OneByte, front, items_then}
 use Rattle.roff_store.specs.declared.register.Direction.{Direction}
 use Rattle.roff_run.specs.Laws.{IsWithin}
@@ -17,7 +20,7 @@ use Rattle.roff_run.specs.Registers.{Known, StepBy, changed_by, step_messages, t
 use Rattle.roff_run.specs.Requests.{PageEvent}
 use Rattle.roff_run.specs.Run.{State, known, made, byte_taken, moved, answered, reading_on, step, after}
 use Rattle.roff_run.specs.declared.reading.Reading.{Reading}
-use Rattle.roff_run.specs.declared.reading.Reading.TheVariants.{LineStart, Text as InText, Control, Name, Arguments as InArguments, Dropped}
+use Rattle.roff_run.specs.declared.reading.Reading.TheVariants.{LineStart, Branch, Braced, Text as InText, Control, Name, Arguments as InArguments, Deciding, Skipping, Dropped}
 
 -- a run takes items: it hasn't ended and isn't about to, and there is nothing to do first
 pub record TakesItems (s : State) : Type 0 where
@@ -62,23 +65,49 @@ pub data IsEscapeOf : NameUse → List ℕ → List ℕ → Type 0 where
   LongString : (x y : ℕ) → StandsForItself x → StandsForItself y → IsEscapeOf OfText (x ∷ y ∷ []) (string_escape (40 ∷ x ∷ y ∷ []))
   OfArgument : (x : ℕ) → StandsForItself x → IsEscapeOf Argument (x ∷ []) (argument_escape x)
 
--- whether text is read: where a line begins, and behind it
+-- whether text is read: where a line or a branch begins, and behind it
 abbrev pub reads_text : Reading → Bool
 reads_text LineStart = true
+reads_text Branch = true
+reads_text Braced = true
 reads_text (InText line) = true
 reads_text (Control breaks) = false
 reads_text (Name breaks first) = false
 reads_text (InArguments breaks request) = false
+reads_text (Deciding keeps) = false
+reads_text (Skipping opened closed behind) = false
 reads_text Dropped = false
 
--- whether escapes are read: those of text, and those among a request's arguments
+-- whether escapes are read: those of text, those among a request's arguments, and those of conditions
 abbrev pub reads_escapes : Reading → Bool
 reads_escapes LineStart = true
+reads_escapes Branch = true
+reads_escapes Braced = true
 reads_escapes (InText line) = true
 reads_escapes (Control breaks) = false
 reads_escapes (Name breaks first) = false
 reads_escapes (InArguments breaks request) = true
+reads_escapes (Deciding keeps) = true
+reads_escapes (Skipping opened closed behind) = false
 reads_escapes Dropped = false
+
+-- whether a backslash of a condition begins an escape: not where it delimits texts, nor once the condition is read
+abbrev pub reads_in_condition : ConditionPart → Bool
+reads_in_condition (Choice negated) = true
+reads_in_condition (Expression negated) = true
+reads_in_condition (Compared negated d first) = not (backslash == d)
+reads_in_condition (Decided decision freed) = false
+
+-- whether an escape is read as a text above these: names within each other, alone or above a condition that reads escapes
+abbrev pub reads_above : List Half → Bool
+reads_above [] = true
+reads_above (Backslash ∷ rest) = false
+reads_above (Comment ∷ rest) = false
+reads_above (NameHalf purpose part ∷ rest) = reads_above rest
+reads_above (Size part ∷ rest) = false
+reads_above (Delimited purpose delimiter text ∷ rest) = false
+reads_above (Width delimiter width is_deep ∷ rest) = false
+reads_above (Condition part text ∷ rest) = reads_in_condition part
 
 -- where a register is stepped before it is read: what is wrong with the step is told
 abbrev pub stepped : NameUse → List ℕ → State → State
@@ -101,12 +130,12 @@ with_text_ahead purpose name taken rest s = record s {
 }
 
 -- Reading such an escape is reading its text, the text's end, and what stood behind the escape. So it
--- is where nothing is half read, and also within names, if fewer than may be: they stay half read. What is read stays
--- too: a line that begins with an escape still begins behind it.
+-- is where nothing is half read, and also within names, if fewer than may be, and conditions: they stay half read. What is
+-- read stays too: a line that begins with an escape still begins behind it.
 abbrev pub EscapesReadAsTexts : Type 0
 EscapesReadAsTexts =
     (l : Limits) (s : State) (purpose : NameUse) (name escape : List ℕ) (rest : List (Ahead PageEvent)) →
-    IsEscapeOf purpose name escape → TakesItems s → AreNames s.input.half → length s.input.half < most_names →
+    IsEscapeOf purpose name escape → TakesItems s → reads_above s.input.half ≡ true → names_in s.input.half < most_names →
     reads_escapes s.reading ≡ true → s.input.ahead ≡ map ByteAhead escape ++ rest →
     let read : State = with_text_ahead purpose name (length escape) rest (stepped purpose name s) in
     IsWithin l s → IsWithin l read → after l (length escape) s ≡ read
@@ -119,7 +148,7 @@ with_source_behind tape s = record s { tape = tape; input = record s.input { lin
 abbrev pub EscapesOfTheSourceReadAsTexts : Type 0
 EscapesOfTheSourceReadAsTexts =
     (l : Limits) (s : State) (purpose : NameUse) (name escape : List ℕ) (tape : Tape) →
-    IsEscapeOf purpose name escape → TakesItems s → AreNames s.input.half → length s.input.half < most_names →
+    IsEscapeOf purpose name escape → TakesItems s → reads_above s.input.half ≡ true → names_in s.input.half < most_names →
     reads_escapes s.reading ≡ true → s.input.ahead ≡ [] → s.tape ≡ items_then (map OneByte escape) tape →
     let read : State = with_text_ahead purpose name (length escape) [] (stepped purpose name (with_source_behind tape s)) in
     IsWithin l s → IsWithin l read → after l (length escape) s ≡ read

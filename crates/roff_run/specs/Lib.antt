@@ -15,6 +15,7 @@ pub mod Results
 pub mod Rows
 pub mod Laws
 pub mod InterpolationLaws
+pub mod ConditionLaws
 pub mod WidthLaws
 pub mod Quoting
 pub mod ResultLaws

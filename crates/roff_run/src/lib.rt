@@ -2,6 +2,7 @@
 //! requests, the number registers, the messages, and laws over whole runs.
 #![tactic(auto)]
 
+pub mod condition_laws;
 mod event;
 pub mod interpolation_laws;
 pub mod laws;

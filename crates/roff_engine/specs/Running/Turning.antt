@@ -104,9 +104,13 @@ pub record Acts (line : ℕ) (does : State → State) (old new : Coded) (now beh
   pub input : (t tape : Tape) (start : Seen) (from : State) → (took : TookFrom t tape start now line does from old)
       → OnOk r (new.unread.input ≡ (does (state_at tape old took.history took.messages)).input)
 
+-- nothing is half read, and the source is asked for what stands in front
+abbrev pub AsksFirst : PageUnread → Type 0
+AsksFirst u = (u.input.half ≡ []) × (asks_to_take u ≡ true)
+
 -- the run asks its source next, or there is a tape that the source may give
 abbrev pub HasTape : Coded → (Tape → Type 0) → Type 0
-HasTape run gives = (asks_to_take run.unread ≡ true) ⊎ ((tape : Tape) × gives tape)
+HasTape run gives = AsksFirst run.unread ⊎ ((tape : Tape) × gives tape)
 
 -- The run took items of its source, and goes on or has ended, whatever the source may still give, where a step of the
 -- definition does this; it goes on only so many times, and each message of the source's is one.
