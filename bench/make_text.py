@@ -4,6 +4,7 @@
     bench/make_text.py text MEGABYTES       running text: sentences in lines of 50 to 75 bytes, now and then a blank line
     bench/make_text.py requests MEGABYTES   the same with a request after every 2 to 5 lines
     bench/make_text.py registers MEGABYTES  the same with a register set after every 2 to 5 lines, and one read in each line
+    bench/make_text.py skipped MEGABYTES    running text as the branch of a condition that is false
 """
 import random
 import sys
@@ -72,6 +73,9 @@ SETTINGS = [
 
 READINGS = ["\\na", "\\nb", "\\nc", "\\n(xy", "\\n+a", "\\n-(xy", "\\n(.l"]
 
+# What stands before and behind text that is skipped.
+SKIPPED = (b".if 0 \\{\\\n", b".\\}\n")
+
 
 class Writer:
     def __init__(self):
@@ -136,15 +140,19 @@ class Writer:
 
 
 def write_document(kind, size, file):
+    front, behind = SKIPPED if kind == "skipped" else (b"", b"")
+    size -= len(front + behind)
     text = Writer().document(kind, min(size, NEW_TEXT))
     whole = size // len(text) if text else 0
+    file.write(front)
     for _ in range(whole):
         file.write(text)
     file.write(text[: text.rfind(b"\n", 0, size - whole * len(text)) + 1])
+    file.write(behind)
 
 
 def main():
-    if len(sys.argv) != 3 or sys.argv[1] not in ("text", "requests", "registers"):
+    if len(sys.argv) != 3 or sys.argv[1] not in ("text", "requests", "registers", "skipped"):
         sys.exit(__doc__.strip())
     write_document(sys.argv[1], int(float(sys.argv[2]) * MEGABYTE), sys.stdout.buffer)
 
