@@ -1,9 +1,9 @@
 -- The texts of what is half read, behind each other in one block.
-use Rattle.std.proofs.Common.{◌≡◌, ℕ, Bool, true, false, suc, ◌+◌, ◌-◌, ◌≤◌, List, [], ◌∷◌, ◌++◌, length, reverse, take, drop, Option, Some, refl, sym, ap, ap₂, subst, ◌∙◌, arith, rules, length-drop, length-append}
+use Rattle.std.proofs.Common.{◌≡◌, ℕ, Bool, true, false, suc, ◌+◌, ◌-◌, ◌<◌, ◌≤◌, List, [], ◌∷◌, ◌++◌, length, reverse, take, drop, Option, Some, refl, sym, ap, ap₂, subst, ◌∙◌, arith, rules, length-drop, length-append}
 use Rattle.std.proofs.Math.Seq.{take-append_seam, take-length, drop-length}
-use Rattle.std.specs.List.{slice_get}
+use Rattle.std.specs.List.{slice_get, slice_index_or}
 use Rattle.std.specs.Option.{MatchOption}
-use Rattle.std.proofs.lemmas.List.{reverse-append, reverse-reverse, drop-append-le, drop_all, take-append-le, length-take-le}
+use Rattle.std.proofs.lemmas.List.{get_or-reverse, length-reverse, reverse-append, reverse-reverse, drop-append-le, drop_all, take-append-le, length-take-le}
 use Rattle.roff_scan.specs.Half.{Half, Backslash as BackslashHalf, Comment as CommentHalf, Name as NameHalf, Size as SizeHalf, Delimited, Width as WidthHalf, Condition, text_held, texts_held, unit_bytes}
 use Rattle.roff_scan.specs.HalfTexts.{AreJoined, BeginsBehind, IsOnTop, begun, holds_text, joined, text_on_top}
 use Rattle.roff_scan.specs.declared.escapes.TextUse.{TextUse}
@@ -89,6 +89,32 @@ pub on_top-last : (items : List HalfRead) (block : List ℕ) → AreJoined (reve
 on_top-last items block are =
     subst (λ (all : List HalfRead). MatchOption (slice_get all (length all - 1)) (joined (reverse items) block ≡ []) (λ item. IsOnTop item (joined (reverse items) block)))
     (reverse-reverse items) (on_top-reverse (reverse items) block are)
+
+-- what stands below the top
+below-back : (items : List HalfRead) (block : List ℕ) (other : HalfRead) → AreJoined items block → 2 ≤ length items
+    → IsOnTop (slice_index_or items 1 other) (drop 1 (joined items block))
+below-back [] block other are two = absurd (omega arith)
+below-back (item ∷ []) block other are two = absurd (omega arith)
+below-back (Backslash ∷ under ∷ items) block other are two = on_top under items block are
+below-back (Comment ∷ under ∷ items) block other are two = on_top under items block are
+below-back (Name purpose part ∷ under ∷ items) block other are two = on_top under items block are
+below-back (Size part ∷ under ∷ items) block other are two = on_top under items block are
+below-back (DelimitedRead purpose delimiter begin ∷ under ∷ items) block other are two = on_top under items (take begin block) are.1
+below-back (Width delimiter width is_deep ∷ under ∷ items) block other are two = on_top under items block are
+below-back (ConditionRead part begin ∷ under ∷ items) block other are two = on_top under items (take begin block) are.1
+
+-- stands before what stands at the back
+pub below-last : (items : List HalfRead) (block : List ℕ) (other : HalfRead) → AreJoined (reverse items) block → 2 ≤ length items
+    → IsOnTop (slice_index_or items (length items - 2) other) (drop 1 (joined (reverse items) block))
+below-last items block other are two =
+    subst (λ item. IsOnTop item (drop 1 (joined (reverse items) block)))
+    (get_or-reverse items 1 other (omega (arith, two)) ∙ ap (λ n. slice_index_or items n other) (omega (arith, two)))
+    (below-back (reverse items) block other are (omega (arith, two, length-reverse items)))
+
+-- nothing stands below one
+pub below-one : (items : List HalfRead) (block : List ℕ) → length items < 2 → drop 1 (joined (reverse items) block) ≡ []
+below-one items block few =
+    drop_all 1 (joined (reverse items) block) (omega (arith, few, length-joined (reverse items) block, length-reverse items))
 
 -- one that begins behind the block
 pub joined-begun :
