@@ -256,17 +256,6 @@ held-more unit (Delimited purpose delimiter text ∷ rest) has = omega (arith, l
 held-more unit (WidthHalf delimiter width is_deep ∷ rest) has = absurd (search (rules, has))
 held-more unit (Condition part text ∷ rest) has = omega (arith, length-append text (unit_bytes unit))
 
--- where no text is on top a unit is held nowhere
-pub held-nowhere : (unit : CopyUnit) (half : List Half) → has_text half ≡ false → text_held unit half ≡ half
-held-nowhere unit [] none = refl
-held-nowhere unit (BackslashHalf ∷ rest) none = refl
-held-nowhere unit (CommentHalf ∷ rest) none = refl
-held-nowhere unit (NameHalf purpose part ∷ rest) none = refl
-held-nowhere unit (SizeHalf part ∷ rest) none = refl
-held-nowhere unit (Delimited purpose delimiter text ∷ rest) none = absurd (search (rules, none))
-held-nowhere unit (WidthHalf delimiter width is_deep ∷ rest) none = refl
-held-nowhere unit (Condition part text ∷ rest) none = absurd (search (rules, none))
-
 -- what is on top, if it is a text between delimiters, with its delimiter
 abbrev pub with_delimiter : ℕ → List Half → List Half
 with_delimiter d [] = []

@@ -105,8 +105,8 @@ names-nested (Delimited purpose delimiter text ∷ rest) nested = names-nested r
 names-nested (Width delimiter width is_deep ∷ rest) nested = names-nested rest (IsNested-rest (Width delimiter width is_deep) rest nested)
 names-nested (Condition part text ∷ rest) nested = names-nested rest (IsNested-rest (Condition part text) rest nested)
 
--- what may stand beside the names, and twice the texts that are measured: a condition or a text between delimiters, and one on
--- top
+-- what may stand beside the names, and twice the texts that are measured: a condition or a text between delimiters, and
+-- one on top
 abbrev spare : List Half → ℕ
 spare [] = 0
 spare (Backslash ∷ rest) = 2

@@ -1,4 +1,4 @@
-use Rattle.std.proofs.Common.{◌-◌, ◌∙◌, ◌∷◌, List, length, reverse, sym, ap, subst, arith}
+use Rattle.std.proofs.Common.{◌-◌, ◌∙◌, List, length, reverse, sym, ap, subst, arith}
 use Rattle.std.proofs.lemmas.List.{length-reverse, length-take}
 use Rattle.roff_scan.specs.Half.{Half}
 use Rattle.roff_scan.specs.HalfTexts.{KeptHalves, joined}
