@@ -6,7 +6,7 @@ use Rattle.std.proofs.lemmas.List.Sums.{sum_by-append}
 use Rattle.roff_scan.specs.Half.{names_in, widths_in}
 use Rattle.roff_scan.specs.HalfTexts.{joined, names_among, widths_among, one_name, one_width}
 use Rattle.roff_scan.specs.declared.half.HalfRead.{HalfRead}
-use Rattle.roff_scan.specs.declared.half.HalfRead.TheVariants.{Backslash, Comment, Name, Size, Delimited, Width}
+use Rattle.roff_scan.specs.declared.half.HalfRead.TheVariants.{Backslash, Comment, Name, Size, Delimited, Width, Condition}
 
 -- a sum with one more
 sum_by-cons : (f : HalfRead → ℕ) (item : HalfRead) (items : List HalfRead) → sum_by f (item ∷ items) ≡ f item + sum_by f items
@@ -35,6 +35,7 @@ names_in-back (Name purpose part ∷ items) block =
 names_in-back (Size part ∷ items) block = omega (arith, names_in-back items block)
 names_in-back (Delimited purpose delimiter begin ∷ items) block = omega (arith, names_in-back items (take begin block))
 names_in-back (Width delimiter width is_deep ∷ items) block = omega (arith, names_in-back items block)
+names_in-back (Condition part begin ∷ items) block = omega (arith, names_in-back items (take begin block))
 
 pub names_in-joined : (items : List HalfRead) (block : List ℕ) → names_in (joined (reverse items) block) ≡ names_among items
 names_in-joined items block = names_in-back (reverse items) block ∙ sum_by-reverse one_name items
@@ -49,6 +50,7 @@ widths_in-back (Size part ∷ items) block = omega (arith, widths_in-back items 
 widths_in-back (Delimited purpose delimiter begin ∷ items) block = omega (arith, widths_in-back items (take begin block))
 widths_in-back (Width delimiter width is_deep ∷ items) block =
     omega (arith, sum_by-cons one_width (Width delimiter width is_deep) items, widths_in-back items block)
+widths_in-back (Condition part begin ∷ items) block = omega (arith, widths_in-back items (take begin block))
 
 pub widths_in-joined : (items : List HalfRead) (block : List ℕ) → widths_in (joined (reverse items) block) ≡ widths_among items
 widths_in-joined items block = widths_in-back (reverse items) block ∙ sum_by-reverse one_width items

@@ -1,11 +1,12 @@
 -- How many things may be half read within each other.
-use Rattle.std.proofs.Common.{◌≡◌, ℕ, ◌+◌, ◌*◌, ◌<◌, ◌≤◌, Bool, true, false, ◌&&◌, not, List, [], ◌∷◌, length, Option, refl, arith, rules}
+use Rattle.std.proofs.Common.{◌≡◌, ℕ, ◌+◌, ◌*◌, ◌<◌, ◌≤◌, Bool, true, false, ◌&&◌, not, List, [], ◌∷◌, length, Option, refl, ap, arith, rules}
 use Rattle.std.specs.Prelude.{nat_le, if◌then◌else◌}
 use Rattle.std.proofs.lemmas.Bool.{leb-false}
-use Rattle.roff_scan.specs.Half.{Half, Backslash, Comment, Name, Size, Delimited, Width, names_in, text_held, widths_in}
+use Rattle.roff_scan.specs.Half.{Half, Backslash, Comment, Name, Size, Delimited, Width, Condition, names_in, text_held, widths_in}
 use Rattle.roff_scan.specs.Halves.{most_names, most_widths, surroundings, reads_text, reads_widths}
-use Rattle.roff_scan.specs.Nesting.{IsNested, is_nested, is_open, may_stand}
-use Rattle.roff_scan.proofs.HalfTexts.{with_delimiter}
+use Rattle.roff_scan.specs.Nesting.{IsNested, is_nested, is_nothing, is_open, may_stand}
+use Rattle.roff_scan.proofs.HalfTexts.{with_delimiter, with_part}
+use Rattle.roff_scan.specs.declared.half.ConditionPart.{ConditionPart}
 use Rattle.roff_scan.specs.declared.half.CopyUnit.{CopyUnit}
 use Rattle.roff_scan.specs.declared.half.Surroundings.{Surroundings}
 use Rattle.roff_scan.specs.declared.half.Surroundings.TheVariants.{Text as InText, Arguments as InArguments, Copy as InCopy}
@@ -39,6 +40,15 @@ pub IsNested-rest : (half : Half) (rest : List Half) → IsNested (half ∷ rest
 IsNested-rest half rest nested =
     second_of (is_open rest && may_stand half rest) (is_nested rest) nested
 
+-- nothing
+nothing-half : (half : List Half) → is_nothing half ≡ true → half ≡ []
+nothing-half [] is = refl
+nothing-half (first ∷ rest) is = absurd (search (rules, is))
+
+-- a condition stands above nothing
+nothing-below : (part : ConditionPart) (text : List ℕ) (rest : List Half) → IsNested (Condition part text ∷ rest) → rest ≡ []
+nothing-below part text rest nested = nothing-half rest (may_stand-rest (Condition part text) rest nested)
+
 -- where text is read widths are too
 reads_widths-text : (around : Surroundings) → reads_text around ≡ true → reads_widths around ≡ true
 reads_widths-text InText reads = refl
@@ -64,6 +74,7 @@ widths-around (Delimited purpose delimiter text ∷ rest) nested around =
     (reads_widths-text (surroundings true rest) (may_stand-rest (Delimited purpose delimiter text) rest nested))
 widths-around (Width delimiter width true ∷ rest) nested around = absurd (search (rules, around))
 widths-around (Width delimiter width false ∷ rest) nested around = omega (arith, widths-below delimiter width rest nested)
+widths-around (Condition part text ∷ rest) nested around = omega (arith, ap widths_in (nothing-below part text rest nested))
 
 -- of texts that are measured there is one more at most
 widths-nested : (half : List Half) → IsNested half → widths_in half ≤ most_widths + 1
@@ -78,6 +89,7 @@ widths-nested (Width delimiter width is_deep ∷ rest) nested =
     first_of (reads_widths (surroundings true rest)) (if is_deep then nat_le most_widths (widths_in rest) else not (nat_le most_widths (widths_in rest)))
     (may_stand-rest (Width delimiter width is_deep) rest nested) in
     omega (arith, widths-around rest (IsNested-rest (Width delimiter width is_deep) rest nested) around)
+widths-nested (Condition part text ∷ rest) nested = widths-nested rest (IsNested-rest (Condition part text) rest nested)
 
 -- of names there are no more than may be
 names-nested : (half : List Half) → IsNested half → names_in half ≤ most_names
@@ -91,8 +103,10 @@ names-nested (Name purpose part ∷ rest) nested =
 names-nested (Size part ∷ rest) nested = names-nested rest (IsNested-rest (Size part) rest nested)
 names-nested (Delimited purpose delimiter text ∷ rest) nested = names-nested rest (IsNested-rest (Delimited purpose delimiter text) rest nested)
 names-nested (Width delimiter width is_deep ∷ rest) nested = names-nested rest (IsNested-rest (Width delimiter width is_deep) rest nested)
+names-nested (Condition part text ∷ rest) nested = names-nested rest (IsNested-rest (Condition part text) rest nested)
 
--- what may stand beside the names, and twice the texts that are measured: a text between delimiters, and one on top
+-- what may stand beside the names, and twice the texts that are measured: a condition or a text between delimiters, and
+-- one on top
 abbrev spare : List Half → ℕ
 spare [] = 0
 spare (Backslash ∷ rest) = 2
@@ -101,6 +115,7 @@ spare (Name purpose part ∷ rest) = 1
 spare (Size part ∷ rest) = 2
 spare (Delimited purpose delimiter text ∷ rest) = 1
 spare (Width delimiter width is_deep ∷ rest) = 0
+spare (Condition part text ∷ rest) = 1
 
 spare-open : (half : List Half) → is_open half ≡ true → spare half ≤ 1
 spare-open [] is = omega arith
@@ -110,6 +125,7 @@ spare-open (Name purpose part ∷ rest) is = omega arith
 spare-open (Size part ∷ rest) is = absurd (search (rules, is))
 spare-open (Delimited purpose delimiter text ∷ rest) is = omega arith
 spare-open (Width delimiter width is_deep ∷ rest) is = omega arith
+spare-open (Condition part text ∷ rest) is = omega arith
 
 spare-text : (half : List Half) → reads_text (surroundings true half) ≡ true → spare half ≡ 0
 spare-text [] around = refl
@@ -119,6 +135,7 @@ spare-text (Name purpose part ∷ rest) around = absurd (search (rules, around))
 spare-text (Size part ∷ rest) around = absurd (search (rules, around))
 spare-text (Delimited purpose delimiter text ∷ rest) around = absurd (search (rules, around))
 spare-text (Width delimiter width is_deep ∷ rest) around = refl
+spare-text (Condition part text ∷ rest) around = absurd (search (rules, around))
 
 spare-few : (half : List Half) → spare half ≤ 2
 spare-few [] = omega arith
@@ -128,6 +145,7 @@ spare-few (Name purpose part ∷ rest) = omega arith
 spare-few (Size part ∷ rest) = omega arith
 spare-few (Delimited purpose delimiter text ∷ rest) = omega arith
 spare-few (Width delimiter width is_deep ∷ rest) = omega arith
+spare-few (Condition part text ∷ rest) = omega arith
 
 length-spare : (half : List Half) → IsNested half → length half ≤ names_in half + 2 * widths_in half + spare half
 length-spare [] nested = omega arith
@@ -145,6 +163,7 @@ length-spare (Delimited purpose delimiter text ∷ rest) nested =
 length-spare (Width delimiter width is_deep ∷ rest) nested =
     let top = Width delimiter width is_deep in
     omega (arith, length-spare rest (IsNested-rest top rest nested), spare-open rest (open-rest top rest nested))
+length-spare (Condition part text ∷ rest) nested = omega (arith, ap length (nothing-below part text rest nested))
 
 -- so there are few things in all
 pub length-nested : (half : List Half) → IsNested half → length half ≤ 28
@@ -160,6 +179,7 @@ IsNested-text_held unit (Name purpose part ∷ rest) nested = nested
 IsNested-text_held unit (Size part ∷ rest) nested = nested
 IsNested-text_held unit (Delimited purpose delimiter text ∷ rest) nested = nested
 IsNested-text_held unit (Width delimiter width is_deep ∷ rest) nested = nested
+IsNested-text_held unit (Condition part text ∷ rest) nested = nested
 
 -- the delimiter of a text
 pub IsNested-with_delimiter : (d : ℕ) (half : List Half) → IsNested half → IsNested (with_delimiter d half)
@@ -170,3 +190,15 @@ IsNested-with_delimiter d (Name purpose part ∷ rest) nested = nested
 IsNested-with_delimiter d (Size part ∷ rest) nested = nested
 IsNested-with_delimiter d (Delimited purpose delimiter text ∷ rest) nested = nested
 IsNested-with_delimiter d (Width delimiter width is_deep ∷ rest) nested = nested
+IsNested-with_delimiter d (Condition part text ∷ rest) nested = nested
+
+-- another part of a condition
+pub IsNested-with_part : (part : ConditionPart) (half : List Half) → IsNested half → IsNested (with_part part half)
+IsNested-with_part part [] nested = nested
+IsNested-with_part part (Backslash ∷ rest) nested = nested
+IsNested-with_part part (Comment ∷ rest) nested = nested
+IsNested-with_part part (Name purpose other ∷ rest) nested = nested
+IsNested-with_part part (Size other ∷ rest) nested = nested
+IsNested-with_part part (Delimited purpose delimiter text ∷ rest) nested = nested
+IsNested-with_part part (Width delimiter width is_deep ∷ rest) nested = nested
+IsNested-with_part part (Condition before text ∷ rest) nested = nested

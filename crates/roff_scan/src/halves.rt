@@ -731,11 +731,14 @@ impl Halves {
             → (result, self.new)
             ≡ leaving (Read.GoesOn, ConditionHalf part text ∷ rest) self.old }
     {
-        if let Some(HalfRead::Condition(_, begin)) = self.top() {
-            self.items.pop();
-            self.items.push(HalfRead::Condition(part, begin));
+        match self.top() {
+            Some(HalfRead::Condition(_, begin)) => {
+                self.items.pop();
+                self.items.push(HalfRead::Condition(part, begin));
+                Read::GoesOn
+            }
+            _ => Read::GoesOn,
         }
-        Read::GoesOn
     }
 
     /// A condition begins, and nothing else is half read.
