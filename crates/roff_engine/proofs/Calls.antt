@@ -1,4 +1,6 @@
 -- What the calls of the unread input leave of a run: of its source, its limits and its turns to come.
+use Rattle.roff_scan.specs.Halves.{decides_now}
+use Rattle.roff_engine.specs.Running.Turning.{AsksFirst}
 use Rattle.std.proofs.Common.{◌≡◌, ◌⊎◌, inl, inr, ℕ, ◌+◌, ◌≤◌, Bool, true, false, List, [], ◌∷◌, Option, Some, None, refl, sym, subst, arith}
 use Rattle.std.specs.Prelude.{nat_lt, is_none, ◌&&◌}
 use Rattle.roff_num.specs.declared.limits.Limits.{Limits}
@@ -19,7 +21,7 @@ use Rattle.roff_run.proofs.InputCounts.{first_passed-taking, one_of}
 -- but for the item in front, and no count or turn to come is more.
 pub record Leaves (gave gives : Tape → Type 0) (u left : PageUnread) (taken : List Item) : Type 0 where
   pub before : (t : Tape) → gives t → gave (items_then taken t)
-  pub some : (asks_to_take u ≡ true) ⊎ ((t : Tape) × gave t) → (t : Tape) × gives t
+  pub some : AsksFirst u ⊎ ((t : Tape) × gave t) → (t : Tape) × gives t
   pub rest : (t : Tape) → gives t → IsLeftOf t (looked_then u.looked (items_then taken t))
   pub limits : left.limits ≡ u.limits
   pub within : (rs : AllRegisters) → first_passed u.limits (counts_in rs u.input) ≡ None → first_passed u.limits (counts_in rs left.input) ≡ None
@@ -33,10 +35,10 @@ before-asked gave gives true (Ends ending) answers t may = subst gave (sym (answ
 before-asked gave gives false a stays t may = stays.before t may
 
 -- a source that was asked may give something, and so may one that stays, if it might before
-some-asked : (gave gives : Tape → Type 0) (asks asked : Bool) (a : Answer) → (asks ≡ true → asked ≡ true) → Asked gave gives asked a
-    → (asks ≡ true) ⊎ ((t : Tape) × gave t) → (t : Tape) × gives t
+some-asked : {H : Type 0} (gave gives : Tape → Type 0) (asks asked : Bool) (a : Answer) → (asks ≡ true → asked ≡ true) → Asked gave gives asked a
+    → (H × (asks ≡ true)) ⊎ ((t : Tape) × gave t) → (t : Tape) × gives t
 some-asked gave gives asks true a asks_then answers known = (answers.some, answers.some_given)
-some-asked gave gives asks false a asks_then stays (inl is) = let wrong : false ≡ true = asks_then is in cc
+some-asked gave gives asks false a asks_then stays (inl is) = let wrong : false ≡ true = asks_then is.1 in cc
 some-asked gave gives asks false a asks_then stays (inr may) = (may.0, stays.after may.0 may.1)
 
 -- what is left behind a call, by whether a byte was looked at
@@ -114,6 +116,27 @@ Leaves-looks gave gives u a asked =
       within = λ rs none. subst (λ (i : PageInput). first_passed u.limits (counts_in rs i) ≡ None) (sym same.input) none;
       turns = rw (same.limits, same.input) (omega arith);
     }
+
+-- a tape of a source that isn't asked is left as it is
+left-unasked : (looked : Option ℕ) (t : Tape) → IsLeftOf t (looked_then looked t)
+left-unasked None t = inl refl
+left-unasked (Some b) t = inr refl
+
+-- where a condition decides, there is a tape
+some-decides : (gives : Tape → Type 0) (u : PageUnread) → decides_now u.input.half ≡ true → AsksFirst u ⊎ ((t : Tape) × gives t) → (t : Tape) × gives t
+some-decides gives u decides (inl first) = let wrong : false ≡ true = rw first.0 at decides in cc
+some-decides gives u decides (inr known) = known
+
+-- no call: a condition decides, and nothing is taken or seen
+pub Leaves-deciding : (gives : Tape → Type 0) (u : PageUnread) → decides_now u.input.half ≡ true → Leaves gives gives u u []
+Leaves-deciding gives u decides = record {
+  before = λ t may. may;
+  some = some-decides gives u decides;
+  rest = λ t may. left-unasked u.looked t;
+  limits = refl;
+  within = λ rs none. none;
+  turns = omega arith;
+}
 
 -- the source was asked, with nothing ahead of it, and its items end: nothing was taken
 pub record EndsThere (u left : PageUnread) (taken : List Item) : Type 0 where

@@ -1,9 +1,10 @@
 -- A turn in which what is half read waits for a byte: what is seen, and what is done with it.
-use Rattle.std.proofs.Common.{◌≡◌, ℕ, ◌+◌, ◌<◌, ◌≤◌, Bool, true, false, List, ◌++◌, length, Option, Some, None, Result, Err, inr, refl, sym, ap, subst, ◌∙◌, arith, append_assoc}
+use Rattle.roff_scan.specs.Half.{Half}
+use Rattle.std.proofs.Common.{◌≡◌, ℕ, ◌+◌, ◌<◌, ◌≤◌, Bool, true, false, List, ◌++◌, length, Option, Some, None, Result, Err, inr, refl, sym, ap, subst, ◌∙◌, arith, append_assoc, ◌∷◌, []}
 use Rattle.std.specs.Prelude.{IsOkUnless, if◌then◌else◌}
 use Rattle.roff_num.specs.declared.limit.Limit.{Limit}
 use Rattle.roff_num.specs.declared.limits.Limits.{Limits}
-use Rattle.roff_scan.specs.Halves.{newline_stays, seen_stays}
+use Rattle.roff_scan.specs.Halves.{newline_stays, seen_stays, decides_now}
 use Rattle.roff_scan.specs.Tape.{Tape, Item, Ended, Failed, Stopped, Rises, items_then}
 use Rattle.roff_scan.specs.Unread.{Sighted, SeesByte, SeesNothing, SeesNote, SeesEnding, asks_to_look, looking, seen_ahead}
 use Rattle.roff_scan.specs.Unread.Calls.{Looks}
@@ -14,13 +15,13 @@ use Rattle.roff_run.specs.Messages.{message_line}
 use Rattle.roff_run.specs.Output.{PageHistory}
 use Rattle.roff_run.specs.Reader.Taken.{PageUnread}
 use Rattle.roff_run.specs.Reading.{PageInput}
-use Rattle.roff_run.specs.Run.{State, awaited, half_ends, in_front_taken, known, made, step}
+use Rattle.roff_run.specs.Run.{State, awaited, half_ends, in_front_taken, known, made, step, waiting}
 use Rattle.roff_run.specs.TurnsToCome.{turns_to_come}
 use Rattle.roff_engine.specs.declared.running.Running.{Running as Coded}
 use Rattle.roff_engine.specs.Engine.Outcome.{Seen, seen}
 use Rattle.roff_engine.specs.Running.Turning.{Acts, IsAt, StepDoes, TurnsBy, state_at}
 use Rattle.roff_engine.specs.Sinks.{Sunk, Puts}
-use Rattle.roff_engine.proofs.Calls.{EndsThere, EndsThere-looks, IsEndingSeen, Leaves, Leaves-looks}
+use Rattle.roff_engine.proofs.Calls.{EndsThere, EndsThere-looks, IsEndingSeen, Leaves, Leaves-looks, Leaves-deciding}
 use Rattle.roff_engine.proofs.Items.{looked_at, moved, note_told, source_failed, source_stopped}
 use Rattle.roff_engine.proofs.Turns.{LeavesFewer, acted, on_ok, on_ok-then, turned, turns_of}
 use Rattle.roff_run.proofs.InFront.{Given-asked, IsNoNote, Looks-looking, items_asked, over_unread, over_unread-looking, front_step, seen as seen_step, sighted_step}
@@ -148,6 +149,39 @@ module _ {gave gives : Tape → Type 0} {left : PageUnread} (old : Coded) (faile
       let leaves = leaves_look old call in
       turned leaves _ noted notes (moved old left) (seen failed out err) (seen failures out err) (Err (Limited limit)) refl (λ t tape start may at goes.
       (source_stopped leaves failed failures out err more t tape start may at limit (ends_look old call tt) (goes ∙ sighted_look old call tape may at.history at.messages), tt))
+
+-- where a condition decides, something is half read
+length-decides_now : (half : List Half) → decides_now half ≡ true → 1 ≤ length half
+length-decides_now [] decides = cc
+length-decides_now (first ∷ rest) decides = omega arith
+
+-- a turn by one of two tests of the definition
+pub turn_as : {gave gives : Tape → Type 0} (does other : State → State) (noted notes : ℕ) (old new : Coded) (now behind : Seen) (r : Result (Unit {0}) Status)
+    → ((tape : Tape) (h : PageHistory) (ms : List ℕ) → does (state_at tape old h ms) ≡ other (state_at tape old h ms))
+    → TurnsBy other gave gives noted notes old new now behind r → TurnsBy does gave gives noted notes old new now behind r
+turn_as does other noted notes old new now behind r same turn = record {
+  limits = turn.limits;
+  taken = turn.taken;
+  before = turn.before;
+  some = turn.some;
+  turns = λ t tape start may at goes. turn.turns t tape start may at (goes ∙ same (items_then turn.taken tape) at.history at.messages);
+  falls = λ t tape start may at goes. turn.falls t tape start may at (goes ∙ same (items_then turn.taken tape) at.history at.messages);
+}
+
+-- a condition that is read decides
+pub waiting_decides :
+    (gives : Tape → Type 0) (old new : Coded) (failures : ℕ) (out err : Sunk) (notes : ℕ) (after : Seen) (r : Result (Unit {0}) Status)
+    → decides_now old.unread.input.half ≡ true → Acts old.unread.input.line half_ends old new (seen failures out err) after r
+    → TurnsBy (λ s. waiting old.limits s) gives gives notes notes old new (seen failures out err) after r
+waiting_decides gives old new failures out err notes after r decides acts =
+    let fewer : LeavesFewer half_ends old.unread old.unread = λ s is.
+    let some : 1 ≤ length s.input.half = rw is (length-decides_now old.unread.input.half decides) in
+    omega (arith, turns_within-half_ended old.unread.limits.bytes (known s) s.reading s.input some, turns_of old.unread old.unread.limits s.input refl (sym is)) in
+    acted (Leaves-deciding gives old.unread decides) _ notes notes half_ends old.unread.input.line new failures failures out err after r (omega arith) (omega arith) refl
+    (λ limits tape may h ms.
+    let s : State = state_at tape old h ms in
+    ap (λ (c : Bool). if c then made old.limits s (half_ends s) else awaited old.limits (seen_ahead old.unread.input.ahead) s) decides)
+    (on_ok r fewer) acts
 
 -- items, and then others, are both in this order
 pub items_then-append : (first others : List Item) (tape : Tape) → items_then (first ++ others) tape ≡ items_then first (items_then others tape)

@@ -13,7 +13,7 @@ use Rattle.roff_run.specs.Output.{PageHistory}
 use Rattle.roff_run.specs.Reader.State.{ReaderState, fresh_reader}
 use Rattle.roff_run.specs.Reader.Taken.{IsReady, PageUnread}
 use Rattle.roff_run.specs.Registers.{no_registers}
-use Rattle.roff_run.specs.Run.{State, Leads, awaited, counts_in, first_passed, in_front_taken, initial, step}
+use Rattle.roff_run.specs.Run.{State, Leads, awaited, counts_in, first_passed, in_front_taken, initial, step, waiting}
 use Rattle.roff_run.specs.TurnsToCome.{turns_to_come}
 use Rattle.roff_engine.specs.declared.running.Running.{Running as Coded}
 use Rattle.roff_engine.specs.Engine.Outcome.{Seen, Outcome, Runs}
@@ -39,12 +39,12 @@ step_turn does gave gives noted notes old new now behind r is turn = record {
 module _ (gave gives : Tape → Type 0) (noted notes : ℕ) (old new : Coded) (now behind : Seen) (r : Result (Unit {0}) Status) where
   -- what is half read waits
   pub waiting_turn : newline_stays old.unread.input.half ≡ true
-      → TurnsBy (λ s. awaited old.limits (seen_ahead s.input.ahead) s) gave gives noted notes old new now behind r
+      → TurnsBy (λ s. waiting old.limits s) gave gives noted notes old new now behind r
       → TurnsBy (step old.limits) gave gives noted notes old new now behind r
   waiting_turn stays turn =
       step_turn _ gave gives noted notes old new now behind r (λ tape h ms.
       let s : State = state_at tape old h ms in
-      ap (λ (c : Bool). if c then awaited old.limits (seen_ahead old.unread.input.ahead) s else in_front_taken old.limits old.unread.input.ahead s) stays)
+      ap (λ (c : Bool). if c then waiting old.limits s else in_front_taken old.limits old.unread.input.ahead s) stays)
       turn
 
   -- it waits for nothing
@@ -54,7 +54,7 @@ module _ (gave gives : Tape → Type 0) (noted notes : ℕ) (old new : Coded) (n
   front_turn stays turn =
       step_turn _ gave gives noted notes old new now behind r (λ tape h ms.
       let s : State = state_at tape old h ms in
-      ap (λ (c : Bool). if c then awaited old.limits (seen_ahead old.unread.input.ahead) s else in_front_taken old.limits old.unread.input.ahead s) stays)
+      ap (λ (c : Bool). if c then waiting old.limits s else in_front_taken old.limits old.unread.input.ahead s) stays)
       turn
 
 -- where no count is above its limit, none is refused
@@ -91,7 +91,7 @@ starts t now run stands fresh =
 
 -- it asks its source first
 pub HasTape-fresh : (run : Coded) (gives : Tape → Type 0) → IsFresh run.limits run.formatter run.unread → HasTape run gives
-HasTape-fresh run gives fresh = inl (ap (λ (u : PageUnread). asks_to_take u) fresh.unread)
+HasTape-fresh run gives fresh = inl (ap (λ (u : PageUnread). u.input.half) fresh.unread, ap (λ (u : PageUnread). asks_to_take u) fresh.unread)
 
 -- behind another turn
 module _ {first old new : Tape → Type 0} (noted notes : ℕ) (start now behind : Seen) (run run_behind : Coded) (come : HasCome first old start now run) where

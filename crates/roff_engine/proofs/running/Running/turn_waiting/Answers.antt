@@ -1,43 +1,19 @@
-use Rattle.std.proofs.Common.{refl, sym, ◌∙◌}
-use Rattle.roff_scan.specs.Unread.{sighted}
-use Rattle.roff_engine.proofs.Waiting.{ShowsFront, waiting_ends, waiting_failed, waiting_in_front, waiting_note, waiting_stopped}
+use Rattle.std.proofs.Common.{◌∙◌, Bool, sym, ap, if◌then◌else◌}
+use Rattle.roff_scan.specs.Unread.{seen_ahead}
+use Rattle.roff_run.specs.Run.{State, awaited, half_ends, made}
+use Rattle.roff_engine.specs.Running.Turning.{state_at}
+use Rattle.roff_engine.proofs.Waiting.{turn_as, waiting_decides}
 use Rattle.roff_engine.proofs.running.Running.turn_waiting.Goals as goal
-use Rattle.roff_engine.proofs.running.Running.turn_waiting.Goals.{in-Byte, in-Nothing, in-SourceEnd}
 
-pub returns-in-Note : goal.returns-in-Note
-returns-in-Note g c =
-    let shown = c.in-Note.ensures in
-    waiting_note c.args.self.now _ _ _ _ _ _ shown.failures shown.notes _ _ _ shown.looks (shown.note _ refl) c.tell_note.ensures.puts c.tell_note.ensures.status
+pub returns-then-decides_now : goal.returns-then-decides_now
+returns-then-decides_now g c =
+    waiting_decides _ c.args.self.now _ _ _ _ _ _ _ (sym c.decides_now.ensures ∙ c.if-decides_now.true) (c.end_half.ensures _)
 
-pub returns-in-Fault : goal.returns-in-Fault
-returns-in-Fault g c =
-    let shown = c.in-Fault.ensures in
-    let told = c.source_failed.ensures.report in
-    waiting_failed c.args.self.now _ _ _ _ _ _ shown.failures shown.notes told.0 _ _ shown.looks c.source_failed.ensures.status (shown.fault refl) told.1
-
-pub returns-in-Stop : goal.returns-in-Stop
-returns-in-Stop g c =
-    let shown = c.in-Stop.ensures in
-    waiting_stopped c.args.self.now _ _ _ _ _ _ shown.failures shown.notes c.in-Stop.limit shown.looks
-
-pub returns-then-seen_stays : goal.returns-then-seen_stays
-returns-then-seen_stays g c =
-    let is_front : ShowsFront c.match-look.seen (sighted c.look.result) = elim c.match-look.branch [
-      | in-Byte w ↦ rw w.in-Byte.is w.seen-is
-      | in-Nothing w ↦ rw w.in-Nothing.is w.seen-is
-      | in-SourceEnd w ↦ rw w.in-SourceEnd.is w.seen-is
-    ] in
-    let look = c.look.ensures in
-    waiting_ends c.args.self.now _ _ _ _ _ _ look.failures look.notes c.match-look.seen (sighted c.look.result) c.end_half.new.self _ _ is_front look.looks
-    (sym c.seen_stays.ensures ∙ c.if-seen_stays.true) c.requires (c.end_half.ensures _)
-
-pub returns : goal.returns
-returns g c =
-    let is_front : ShowsFront c.match-look.seen (sighted c.look.result) = elim c.match-look.branch [
-      | in-Byte w ↦ rw w.in-Byte.is w.seen-is
-      | in-Nothing w ↦ rw w.in-Nothing.is w.seen-is
-      | in-SourceEnd w ↦ rw w.in-SourceEnd.is w.seen-is
-    ] in
-    let look = c.look.ensures in
-    waiting_in_front c.args.self.now look.looks c.match-look.seen is_front (sym c.seen_stays.ensures ∙ c.if-seen_stays.false) _ _ _ _ _ _ _ c.turn_in_front.new.self _ _
-    look.failures look.notes c.turn_in_front.ensures
+pub returns-else-decides_now : goal.returns-else-decides_now
+returns-else-decides_now g c =
+    let old = c.args.self.now in
+    turn_as _ _ _ _ old _ _ _ _
+    (λ tape h ms.
+    let s : State = state_at tape old h ms in
+    ap (λ (b : Bool). if b then made old.limits s (half_ends s) else awaited old.limits (seen_ahead old.unread.input.ahead) s) (sym c.decides_now.ensures ∙ c.if-decides_now.false))
+    c.turn_looking.ensures

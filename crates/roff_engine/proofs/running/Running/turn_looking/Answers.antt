@@ -1,0 +1,43 @@
+use Rattle.std.proofs.Common.{refl, sym, ◌∙◌}
+use Rattle.roff_scan.specs.Unread.{sighted}
+use Rattle.roff_engine.proofs.Waiting.{ShowsFront, waiting_ends, waiting_failed, waiting_in_front, waiting_note, waiting_stopped}
+use Rattle.roff_engine.proofs.running.Running.turn_looking.Goals as goal
+use Rattle.roff_engine.proofs.running.Running.turn_looking.Goals.{in-Byte, in-Nothing, in-SourceEnd}
+
+pub returns-in-Note : goal.returns-in-Note
+returns-in-Note g c =
+    let shown = c.in-Note.ensures in
+    waiting_note c.args.self.now _ _ _ _ _ _ shown.failures shown.notes _ _ _ shown.looks (shown.note _ refl) c.tell_note.ensures.puts c.tell_note.ensures.status
+
+pub returns-in-Fault : goal.returns-in-Fault
+returns-in-Fault g c =
+    let shown = c.in-Fault.ensures in
+    let told = c.source_failed.ensures.report in
+    waiting_failed c.args.self.now _ _ _ _ _ _ shown.failures shown.notes told.0 _ _ shown.looks c.source_failed.ensures.status (shown.fault refl) told.1
+
+pub returns-in-Stop : goal.returns-in-Stop
+returns-in-Stop g c =
+    let shown = c.in-Stop.ensures in
+    waiting_stopped c.args.self.now _ _ _ _ _ _ shown.failures shown.notes c.in-Stop.limit shown.looks
+
+pub returns-then-seen_stays : goal.returns-then-seen_stays
+returns-then-seen_stays g c =
+    let is_front : ShowsFront c.match-look.seen (sighted c.look.result) = elim c.match-look.branch [
+      | in-Byte w ↦ rw w.in-Byte.is w.seen-is
+      | in-Nothing w ↦ rw w.in-Nothing.is w.seen-is
+      | in-SourceEnd w ↦ rw w.in-SourceEnd.is w.seen-is
+    ] in
+    let look = c.look.ensures in
+    waiting_ends c.args.self.now _ _ _ _ _ _ look.failures look.notes c.match-look.seen (sighted c.look.result) c.end_half.new.self _ _ is_front look.looks
+    (sym c.seen_stays.ensures ∙ c.if-seen_stays.true) c.requires (c.end_half.ensures _)
+
+pub returns : goal.returns
+returns g c =
+    let is_front : ShowsFront c.match-look.seen (sighted c.look.result) = elim c.match-look.branch [
+      | in-Byte w ↦ rw w.in-Byte.is w.seen-is
+      | in-Nothing w ↦ rw w.in-Nothing.is w.seen-is
+      | in-SourceEnd w ↦ rw w.in-SourceEnd.is w.seen-is
+    ] in
+    let look = c.look.ensures in
+    waiting_in_front c.args.self.now look.looks c.match-look.seen is_front (sym c.seen_stays.ensures ∙ c.if-seen_stays.false) _ _ _ _ _ _ _ c.turn_in_front.new.self _ _
+    look.failures look.notes c.turn_in_front.ensures
