@@ -23,7 +23,10 @@ pub mod Obeying
 pub mod RemovedRegisters
 pub mod InFront
 pub mod Interpolation
+pub mod InterpolatedNames
 pub mod WidthLaws
 pub mod QuotedArguments
 pub mod Printing
 pub mod HalfCounts
+pub mod Skipping
+pub mod SkippingRuns
