@@ -73,6 +73,7 @@ impl Engine {
             unread,
         };
         loop {
+            running.pass_over(source);
             if let Err(status) = running.turn(source, out, err) {
                 return status;
             }

@@ -1,6 +1,8 @@
 //! The formatter: what each item of the input does.
 
-ghost use Rattle.std.specs.Prelude.{◌≡◌, [], ◌∷◌, IfOk, IsOkUnless, option_map};
+ghost use Rattle.std.specs.Prelude.{◌≡◌, ℕ, true, [], ◌∷◌, IfOk, IfSome, IsOkUnless, option_map};
+ghost use Rattle.roff_scan.specs.Bytes.{is_passed};
+ghost use Rattle.roff_run.specs.Reading.{Passes};
 ghost use Rattle.roff_engine.specs.Clauses.{option_to_list, finished_of, fresh_reader, Stands, Gap, Print, WordEnd, LineEnd, Break, message_lines, finished_bytes, DoesMeaning, DoesTaking, PerformsOnly, closing_events, sinks, end_taking, half_ended, interrupted, taking, Text, Space, Puts, Sunk};
 
 use crate::block::Block;
@@ -40,6 +42,16 @@ impl Formatter {
         })
     }
 
+    /// Whether bytes change nothing but backslashes and perhaps newlines; then, whether newlines
+    /// change nothing either.
+    #[inline(always)]
+    pub(crate) fn passes_over(&self) -> Option<bool>
+        ensures { IfSome result (λ within_block. (b : ℕ) → is_passed within_block b ≡ true
+            → Passes self.now.reader.reading b) }
+    {
+        self.reader.passes_over()
+    }
+
     /// Something that isn't a byte of the line stands in front.
     pub(crate) fn interrupt(&self, unread: &mut Unread<PageEvent>)
         ensures { unread.new
@@ -67,9 +79,6 @@ impl Formatter {
         }
         if self.reader.goes_on_with_gap(byte, unread) {
             return self.gap_behind_word(out);
-        }
-        if self.reader.passes_over(byte) {
-            return Ok(());
         }
         self.take_as_read(byte, unread, out, err)
     }

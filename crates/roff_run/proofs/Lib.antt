@@ -30,3 +30,4 @@ pub mod Printing
 pub mod HalfCounts
 pub mod Skipping
 pub mod SkippingRuns
+pub mod PassingRuns

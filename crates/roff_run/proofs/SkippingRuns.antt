@@ -7,11 +7,11 @@ use Rattle.roff_num.specs.declared.limits.Limits.{Limits}
 use Rattle.roff_scan.specs.Bytes.{newline, is_dropped}
 use Rattle.roff_scan.specs.Half.{Half}
 use Rattle.roff_scan.specs.Halves.{seen_stays}
-use Rattle.roff_scan.specs.Input.{counting}
+use Rattle.roff_scan.specs.Input.{counting, lines_taken}
 use Rattle.roff_scan.specs.Tape.{Tape, OneByte, items_then}
 use Rattle.roff_run.proofs.Interpolation.{Fits-IsWithin, made-Fits, taken_as-going_on, bytes_of_the_source_are_taken}
 use Rattle.roff_run.proofs.Skipping.{skipped_behind, taking-goes_on, taking-ends, none_before}
-use Rattle.roff_run.specs.ConditionLaws.{is_whole, escapes_among, MayEnd, AreKept, lines_taken, RunsPassOverSkippedBranches}
+use Rattle.roff_run.specs.ConditionLaws.{is_whole, escapes_among, MayEnd, AreKept, RunsPassOverSkippedBranches}
 use Rattle.roff_run.specs.InterpolationLaws.{TakesItems}
 use Rattle.roff_run.specs.Laws.{IsWithin}
 use Rattle.roff_run.specs.Reading.{PageInput, Taking, going_on, most_braces, taking}

@@ -5,7 +5,7 @@
 use Rattle.std.specs.Prelude.{◌≡◌, ℕ, ◌+◌, ◌≤◌, Bool, true, false, not, List, [], ◌∷◌, ◌++◌, length, map, All, if◌then◌else◌, ◌==◌}
 use Rattle.roff_num.specs.declared.limits.Limits.{Limits}
 use Rattle.roff_scan.specs.Bytes.{newline, backslash, is_dropped}
-use Rattle.roff_scan.specs.Input.{counting}
+use Rattle.roff_scan.specs.Input.{lines_taken}
 use Rattle.roff_scan.specs.Tape.{Tape, OneByte, items_then}
 use Rattle.roff_run.specs.InterpolationLaws.{TakesItems}
 use Rattle.roff_run.specs.Laws.{IsWithin}
@@ -63,11 +63,6 @@ abbrev pub BranchesAreSkippedToTheirEnd : Type 0
 BranchesAreSkippedToTheirEnd =
     (k : Known) (i : PageInput) (bytes : List ℕ) → ((front more : List ℕ) → bytes ≡ front ++ more → MayEnd front → ⊥) →
     AreKept bytes → length bytes ≤ most_braces → GoesOnSkipping k i bytes
-
--- the input behind these bytes of the source
-abbrev pub lines_taken : List ℕ → PageInput → PageInput
-lines_taken [] i = i
-lines_taken (b ∷ bytes) i = lines_taken bytes (counting b i)
 
 -- A run passes over a skipped branch that stands in the source in as many steps as it has bytes, and each costs one. But for
 -- what is counted nothing changes, and behind it a line begins.

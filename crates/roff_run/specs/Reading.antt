@@ -1,5 +1,5 @@
 -- What is being read, and what each byte means there (manual, sections 1.1, 4.1, 8, 10.1 and 16).
-use Rattle.std.specs.Prelude.{ℕ, ◌+◌, Bool, true, false, ◌||◌, ◌&&◌, not, nat_le, List, [], ◌∷◌, ◌++◌, decimal, map, reverse, min, Some, None, Option, if◌then◌else◌, ◌==◌}
+use Rattle.std.specs.Prelude.{◌≡◌, ℕ, ◌+◌, Bool, true, false, ◌||◌, ◌&&◌, not, nat_le, List, [], ◌∷◌, ◌++◌, decimal, map, reverse, min, Some, None, Option, if◌then◌else◌, ◌==◌}
 use Rattle.roff_lines.specs.declared.event.Event.TheVariants.{Print, WordEnd, Gap, LineEnd, Break}
 use Rattle.roff_lines.specs.declared.glyph.Glyph.{Glyph}
 use Rattle.roff_lines.specs.declared.glyph.Glyph.TheVariants.{Printed, Blanks}
@@ -415,6 +415,10 @@ interrupted (_) i = i
 -- what a byte does where this is being read
 abbrev pub taking : Known → Reading → PageInput → ℕ → Taking
 taking k reading i b = if is_dropped b then going_on (interrupted reading i) reading else kept_taking k reading i b
+
+-- a byte changes nothing where this is read
+abbrev pub Passes : Reading → ℕ → Type 0
+Passes reading b = (k : Known) (i : PageInput) → taking k reading i b ≡ going_on i reading
 
 -- what is half read ends before what stays, or at the input's end
 abbrev pub half_ended : Known → Reading → PageInput → Taking

@@ -6,7 +6,7 @@ ghost use Rattle.roff_lines.specs.declared.event.Event.TheVariants.{Gap, Print, 
 ghost use Rattle.roff_lines.specs.declared.glyph.Glyph.TheVariants.{Printed};
 ghost use Rattle.roff_run.specs.Requests.{Text};
 ghost use Rattle.roff_run.specs.Registers.{Known as KnownOf};
-ghost use Rattle.roff_run.specs.Clauses.{AllRegisters, Changed, Env, LineStart, NameOf, PageHistory, PageInput, PageUnread, Remove, Stands, TakesAs, arguments_found, asking, beginning_found, behind_name, branch_of, changed_by, changes_of, condition_found, decided, effect_of, end_taking, first_escape, first_taking, fresh_reader, going_on, meaning_events, half_ended, holding, holding_text, interpolating, interrupted, is_so, kept_if, kept_taking, known_at, known_of, line_begun, line_ended, listed, name_whole_taking, reads_else, row_of, measuring, name_taking, names_given, no_unit_found, putting_nothing, register_named, request_effect, taking, telling, text_found, text_of, unit_found, value_in_force};
+ghost use Rattle.roff_run.specs.Clauses.{AllRegisters, Changed, Env, LineStart, NameOf, PageHistory, PageInput, PageUnread, Passes, Remove, Stands, TakesAs, arguments_found, asking, beginning_found, behind_name, branch_of, changed_by, changes_of, condition_found, decided, effect_of, end_taking, first_escape, first_taking, fresh_reader, going_on, meaning_events, half_ended, holding, holding_text, interpolating, interrupted, is_passed, is_so, kept_if, kept_taking, known_at, known_of, line_begun, line_ended, listed, name_whole_taking, reads_else, row_of, measuring, name_taking, names_given, no_unit_found, putting_nothing, register_named, request_effect, taking, telling, text_found, text_of, unit_found, value_in_force};
 
 use crate::event::{Events, PageEvent};
 use crate::message::Message;
@@ -85,21 +85,22 @@ impl Reader {
         }
     }
 
-    /// Whether a byte changes nothing: most of a line that is dropped, and of a branch that is
-    /// skipped.
+    /// Whether bytes change nothing but backslashes and perhaps newlines: in a line that is dropped,
+    /// and in a branch that is skipped. Then, whether newlines change nothing either: within a block
+    /// of the branch.
     #[inline(always)]
-    pub fn passes_over(&self, byte: u8) -> bool
-        ensures { result ≡ true → (k : KnownOf) (i : PageInput)
-            → taking k self.now.reading i byte ≡ going_on i self.now.reading }
+    pub fn passes_over(&self) -> Option<bool>
+        ensures { IfSome result (λ within_block. (b : ℕ) → is_passed within_block b ≡ true
+            → Passes self.now.reading b) }
     {
         match self.reading {
-            Reading::Dropped => byte != b'\n',
+            Reading::Dropped => Some(false),
             Reading::Skipping {
                 opened,
                 closed,
-                behind,
-            } => !behind && byte != b'\\' && (byte != b'\n' || opened > closed),
-            _ => false,
+                behind: false,
+            } => Some(opened > closed),
+            _ => None,
         }
     }
 
