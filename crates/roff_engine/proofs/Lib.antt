@@ -10,3 +10,4 @@ pub mod Waiting
 pub mod WholeRuns
 pub mod Outcomes
 pub mod TwoRuns
+pub mod Passing

@@ -11,6 +11,7 @@ use Rattle.roff_scan.specs.Tape.{Tape, OneByte, items_then}
 use Rattle.roff_run.proofs.Interpolation.{taken_as-going_on, bytes_of_the_source_are_taken}
 use Rattle.roff_run.specs.InterpolationLaws.{TakesItems}
 use Rattle.roff_run.specs.Reading.{PageInput, Passes, Taking}
+use Rattle.roff_run.specs.TurnsToCome.{turns_within}
 use Rattle.roff_run.specs.Run.{State, after, counts_in, first_passed, made, step, taken_as, unless_refused}
 
 -- a run that has come to these bytes of the source
@@ -47,3 +48,12 @@ after-passed l s tape [] input on plain within pass = refl
 after-passed l s tape (b ∷ bytes) input on plain within pass =
     ap (after l (length bytes)) (step-passed l s tape b bytes input on plain (omega (arith, within)) (All-head (λ c. Passes s.reading c) b bytes pass))
     ∙ after-passed l s tape bytes (counting b input) on (IsPlain-counting l s input b plain) (omega (arith, within)) (All-tail (λ c. Passes s.reading c) b bytes pass)
+
+-- behind them nothing is ahead or half read either, and no more turns are to come
+pub IsPlain-lines_taken : (l : Limits) (s : State) (bytes : List ℕ) (input : PageInput) → IsPlain l s input → IsPlain l s (lines_taken bytes input)
+IsPlain-lines_taken l s [] input plain = plain
+IsPlain-lines_taken l s (b ∷ bytes) input plain = IsPlain-lines_taken l s bytes (counting b input) (IsPlain-counting l s input b plain)
+
+pub turns_within-lines_taken : (most : ℕ) (bytes : List ℕ) (input : PageInput) → turns_within most (lines_taken bytes input) ≤ turns_within most input
+turns_within-lines_taken most [] input = omega arith
+turns_within-lines_taken most (b ∷ bytes) input = omega (arith, turns_within-lines_taken most bytes (counting b input))
