@@ -124,7 +124,7 @@ block_written n ws old whole = rw (← whole) (take-append_seam ws _)
 more_than_none : (n : ℕ) → (n == 0) ≡ false → 0 < n
 more_than_none n not = grind (arith, nat_tests)
 
-none_at_all : (n : ℕ) → (n == 0) ≡ true → n ≡ 0
+pub none_at_all : (n : ℕ) → (n == 0) ≡ true → n ≡ 0
 none_at_all n is = grind (arith, nat_tests)
 
 -- a read that gave bytes answered their number, which isn't 0

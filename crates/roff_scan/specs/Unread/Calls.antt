@@ -1,5 +1,6 @@
 -- What a call tells that is lent the source.
-use Rattle.std.specs.Prelude.{◌≡◌, ◌⊎◌, ℕ, ◌+◌, ◌≤◌, Bool, true, List, [], length, map, All, None}
+use Rattle.std.specs.Prelude.{◌≡◌, ◌⊎◌, ℕ, ◌+◌, ◌≤◌, Bool, true, List, [], length, map, None}
+use Rattle.std.specs.List.{AllByRecursion}
 use Rattle.roff_scan.specs.Bytes.{is_passed}
 use Rattle.roff_scan.specs.Input.{lines_taken}
 use Rattle.roff_scan.specs.Tape.{Tape, Answer, OneByte, items_then}
@@ -28,9 +29,9 @@ pub record IsBare {E : Type 0} (u : Unread E) : Type 0 where
 pub record PassesOver {E : Type 0} (old new : Tape → Type 0) (ready : List ℕ) (before after : Unread E) (within_block : Bool) : Type 0 where
   pub bytes : List ℕ
   pub are_all : bytes ≡ passed_over within_block ready before
-  pub plain : All (λ b. is_passed within_block b ≡ true) bytes
+  pub plain : AllByRecursion (λ b. is_passed within_block b ≡ true) bytes
   pub bare : (bytes ≡ []) ⊎ IsBare before
-  pub before_them : (t : Tape) → new t → old (items_then (map OneByte bytes) t)
+  pub in_front : (t : Tape) → new t → old (items_then (map OneByte bytes) t)
   pub some : (bytes ≡ []) ⊎ ((t : Tape) × new t)
   pub stays : bytes ≡ [] → Stays old new
   pub input : after ≡ record before { input = lines_taken bytes before.input }
