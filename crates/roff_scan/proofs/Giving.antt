@@ -1,15 +1,17 @@
 -- What sources might have given, by what they may give behind an answer.
 use Rattle.std.proofs.lemmas.Bool.{cases_Bool}
 use Rattle.std.proofs.lemmas.Bool.Decides.{nat_tests}
-use Rattle.std.proofs.Common.{true, false, inl, inr, ◌==◌, Result, Ok, Err, ◌≡◌, ◌<◌, ◌≤◌, ◌+◌, ℕ, List, [], ◌∷◌, ◌++◌, Option, Some, None, length, map, take, drop, get_or, refl, ap, ◌∙◌, arith, length-take}
+use Rattle.std.proofs.Common.{true, false, inl, inr, ◌==◌, Result, Ok, Err, ◌≡◌, ◌<◌, ◌≤◌, ◌+◌, ℕ, List, [], ◌∷◌, ◌++◌, Option, Some, None, length, map, take, drop, get_or, refl, sym, ap, ◌∙◌, append_assoc, arith, length-take}
 use Rattle.std.specs.Io.KnownBytes.{Consumes, IsAtEnd, prepend_known}
 use Rattle.std.proofs.Math.Seq.{take-append_seam}
-use Rattle.std.proofs.lemmas.List.{nil_from_length, drop_all, drop_more, get_or-take}
+use Rattle.std.proofs.lemmas.List.{nil_from_length, drop_all, drop_more, drop-drop, take-append-drop, map-append, get_or-take}
 use Rattle.std.proofs.KnownBytes.{Consumes-nil, Consumes-trans}
 use Rattle.roff_scan.specs.declared.source.Given.TheVariants.{Bytes, Nothing}
 use Rattle.roff_scan.specs.ReadSource.Given.{given_by}
-use Rattle.roff_scan.specs.ReadSource.Reach.{IsRead}
-use Rattle.roff_scan.specs.Tape.{Item, Answers, Ending, OneByte, Gives, Ends, Ended, Failed, only}
+use Rattle.roff_scan.specs.ReadSource.Reach.{IsRead, MayGive, reach_ending, ready_at}
+use Rattle.roff_scan.specs.declared.source.Reach.{Reach}
+use Rattle.roff_scan.specs.declared.source.Reach.TheVariants.{Open, Ended as AtEnd, Failed as AtFault}
+use Rattle.roff_scan.specs.Tape.{Item, Answers, Took, Ending, OneByte, Gives, Ends, Ended, Failed, only}
 
 -- the same answer, the same ending
 ends_same : (a b : Ending) → Ends a ≡ Ends b → a ≡ b
@@ -122,7 +124,7 @@ block_written n ws old whole = rw (← whole) (take-append_seam ws _)
 more_than_none : (n : ℕ) → (n == 0) ≡ false → 0 < n
 more_than_none n not = grind (arith, nat_tests)
 
-none_at_all : (n : ℕ) → (n == 0) ≡ true → n ≡ 0
+pub none_at_all : (n : ℕ) → (n == 0) ≡ true → n ≡ 0
 none_at_all n is = grind (arith, nat_tests)
 
 -- a read that gave bytes answered their number, which isn't 0
@@ -143,3 +145,31 @@ given_nothing (Ok n) given = elim (cases_Bool (n == 0)) [
   | inr not ↦ let wrong : Bytes n ≡ Nothing = rw not at given in cc
 ]
 given_nothing (Err e) given = cc
+
+-- bytes that were read, one after another
+bytes_read : (old new : Option (List ℕ)) (taken : List ℕ) → Consumes old new taken → Took (IsRead old) (IsRead new) (map OneByte taken)
+bytes_read old new taken consumed = record {
+  before = λ t given. record {
+    bytes = taken ++ given.bytes;
+    rest = given.rest;
+    items = ap (λ (items : List Item). map OneByte taken ++ items) given.items ∙ sym (map-append OneByte taken given.bytes);
+    front = Consumes-trans old new given.rest taken given.bytes consumed given.front;
+    ends = given.ends;
+  };
+  some = only Failed;
+  some_given = record { bytes = []; rest = new; items = refl; front = Consumes-nil new; ends = tt };
+}
+
+-- so many bytes of a block are taken
+front_taken : (count : ℕ) (bytes : List ℕ) (known : Option (List ℕ)) → Consumes (prepend_known bytes known) (prepend_known (drop count bytes) known) (take count bytes)
+front_taken count bytes None = tt
+front_taken count bytes (Some more) = ap (λ (all : List ℕ). all ++ more) (sym (take-append-drop count bytes)) ∙ append_assoc (take count bytes) (drop count bytes) more
+
+-- bytes of a block that stand ready are taken at once: there are some, so nothing has ended
+pub ready_taken : (reach : Reach) (all : List ℕ) (next count : ℕ) (known : Option (List ℕ)) → 1 ≤ count → count ≤ length (ready_at reach (drop next all))
+    → Took (MayGive (prepend_known (drop next all) known) (reach_ending reach)) (MayGive (prepend_known (drop (next + count) all) known) (reach_ending reach))
+    (map OneByte (take count (ready_at reach (drop next all))))
+ready_taken Open all next count known some within =
+    rw (← drop-drop count next all) (bytes_read _ _ _ (front_taken count (drop next all) known))
+ready_taken AtEnd all next count known some within = absurd (omega arith)
+ready_taken AtFault all next count known some within = absurd (omega arith)

@@ -22,3 +22,4 @@ pub mod TextsRead
 pub mod Copying
 pub mod ConditionHalves
 pub mod ConditionsRead
+pub mod Passing

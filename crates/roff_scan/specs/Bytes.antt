@@ -37,3 +37,7 @@ is_silent b = list_any (λ c. b == c) (2 ∷ 3 ∷ 5 ∷ 6 ∷ 7 ∷ [])
 -- all other control bytes but the tab and the newline are dropped as they are taken
 abbrev pub is_dropped : ℕ → Bool
 is_dropped b = (nat_lt b 32 || b == 127) && not (b == newline || b == tab || is_silent b)
+
+-- passed over where bytes mean nothing: neither a backslash nor, unless within a block, a newline
+abbrev pub is_passed : Bool → ℕ → Bool
+is_passed within_block b = not (b == backslash || (not within_block && b == newline))

@@ -133,6 +133,11 @@ counting b i = record i {
   line = i.newlines + 1;
 }
 
+-- these bytes of the source are taken, one after another
+abbrev pub lines_taken : {E : Type 0} → List ℕ → Input E → Input E
+lines_taken [] i = i
+lines_taken (b ∷ bytes) i = lines_taken bytes (counting b i)
+
 -- these are half read
 abbrev pub with_half : {E : Type 0} → List Half → Input E → Input E
 with_half half i = record i { half = half }

@@ -4,10 +4,11 @@
 -- stands behind what is ahead, and before what the source still gives.
 pub mod Calls
 pub mod Kept
-use Rattle.std.specs.Prelude.{ℕ, ◌+◌, ◌≤◌, ◌&&◌, is_none, Bool, true, false, List, [], ◌∷◌, length, ◌==◌, nat_lt, Option, Some, None, if◌then◌else◌, Result, Ok, Err}
+use Rattle.std.specs.Prelude.{ℕ, ◌+◌, ◌-◌, ◌≤◌, ◌&&◌, is_none, Bool, true, false, List, [], ◌∷◌, length, take, take_while, ◌==◌, nat_lt, Option, Some, None, if◌then◌else◌, Result, Ok, Err}
 use Rattle.roff_num.specs.declared.limit.Limit.{Limit}
 use Rattle.roff_num.specs.declared.limit.Limit.TheVariants.{Bytes, Stack, Depth, Conditions}
 use Rattle.roff_num.specs.declared.limits.Limits.{Limits}
+use Rattle.roff_scan.specs.Bytes.{is_passed}
 use Rattle.roff_scan.specs.Halves.{Reads}
 use Rattle.roff_scan.specs.Input.{with_half, Input, initial_input, is_none_ahead, Ahead, ByteAhead, FreeAhead, EndAhead, DoAhead, cost, counting, item_taken, pushed, depth, results}
 use Rattle.roff_scan.specs.Tape.{Tape, Answer, Answers, Gives, Ends, OneByte, OneNote, Ending, Ended, Failed, Stopped, items_then}
@@ -39,6 +40,12 @@ initial_unread limits = record { input = initial_input; looked = None; limits = 
 -- whether the source's next byte is the next one: nothing is ahead, nothing half read, and nothing looked at
 abbrev pub is_bare : {E : Type 0} → Unread E → Bool
 is_bare u = is_none_ahead u.input.ahead && is_none u.looked && (length u.input.half == 0)
+
+-- The bytes that are passed over at once where these stand ready: those in front that are passed, and no more than the
+-- limit on bytes allows.
+abbrev pub passed_over : {E : Type 0} → Bool → List ℕ → Unread E → List ℕ
+passed_over within_block ready u =
+    if is_bare u then take_while (is_passed within_block) (take (u.limits.bytes - u.input.charge) ready) else []
 
 -- the source's items, with the byte that was looked at in front
 abbrev pub looked_then : Option ℕ → Tape → Tape

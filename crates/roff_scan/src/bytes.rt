@@ -1,7 +1,9 @@
-//! Kinds of bytes.
+//! Kinds of bytes, and runs of them.
 
-ghost use Rattle.std.specs.Prelude.{◌≡◌};
-ghost use Rattle.roff_scan.specs.Bytes.{is_dropped, is_silent};
+ghost use Rattle.std.specs.Prelude.{◌≡◌, ◌==◌, ◌<◌, ◌^◌, length, take_while, count_by};
+ghost use Rattle.roff_scan.specs.Bytes.{is_dropped, is_passed, is_silent, newline};
+
+use memchr::{memchr, memchr2};
 
 /// Whether a byte stands in the input and prints nothing: STX, ETX, ENQ, ACK and BEL.
 pub fn is_silent(byte: u8) -> bool
@@ -15,4 +17,30 @@ pub fn is_dropped(byte: u8) -> bool
     ensures { result ≡ is_dropped byte }
 {
     (byte < 32 || byte == 127) && byte != b'\n' && byte != b'\t' && !is_silent(byte)
+}
+
+/// How many of these bytes are passed over, up to the first that isn't: a backslash or, unless
+/// within a block, a newline.
+pub(crate) fn passed_len(bytes: &[u8], within_block: bool) -> usize
+    ensures { result ≡ length (take_while (is_passed within_block) bytes.now) }
+{
+    if within_block {
+        memchr(b'\\', bytes).unwrap_or(bytes.len())
+    } else {
+        memchr2(b'\\', b'\n', bytes).unwrap_or(bytes.len())
+    }
+}
+
+/// How many newlines are among these bytes.
+pub(crate) fn newlines_among(bytes: &[u8]) -> u32
+    requires { length bytes.now < 2 ^ 32 }
+    ensures { result ≡ count_by (λ b. b == newline) bytes.now }
+{
+    let mut newlines = 0;
+    for byte in bytes {
+        if *byte == b'\n' {
+            newlines += 1;
+        }
+    }
+    newlines
 }

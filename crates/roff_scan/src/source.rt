@@ -1,8 +1,8 @@
 //! Sources: what a run reads from.
 
-ghost use Rattle.std.specs.Prelude.{◌≡◌, ℕ, ◌<◌, ◌≤◌, None, vec_len, IfOk, IfSome};
+ghost use Rattle.std.specs.Prelude.{◌≡◌, ℕ, ◌<◌, ◌≤◌, List, length, map, take, None, vec_len, IfOk, IfSome};
 ghost use Rattle.roff_scan.specs.ReadSource.Given.{given_by};
-ghost use Rattle.roff_scan.specs.Tape.{Tape, Answers, Failed, Gives, Ends, OneByte, OneNote, answer_of, Rises};
+ghost use Rattle.roff_scan.specs.Tape.{Tape, Answers, Took, Failed, Gives, Ends, OneByte, OneNote, answer_of, Rises};
 
 use arrayvec::ArrayVec;
 use roff_num::Limit;
@@ -28,10 +28,13 @@ pub enum Taken {
     Stop(Limit),
 }
 
-/// A source of bytes, one at a time.
+/// A source of bytes, one at a time; those that stand ready may be taken in runs.
 pub trait ByteSource {
     /// The tapes that the source may give from here on: one alone where it is known what comes.
     ghost gives: { Self → Tape → Type 0 };
+
+    /// The bytes that stand ready.
+    ghost ready: { Self → List ℕ };
 
     /// More than the notes to come.
     ghost notes: { Self → ℕ };
@@ -60,6 +63,19 @@ pub trait ByteSource {
         ensures kept { result ≡ None → self.new ≡ self.old }
         ensures notes { notes self.new ≤ notes self.old }
         ensures failures { failures self.old ≤ failures self.new };
+
+    /// The bytes that stand ready. They aren't taken.
+    fn buffered(&self) -> &[u8]
+        ensures { result.now ≡ ready self.now };
+
+    /// Takes so many of them at once.
+    fn pass(&mut self, count: usize)
+        requires some { 1 ≤ count }
+        requires within { count ≤ length (ready self.old) }
+        ensures gives { Took (gives self.old) (gives self.new)
+            (map OneByte (take count (ready self.old))) }
+        ensures notes { notes self.new ≡ notes self.old }
+        ensures failures { failures self.new ≡ failures self.old };
 }
 
 /// How many bytes a [`ReadSource`] asks its reader for.
@@ -104,6 +120,7 @@ pub struct ReadSource<R> {
     len: usize,
     reach: Reach,
     failures: u64,
+    ghost order: { next ≤ len },
     ghost within: { len ≤ vec_len block },
     ghost room: { 0 < vec_len block },
 }
@@ -177,9 +194,11 @@ impl<R: Read + Drop> ReadSource<R> {
 }
 
 impl<R: Read + Drop> ByteSource for ReadSource<R> {
-    ghost use Rattle.roff_scan.specs.ReadSource.Reach.{may_give};
+    ghost use Rattle.roff_scan.specs.ReadSource.Reach.{may_give, ready_of};
 
     ghost gives = { may_give R.remaining };
+
+    ghost ready = { ready_of };
 
     ghost notes = { λ _. 0 };
 
@@ -207,5 +226,19 @@ impl<R: Read + Drop> ByteSource for ReadSource<R> {
             Reach::Ended => None,
             Reach::Failed => None,
         }
+    }
+
+    #[inline(always)]
+    fn buffered(&self) -> &[u8] {
+        match self.reach {
+            Reach::Open => &self.block[self.next..self.len],
+            Reach::Ended => &[],
+            Reach::Failed => &[],
+        }
+    }
+
+    #[inline(always)]
+    fn pass(&mut self, count: usize) {
+        self.next += count;
     }
 }

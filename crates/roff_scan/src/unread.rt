@@ -8,6 +8,7 @@ ghost use Rattle.roff_scan.specs.Tape.{Answer, OneByte, OneNote, Gives, Failed, 
 ghost use Rattle.roff_scan.specs.Input.{is_none_ahead, counting, choosing, keeping, kept_last, without_last, events_ahead, frees_ahead, most_events, most_frees, holding_text, pushed, depth, pushing, putting_back, freeing, with_arguments, without_arguments};
 
 use crate::arguments::{ArgumentList, ArgumentTexts};
+use crate::bytes::{newlines_among, passed_len};
 use crate::half::{CopyUnit, Read};
 use crate::halves::Halves;
 use crate::slots::Slots;
@@ -86,7 +87,7 @@ impl<E> Model for Unread<E> {
 
 impl<E: Copy> Unread<E> {
     ghost use Rattle.roff_scan.specs.Unread.{initial_unread, is_bare, IsWithin, Shown, shown, ShowsByte, ShowsNote, ShowsEnding, sighted, SeesNote, SeesEnding, taking, taking_answer, changing, reading};
-    ghost use Rattle.roff_scan.specs.Unread.Calls.{Takes, Looks};
+    ghost use Rattle.roff_scan.specs.Unread.Calls.{Takes, Looks, PassesOver};
 
     /// The input before anything is read.
     pub fn new(alloc: Global, limits: Limits) -> Result<Self, AllocError>
@@ -231,6 +232,45 @@ impl<E: Copy> Unread<E> {
         self.charge += 1;
         if byte == b'\n' {
             self.newlines += 1;
+        }
+    }
+
+    /// Takes at once the bytes of the source that stand ready, up to the first backslash and, unless
+    /// within a block, the first newline, and no more than the limit on bytes allows. Nothing
+    /// happens where anything is ahead, half read or looked at.
+    #[inline(always)]
+    pub fn pass_over<S: ByteSource>(&mut self, source: &mut S, within_block: bool)
+        ensures passes { PassesOver (S.gives source.old) (S.gives source.new) (S.ready source.old)
+            self.old self.new within_block }
+        ensures notes { S.notes source.new ≡ S.notes source.old }
+        ensures failures { S.failures source.new ≡ S.failures source.old }
+        ensures within { IsWithin self.new }
+    {
+        if self.charge < self.limits.bytes && self.is_bare() {
+            self.pass_over_ready(source, within_block);
+        }
+    }
+
+    /// The same where the source's next byte is the next one.
+    #[inline(never)]
+    fn pass_over_ready<S: ByteSource>(&mut self, source: &mut S, within_block: bool)
+        requires bare { is_bare self.old ≡ true }
+        ensures passes { PassesOver (S.gives source.old) (S.gives source.new) (S.ready source.old)
+            self.old self.new within_block }
+        ensures notes { S.notes source.new ≡ S.notes source.old }
+        ensures failures { S.failures source.new ≡ S.failures source.old }
+        ensures within { IsWithin self.new }
+    {
+        let ready = source.buffered();
+        let most = (self.limits.bytes - self.charge) as usize;
+        let allowed = ready.split_at(most.min(ready.len())).0;
+        let passed = allowed.split_at(passed_len(allowed, within_block)).0;
+        if let Some((last, front)) = passed.split_last() {
+            let len = passed.len();
+            self.charge += front.len() as u32;
+            self.newlines += newlines_among(front);
+            self.count(*last);
+            source.pass(len);
         }
     }
 

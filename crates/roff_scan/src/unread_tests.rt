@@ -1,6 +1,8 @@
 //! What is taken of some inputs, in order, by the public calls.
 
-use crate::{CopyUnit, Decision, Item, NameUse, Read, ReadSource, Remark, Sight, Unread};
+use crate::{
+    ByteSource, CopyUnit, Decision, Item, NameUse, Read, ReadSource, Remark, Sight, Unread,
+};
 use roff_num::{Limit, Limits};
 use std::test::Fail;
 
@@ -259,5 +261,74 @@ fn two_texts_are_compared(rt: HostRuntime) -> Result<(), Fail> {
         )
     );
     assert!(rt; unread.is_bare() && unread.pushed() == 0);
+    Ok(())
+}
+
+#[test]
+fn ready_bytes_are_passed_over(rt: HostRuntime) -> Result<(), Fail> {
+    let mut source = ReadSource::new(rt.alloc(), b"xab\ncd\\e\n".as_slice())?;
+    let mut unread: Unread<u8> = Unread::new(rt.alloc(), Limits::DEFAULT)?;
+    unread.pass_over(&mut source, true);
+    assert_eq!(rt; unread.charge(), 0);
+    assert_eq!(rt; shown(unread.take(&mut source)), ('b', b'x'));
+    assert_eq!(rt; source.buffered(), b"ab\ncd\\e\n".as_slice());
+    unread.pass_over(&mut source, false);
+    assert_eq!(rt;
+        (unread.charge(), unread.line(), unread.newlines()),
+        (3, 1, 0)
+    );
+    unread.pass_over(&mut source, false);
+    assert_eq!(rt; unread.charge(), 3);
+    unread.pass_over(&mut source, true);
+    assert_eq!(rt;
+        (unread.charge(), unread.line(), unread.newlines()),
+        (6, 2, 1)
+    );
+    assert_eq!(rt; shown(unread.take(&mut source)), ('b', b'\\'));
+    unread.pass_over(&mut source, true);
+    assert_eq!(rt;
+        (unread.charge(), unread.line(), unread.newlines()),
+        (9, 2, 2)
+    );
+    assert_eq!(rt; shown(unread.take(&mut source)), ('s', 0));
+    unread.pass_over(&mut source, true);
+    assert_eq!(rt; unread.charge(), 9);
+    Ok(())
+}
+
+#[test]
+fn a_block_is_passed_over_up_to_its_border(rt: HostRuntime) -> Result<(), Fail> {
+    let text = vec![in rt.alloc(); b'\n'; 5_000]?;
+    let limits = Limits {
+        bytes: 4_998,
+        ..Limits::DEFAULT
+    };
+    let mut source = ReadSource::new(rt.alloc(), text.as_slice())?;
+    let mut unread: Unread<u8> = Unread::new(rt.alloc(), limits)?;
+    assert_eq!(rt; shown(unread.take(&mut source)), ('b', b'\n'));
+    unread.pass_over(&mut source, true);
+    assert_eq!(rt; (unread.charge(), unread.line()), (4_096, 4_096));
+    assert_eq!(rt; shown(unread.take(&mut source)), ('b', b'\n'));
+    unread.pass_over(&mut source, true);
+    assert_eq!(rt; (unread.charge(), unread.line()), (4_998, 4_998));
+    assert_eq!(rt; shown(unread.take(&mut source)), ('r', 0));
+    Ok(())
+}
+
+#[test]
+fn nothing_is_passed_over_behind_what_is_ahead(rt: HostRuntime) -> Result<(), Fail> {
+    let mut source = ReadSource::new(rt.alloc(), b"xabc".as_slice())?;
+    let mut unread: Unread<u8> = Unread::new(rt.alloc(), Limits::DEFAULT)?;
+    assert_eq!(rt; shown(unread.take(&mut source)), ('b', b'x'));
+    unread.put_back(7);
+    unread.pass_over(&mut source, true);
+    assert_eq!(rt; shown(unread.take(&mut source)), ('d', 7));
+    assert!(rt; matches!(unread.read_byte(true, b'\\'), Read::GoesOn));
+    unread.pass_over(&mut source, true);
+    assert_eq!(rt; (unread.charge(), unread.is_half_read()), (2, true));
+    let mut unread: Unread<u8> = Unread::new(rt.alloc(), Limits::DEFAULT)?;
+    assert_eq!(rt; seen(unread.look(&mut source)), Some(b'a'));
+    unread.pass_over(&mut source, true);
+    assert_eq!(rt; unread.charge(), 0);
     Ok(())
 }

@@ -1,5 +1,5 @@
 -- How far a source over a reader has come.
-use Rattle.std.specs.Prelude.{◌≡◌, ℕ, List, map, take, drop, Option, Some, None}
+use Rattle.std.specs.Prelude.{◌≡◌, ℕ, List, [], map, take, drop, Option, Some, None}
 use Rattle.std.specs.Io.KnownBytes.{Consumes, IsAtEnd, prepend_known}
 use Rattle.roff_scan.specs.declared.source.Reach.{Reach}
 use Rattle.roff_scan.specs.declared.source.ReadSource.{ReadSource}
@@ -16,9 +16,23 @@ reach_ending AtFault = Some Failed
 abbrev pub ending_given : {R : Type 0} → ReadSource R → Option Ending
 ending_given s = reach_ending s.reach
 
+-- the bytes of the block that weren't taken
+abbrev pub left_of_block : {R : Type 0} → ReadSource R → List ℕ
+left_of_block s = drop s.next (take s.len s.block.items)
+
 -- the bytes to come, where the reader tells its own: those of the block that weren't taken, and then those
 abbrev pub unread : {R : Type 0} → (R → Option (List ℕ)) → ReadSource R → Option (List ℕ)
-unread remaining s = prepend_known (drop s.next (take s.len s.block.items)) (remaining s.reader)
+unread remaining s = prepend_known (left_of_block s) (remaining s.reader)
+
+-- they stand ready until the reader's end or a fault was answered: none are left then
+abbrev pub ready_at : Reach → List ℕ → List ℕ
+ready_at Open left = left
+ready_at AtEnd left = []
+ready_at AtFault left = []
+
+-- the same of the source
+abbrev pub ready_of : {R : Type 0} → ReadSource R → List ℕ
+ready_of s = ready_at s.reach (left_of_block s)
 
 -- how the bytes of a reader may end: by a fault at any time, by the input's end where none is left, by no limit
 abbrev pub MayEnd : Option (List ℕ) → Ending → Type 0

@@ -1,0 +1,153 @@
+-- Bytes that are passed over: how many they are, and what is counted of them.
+use Rattle.std.proofs.Common.{◌≡◌, ◌==◌, ℕ, ◌+◌, ◌-◌, ◌≤◌, Bool, true, false, not, ◌&&◌, List, [], ◌∷◌, ◌++◌, append_assoc, cond, count_by, min, map, if◌then◌else◌, Option, Some, None, length, length-take, take, take_while, refl, sym, ap, subst, arith, inr, ◌∙◌}
+use Rattle.std.specs.Prelude.{is_none, unwrap_or}
+use Rattle.std.proofs.Math.Bool.{or-false}
+use Rattle.std.proofs.lemmas.List.Folds.{length-prefix_len}
+use Rattle.std.proofs.lemmas.List.Sums.{prefix_len_is, prefix_len-le-length, sum_by-cons, take_while-cons}
+use Rattle.std.specs.List.{AllByRecursion}
+use Rattle.memchr.specs.Find.{IsFirstByte, is_byte, is_byte2}
+use Rattle.std.proofs.Math.Seq.{take-append_seam}
+use Rattle.std.proofs.lemmas.List.{nil_from_length, take_min}
+use Rattle.roff_scan.specs.Bytes.{backslash, newline, is_passed}
+use Rattle.roff_scan.specs.Input.{Ahead, Input, is_none_ahead, counting, lines_taken}
+use Rattle.roff_scan.specs.Half.{Half}
+use Rattle.roff_scan.specs.Tape.{Tape, OneByte, Took}
+use Rattle.roff_scan.specs.Unread.{Unread, IsWithin, is_bare}
+use Rattle.roff_scan.specs.Unread.Calls.{IsBare, PassesOver}
+use Rattle.roff_scan.proofs.Giving.{none_at_all}
+
+-- a byte that isn't found
+not_found : (t : Bool) → (t ≡ true → ⊥) → not t ≡ true
+not_found false unfound = refl
+not_found true unfound = absurd (unfound refl)
+
+-- up to the first byte that is found all are passed, and if none is found all of them
+passed_before : (test p : ℕ → Bool) → ((b : ℕ) → p b ≡ not (test b)) → (bytes : List ℕ) (found : Option ℕ) → IsFirstByte test bytes found
+    → unwrap_or found (length bytes) ≡ length (take_while p bytes)
+passed_before test p same bytes None none =
+    sym (length-prefix_len p bytes ∙ prefix_len_is p bytes (length bytes) 0 (omega arith)
+    (λ k lt. same _ ∙ not_found _ (none k (omega arith) lt))
+    (λ lt. absurd (omega arith)))
+passed_before test p same bytes (Some at) first =
+    sym (length-prefix_len p bytes ∙ prefix_len_is p bytes at 0 (omega arith)
+    (λ k lt. same _ ∙ not_found _ (first.0.before k (omega arith) lt))
+    (λ lt. same _ ∙ ap not first.1))
+
+-- within a block a backslash ends them
+pub passed_len_in_block : (bytes : List ℕ) (found : Option ℕ) (within_block : Bool) → within_block ≡ true → IsFirstByte (is_byte backslash) bytes found
+    → unwrap_or found (length bytes) ≡ length (take_while (is_passed within_block) bytes)
+passed_len_in_block bytes found true is first = passed_before (is_byte backslash) (is_passed true) (λ b. ap not (or-false (b == backslash))) bytes found first
+passed_len_in_block bytes found false is first = cc
+
+-- and elsewhere a newline too
+pub passed_len_in_line : (bytes : List ℕ) (found : Option ℕ) (within_block : Bool) → within_block ≡ false → IsFirstByte (is_byte2 backslash newline) bytes found
+    → unwrap_or found (length bytes) ≡ length (take_while (is_passed within_block) bytes)
+passed_len_in_line bytes found true is first = cc
+passed_len_in_line bytes found false is first = passed_before (is_byte2 backslash newline) (is_passed false) (λ b. refl) bytes found first
+
+-- the bytes in front that pass a test pass it
+plain_front : (p : ℕ → Bool) (b : ℕ) (t : Bool) (front : List ℕ) → p b ≡ t → AllByRecursion (λ c. p c ≡ true) front
+    → AllByRecursion (λ c. p c ≡ true) (cond t (b ∷ front) [])
+plain_front p b true front passes plain = (passes, plain)
+plain_front p b false front passes plain = tt
+
+take_while-plain : (p : ℕ → Bool) (bytes : List ℕ) → AllByRecursion (λ b. p b ≡ true) (take_while p bytes)
+take_while-plain p [] = tt
+take_while-plain p (b ∷ bytes) = rw (take_while-cons p b bytes) (plain_front p b (p b) (take_while p bytes) refl (take_while-plain p bytes))
+
+-- a newline in front, if it is one, is counted
+newlines_and : (before : ℕ) (is : Bool) (p : ℕ → Bool) (b : ℕ) (front : List ℕ) → p b ≡ is
+    → (if is then before + 1 else before) + count_by p front ≡ before + count_by p (b ∷ front)
+newlines_and before true p b front same =
+    let split : count_by p (b ∷ front) ≡ 1 + count_by p front = sum_by-cons (λ c. cond (p c) 1 0) b front ∙ ap (λ t. cond t 1 0 + count_by p front) same in
+    omega arith
+newlines_and before false p b front same =
+    let split : count_by p (b ∷ front) ≡ 0 + count_by p front = sum_by-cons (λ c. cond (p c) 1 0) b front ∙ ap (λ t. cond t 1 0 + count_by p front) same in
+    omega arith
+
+module _ {E : Type 0} where
+  -- so many bytes are taken, and so many newlines among them
+  abbrev pub counted : ℕ → ℕ → Input E → Input E
+  counted count newlines i = record i { charge = i.charge + count; newlines = i.newlines + newlines }
+
+  -- what is counted behind a byte doesn't depend on the line before
+  counting_alike : (last : ℕ) (i : Input E) (line charge counted_charge newlines counted_newlines : ℕ) → charge ≡ counted_charge → newlines ≡ counted_newlines
+      → counting last (record i { charge = charge; newlines = newlines; line = line }) ≡ counting last (record i { charge = counted_charge; newlines = counted_newlines })
+  counting_alike last i line charge counted_charge newlines counted_newlines same same_newlines = rw (same, same_newlines) refl
+
+  -- bytes are taken as if they were counted first, and then the last one taken
+  pub lines_taken-last : (front : List ℕ) (last : ℕ) (i : Input E)
+      → lines_taken (front ++ last ∷ []) i ≡ counting last (counted (length front) (count_by (λ b. b == newline) front) i)
+  lines_taken-last [] last i = counting_alike last i i.line i.charge (i.charge + 0) i.newlines (i.newlines + 0) (omega arith) (omega arith)
+  lines_taken-last (b ∷ front) last i =
+      lines_taken-last front last (counting b i)
+      ∙ counting_alike last i (i.newlines + 1) _ _ _ _ (omega arith) (newlines_and i.newlines (b == newline) (λ c. c == newline) b front refl)
+
+-- what is cut off by the number of bytes that are passed is what is passed
+pub passed_is : (p : ℕ → Bool) (ready allowed passed : List ℕ) (most cut len : ℕ) → cut ≡ min most (length ready) → allowed ≡ take cut ready
+    → len ≡ length (take_while p allowed) → passed ≡ take len allowed → passed ≡ take_while p (take most ready)
+passed_is p ready allowed passed most cut len is_cut is_allowed is_len is_passed_now =
+    let whole : allowed ≡ take most ready = is_allowed ∙ ap (λ n. take n ready) is_cut ∙ take_min most ready in
+    is_passed_now ∙ ap (λ n. take n allowed) (is_len ∙ length-prefix_len p allowed) ∙ ap (take_while p) whole
+
+-- a front of a front is a front, by its length
+pub front_is : (ready allowed behind passed more : List ℕ) → ready ≡ allowed ++ behind → allowed ≡ passed ++ more → take (length passed) ready ≡ passed
+front_is ready allowed behind passed more split split_allowed =
+    ap (take (length passed)) (split ∙ ap (λ xs. xs ++ behind) split_allowed ∙ append_assoc passed more behind) ∙ take-append_seam passed (more ++ behind)
+
+-- no more than the limit allows
+passed_within : (p : ℕ → Bool) (ready : List ℕ) (limit charge : ℕ) → charge ≤ limit → charge + length (take_while p (take (limit - charge) ready)) ≤ limit
+passed_within p ready limit charge within =
+    let fewer : length (take_while p (take (limit - charge) ready)) ≤ length (take (limit - charge) ready) =
+    simp length-prefix_len (prefix_len-le-length p (take (limit - charge) ready)) in
+    let most : length (take (limit - charge) ready) ≤ limit - charge = simp length-take (omega arith) in
+    omega arith
+
+-- some bytes are not none
+some_bytes : (front : List ℕ) (last : ℕ) → front ++ last ∷ [] ≡ [] → ⊥
+some_bytes [] last none = cc
+some_bytes (b ∷ front) last none = cc
+
+module _ {E : Type 0} where
+  -- what is bare, part by part
+  bare_parts : (ahead : List (Ahead E)) (looked : Option ℕ) (half : List Half) → (is_none_ahead ahead && is_none looked && (length half == 0)) ≡ true
+      → (ahead ≡ []) × ((looked ≡ None) × (half ≡ []))
+  bare_parts [] None half bare = (refl, (refl, nil_from_length half (none_at_all (length half) bare)))
+  bare_parts [] (Some b) half bare = cc
+  bare_parts (item ∷ ahead) looked half bare = cc
+
+  IsBare-is_bare : (u : Unread E) → is_bare u ≡ true → IsBare u
+  IsBare-is_bare u bare =
+      let parts = bare_parts u.input.ahead u.looked u.input.half bare in
+      record { ahead = parts.0; half = parts.1.1; looked = parts.1.0 }
+
+  module _ (old new : Tape → Type 0) (ready : List ℕ) (within_block : Bool) (bytes front : List ℕ) (last : ℕ) where
+    -- the input behind the bytes that were passed over: those in front were counted, and then the last
+    abbrev pub behind_passed : Unread E → Unread E
+    behind_passed u = record u { input = counting last (counted (length front) (count_by (λ b. b == newline) front) u.input); looked = None }
+
+    -- where bytes were taken at once
+    passes_bare : (u : Unread E) → bytes ≡ take_while (is_passed within_block) (take (u.limits.bytes - u.input.charge) ready)
+        → bytes ≡ front ++ last ∷ [] → is_bare u ≡ true → IsWithin u → Took old new (map OneByte bytes) → PassesOver old new ready u (behind_passed u) within_block
+    passes_bare u all split bare within took = record {
+      bytes = bytes;
+      are_all = all ∙ ap (λ t. if t then take_while (is_passed within_block) (take (u.limits.bytes - u.input.charge) ready) else []) (sym bare);
+      plain = rw all (take_while-plain (is_passed within_block) (take (u.limits.bytes - u.input.charge) ready));
+      bare = inr (IsBare-is_bare u bare);
+      in_front = took.before;
+      some = inr (took.some, took.some_given);
+      stays = λ none. absurd (some_bytes front last (sym split ∙ none));
+      input =
+          ap (λ i. record u { input = i; looked = None }) (sym (ap (λ xs. lines_taken xs u.input) split ∙ lines_taken-last front last u.input))
+          ∙ ap (λ o. record u { input = lines_taken bytes u.input; looked = o }) (sym (IsBare-is_bare u bare).looked);
+      within = rw all (passed_within (is_passed within_block) ready u.limits.bytes u.input.charge within.charge);
+    }
+
+    -- the same, by the fields that keep the input
+    pub passes : (kept before after : Unread E) → kept ≡ before → bytes ≡ take_while (is_passed within_block) (take (kept.limits.bytes - kept.input.charge) ready)
+        → bytes ≡ front ++ last ∷ [] → is_bare before ≡ true → IsWithin kept → Took old new (map OneByte bytes) → after ≡ behind_passed kept
+        → PassesOver old new ready before after within_block
+    passes kept before after is all split bare within took behind =
+        subst (λ u. PassesOver old new ready u after within_block) is
+        (subst (λ u. PassesOver old new ready kept u within_block) (sym behind)
+        (passes_bare kept all split (ap is_bare is ∙ bare) within took))
