@@ -20,6 +20,7 @@ pub mod InputCounts
 pub mod TurnsToCome
 pub mod TakesAs
 pub mod Obeying
+pub mod Deciding
 pub mod RemovedRegisters
 pub mod InFront
 pub mod Interpolation

@@ -11,6 +11,9 @@ ghost use Rattle.roff_run.specs.TextLine.Stepping.{step_at};
 ghost use Rattle.roff_run.specs.Registers.{Known};
 ghost use Rattle.roff_run.specs.declared.reading.Reading.TheVariants.{Control as BehindControl, Text as InText};
 
+#[cfg(test)]
+mod tests;
+
 use crate::event::{Events, PageEvent};
 use crate::message::{CharacterName, Message};
 use crate::request::Request;

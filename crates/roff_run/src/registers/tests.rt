@@ -166,3 +166,14 @@ fn a_step_out_of_range_is_reported(rt: HostRuntime) -> Result<(), Fail> {
     }
     Ok(())
 }
+
+#[test]
+fn the_greatest_page_number_is_odd_and_the_least_even(rt: HostRuntime) -> Result<(), Fail> {
+    let mut registers = RunRegisters::new(rt.alloc(), 0)?;
+    assert_eq!(rt; registers.is_page_odd(), false);
+    for (value, is_odd) in [(i32::MAX, true), (i32::MIN, false), (-1, true)] {
+        registers.apply(&set_to(b"%", value, 0)?)?;
+        assert_eq!(rt; registers.is_page_odd(), is_odd);
+    }
+    Ok(())
+}
