@@ -5,10 +5,10 @@ use Rattle.std.specs.Prelude.{not, ◌==◌}
 use Rattle.roff_lines.specs.declared.env.Env.{Env}
 use Rattle.roff_lines.specs.Env.Stands.{Stands}
 use Rattle.roff_num.specs.declared.limit.Limit.{Limit}
-use Rattle.roff_num.specs.declared.limit.Limit.TheVariants.{Names, Stack, Depth}
+use Rattle.roff_num.specs.declared.limit.Limit.TheVariants.{Names, Stack, Depth, Conditions}
 use Rattle.roff_num.specs.declared.limits.Limits.{Limits}
 use Rattle.roff_scan.specs.Halves.{reading_ended}
-use Rattle.roff_scan.specs.Input.{DoAhead, depth}
+use Rattle.roff_scan.specs.Input.{DoAhead, depth, results}
 use Rattle.roff_scan.specs.Tape.{Tape}
 use Rattle.roff_scan.specs.Unread.{looked_then}
 use Rattle.roff_scan.specs.Half.{Half}
@@ -23,12 +23,12 @@ use Rattle.roff_engine.specs.Sinks.{Sunk}
 use Rattle.roff_run.specs.Output.{PageHistory, text_of}
 use Rattle.roff_run.specs.Reader.State.{ReaderState}
 use Rattle.roff_run.specs.Reader.Taken.{Became, IsReady, PageUnread}
-use Rattle.roff_run.specs.Reading.{PageInput, Taking, arguments_read_on, beginning_read, going_on, half_ended, interrupted, text_read}
+use Rattle.roff_run.specs.Reading.{PageInput, Taking, arguments_read_on, beginning_read, condition_read, going_on, half_ended, interrupted, text_read}
 use Rattle.roff_run.specs.Registers.{AllRegisters, Known}
 use Rattle.roff_run.specs.Run.{State, initial, ahead_taken, counts_in, end_met, ending_as, half_ends, known_at, made, step, taken_as, unless_refused, first_passed, grown}
 use Rattle.roff_run.specs.declared.event.PageEvent.{PageEvent}
 use Rattle.roff_run.specs.declared.reading.Reading.{Reading}
-use Rattle.roff_run.specs.declared.reading.Reading.TheVariants.{LineStart, Text as InText, Control, Name, Arguments as InArguments, Dropped}
+use Rattle.roff_run.specs.declared.reading.Reading.TheVariants.{LineStart, Branch, Braced, Text as InText, Control, Name, Arguments as InArguments, Deciding, Skipping, Dropped}
 use Rattle.roff_run.specs.declared.status.Status.{Status}
 use Rattle.roff_run.specs.declared.status.Status.TheVariants.{Done}
 use Rattle.roff_run.proofs.InputCounts.{pushed-settling}
@@ -254,12 +254,17 @@ Acts-as does other line old new now behind r same acts = record {
 
 -- the line stays where a half read item ends with nothing half read
 line-nothing_ended : (k : Known) (reading : Reading) (i : PageInput) → i.half ≡ [] → (half_ended k reading i).input.line ≡ i.line
-line-nothing_ended k LineStart i none = subst (λ (half : List Half). (beginning_read k i (reading_ended true half)).input.line ≡ i.line) (sym none) refl
+line-nothing_ended k LineStart i none = subst (λ (half : List Half). (beginning_read k i LineStart (reading_ended true half)).input.line ≡ i.line) (sym none) refl
+line-nothing_ended k Branch i none = subst (λ (half : List Half). (beginning_read k i Branch (reading_ended true half)).input.line ≡ i.line) (sym none) refl
+line-nothing_ended k Braced i none = subst (λ (half : List Half). (beginning_read k i Braced (reading_ended true half)).input.line ≡ i.line) (sym none) refl
 line-nothing_ended k (InText line) i none = subst (λ (half : List Half). (text_read k i line (reading_ended true half)).input.line ≡ i.line) (sym none) refl
 line-nothing_ended k (Control breaks) i none = refl
 line-nothing_ended k (Name breaks byte) i none = refl
 line-nothing_ended k (InArguments breaks request) i none =
     subst (λ (half : List Half). (arguments_read_on k i breaks request (reading_ended false half)).input.line ≡ i.line) (sym none) refl
+line-nothing_ended k (Deciding keeping) i none =
+    subst (λ (half : List Half). (condition_read k i keeping (reading_ended false half)).input.line ≡ i.line) (sym none) refl
+line-nothing_ended k (Skipping opened closed behind) i none = refl
 line-nothing_ended k Dropped i none = refl
 
 -- the line stays where what is half read ends
@@ -274,11 +279,15 @@ line-half_ended k reading i =
 -- nothing that is counted grows where no quote follows the quote before
 counts_in-interrupted : (rs : AllRegisters) (reading : Reading) (i : PageInput) → counts_in rs (interrupted reading i) ≡ counts_in rs i
 counts_in-interrupted rs LineStart i = refl
+counts_in-interrupted rs Branch i = refl
+counts_in-interrupted rs Braced i = refl
 counts_in-interrupted rs (InText line) i = refl
 counts_in-interrupted rs (Control breaks) i = refl
 counts_in-interrupted rs (Name breaks byte) i = refl
 counts_in-interrupted rs (InArguments breaks request) i =
-    ap (λ bytes. (Names, length rs.named) ∷ (Stack, bytes) ∷ (Depth, depth i) ∷ []) (pushed-settling i)
+    ap (λ bytes. (Names, length rs.named) ∷ (Stack, bytes) ∷ (Depth, depth i) ∷ (Conditions, results i) ∷ []) (pushed-settling i)
+counts_in-interrupted rs (Deciding keeping) i = refl
+counts_in-interrupted rs (Skipping opened closed behind) i = refl
 counts_in-interrupted rs Dropped i = refl
 
 -- so no limit refuses what it didn't refuse before

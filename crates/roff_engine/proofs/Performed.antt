@@ -14,7 +14,7 @@ use Rattle.roff_engine.specs.declared.formatter.Formatter.{Formatter}
 use Rattle.roff_engine.specs.declared.halt.Halt.{Halt}
 use Rattle.roff_engine.specs.declared.halt.Halt.TheVariants.{Limit as Limited, Refused, Output, Messages}
 use Rattle.roff_engine.specs.Engine.Outcome.{Seen, AppendsBetween, NoFewerFaults, Reaches, seen}
-use Rattle.roff_engine.specs.Formatter.Performing.{StoppedAt, FailedAt, LostAt, Performs, PerformsOnly, Means, Does, acting}
+use Rattle.roff_engine.specs.Formatter.Performing.{StoppedAt, FailedAt, LostAt, Performs, PerformsOnly, Means, Does, DoesMeaning, acting, sinks}
 use Rattle.roff_run.specs.Messages.{message_lines}
 use Rattle.roff_run.specs.declared.message.Message.{Message}
 use Rattle.roff_run.specs.Output.{PageHistory, text_of, finished_bytes, written_by}
@@ -214,6 +214,15 @@ does_halted l t before now from s rest left (Refused limit) env then p = p
 does_halted l t before now from s rest left Output env then p = p
 does_halted l t before now from s rest left Messages env then p = p
 
+-- no event
+pub performs_nothing : (f : Formatter) (told : Sunk) → PerformsOnly [] f f told told (Ok tt)
+performs_nothing f told = record {
+  events_performed = record {
+    performs = λ l t before failures err s h rest stood reached. record { history = h; reaches = reached; stands = stood };
+  };
+  reader = refl;
+}
+
 -- two events, of which the first was performed
 pub performs_both : (first second : PageEvent) (old mid new : Formatter) (told told_mid told_new : Sunk) (r : Result (Unit {0}) Halt)
     → PerformsOnly (first ∷ []) old mid told told_mid (Ok tt) → PerformsOnly (second ∷ []) mid new told_mid told_new r
@@ -237,4 +246,26 @@ performs_first_halted first second old new told told_new halt one = record {
         (one.events_performed.performs l t before failures err s h (second ∷ rest) stood reached);
   };
   reader = one.reader;
+}
+
+-- What an item means was done: its messages were told, and then its events were performed, as far as that went.
+pub told_then_performed : (line : ℕ) (messages : List Message) (events : List PageEvent) (old new : Formatter) (out out_new err err_new : Sunk) (r : Result (Unit {0}) Halt)
+    → Puts {F = Halt} err err_new (message_lines line messages) (Ok tt) → PerformsOnly events old new out out_new r
+    → DoesMeaning line messages events old new (sinks out err) (sinks out_new err_new) r
+told_then_performed line messages events old new out out_new err err_new r puts performed = record {
+  does = λ l t before failures from s h rest stood reached means.
+      does_events l t before _ from s rest r _
+      (performed.events_performed.performs l t before failures err_new s h rest stood
+      (messages_told l t before failures out err err_new from s h line messages events rest reached means puts.ok));
+  reader = performed.reader;
+}
+
+-- or they couldn't be told
+pub not_told : (line : ℕ) (messages : List Message) (events : List PageEvent) (f : Formatter) (out err err_new : Sunk) (halt : Halt)
+    → Puts {F = Halt} err err_new (message_lines line messages) (Err halt) → halt ≡ Messages
+    → DoesMeaning line messages events f f (sinks out err) (sinks out err_new) (Err halt)
+not_told line messages events f out err err_new halt puts is_messages = record {
+  does = λ l t before failures from s h rest stood reached means.
+      rw is_messages (messages_lost l t before failures out err err_new from s h line messages events rest reached means puts.err);
+  reader = refl;
 }

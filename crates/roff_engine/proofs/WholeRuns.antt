@@ -7,13 +7,13 @@ use Rattle.roff_num.specs.declared.limits.Limits.{Limits}
 use Rattle.roff_scan.specs.Halves.{newline_stays}
 use Rattle.roff_scan.specs.Input.{initial_input}
 use Rattle.roff_scan.specs.Tape.{Tape, items_then}
-use Rattle.roff_scan.specs.Unread.{asks_to_take, initial_unread, looked_then, seen_ahead}
+use Rattle.roff_scan.specs.Unread.{asks_to_take, initial_unread, looked_then}
 use Rattle.roff_run.specs.declared.status.Status.{Status}
 use Rattle.roff_run.specs.Output.{PageHistory}
 use Rattle.roff_run.specs.Reader.State.{ReaderState, fresh_reader}
 use Rattle.roff_run.specs.Reader.Taken.{IsReady, PageUnread}
 use Rattle.roff_run.specs.Registers.{no_registers}
-use Rattle.roff_run.specs.Run.{State, Leads, awaited, counts_in, first_passed, in_front_taken, initial, step, waiting}
+use Rattle.roff_run.specs.Run.{State, Leads, counts_in, first_passed, in_front_taken, initial, step, waiting}
 use Rattle.roff_run.specs.TurnsToCome.{turns_to_come}
 use Rattle.roff_engine.specs.declared.running.Running.{Running as Coded}
 use Rattle.roff_engine.specs.Engine.Outcome.{Seen, Outcome, Runs}
@@ -58,13 +58,15 @@ module _ (gave gives : Tape → Type 0) (noted notes : ℕ) (old new : Coded) (n
       turn
 
 -- where no count is above its limit, none is refused
-none_passed : {A : Type 0} (first second third : A) (a b c : Bool) → a ≡ false → b ≡ false → c ≡ false
-    → (if a then Some first else if b then Some second else if c then Some third else None) ≡ None
-none_passed first second third a b c one two three = rw (one, two, three) refl
+none_passed : {A : Type 0} (first second third fourth : A) (a b c d : Bool) → a ≡ false → b ≡ false → c ≡ false → d ≡ false
+    → (if a then Some first else if b then Some second else if c then Some third else if d then Some fourth else None) ≡ None
+none_passed first second third fourth a b c d one two three four = rw (one, two, three, four) refl
 
 -- nor before the first item
 none_passed-fresh : (l : Limits) → first_passed l (counts_in no_registers initial_input) ≡ None
-none_passed-fresh l = none_passed _ _ _ _ _ _ (le-ltb l.names 0 (omega arith)) (le-ltb l.stack 0 (omega arith)) (le-ltb l.depth 0 (omega arith))
+none_passed-fresh l =
+    none_passed _ _ _ _ _ _ _ _ (le-ltb l.names 0 (omega arith)) (le-ltb l.stack 0 (omega arith)) (le-ltb l.depth 0 (omega arith))
+    (le-ltb l.conditions 0 (omega arith))
 
 -- a run before its first item
 pub starts : (t : Tape) (now : Seen) (run : Coded) → Stands run.limits.line [] run.formatter.env → IsFresh run.limits run.formatter run.unread

@@ -135,6 +135,7 @@ impl Formatter {
 
     /// Does what was meant on this line of the input: its message is told, and then its events are
     /// performed.
+    #[tactic(auto, using(crate::proofs::Performed::told_then_performed))]
     fn act<O: ByteSink, E: ByteSink>(
         &mut self,
         meaning: Meaning,

@@ -10,7 +10,9 @@ use Rattle.roff_run.specs.Run.{State, Leads, initial, moved, performing, step_wi
 use Rattle.roff_scan.specs.Input.{Ahead, ByteAhead, FreeAhead, EndAhead, DoAhead, cost, item_taken, counting}
 use Rattle.roff_scan.specs.Tape.{Tape, Item, Gives, OneByte, OneNote, front, behind_front}
 use Rattle.roff_scan.specs.Half.{Half}
-use Rattle.roff_run.specs.TurnsToCome.{free_ahead}
+use Rattle.roff_run.specs.TurnsToCome.{endings_of, free_ahead}
+use Rattle.roff_run.proofs.HalfCounts.{some_ending}
+use Rattle.roff_run.proofs.Keeping.{begun}
 use Rattle.roff_run.proofs.Leads.{Leads-refl, Leads-trans, Leads-step, after-add}
 use Rattle.roff_run.proofs.PerformedOrStopped.{PerformedOrStopped, Performed, StoppedAt, performed_or_stopped}
 use Rattle.roff_run.proofs.Readings.{ReadsOn, LimitStops, AheadTaken, ByteTaken, NoteTaken, HalfEnds, InputEnds, SourceFails, SourceStops, ReadsOn-reading_on, Behind-byte_taken, Behind-ahead_taken, Behind-half_ends}
@@ -42,6 +44,7 @@ record Idle (s t : State) : Type 0 where
   to_do : t.to_do ≡ []
   tape : t.tape ≡ s.tape
   input : t.input ≡ s.input
+  reading : t.reading ≡ s.reading
   is_closing : t.is_closing ≡ s.is_closing
 
 -- a run has ended, or has come to be idle
@@ -52,12 +55,12 @@ EndsOrIdles s t = IsSome t.ended ⊎ Idle s t
 first_performed : (l : Limits) (e : PageEvent) (es : List PageEvent) (s t : State) → PerformedOrStopped l e es s t
     → ((u : State) → u.to_do ≡ es → EndsOrIdles u (after l (length es) u)) → EndsOrIdles s (after l (length es) t)
 first_performed l e es s t (Performed goes) others =
-    elim (others t refl) [ inl ended ↦ inl ended | inr idle ↦ inr (record { to_do = idle.to_do; tape = idle.tape; input = idle.input; is_closing = idle.is_closing }) ]
+    elim (others t refl) [ inl ended ↦ inl ended | inr idle ↦ inr (record { to_do = idle.to_do; tape = idle.tape; input = idle.input; reading = idle.reading; is_closing = idle.is_closing }) ]
 first_performed l e es s t (StoppedAt limit) others = inl (rw (after-ended l (length es) t refl) refl)
 
 -- in as many steps as there are events to do
 all_performed : (l : Limits) (es : List PageEvent) (s : State) → s.to_do ≡ es → EndsOrIdles s (after l (length es) s)
-all_performed l [] s to_do = inr (record { to_do = to_do; tape = refl; input = refl; is_closing = refl })
+all_performed l [] s to_do = inr (record { to_do = to_do; tape = refl; input = refl; reading = refl; is_closing = refl })
 all_performed l (e ∷ es) s to_do =
     let Goal : State → Type 0 = λ t. EndsOrIdles s (after l (length es) t) in
     elim (ended_or_not s.ended) [
@@ -69,8 +72,9 @@ all_performed l (e ∷ es) s to_do =
 
 -- How many turns are enough before the end of the input. What is still to be charged may begin something, whose end
 -- takes a turn too, and so may a free byte; what is half read, and an item of the source, takes one; and two end the run.
+-- A condition takes two endings: the bytes of the name that begins it begin nothing, and one of these is kept for it.
 abbrev turns_needed : Limits → State → ℕ
-turns_needed l s = 2 * (l.bytes - s.input.charge) + 2 * free_ahead s.input.ahead + length s.input.half + length s.tape.items + 2
+turns_needed l s = 2 * (l.bytes - s.input.charge) + 2 * free_ahead s.input.ahead + endings_of s.input.half + begun s.reading + length s.tape.items + 2
 
 -- so many turns are enough: one behind the end of the input, and before it as many as it needs
 data HasTurns (l : Limits) (n : ℕ) (s : State) : Type 0 where
@@ -121,8 +125,8 @@ EndsWithin-read l n s t (NoteTaken message gives) enough =
     let items = items-behind_front s.tape (OneNote message) gives in fewer_needed l n s t enough (omega (arith, items))
 EndsWithin-read l n s t (HalfEnds first others half is_made) enough =
     let read = Behind-half_ends s first others half in
-    let longer : length s.input.half ≡ length (first ∷ others) = ap (λ (h : List Half). length h) half in
-    fewer_needed l n s t enough (omega (arith, read.input.charge, read.input.free, read.input.half, longer))
+    let some : 1 ≤ endings_of s.input.half = rw half (omega (arith, some_ending first others)) in
+    fewer_needed l n s t enough (omega (arith, read.input.charge, read.input.free, read.input.half, some))
 EndsWithin-read l n s t (InputEnds none half ends is_made) enough = inr (Closing refl (omega (arith, enough)))
 EndsWithin-read l n s t (SourceFails fails) enough = inl refl
 EndsWithin-read l n s t (SourceStops limit stops) enough = inl refl
@@ -135,7 +139,7 @@ EndsWithin-step_with l n s (Reading enough) = EndsWithin-if l n s.is_closing _ _
 -- a run that is idle has as many turns left
 HasTurns-Idle : (l : Limits) (n : ℕ) (s t : State) → Idle s t → HasTurns l n s → HasTurns l n t
 HasTurns-Idle l n s t idle (Closing closing one) = Closing (idle.is_closing ∙ closing) one
-HasTurns-Idle l n s t idle (Reading enough) = Reading (rw (idle.tape, idle.input) enough)
+HasTurns-Idle l n s t idle (Reading enough) = Reading (rw (idle.tape, idle.input, idle.reading) enough)
 
 -- and makes a step
 EndsWithin-step : (l : Limits) (n : ℕ) (s t : State) → Idle s t → HasTurns l (suc n) s → EndsWithin l n (step l t)

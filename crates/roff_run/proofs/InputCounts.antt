@@ -2,11 +2,12 @@
 use Rattle.std.proofs.Common.{◌≡◌, ℕ, ◌+◌, ◌≤◌, Bool, true, false, List, [], ◌∷◌, length, Option, Some, None, refl, sym, subst, ap, ◌∙◌, arith}
 use Rattle.std.specs.Prelude.{nat_lt, if◌then◌else◌}
 use Rattle.std.proofs.lemmas.Bool.{le-ltb, ltb-false}
-use Rattle.roff_num.specs.declared.limit.Limit.TheVariants.{Stack, Depth, Names}
+use Rattle.roff_num.specs.declared.limit.Limit.{Limit}
+use Rattle.roff_num.specs.declared.limit.Limit.TheVariants.{Stack, Depth, Conditions, Names}
 use Rattle.roff_num.specs.declared.limits.Limits.{Limits}
 use Rattle.roff_scan.specs.Arguments.{held, settled, no_arguments}
 use Rattle.roff_scan.specs.Half.{texts_held}
-use Rattle.roff_scan.specs.Input.{Ahead, ByteAhead, FreeAhead, EndAhead, DoAhead, counting, item_taken, pushed, depth, bytes_ahead, ends_ahead}
+use Rattle.roff_scan.specs.Input.{Ahead, ByteAhead, FreeAhead, EndAhead, DoAhead, counting, item_taken, pushed, depth, results, bytes_ahead, ends_ahead}
 use Rattle.roff_scan.specs.Tape.{Answer, Gives, Ends, OneByte, OneNote}
 use Rattle.roff_scan.specs.Unread.{Unread, Shown, taking, taking_answer, answer_behind, input_refusal}
 use Rattle.roff_scan.proofs.KeptArguments.{held-only_kept, held-settled}
@@ -22,22 +23,24 @@ pub one_of : {A : Type 0} (P : A → Type 0) (c : Bool) (x y : A) → P x → P 
 one_of P true x y first second = first
 one_of P false x y first second = second
 
--- what one input has ahead, and in its arguments, counts for no more than what another has
+-- what one input has ahead, in its arguments and of results counts for no more than what another has
 pub record NoMore (now before : PageInput) : Type 0 where
   pub bytes : pushed now ≤ pushed before
   pub texts : depth now ≤ depth before
+  pub results : results now ≤ results before
 
 -- by the items ahead alone
-by_ahead : (now before : PageInput) → now.arguments ≡ before.arguments → now.half ≡ before.half → bytes_ahead now.ahead ≤ bytes_ahead before.ahead
+by_ahead : (now before : PageInput) → now.arguments ≡ before.arguments → now.half ≡ before.half → now.kept ≡ before.kept → bytes_ahead now.ahead ≤ bytes_ahead before.ahead
     → ends_ahead now.ahead ≤ ends_ahead before.ahead → NoMore now before
-by_ahead now before same same_half bytes texts =
+by_ahead now before same same_half same_kept bytes texts =
     let held_same : held now.arguments ≡ held before.arguments = ap held same in
     let half_same : texts_held now.half ≡ texts_held before.half = ap texts_held same_half in
-    record { bytes = omega arith; texts = texts }
+    let results_same : length now.kept ≡ length before.kept = ap (λ (kept : List Bool). length kept) same_kept in
+    record { bytes = omega arith; texts = texts; results = omega arith }
 
 -- what changes nothing there
 NoMore-same : (i : PageInput) → NoMore i i
-NoMore-same i = record { bytes = omega arith; texts = omega arith }
+NoMore-same i = record { bytes = omega arith; texts = omega arith; results = omega arith }
 
 -- behind an item
 bytes_behind : (item : Ahead PageEvent) (items : List (Ahead PageEvent)) → bytes_ahead items ≤ bytes_ahead (item ∷ items)
@@ -53,7 +56,7 @@ ends_behind EndAhead items = omega arith
 ends_behind (DoAhead event) items = omega arith
 
 pub NoMore-item_taken : (item : Ahead PageEvent) (items : List (Ahead PageEvent)) (i : PageInput) → i.ahead ≡ item ∷ items → NoMore (item_taken item items i) i
-NoMore-item_taken item items i ahead = by_ahead (item_taken item items i) i refl refl
+NoMore-item_taken item items i ahead = by_ahead (item_taken item items i) i refl refl refl
     (subst (λ (all : List (Ahead PageEvent)). bytes_ahead items ≤ bytes_ahead all) (sym ahead) (bytes_behind item items))
     (subst (λ (all : List (Ahead PageEvent)). ends_ahead items ≤ ends_ahead all) (sym ahead) (ends_behind item items))
 
@@ -62,7 +65,7 @@ abbrev LeavesNoMore : PageInput → Shown PageEvent × Unread PageEvent → Type
 LeavesNoMore i call = NoMore call.1.input i
 
 NoMore-answer : (a : Answer) (u : Unread PageEvent) → LeavesNoMore u.input (taking_answer a u)
-NoMore-answer (Gives (OneByte b)) u = one_of (LeavesNoMore u.input) _ _ _ (NoMore-same u.input) (by_ahead (counting b u.input) u.input refl refl (omega arith) (omega arith))
+NoMore-answer (Gives (OneByte b)) u = one_of (LeavesNoMore u.input) _ _ _ (NoMore-same u.input) (by_ahead (counting b u.input) u.input refl refl refl (omega arith) (omega arith))
 NoMore-answer (Gives (OneNote message)) u = NoMore-same u.input
 NoMore-answer (Ends ending) u = NoMore-same u.input
 
@@ -82,7 +85,7 @@ pub pushed-settling : (i : PageInput) → pushed (settling i) ≡ pushed i
 pushed-settling i = ap (λ n. bytes_ahead i.ahead + n + texts_held i.half) (held-only_kept (settled i.arguments) ∙ held-settled i.arguments)
 
 pub NoMore-settling : (i : PageInput) → NoMore (settling i) i
-NoMore-settling i = record { bytes = omega (arith, pushed-settling i); texts = omega arith }
+NoMore-settling i = record { bytes = omega (arith, pushed-settling i); texts = omega arith; results = omega arith }
 
 pub NoMore-interrupted : (reading : Reading) (i : PageInput) → NoMore (interrupted reading i) i
 NoMore-interrupted (InArguments breaks request) i = NoMore-settling i
@@ -90,7 +93,7 @@ NoMore-interrupted (_) i = NoMore-same i
 
 -- where the arguments are released
 pub NoMore-released : (i : PageInput) → NoMore (record i { arguments = no_arguments }) i
-NoMore-released i = record { bytes = omega arith; texts = omega arith }
+NoMore-released i = record { bytes = omega arith; texts = omega arith; results = omega arith }
 
 -- a limit that a count isn't above is above none that is no more
 not_above : (limit before now : ℕ) → now ≤ before → nat_lt limit before ≡ false → nat_lt limit now ≡ false
@@ -108,10 +111,13 @@ first_not x rest false passes none = none
 -- where the counts are no more, no limit refuses what none refused
 pub input_refusal-no_more : (l : Limits) (now before : PageInput) → NoMore now before → input_refusal l before ≡ None → input_refusal l now ≡ None
 input_refusal-no_more l now before less none =
-    let stack = neither Stack (if nat_lt l.depth (depth before) then Some Depth else None) (nat_lt l.stack (pushed before)) none in
-    let texts = neither Depth None (nat_lt l.depth (depth before)) stack.1 in
+    let kept_back : Option Limit = if nat_lt l.conditions (results before) then Some Conditions else None in
+    let stack = neither Stack (if nat_lt l.depth (depth before) then Some Depth else kept_back) (nat_lt l.stack (pushed before)) none in
+    let texts = neither Depth kept_back (nat_lt l.depth (depth before)) stack.1 in
+    let kept = neither Conditions None (nat_lt l.conditions (results before)) texts.1 in
     first_not Stack _ _ (not_above l.stack (pushed before) (pushed now) less.bytes stack.0)
-    (first_not Depth None _ (not_above l.depth (depth before) (depth now) less.texts texts.0) refl)
+    (first_not Depth _ _ (not_above l.depth (depth before) (depth now) less.texts texts.0)
+    (first_not Conditions None _ (not_above l.conditions (results before) (results now) less.results kept.0) refl))
 
 -- where the names are within their limit, the others decide
 pub first_passed-few_names : (l : Limits) (rs : AllRegisters) (i : PageInput) → nat_lt l.names (length rs.named) ≡ false

@@ -1,105 +1,184 @@
--- What reading changes in the input: its counts stay, no free byte comes ahead, and little becomes half read.
+-- What reading changes in the input: its counts stay, no free byte comes ahead, and few endings more are to come.
 --
--- Each function f of reading has its lemma Keeps-f here, with a line for each of its cases.
-use Rattle.std.proofs.Common.{◌≡◌, ℕ, ◌+◌, ◌≤◌, Bool, true, false, List, [], ◌∷◌, ◌++◌, length, map, Option, Some, None, refl, sym, subst, ◌∙◌, arith}
-use Rattle.std.specs.Prelude.{◌||◌, decimal, if◌then◌else◌, ◌==◌}
+-- Each function f of reading has its lemma here, with a line for each of its cases: Stays-f where it leaves the input,
+-- and else Keeps-f.
+use Rattle.std.proofs.Common.{◌≡◌, ℕ, ◌+◌, ◌-◌, ◌≤◌, Bool, true, false, List, [], ◌∷◌, ◌++◌, length, map, Option, Some, None, refl, sym, subst, ap, ◌∙◌, arith}
+use Rattle.std.specs.Prelude.{◌&&◌, ◌||◌, bytes_eq, decimal, find, nat_le, not, if◌then◌else◌, ◌==◌}
+use Rattle.std.specs.List.{AllByRecursion}
+use Rattle.std.proofs.Math.Bool.{and-false}
 use Rattle.roff_lines.specs.declared.glyph.Glyph.TheVariants.{Printed}
-use Rattle.roff_scan.specs.Bytes.{tab, newline, blank, apostrophe, dot, is_silent, is_dropped}
+use Rattle.roff_scan.specs.Bytes.{tab, newline, blank, apostrophe, dot, backslash, is_silent, is_dropped}
 use Rattle.roff_scan.specs.Characters.{character}
 use Rattle.roff_scan.specs.Escapes.{escape_of}
-use Rattle.roff_scan.specs.Halves.{byte_read, reading_ended}
-use Rattle.roff_scan.specs.Input.{Ahead, ByteAhead, EndAhead, holding_text}
+use Rattle.roff_scan.specs.Halves.{Reads, byte_read, reading_ended}
+use Rattle.roff_scan.specs.Input.{Ahead, ByteAhead, EndAhead, choosing, holding_text, kept_last, without_last}
 use Rattle.roff_scan.specs.declared.escapes.Escape.{Escape as Kind}
-use Rattle.roff_scan.specs.declared.escapes.Escape.TheVariants.{Prints, Blank, NoWidth, Nothing as GivesNothing, LeftOut as IsLeftOut, Comment as BeginsComment, Size as BeginsSize, Name as BeginsName, Text as BeginsText, Width as BeginsWidth}
+use Rattle.roff_scan.specs.declared.escapes.Escape.TheVariants.{Prints, Blank, NoWidth, Nothing as GivesNothing, Brace, LeftOut as IsLeftOut, Comment as BeginsComment, Size as BeginsSize, Name as BeginsName, Text as BeginsText, Width as BeginsWidth}
 use Rattle.roff_scan.specs.declared.escapes.NameUse.{NameUse}
 use Rattle.roff_scan.specs.declared.escapes.NameUse.TheVariants.{Register, Text as OfText, Argument, Character, Font, LeftOut as NameLeftOut}
 use Rattle.roff_scan.specs.declared.escapes.TextUse.TheVariants.{Motion as OfMotion, LeftOut as LeftOutText}
+use Rattle.roff_scan.specs.declared.half.ConditionPart.TheVariants.{Choice, Expression, Decided, Compared}
 use Rattle.roff_scan.specs.declared.half.CopyUnit.{CopyUnit}
 use Rattle.roff_scan.specs.declared.half.CopyUnit.TheVariants.{Byte, Kept}
-use Rattle.roff_scan.specs.Half.{Half, Backslash, Comment, Name as NameHalf, Size, Delimited, Width, text_held}
+use Rattle.roff_scan.specs.Half.{Half, Backslash, Comment, Name as NameHalf, Size, Delimited, Width, Condition, text_held}
+use Rattle.roff_scan.specs.declared.half.Decision.{Decision}
 use Rattle.roff_scan.specs.declared.half.Read.{Read}
-use Rattle.roff_scan.specs.declared.half.Read.TheVariants.{GoesOn, Unit as GivesUnit, Holds, Escape, Asks, Motion, Measures, Tells}
+use Rattle.roff_scan.specs.declared.half.Read.TheVariants.{GoesOn, Unit as GivesUnit, Holds, Escape, Asks, Motion, Measures, Tells, Decides}
 use Rattle.roff_store.specs.declared.register.Direction.{Direction}
 use Rattle.roff_run.specs.declared.reading.Reading.{Reading}
-use Rattle.roff_run.specs.declared.reading.Reading.TheVariants.{LineStart, Text as InText, Control, Name, Arguments as InArguments, Dropped}
+use Rattle.roff_run.specs.declared.reading.Reading.TheVariants.{LineStart, Branch, Braced, Text as InText, Control, Name, Arguments as InArguments, Deciding, Skipping, Dropped}
 use Rattle.roff_run.specs.declared.reading.TextLine.{TextLine}
 use Rattle.roff_run.specs.declared.request.LineReading.{LineReading}
-use Rattle.roff_run.specs.declared.request.LineReading.TheVariants.{ByArguments}
+use Rattle.roff_run.specs.declared.request.LineReading.TheVariants.{ByArguments, ByCondition, ByElse}
 use Rattle.roff_run.specs.declared.request.Request.{Request}
-use Rattle.roff_run.specs.Reading.{PageInput, Taking, fresh_line, glyph_taking, blank_taking, text_taking, escape_meant, escape_taking, character_printed, character_taking, asking, measuring, name_taking, settling, first_taking, beginning_found, text_found, unit_found, arguments_found, dropped_taking, ends_name, line_taking, name_ended_taking, behind_name, name_whole_taking, kept_taking, interrupted, taking, half_ended, end_taking, going_on}
+use Rattle.roff_run.specs.Reading.{PageInput, Taking, fresh_line, glyph_taking, blank_taking, text_taking, escape_meant, escape_taking, character_printed, character_taking, asking, measuring, name_taking, settling, line_begun, first_taking, first_escape, beginning_found, text_found, unit_found, no_unit_found, arguments_found, skipping_taking, branch_of, branch_taking, is_so, decided, kept_if, condition_found, reads_else, dropped_taking, ends_name, line_taking, name_ended_taking, behind_name, name_whole_taking, kept_taking, interrupted, taking, half_ended, end_taking, going_on}
 use Rattle.roff_run.specs.Registers.{Known, known_behind, step_changes, text_of_register}
-use Rattle.roff_run.specs.Requests.{PageEvent, row_of, request_named}
-use Rattle.roff_run.specs.TurnsToCome.{free_ahead}
-use Rattle.roff_run.proofs.HalfCounts.{length-byte_read, length-reading_ended}
+use Rattle.roff_run.specs.Requests.{PageEvent, has_name, row_of, request_named, requests}
+use Rattle.roff_run.specs.TurnsToCome.{endings_of, free_ahead}
+use Rattle.roff_run.proofs.HalfCounts.{Falls, Leaves, freed_endings, endings-byte_read, endings-reading_ended}
 
--- an input behind another: of the same counts, with no more free bytes ahead, and no more than this half read
-pub record Keeps (most : ℕ) (i j : PageInput) : Type 0 where
+-- what a name's first byte is good for: behind the name a condition may begin, which ends in two turns
+abbrev pub begun : Reading → ℕ
+begun (Name breaks first) = 1
+begun (_) = 0
+
+-- an input behind another, in which this is read: of the same counts, with as many free bytes ahead, and no more than so
+-- many endings to come
+pub record Keeps (most : ℕ) (i j : PageInput) (reading : Reading) : Type 0 where
   pub charge : j.charge ≡ i.charge
   pub newlines : j.newlines ≡ i.newlines
   pub line : j.line ≡ i.line
   pub free : free_ahead j.ahead ≡ free_ahead i.ahead
-  pub half : length j.half ≤ most
+  pub half : endings_of j.half + begun reading ≤ most
+
+-- the same of what is done with an item
+abbrev KeepsBy : ℕ → PageInput → Taking → Type 0
+KeepsBy most i t = Keeps most i t.input t.reading
 
 -- either of two, by a test
-Keeps-if : (most : ℕ) (i : PageInput) (b : Bool) (t u : Taking) → Keeps most i t.input → Keeps most i u.input → Keeps most i (if b then t else u).input
+Keeps-if : (most : ℕ) (i : PageInput) (b : Bool) (t u : Taking) → KeepsBy most i t → KeepsBy most i u → KeepsBy most i (if b then t else u)
 Keeps-if most i true t u first second = first
 Keeps-if most i false t u first second = second
 
--- so it does where this is half read
-leaves_ended : (is_text : Bool) (half : List Half) (first : Half) (others : List Half) → half ≡ first ∷ others
-    → length (reading_ended is_text half).1 ≤ length others
-leaves_ended is_text half first others is =
-    subst (λ (h : List Half). length (reading_ended is_text h).1 ≤ length others) (sym is) (length-reading_ended is_text first others)
+-- the input is the same, and no name is read
+record Stays (i : PageInput) (t : Taking) : Type 0 where
+  input : t.input ≡ i
+  unnamed : begun t.reading ≡ 0
 
--- the input is the same, by a test
-input-if : (i : PageInput) (b : Bool) (t u : Taking) → t.input ≡ i → u.input ≡ i → (if b then t else u).input ≡ i
-input-if i true t u first second = first
-input-if i false t u first second = second
+-- either of two, by a test
+Stays-if : (i : PageInput) (b : Bool) (t u : Taking) → Stays i t → Stays i u → Stays i (if b then t else u)
+Stays-if i true t u first second = first
+Stays-if i false t u first second = second
 
--- a blank of a text line leaves the input as it is
-input-blank_taking : (i : PageInput) (line : TextLine) → (blank_taking i line).input ≡ i
-input-blank_taking i line = input-if i line.has_glyph _ _ refl refl
+-- where this is read, which is no name
+Stays-going_on : (i : PageInput) (reading : Reading) → begun reading ≡ 0 → Stays i (going_on i reading)
+Stays-going_on i reading unnamed = record { input = refl; unnamed = unnamed }
 
--- and so does a byte of a text line
-input-text_taking : (i : PageInput) (line : TextLine) (b : ℕ) → (text_taking i line b).input ≡ i
-input-text_taking i line b =
-    input-if i (b == newline) _ _ refl
-    (input-if i (b == tab || is_silent b) _ (if b == blank then blank_taking i line else glyph_taking i line (Printed b)) refl
-    (input-if i (b == blank) (blank_taking i line) (glyph_taking i line (Printed b)) (input-blank_taking i line) refl))
+-- where no name is read, that begins none
+Keeps-unnamed : (most : ℕ) (i j : PageInput) (old reading : Reading) → Keeps most i j old → begun reading ≡ 0 → Keeps most i j reading
+Keeps-unnamed most i j old reading keeps unnamed = record {
+  charge = keeps.charge;
+  newlines = keeps.newlines;
+  line = keeps.line;
+  free = keeps.free;
+  half = omega (arith, keeps.half, unnamed);
+}
 
--- and an escape without a name
-input-escape_meant : (i : PageInput) (line : TextLine) (b : ℕ) (kind : Kind) → (escape_meant i line b kind).input ≡ i
-input-escape_meant i line b (Prints byte) = refl
-input-escape_meant i line b Blank = refl
-input-escape_meant i line b NoWidth = refl
-input-escape_meant i line b IsLeftOut = refl
-input-escape_meant i line b GivesNothing = refl
-input-escape_meant i line b BeginsComment = refl
-input-escape_meant i line b BeginsSize = refl
-input-escape_meant i line b (BeginsName purpose) = refl
-input-escape_meant i line b (BeginsText OfMotion) = refl
-input-escape_meant i line b (BeginsText (LeftOutText byte)) = refl
-input-escape_meant i line b BeginsWidth = refl
+-- what has stayed keeps what was kept
+Keeps-stays : (most : ℕ) (i j : PageInput) (reading : Reading) (t : Taking) → Keeps most i j reading → Stays j t → KeepsBy most i t
+Keeps-stays most i j reading t keeps stays =
+    subst (λ (n : PageInput). Keeps most i n t.reading) (sym stays.input) (Keeps-unnamed most i j reading t.reading keeps stays.unnamed)
 
-input-escape_taking : (i : PageInput) (line : TextLine) (b : ℕ) → (escape_taking i line b).input ≡ i
-input-escape_taking i line b = input-escape_meant i line b (escape_of b)
+-- a blank of a text line
+Stays-blank_taking : (i : PageInput) (line : TextLine) → Stays i (blank_taking i line)
+Stays-blank_taking i line = Stays-if i line.has_glyph _ _ (record { input = refl; unnamed = refl }) (record { input = refl; unnamed = refl })
 
--- and a character
-input-character_printed : (i : PageInput) (line : TextLine) (name text : Option (List ℕ)) → (character_printed i line name text).input ≡ i
-input-character_printed i line name (Some text) = refl
-input-character_printed i line name None = refl
+-- a byte of one
+Stays-text_taking : (i : PageInput) (line : TextLine) (b : ℕ) → Stays i (text_taking i line b)
+Stays-text_taking i line b =
+    Stays-if i (b == newline) _ _ (record { input = refl; unnamed = refl })
+    (Stays-if i (b == tab || is_silent b) _ (if b == blank then blank_taking i line else glyph_taking i line (Printed b)) (record { input = refl; unnamed = refl })
+    (Stays-if i (b == blank) (blank_taking i line) (glyph_taking i line (Printed b)) (Stays-blank_taking i line) (record { input = refl; unnamed = refl })))
 
-input-character_taking : (i : PageInput) (line : TextLine) (name : Option (List ℕ)) → (character_taking i line name).input ≡ i
-input-character_taking i line (Some name) = input-character_printed i line (Some name) (character name)
-input-character_taking i line None = refl
+-- an escape without a name
+Stays-escape_meant : (i : PageInput) (line : TextLine) (b : ℕ) (kind : Kind) → Stays i (escape_meant i line b kind)
+Stays-escape_meant i line b (Prints byte) = record { input = refl; unnamed = refl }
+Stays-escape_meant i line b Blank = record { input = refl; unnamed = refl }
+Stays-escape_meant i line b NoWidth = record { input = refl; unnamed = refl }
+Stays-escape_meant i line b Brace = record { input = refl; unnamed = refl }
+Stays-escape_meant i line b IsLeftOut = record { input = refl; unnamed = refl }
+Stays-escape_meant i line b GivesNothing = record { input = refl; unnamed = refl }
+Stays-escape_meant i line b BeginsComment = record { input = refl; unnamed = refl }
+Stays-escape_meant i line b BeginsSize = record { input = refl; unnamed = refl }
+Stays-escape_meant i line b (BeginsName purpose) = record { input = refl; unnamed = refl }
+Stays-escape_meant i line b (BeginsText OfMotion) = record { input = refl; unnamed = refl }
+Stays-escape_meant i line b (BeginsText (LeftOutText byte)) = record { input = refl; unnamed = refl }
+Stays-escape_meant i line b BeginsWidth = record { input = refl; unnamed = refl }
 
--- and the first byte of a line
-input-first_taking : (i : PageInput) (b : ℕ) → (first_taking i b).input ≡ i
-input-first_taking i b = input-if i (b == dot) _ _ refl (input-if i (b == apostrophe) _ _ refl (input-text_taking i fresh_line b))
+Stays-escape_taking : (i : PageInput) (line : TextLine) (b : ℕ) → Stays i (escape_taking i line b)
+Stays-escape_taking i line b = Stays-escape_meant i line b (escape_of b)
 
--- this is half read behind it
-Keeps-half : (most : ℕ) (i j : PageInput) (half : List Half) → length half ≤ most → j ≡ record i { half = half } → Keeps most i j
-Keeps-half most i j half few is = subst (λ (k : PageInput). Keeps most i k) (sym is) (record { charge = refl; newlines = refl; line = refl; free = refl; half = few })
+-- a character
+Stays-character_printed : (i : PageInput) (line : TextLine) (name text : Option (List ℕ)) → Stays i (character_printed i line name text)
+Stays-character_printed i line name (Some text) = record { input = refl; unnamed = refl }
+Stays-character_printed i line name None = record { input = refl; unnamed = refl }
+
+Stays-character_taking : (i : PageInput) (line : TextLine) (name : Option (List ℕ)) → Stays i (character_taking i line name)
+Stays-character_taking i line (Some name) = Stays-character_printed i line (Some name) (character name)
+Stays-character_taking i line None = record { input = refl; unnamed = refl }
+
+-- the first byte of a line, and of a branch
+Stays-line_begun : (i : PageInput) (b : ℕ) → Stays i (line_begun i b)
+Stays-line_begun i b =
+    Stays-if i (b == dot) _ _ (record { input = refl; unnamed = refl })
+    (Stays-if i (b == apostrophe) _ _ (record { input = refl; unnamed = refl }) (Stays-text_taking i fresh_line b))
+
+Stays-first_taking : (i : PageInput) (reading : Reading) (b : ℕ) → Stays i (first_taking i reading b)
+Stays-first_taking i Branch b = Stays-if i (b == blank) _ _ (record { input = refl; unnamed = refl }) (Stays-line_begun i b)
+Stays-first_taking i Braced b =
+    Stays-if i (b == blank) _ _ (record { input = refl; unnamed = refl })
+    (Stays-if i (b == newline) _ _ (record { input = refl; unnamed = refl }) (Stays-line_begun i b))
+Stays-first_taking i LineStart b = Stays-line_begun i b
+Stays-first_taking i (InText line) b = Stays-line_begun i b
+Stays-first_taking i (Control breaks) b = Stays-line_begun i b
+Stays-first_taking i (Name breaks first) b = Stays-line_begun i b
+Stays-first_taking i (InArguments breaks request) b = Stays-line_begun i b
+Stays-first_taking i (Deciding keeps) b = Stays-line_begun i b
+Stays-first_taking i (Skipping opened closed behind) b = Stays-line_begun i b
+Stays-first_taking i Dropped b = Stays-line_begun i b
+
+-- an escape there
+Stays-first_escape : (i : PageInput) (reading : Reading) (b : ℕ) → Stays i (first_escape i reading b)
+Stays-first_escape i Branch b = Stays-if i (b == 123) _ _ (record { input = refl; unnamed = refl }) (Stays-escape_taking i fresh_line b)
+Stays-first_escape i Braced b = Stays-if i (b == newline) _ _ (record { input = refl; unnamed = refl }) (Stays-escape_taking i fresh_line b)
+Stays-first_escape i LineStart b = Stays-escape_taking i fresh_line b
+Stays-first_escape i (InText line) b = Stays-escape_taking i fresh_line b
+Stays-first_escape i (Control breaks) b = Stays-escape_taking i fresh_line b
+Stays-first_escape i (Name breaks first) b = Stays-escape_taking i fresh_line b
+Stays-first_escape i (InArguments breaks request) b = Stays-escape_taking i fresh_line b
+Stays-first_escape i (Deciding keeps) b = Stays-escape_taking i fresh_line b
+Stays-first_escape i (Skipping opened closed behind) b = Stays-escape_taking i fresh_line b
+Stays-first_escape i Dropped b = Stays-escape_taking i fresh_line b
+
+-- a byte of a branch that is skipped
+Stays-skipping_taking : (i : PageInput) (opened closed : ℕ) (behind : Bool) (b : ℕ) → Stays i (skipping_taking i opened closed behind b)
+Stays-skipping_taking i opened closed true b = record { input = refl; unnamed = refl }
+Stays-skipping_taking i opened closed false b =
+    Stays-if i (b == backslash) _ _ (record { input = refl; unnamed = refl })
+    (Stays-if i (b == newline && nat_le opened closed) _ _ (record { input = refl; unnamed = refl }) (record { input = refl; unnamed = refl }))
+
+-- a byte of a dropped line
+unnamed-dropped : (ends : Bool) → begun (if ends then LineStart else Dropped) ≡ 0
+unnamed-dropped true = refl
+unnamed-dropped false = refl
+
+Stays-dropped_taking : (i : PageInput) (b : ℕ) → Stays i (dropped_taking i b)
+Stays-dropped_taking i b = Stays-going_on i (if b == newline then LineStart else Dropped) (unnamed-dropped (b == newline))
+
+-- a branch
+unnamed-branch_of : (so : Bool) → begun (branch_of so) ≡ 0
+unnamed-branch_of true = refl
+unnamed-branch_of false = refl
 
 -- no byte of a pushed text is free
 free_ahead-pushed : (text : List ℕ) (items : List (Ahead PageEvent)) → free_ahead (map ByteAhead text ++ EndAhead ∷ items) ≡ free_ahead items
@@ -112,32 +191,43 @@ free_ahead-register : (k : Known) (step : Option Direction) (name : List ℕ) (i
 free_ahead-register k step name items = free_ahead-pushed (text_of_register (known_behind (step_changes step name) k) name) items
 
 -- nor is one of a width's digits
-Keeps-measuring : (most : ℕ) (i j : PageInput) (reading : Reading) (width : ℕ) → Keeps most i j → Keeps most i (measuring j reading width).input
+Keeps-measuring : (most : ℕ) (i j : PageInput) (reading : Reading) (width : ℕ) → Keeps most i j reading → KeepsBy most i (measuring j reading width)
 Keeps-measuring most i j reading width keeps =
     record { charge = keeps.charge; newlines = keeps.newlines; line = keeps.line; free = free_ahead-pushed (decimal width) j.ahead ∙ keeps.free; half = keeps.half }
 
--- a unit of a text leaves as much half read
-length-text_held : (unit : CopyUnit) (half : List Half) → length (text_held unit half) ≡ length half
-length-text_held unit [] = refl
-length-text_held unit (Backslash ∷ rest) = refl
-length-text_held unit (Comment ∷ rest) = refl
-length-text_held unit (NameHalf purpose part ∷ rest) = refl
-length-text_held unit (Size part ∷ rest) = refl
-length-text_held unit (Delimited purpose d text ∷ rest) = refl
-length-text_held unit (Width d width is_deep ∷ rest) = refl
+-- a unit of a text leaves as many endings
+endings-text_held : (unit : CopyUnit) (half : List Half) → endings_of (text_held unit half) ≡ endings_of half
+endings-text_held unit [] = refl
+endings-text_held unit (Backslash ∷ rest) = refl
+endings-text_held unit (Comment ∷ rest) = refl
+endings-text_held unit (NameHalf purpose part ∷ rest) = refl
+endings-text_held unit (Size part ∷ rest) = refl
+endings-text_held unit (Delimited purpose d text ∷ rest) = refl
+endings-text_held unit (Width d width is_deep ∷ rest) = refl
+endings-text_held unit (Condition (Choice negated) text ∷ rest) = refl
+endings-text_held unit (Condition (Expression negated) text ∷ rest) = refl
+endings-text_held unit (Condition (Decided decision None) text ∷ rest) = refl
+endings-text_held unit (Condition (Decided decision (Some b)) text ∷ rest) = refl
+endings-text_held unit (Condition (Compared negated d first) text ∷ rest) = refl
 
-Keeps-holding_text : (most : ℕ) (i j : PageInput) (unit : CopyUnit) → Keeps most i j → Keeps most i (holding_text unit j)
-Keeps-holding_text most i j unit keeps = record {
+Keeps-holding_text : (most : ℕ) (i j : PageInput) (reading : Reading) (unit : CopyUnit) → Keeps most i j reading → Keeps most i (holding_text unit j) reading
+Keeps-holding_text most i j reading unit keeps = record {
   charge = keeps.charge;
   newlines = keeps.newlines;
   line = keeps.line;
   free = keeps.free;
-  half = omega (arith, keeps.half, length-text_held unit j.half);
+  half = omega (arith, keeps.half, endings-text_held unit j.half);
 }
 
+-- this is half read otherwise
+Keeps-with_half : (less most : ℕ) (i j : PageInput) (old reading : Reading) (half : List Half) → Keeps less i j old → endings_of half + begun reading ≤ most
+    → Keeps most i (record j { half = half }) reading
+Keeps-with_half less most i j old reading half keeps few =
+    record { charge = keeps.charge; newlines = keeps.newlines; line = keeps.line; free = keeps.free; half = few }
+
 -- what a name asks for
-Keeps-asking : (most : ℕ) (k : Known) (i j : PageInput) (reading : Reading) (purpose : NameUse) (name : Option (List ℕ)) → Keeps most i j
-    → Keeps most i (asking k j reading purpose name).input
+Keeps-asking : (most : ℕ) (k : Known) (i j : PageInput) (reading : Reading) (purpose : NameUse) (name : Option (List ℕ)) → Keeps most i j reading
+    → KeepsBy most i (asking k j reading purpose name)
 Keeps-asking most k i j reading purpose None keeps = keeps
 Keeps-asking most k i j reading (Register step) (Some name) keeps =
     record { charge = keeps.charge; newlines = keeps.newlines; line = keeps.line; free = free_ahead-register k step name j.ahead ∙ keeps.free; half = keeps.half }
@@ -148,145 +238,270 @@ Keeps-asking most k i j reading Font (Some name) keeps = record { charge = keeps
 Keeps-asking most k i j reading (NameLeftOut b) (Some name) keeps = record { charge = keeps.charge; newlines = keeps.newlines; line = keeps.line; free = keeps.free; half = keeps.half }
 
 -- a name of a text line
-Keeps-name_taking : (most : ℕ) (k : Known) (i j : PageInput) (reading : Reading) (line : TextLine) (purpose : NameUse) (name : Option (List ℕ)) → Keeps most i j
-    → Keeps most i (name_taking k j reading line purpose name).input
-Keeps-name_taking most k i j reading line Character name keeps = subst (λ (n : PageInput). Keeps most i n) (sym (input-character_taking j line name)) keeps
-Keeps-name_taking most k i j reading line Font name keeps = keeps
-Keeps-name_taking most k i j reading line (NameLeftOut b) name keeps = keeps
+Keeps-name_taking : (most : ℕ) (k : Known) (i j : PageInput) (reading : Reading) (line : TextLine) (purpose : NameUse) (name : Option (List ℕ)) → Keeps most i j reading
+    → KeepsBy most i (name_taking k j reading line purpose name)
+Keeps-name_taking most k i j reading line Character name keeps = Keeps-stays most i j reading _ keeps (Stays-character_taking j line name)
+Keeps-name_taking most k i j reading line Font name keeps = Keeps-unnamed most i j reading _ keeps refl
+Keeps-name_taking most k i j reading line (NameLeftOut b) name keeps = Keeps-unnamed most i j reading _ keeps refl
 Keeps-name_taking most k i j reading line (Register step) name keeps = Keeps-asking most k i j reading (Register step) name keeps
 Keeps-name_taking most k i j reading line OfText name keeps = Keeps-asking most k i j reading OfText name keeps
 Keeps-name_taking most k i j reading line Argument name keeps = Keeps-asking most k i j reading Argument name keeps
 
--- this alone is half read otherwise
-Keeps-with_half : (most : ℕ) (i : PageInput) (half : List Half) → length half ≤ most → Keeps most i (record i { half = half })
-Keeps-with_half most i half few = record { charge = refl; newlines = refl; line = refl; free = refl; half = few }
+-- what was found of a text line
+Keeps-text_found : (most : ℕ) (k : Known) (i j : PageInput) (line : TextLine) (found : Read) → Keeps most i j (InText line)
+    → KeepsBy most i (text_found k j line found)
+Keeps-text_found most k i j line GoesOn keeps = keeps
+Keeps-text_found most k i j line (GivesUnit (Byte b)) keeps = Keeps-stays most i j (InText line) _ keeps (Stays-text_taking j line b)
+Keeps-text_found most k i j line (GivesUnit (Kept b)) keeps = Keeps-stays most i j (InText line) _ keeps (Stays-escape_taking j line b)
+Keeps-text_found most k i j line (Escape b) keeps = Keeps-stays most i j (InText line) _ keeps (Stays-escape_taking j line b)
+Keeps-text_found most k i j line (Asks purpose name) keeps = Keeps-name_taking most k i j (InText line) line purpose name keeps
+Keeps-text_found most k i j line (Holds unit) keeps = Keeps-holding_text most i j (InText line) unit keeps
+Keeps-text_found most k i j line (Motion columns remark) keeps = Keeps-unnamed most i j (InText line) _ keeps refl
+Keeps-text_found most k i j line (Measures width) keeps = Keeps-measuring most i j (InText line) width keeps
+Keeps-text_found most k i j line (Tells remark) keeps = keeps
+Keeps-text_found most k i j line (Decides decision freed) keeps = keeps
 
--- what was found of a text line, with this half read
-Keeps-text_found : (most : ℕ) (k : Known) (i : PageInput) (half : List Half) (line : TextLine) (found : Read) → length half ≤ most
-    → Keeps most i (text_found k (record i { half = half }) line found).input
-Keeps-text_found most k i half line GoesOn few = record { charge = refl; newlines = refl; line = refl; free = refl; half = few }
-Keeps-text_found most k i half line (GivesUnit (Byte b)) few = Keeps-half most i _ half few (input-text_taking (record i { half = half }) line b)
-Keeps-text_found most k i half line (GivesUnit (Kept b)) few = Keeps-half most i _ half few (input-escape_taking (record i { half = half }) line b)
-Keeps-text_found most k i half line (Escape b) few = Keeps-half most i _ half few (input-escape_taking (record i { half = half }) line b)
-Keeps-text_found most k i half line (Asks purpose name) few =
-    Keeps-name_taking most k i (record i { half = half }) (InText line) line purpose name (Keeps-with_half most i half few)
-Keeps-text_found most k i half line (Holds unit) few = Keeps-holding_text most i (record i { half = half }) unit (Keeps-with_half most i half few)
-Keeps-text_found most k i half line (Motion columns remark) few = Keeps-with_half most i half few
-Keeps-text_found most k i half line (Measures width) few = Keeps-measuring most i (record i { half = half }) (InText line) width (Keeps-with_half most i half few)
-Keeps-text_found most k i half line (Tells remark) few = Keeps-with_half most i half few
-
--- what was found where a line begins, with this half read
-Keeps-beginning_found : (most : ℕ) (k : Known) (i : PageInput) (half : List Half) (found : Read) → length half ≤ most
-    → Keeps most i (beginning_found k (record i { half = half }) found).input
-Keeps-beginning_found most k i half GoesOn few = record { charge = refl; newlines = refl; line = refl; free = refl; half = few }
-Keeps-beginning_found most k i half (GivesUnit (Byte b)) few = Keeps-half most i _ half few (input-first_taking (record i { half = half }) b)
-Keeps-beginning_found most k i half (GivesUnit (Kept b)) few = Keeps-half most i _ half few (input-escape_taking (record i { half = half }) fresh_line b)
-Keeps-beginning_found most k i half (Escape b) few = Keeps-half most i _ half few (input-escape_taking (record i { half = half }) fresh_line b)
-Keeps-beginning_found most k i half (Asks purpose name) few =
-    Keeps-name_taking most k i (record i { half = half }) LineStart fresh_line purpose name (Keeps-with_half most i half few)
-Keeps-beginning_found most k i half (Holds unit) few = Keeps-holding_text most i (record i { half = half }) unit (Keeps-with_half most i half few)
-Keeps-beginning_found most k i half (Motion columns remark) few = Keeps-with_half most i half few
-Keeps-beginning_found most k i half (Measures width) few = Keeps-measuring most i (record i { half = half }) LineStart width (Keeps-with_half most i half few)
-Keeps-beginning_found most k i half (Tells remark) few = Keeps-with_half most i half few
+-- what was found where a line begins, or a branch
+Keeps-beginning_found : (most : ℕ) (k : Known) (i j : PageInput) (reading : Reading) (found : Read) → Keeps most i j reading
+    → KeepsBy most i (beginning_found k j reading found)
+Keeps-beginning_found most k i j reading GoesOn keeps = keeps
+Keeps-beginning_found most k i j reading (GivesUnit (Byte b)) keeps = Keeps-stays most i j reading _ keeps (Stays-first_taking j reading b)
+Keeps-beginning_found most k i j reading (GivesUnit (Kept b)) keeps = Keeps-stays most i j reading _ keeps (Stays-first_escape j reading b)
+Keeps-beginning_found most k i j reading (Escape b) keeps = Keeps-stays most i j reading _ keeps (Stays-first_escape j reading b)
+Keeps-beginning_found most k i j reading (Asks purpose name) keeps = Keeps-name_taking most k i j reading fresh_line purpose name keeps
+Keeps-beginning_found most k i j reading (Holds unit) keeps = Keeps-holding_text most i j reading unit keeps
+Keeps-beginning_found most k i j reading (Motion columns remark) keeps = Keeps-unnamed most i j reading _ keeps refl
+Keeps-beginning_found most k i j reading (Measures width) keeps = Keeps-measuring most i j reading width keeps
+Keeps-beginning_found most k i j reading (Tells remark) keeps = keeps
+Keeps-beginning_found most k i j reading (Decides decision freed) keeps = keeps
 
 -- a unit of a line of arguments
-Keeps-unit_found : (most : ℕ) (k : Known) (i : PageInput) (half : List Half) (breaks : Bool) (request : Request) (unit : CopyUnit) → length half ≤ most
-    → Keeps most i (unit_found k (record i { half = half }) breaks request unit).input
-Keeps-unit_found most k i half breaks request (Byte b) few =
+Keeps-unit_found : (most : ℕ) (k : Known) (i j : PageInput) (breaks : Bool) (request : Request) (unit : CopyUnit) → Keeps most i j (InArguments breaks request)
+    → KeepsBy most i (unit_found k j breaks request unit)
+Keeps-unit_found most k i j breaks request (Byte b) keeps =
     Keeps-if most i (b == newline) _ _
-    (record { charge = refl; newlines = refl; line = refl; free = refl; half = few })
-    (record { charge = refl; newlines = refl; line = refl; free = refl; half = few })
-Keeps-unit_found most k i half breaks request (Kept b) few = record { charge = refl; newlines = refl; line = refl; free = refl; half = few }
+    (record { charge = keeps.charge; newlines = keeps.newlines; line = keeps.line; free = keeps.free; half = keeps.half })
+    (record { charge = keeps.charge; newlines = keeps.newlines; line = keeps.line; free = keeps.free; half = keeps.half })
+Keeps-unit_found most k i j breaks request (Kept b) keeps =
+    record { charge = keeps.charge; newlines = keeps.newlines; line = keeps.line; free = keeps.free; half = keeps.half }
 
--- where no quote follows, with this half read
-Keeps-settled : (most : ℕ) (i : PageInput) (half : List Half) → length half ≤ most → Keeps most i (settling (record i { half = half }))
-Keeps-settled most i half few = record { charge = refl; newlines = refl; line = refl; free = refl; half = few }
+-- what was found that is no unit
+Keeps-no_unit_found : (most : ℕ) (k : Known) (i j : PageInput) (reading : Reading) (found : Read) → Keeps most i j reading
+    → KeepsBy most i (no_unit_found k j reading found)
+Keeps-no_unit_found most k i j reading (Holds unit) keeps = Keeps-holding_text most i j reading unit keeps
+Keeps-no_unit_found most k i j reading (Asks purpose name) keeps = Keeps-asking most k i j reading purpose name keeps
+Keeps-no_unit_found most k i j reading (Measures width) keeps = Keeps-measuring most i j reading width keeps
+Keeps-no_unit_found most k i j reading (Tells remark) keeps = keeps
+Keeps-no_unit_found most k i j reading GoesOn keeps = keeps
+Keeps-no_unit_found most k i j reading (GivesUnit unit) keeps = keeps
+Keeps-no_unit_found most k i j reading (Escape b) keeps = keeps
+Keeps-no_unit_found most k i j reading (Motion columns remark) keeps = keeps
+Keeps-no_unit_found most k i j reading (Decides decision freed) keeps = keeps
 
--- what was found of one, with this half read
-Keeps-arguments_found : (most : ℕ) (k : Known) (i : PageInput) (half : List Half) (breaks : Bool) (request : Request) (found : Read) → length half ≤ most
-    → Keeps most i (arguments_found k (record i { half = half }) breaks request found).input
-Keeps-arguments_found most k i half breaks request (GivesUnit unit) few = Keeps-unit_found most k i half breaks request unit few
-Keeps-arguments_found most k i half breaks request (Escape b) few = Keeps-unit_found most k i half breaks request (Kept b) few
-Keeps-arguments_found most k i half breaks request GoesOn few = Keeps-settled most i half few
-Keeps-arguments_found most k i half breaks request (Asks purpose name) few =
-    Keeps-asking most k i (settling (record i { half = half })) (InArguments breaks request) purpose name (Keeps-settled most i half few)
-Keeps-arguments_found most k i half breaks request (Holds unit) few =
-    Keeps-holding_text most i (settling (record i { half = half })) unit (Keeps-settled most i half few)
-Keeps-arguments_found most k i half breaks request (Motion columns remark) few = Keeps-settled most i half few
-Keeps-arguments_found most k i half breaks request (Measures width) few =
-    Keeps-measuring most i (settling (record i { half = half })) (InArguments breaks request) width (Keeps-settled most i half few)
-Keeps-arguments_found most k i half breaks request (Tells remark) few = Keeps-settled most i half few
+-- and behind which no quote follows
+Keeps-settled : (most : ℕ) (k : Known) (i j : PageInput) (reading : Reading) (found : Read) → Keeps most i j reading
+    → KeepsBy most i (no_unit_found k (settling j) reading found)
+Keeps-settled most k i j reading found keeps =
+    Keeps-no_unit_found most k i (settling j) reading found
+    (record { charge = keeps.charge; newlines = keeps.newlines; line = keeps.line; free = keeps.free; half = keeps.half })
 
--- one thing more is half read, or none
-abbrev pub KeepsOneMore : PageInput → PageInput → Type 0
-KeepsOneMore i j = Keeps (length i.half + 1) i j
+-- what was found of a line of arguments
+Keeps-arguments_found : (most : ℕ) (k : Known) (i j : PageInput) (breaks : Bool) (request : Request) (found : Read) → Keeps most i j (InArguments breaks request)
+    → KeepsBy most i (arguments_found k j breaks request found)
+Keeps-arguments_found most k i j breaks request (GivesUnit unit) keeps = Keeps-unit_found most k i j breaks request unit keeps
+Keeps-arguments_found most k i j breaks request (Escape b) keeps = Keeps-unit_found most k i j breaks request (Kept b) keeps
+Keeps-arguments_found most k i j breaks request GoesOn keeps = Keeps-settled most k i j (InArguments breaks request) GoesOn keeps
+Keeps-arguments_found most k i j breaks request (Asks purpose name) keeps = Keeps-settled most k i j (InArguments breaks request) (Asks purpose name) keeps
+Keeps-arguments_found most k i j breaks request (Holds unit) keeps = Keeps-settled most k i j (InArguments breaks request) (Holds unit) keeps
+Keeps-arguments_found most k i j breaks request (Motion columns remark) keeps = Keeps-settled most k i j (InArguments breaks request) (Motion columns remark) keeps
+Keeps-arguments_found most k i j breaks request (Measures width) keeps = Keeps-settled most k i j (InArguments breaks request) (Measures width) keeps
+Keeps-arguments_found most k i j breaks request (Tells remark) keeps = Keeps-settled most k i j (InArguments breaks request) (Tells remark) keeps
+Keeps-arguments_found most k i j breaks request (Decides decision freed) keeps = Keeps-settled most k i j (InArguments breaks request) (Decides decision freed) keeps
 
--- the same input
-pub KeepsOneMore-same : (i : PageInput) → KeepsOneMore i i
-KeepsOneMore-same i = record { charge = refl; newlines = refl; line = refl; free = refl; half = omega arith }
+-- the first byte of a branch
+Keeps-branch_taking : (less most : ℕ) (k : Known) (i j : PageInput) (old : Reading) (so : Bool) (b : ℕ) → Keeps less i j old → less + 1 ≤ most
+    → KeepsBy most i (branch_taking k j so b)
+Keeps-branch_taking less most k i j old true b keeps one_more =
+    let read : Leaves (endings_of j.half + 1) (byte_read true j.half b) = endings-byte_read true j.half b in
+    Keeps-beginning_found most k i (record j { half = (byte_read true j.half b).1 }) Branch (byte_read true j.half b).0
+    (Keeps-with_half less most i j old Branch (byte_read true j.half b).1 keeps (omega (arith, keeps.half, read, one_more)))
+Keeps-branch_taking less most k i j old false b keeps one_more =
+    Keeps-stays most i j LineStart _ (Keeps-with_half less most i j old LineStart j.half keeps (omega (arith, keeps.half, one_more))) (Stays-skipping_taking j 0 0 false b)
 
--- the first byte behind a request's name
-Keeps-line_taking : (k : Known) (i : PageInput) (breaks : Bool) (request : Request) (r : LineReading) (b : ℕ) → KeepsOneMore i (line_taking k i breaks request r b).input
-Keeps-line_taking k i breaks request ByArguments b = Keeps-arguments_found _ k i (byte_read false i.half b).1 breaks request (byte_read false i.half b).0 (length-byte_read false i.half b)
+-- a result is kept, or isn't
+Keeps-kept_if : (most : ℕ) (i j : PageInput) (reading : Reading) (keeps so : Bool) → Keeps most i j reading → Keeps most i (kept_if keeps so j) reading
+Keeps-kept_if most i j reading true so keeps =
+    record { charge = keeps.charge; newlines = keeps.newlines; line = keeps.line; free = keeps.free; half = keeps.half }
+Keeps-kept_if most i j reading false so keeps = keeps
 
--- a byte behind a name
-Keeps-name_ended_taking : (k : Known) (i : PageInput) (breaks : Bool) (name : List ℕ) (b : ℕ) → KeepsOneMore i (name_ended_taking k i breaks name b).input
-Keeps-name_ended_taking k i breaks name b =
-    elim (request_named name) as (λ o. KeepsOneMore i (elim o as (λ _. Taking) [ None ↦ dropped_taking i b | Some request ↦ line_taking k i breaks request (row_of request).line b ]).input) [
-      | None ↦ KeepsOneMore-same i
-      | Some request ↦ Keeps-line_taking k i breaks request (row_of request).line b
-    ]
+-- a condition decided
+Keeps-decided : (less most : ℕ) (k : Known) (i j : PageInput) (old : Reading) (decision : Decision) (so : Bool) (freed : Option ℕ) → Keeps less i j old
+    → less + freed_endings (Decides decision freed) ≤ most → KeepsBy most i (decided k j so freed)
+Keeps-decided less most k i j old decision so None keeps few =
+    Keeps-with_half less most i j old (branch_of so) j.half keeps (omega (arith, keeps.half, few, unnamed-branch_of so))
+Keeps-decided less most k i j old decision so (Some b) keeps few = Keeps-branch_taking less most k i j old so b keeps few
 
--- the last byte of one
-Keeps-name_whole_taking : (i : PageInput) (breaks : Bool) (name : List ℕ) → KeepsOneMore i (name_whole_taking i breaks name).input
-Keeps-name_whole_taking i breaks name =
-    elim (request_named name) as (λ o. KeepsOneMore i (elim o as (λ _. Taking) [ None ↦ going_on i Dropped | Some request ↦ going_on i (behind_name breaks request (row_of request).line) ]).input) [
-      | None ↦ KeepsOneMore-same i
-      | Some request ↦ KeepsOneMore-same i
+-- or didn't yet
+Keeps-undecided : (less most : ℕ) (k : Known) (i j : PageInput) (reading : Reading) (found : Read) → Keeps less i j reading → less + freed_endings found ≤ most
+    → KeepsBy most i (no_unit_found k j reading found)
+Keeps-undecided less most k i j reading found keeps few =
+    Keeps-no_unit_found most k i j reading found (Keeps-with_half less most i j reading reading j.half keeps (omega (arith, keeps.half, few)))
+
+-- what was found of a condition, by whether its result is kept
+Keeps-condition_found : (less most : ℕ) (k : Known) (i j : PageInput) (keeping : Bool) (found : Read) → Keeps less i j (Deciding keeping)
+    → less + freed_endings found ≤ most → KeepsBy most i (condition_found k j keeping found)
+Keeps-condition_found less most k i j keeping (Decides decision freed) keeps few =
+    Keeps-decided less most k i _ (Deciding keeping) decision (is_so k decision) freed
+    (Keeps-kept_if less i j (Deciding keeping) keeping (is_so k decision) keeps) few
+Keeps-condition_found less most k i j keeping (Holds unit) keeps few = Keeps-undecided less most k i j (Deciding keeping) (Holds unit) keeps few
+Keeps-condition_found less most k i j keeping (Asks purpose name) keeps few = Keeps-undecided less most k i j (Deciding keeping) (Asks purpose name) keeps few
+Keeps-condition_found less most k i j keeping (Measures width) keeps few = Keeps-undecided less most k i j (Deciding keeping) (Measures width) keeps few
+Keeps-condition_found less most k i j keeping (Tells remark) keeps few = Keeps-undecided less most k i j (Deciding keeping) (Tells remark) keeps few
+Keeps-condition_found less most k i j keeping GoesOn keeps few = Keeps-undecided less most k i j (Deciding keeping) GoesOn keeps few
+Keeps-condition_found less most k i j keeping (GivesUnit unit) keeps few = Keeps-undecided less most k i j (Deciding keeping) (GivesUnit unit) keeps few
+Keeps-condition_found less most k i j keeping (Escape b) keeps few = Keeps-undecided less most k i j (Deciding keeping) (Escape b) keeps few
+Keeps-condition_found less most k i j keeping (Motion columns remark) keeps few = Keeps-undecided less most k i j (Deciding keeping) (Motion columns remark) keeps few
+
+-- one ending more is to come, or none
+abbrev pub KeepsOneMore : PageInput → Reading → PageInput → Reading → Type 0
+KeepsOneMore i old j reading = Keeps (endings_of i.half + begun old + 1) i j reading
+
+-- the same of what is done with an item
+abbrev OneMore : PageInput → Reading → Taking → Type 0
+OneMore i old t = KeepsOneMore i old t.input t.reading
+
+-- the same input, where the same is read
+pub KeepsOneMore-same : (i : PageInput) (reading : Reading) → KeepsOneMore i reading i reading
+KeepsOneMore-same i reading = record { charge = refl; newlines = refl; line = refl; free = refl; half = omega arith }
+
+-- what leaves the input, and reads no name
+OneMore-stays : (i : PageInput) (old : Reading) (t : Taking) → Stays i t → OneMore i old t
+OneMore-stays i old t stays = Keeps-stays _ i i old t (KeepsOneMore-same i old) stays
+
+-- what something reads, with this half read then
+Keeps-read : (is_text : Bool) (i : PageInput) (old reading : Reading) (b : ℕ) → begun reading ≡ 0
+    → KeepsOneMore i old (record i { half = (byte_read is_text i.half b).1 }) reading
+Keeps-read is_text i old reading b unnamed =
+    let read : Leaves (endings_of i.half + 1) (byte_read is_text i.half b) = endings-byte_read is_text i.half b in
+    Keeps-with_half _ _ i i old reading (byte_read is_text i.half b).1 (KeepsOneMore-same i old) (omega (arith, read, unnamed))
+
+-- a list in which nothing passes has nothing to find
+find-none : {A : Type 0} (passes : A → Bool) (xs : List A) → AllByRecursion (λ x. passes x ≡ false) xs → find passes xs ≡ None
+find-none passes [] each = refl
+find-none passes (x ∷ xs) each = rw each.0 (find-none passes xs each.1)
+
+-- no request is named by one byte
+no_request : (b : ℕ) → request_named (b ∷ []) ≡ None
+no_request b = find-none (has_name (b ∷ [])) requests (search (and-false))
+
+-- so a byte behind one drops the line
+Keeps-name_ended_taking : (k : Known) (i : PageInput) (breaks : Bool) (first b : ℕ) → OneMore i (Name breaks first) (name_ended_taking k i breaks (first ∷ []) b)
+Keeps-name_ended_taking k i breaks first b =
+    subst (λ (o : Option Request). OneMore i (Name breaks first) (elim o as (λ _. Taking) [ None ↦ dropped_taking i b | Some request ↦ line_taking k i breaks request (row_of request).line b ]))
+    (sym (no_request first)) (OneMore-stays i (Name breaks first) _ (Stays-dropped_taking i b))
+
+-- what is read behind a request's name
+Keeps-behind_name : (i : PageInput) (breaks : Bool) (first : ℕ) (request : Request) (line : LineReading) → OneMore i (Name breaks first) (behind_name i breaks request line)
+Keeps-behind_name i breaks first request ByArguments = Keeps-unnamed _ i i (Name breaks first) _ (KeepsOneMore-same i (Name breaks first)) refl
+Keeps-behind_name i breaks first request (ByCondition keeping) =
+    record { charge = refl; newlines = refl; line = refl; free = refl; half = omega arith }
+Keeps-behind_name i breaks first request ByElse =
+    record { charge = refl; newlines = refl; line = refl; free = refl; half = omega (arith, unnamed-branch_of (reads_else (kept_last i))) }
+
+-- the last byte of a name
+Keeps-name_whole_taking : (i : PageInput) (breaks : Bool) (first : ℕ) (name : List ℕ) → OneMore i (Name breaks first) (name_whole_taking i breaks name)
+Keeps-name_whole_taking i breaks first name =
+    elim (request_named name) as (λ o. OneMore i (Name breaks first) (elim o as (λ _. Taking) [ None ↦ going_on i Dropped | Some request ↦ behind_name i breaks request (row_of request).line ])) [
+      | None ↦ OneMore-stays i (Name breaks first) (going_on i Dropped) (record { input = refl; unnamed = refl })
+      | Some request ↦ Keeps-behind_name i breaks first request (row_of request).line
     ]
 
 -- a byte that isn't dropped
-Keeps-kept_taking : (k : Known) (reading : Reading) (i : PageInput) (b : ℕ) → KeepsOneMore i (kept_taking k reading i b).input
-Keeps-kept_taking k LineStart i b =
-    Keeps-beginning_found _ k i (byte_read true i.half b).1 (byte_read true i.half b).0 (length-byte_read true i.half b)
-Keeps-kept_taking k (InText line) i b = Keeps-text_found _ k i (byte_read true i.half b).1 line (byte_read true i.half b).0 (length-byte_read true i.half b)
+Keeps-kept_taking : (k : Known) (reading : Reading) (i : PageInput) (b : ℕ) → OneMore i reading (kept_taking k reading i b)
+Keeps-kept_taking k LineStart i b = Keeps-beginning_found _ k i _ LineStart (byte_read true i.half b).0 (Keeps-read true i LineStart LineStart b refl)
+Keeps-kept_taking k Branch i b = Keeps-beginning_found _ k i _ Branch (byte_read true i.half b).0 (Keeps-read true i Branch Branch b refl)
+Keeps-kept_taking k Braced i b = Keeps-beginning_found _ k i _ Braced (byte_read true i.half b).0 (Keeps-read true i Braced Braced b refl)
+Keeps-kept_taking k (InText line) i b = Keeps-text_found _ k i _ line (byte_read true i.half b).0 (Keeps-read true i (InText line) (InText line) b refl)
 Keeps-kept_taking k (Control breaks) i b =
-    Keeps-if _ i (b == blank || b == tab) _ _ (KeepsOneMore-same i) (Keeps-if _ i (ends_name b) _ _ (KeepsOneMore-same i) (KeepsOneMore-same i))
+    Keeps-if _ i (b == blank || b == tab) _ _ (KeepsOneMore-same i (Control breaks))
+    (Keeps-if _ i (ends_name b) _ _ (OneMore-stays i (Control breaks) _ (Stays-dropped_taking i b))
+    (record { charge = refl; newlines = refl; line = refl; free = refl; half = omega arith }))
 Keeps-kept_taking k (Name breaks first) i b =
-    Keeps-if _ i (ends_name b) _ _ (Keeps-name_ended_taking k i breaks (first ∷ []) b) (Keeps-name_whole_taking i breaks (first ∷ b ∷ []))
-Keeps-kept_taking k (InArguments breaks request) i b = Keeps-arguments_found _ k i (byte_read false i.half b).1 breaks request (byte_read false i.half b).0 (length-byte_read false i.half b)
-Keeps-kept_taking k Dropped i b = KeepsOneMore-same i
+    Keeps-if _ i (ends_name b) _ _ (Keeps-name_ended_taking k i breaks first b) (Keeps-name_whole_taking i breaks first (first ∷ b ∷ []))
+Keeps-kept_taking k (InArguments breaks request) i b =
+    Keeps-arguments_found _ k i _ breaks request (byte_read false i.half b).0 (Keeps-read false i (InArguments breaks request) (InArguments breaks request) b refl)
+Keeps-kept_taking k (Deciding keeping) i b =
+    let read : Leaves (endings_of i.half + 1) (byte_read false i.half b) = endings-byte_read false i.half b in
+    Keeps-condition_found (endings_of (byte_read false i.half b).1) _ k i (record i { half = (byte_read false i.half b).1 }) keeping (byte_read false i.half b).0
+    (Keeps-with_half _ _ i i (Deciding keeping) (Deciding keeping) (byte_read false i.half b).1 (KeepsOneMore-same i (Deciding keeping)) (omega arith)) (omega (arith, read))
+Keeps-kept_taking k (Skipping opened closed behind) i b = OneMore-stays i (Skipping opened closed behind) _ (Stays-skipping_taking i opened closed behind b)
+Keeps-kept_taking k Dropped i b = OneMore-stays i Dropped _ (Stays-dropped_taking i b)
 
 -- what isn't a byte of the line
-pub Keeps-interrupted : (reading : Reading) (i : PageInput) → KeepsOneMore i (interrupted reading i)
-Keeps-interrupted LineStart i = KeepsOneMore-same i
-Keeps-interrupted (InText line) i = KeepsOneMore-same i
-Keeps-interrupted (Control breaks) i = KeepsOneMore-same i
-Keeps-interrupted (Name breaks first) i = KeepsOneMore-same i
+pub Keeps-interrupted : (reading : Reading) (i : PageInput) → KeepsOneMore i reading (interrupted reading i) reading
+Keeps-interrupted LineStart i = KeepsOneMore-same i LineStart
+Keeps-interrupted Branch i = KeepsOneMore-same i Branch
+Keeps-interrupted Braced i = KeepsOneMore-same i Braced
+Keeps-interrupted (InText line) i = KeepsOneMore-same i (InText line)
+Keeps-interrupted (Control breaks) i = KeepsOneMore-same i (Control breaks)
+Keeps-interrupted (Name breaks first) i = KeepsOneMore-same i (Name breaks first)
 Keeps-interrupted (InArguments breaks request) i = record { charge = refl; newlines = refl; line = refl; free = refl; half = omega arith }
-Keeps-interrupted Dropped i = KeepsOneMore-same i
+Keeps-interrupted (Deciding keeping) i = KeepsOneMore-same i (Deciding keeping)
+Keeps-interrupted (Skipping opened closed behind) i = KeepsOneMore-same i (Skipping opened closed behind)
+Keeps-interrupted Dropped i = KeepsOneMore-same i Dropped
 
 -- a byte
-pub Keeps-taking : (k : Known) (reading : Reading) (i : PageInput) (b : ℕ) → KeepsOneMore i (taking k reading i b).input
+pub Keeps-taking : (k : Known) (reading : Reading) (i : PageInput) (b : ℕ) → OneMore i reading (taking k reading i b)
 Keeps-taking k reading i b = Keeps-if _ i (is_dropped b) _ _ (Keeps-interrupted reading i) (Keeps-kept_taking k reading i b)
+
+-- one ending fewer is to come
+abbrev pub KeepsOneFewer : PageInput → Reading → PageInput → Reading → Type 0
+KeepsOneFewer i old j reading = Keeps (endings_of i.half + begun old - 1) i j reading
+
+-- the same of what is done where something ends
+abbrev OneFewer : PageInput → Reading → Taking → Type 0
+OneFewer i old t = KeepsOneFewer i old t.input t.reading
+
+-- so it is where this is half read
+falls_ended : (is_text : Bool) (half : List Half) (first : Half) (others : List Half) → half ≡ first ∷ others → Falls (endings_of half) (reading_ended is_text half)
+falls_ended is_text half first others is =
+    subst (λ (h : List Half). Falls (endings_of h) (reading_ended is_text h)) (sym is) (endings-reading_ended is_text first others)
+
+Keeps-ended : (is_text : Bool) (i : PageInput) (reading : Reading) (first : Half) (others : List Half) → i.half ≡ first ∷ others
+    → KeepsOneFewer i reading (record i { half = (reading_ended is_text i.half).1 }) reading
+Keeps-ended is_text i reading first others is =
+    let fewer : Falls (endings_of i.half) (reading_ended is_text i.half) = falls_ended is_text i.half first others is in
+    record { charge = refl; newlines = refl; line = refl; free = refl; half = omega (arith, fewer) }
 
 -- what is half read ends
 pub Keeps-half_ended : (k : Known) (reading : Reading) (i : PageInput) (first : Half) (others : List Half) → i.half ≡ first ∷ others
-    → Keeps (length others) i (half_ended k reading i).input
+    → OneFewer i reading (half_ended k reading i)
 Keeps-half_ended k LineStart i first others is =
-    Keeps-beginning_found (length others) k i (reading_ended true i.half).1 (reading_ended true i.half).0 (leaves_ended true i.half first others is)
-Keeps-half_ended k (InText line) i first others is = Keeps-text_found (length others) k i (reading_ended true i.half).1 line (reading_ended true i.half).0 (leaves_ended true i.half first others is)
-Keeps-half_ended k (Control breaks) i first others is = Keeps-half (length others) i _ (reading_ended true i.half).1 (leaves_ended true i.half first others is) refl
-Keeps-half_ended k (Name breaks byte) i first others is = Keeps-half (length others) i _ (reading_ended true i.half).1 (leaves_ended true i.half first others is) refl
+    Keeps-beginning_found _ k i _ LineStart (reading_ended true i.half).0 (Keeps-ended true i LineStart first others is)
+Keeps-half_ended k Branch i first others is = Keeps-beginning_found _ k i _ Branch (reading_ended true i.half).0 (Keeps-ended true i Branch first others is)
+Keeps-half_ended k Braced i first others is = Keeps-beginning_found _ k i _ Braced (reading_ended true i.half).0 (Keeps-ended true i Braced first others is)
+Keeps-half_ended k (InText line) i first others is =
+    Keeps-text_found _ k i _ line (reading_ended true i.half).0 (Keeps-ended true i (InText line) first others is)
+Keeps-half_ended k (Control breaks) i first others is = Keeps-ended true i (Control breaks) first others is
+Keeps-half_ended k (Name breaks byte) i first others is = Keeps-ended true i (Name breaks byte) first others is
 Keeps-half_ended k (InArguments breaks request) i first others is =
-    Keeps-arguments_found (length others) k i (reading_ended false i.half).1 breaks request (reading_ended false i.half).0 (leaves_ended false i.half first others is)
-Keeps-half_ended k Dropped i first others is = Keeps-half (length others) i _ (reading_ended true i.half).1 (leaves_ended true i.half first others is) refl
+    Keeps-arguments_found _ k i _ breaks request (reading_ended false i.half).0 (Keeps-ended false i (InArguments breaks request) first others is)
+Keeps-half_ended k (Deciding keeping) i first others is =
+    let fewer : Falls (endings_of i.half) (reading_ended false i.half) = falls_ended false i.half first others is in
+    Keeps-condition_found (endings_of (reading_ended false i.half).1) _ k i (record i { half = (reading_ended false i.half).1 }) keeping (reading_ended false i.half).0
+    (Keeps-with_half _ _ i i (Deciding keeping) (Deciding keeping) (reading_ended false i.half).1 (KeepsOneMore-same i (Deciding keeping)) (omega arith)) (omega (arith, fewer))
+Keeps-half_ended k (Skipping opened closed behind) i first others is = Keeps-ended true i (Skipping opened closed behind) first others is
+Keeps-half_ended k Dropped i first others is = Keeps-ended true i Dropped first others is
 
 -- the end of the input
-pub Keeps-end_taking : (k : Known) (reading : Reading) (i : PageInput) → KeepsOneMore i (end_taking k reading i).input
-Keeps-end_taking k LineStart i = KeepsOneMore-same i
+pub Keeps-end_taking : (k : Known) (reading : Reading) (i : PageInput) → OneMore i reading (end_taking k reading i)
+Keeps-end_taking k LineStart i = KeepsOneMore-same i LineStart
+Keeps-end_taking k Branch i = Keeps-kept_taking k Branch i newline
+Keeps-end_taking k Braced i = Keeps-kept_taking k Braced i newline
 Keeps-end_taking k (InText line) i = Keeps-kept_taking k (InText line) i newline
 Keeps-end_taking k (Control breaks) i = Keeps-kept_taking k (Control breaks) i newline
 Keeps-end_taking k (Name breaks first) i = Keeps-kept_taking k (Name breaks first) i newline
 Keeps-end_taking k (InArguments breaks request) i = Keeps-kept_taking k (InArguments breaks request) i newline
+Keeps-end_taking k (Deciding keeping) i = Keeps-kept_taking k (Deciding keeping) i newline
+Keeps-end_taking k (Skipping opened closed behind) i = Keeps-kept_taking k (Skipping opened closed behind) i newline
 Keeps-end_taking k Dropped i = Keeps-kept_taking k Dropped i newline

@@ -20,10 +20,14 @@ pub mod InputCounts
 pub mod TurnsToCome
 pub mod TakesAs
 pub mod Obeying
+pub mod Deciding
 pub mod RemovedRegisters
 pub mod InFront
 pub mod Interpolation
+pub mod InterpolatedNames
 pub mod WidthLaws
 pub mod QuotedArguments
 pub mod Printing
 pub mod HalfCounts
+pub mod Skipping
+pub mod SkippingRuns

@@ -1,22 +1,23 @@
 -- The step with nothing to do has few outcomes, where a run isn't closing. What is proved of each holds of it.
 --
 -- Each function f of the run has its lemma ReadsOn-f here, with a line for each of its cases.
-use Rattle.std.proofs.Common.{◌≡◌, ℕ, ◌+◌, ◌≤◌, Bool, true, false, List, [], ◌∷◌, ◌++◌, length, Option, Some, None, refl, arith}
+use Rattle.std.proofs.Common.{◌≡◌, ℕ, ◌+◌, ◌≤◌, Bool, true, false, List, [], ◌∷◌, ◌++◌, ◌-◌, Option, Some, None, refl, arith}
 use Rattle.std.specs.Prelude.{nat_lt, if◌then◌else◌}
 use Rattle.std.proofs.lemmas.Bool.Decides.{nat_tests}
 use Rattle.roff_num.specs.declared.limit.Limit.{Limit}
 use Rattle.roff_num.specs.declared.limit.Limit.TheVariants.{Bytes}
 use Rattle.roff_num.specs.declared.limits.Limits.{Limits}
-use Rattle.roff_scan.specs.Halves.{seen_stays, newline_stays}
+use Rattle.roff_scan.specs.Halves.{decides_now, seen_stays, newline_stays}
 use Rattle.roff_scan.specs.Input.{Ahead, ByteAhead, FreeAhead, EndAhead, DoAhead, cost, item_taken, counting}
 use Rattle.roff_scan.specs.Tape.{Answer, OneByte, OneNote, Ended, Failed, Stopped, Gives, Ends, front}
 use Rattle.roff_scan.specs.Unread.{Sighted, SeesByte, SeesNothing, SeesNote, SeesEnding, seen_ahead}
 use Rattle.roff_scan.specs.Half.{Half}
 use Rattle.roff_run.specs.Requests.{PageEvent}
-use Rattle.roff_run.specs.Run.{State, known, ending_as, ending_with, stopped_by, passes_bytes, first_passed, unless_refused, grown, made, moved, byte_taken, half_ends, end_met, ahead_taken, taking_ahead, taking_byte, ending_input, answered, in_front_taken, front_seen, awaited_of_source, awaited, reading_on}
+use Rattle.roff_run.specs.Run.{waiting, State, known, ending_as, ending_with, stopped_by, passes_bytes, first_passed, unless_refused, grown, made, moved, byte_taken, half_ends, end_met, ahead_taken, taking_ahead, taking_byte, ending_input, answered, in_front_taken, front_seen, awaited_of_source, awaited, reading_on}
 use Rattle.roff_run.specs.declared.message.Message.TheVariants.{ReadFailed}
 use Rattle.roff_run.specs.declared.status.Status.TheVariants.{Device, Limit as Limited}
-use Rattle.roff_run.proofs.Keeping.{Keeps, KeepsOneMore-same, Keeps-taking, Keeps-interrupted, Keeps-half_ended}
+use Rattle.roff_run.specs.TurnsToCome.{endings_of}
+use Rattle.roff_run.proofs.Keeping.{Keeps, begun, KeepsOneMore-same, Keeps-taking, Keeps-interrupted, Keeps-half_ended}
 
 -- no count passes its limit in a state
 abbrev pub IsMade : Limits → State → Type 0
@@ -129,13 +130,19 @@ ReadsOn-awaited l (Some (SeesNote message)) s first others is = ReadsOn-front_se
 ReadsOn-awaited l (Some (SeesEnding ending)) s first others is = ReadsOn-front_seen l None s first others is
 ReadsOn-awaited l None s first others is = ReadsOn-awaited_of_source l (front s.tape) s first others is refl
 
+-- what is half read waits
+ReadsOn-waiting : (l : Limits) (s : State) (first : Half) (others : List Half) → s.input.half ≡ first ∷ others → ReadsOn l s (waiting l s)
+ReadsOn-waiting l s first others is =
+    ReadsOn-if l s (decides_now s.input.half) _ _
+    (λ decides. ReadsOn-made l s (half_ends s) (HalfEnds first others is)) (λ looks. ReadsOn-awaited l (seen_ahead s.input.ahead) s first others is)
+
 -- by what is half read
 by_half : (l : Limits) (s : State) (half : List Half) → s.input.half ≡ half
-    → ReadsOn l s (if newline_stays half then awaited l (seen_ahead s.input.ahead) s else in_front_taken l s.input.ahead s)
+    → ReadsOn l s (if newline_stays half then waiting l s else in_front_taken l s.input.ahead s)
 by_half l s [] is = ReadsOn-in_front_taken l s.input.ahead s refl
 by_half l s (first ∷ others) is =
     ReadsOn-if l s (newline_stays (first ∷ others)) _ _
-    (λ stays. ReadsOn-awaited l (seen_ahead s.input.ahead) s first others is) (λ taken. ReadsOn-in_front_taken l s.input.ahead s refl)
+    (λ stays. ReadsOn-waiting l s first others is) (λ taken. ReadsOn-in_front_taken l s.input.ahead s refl)
 
 -- one item of the input, or how it ends
 pub ReadsOn-reading_on : (l : Limits) (s : State) → ReadsOn l s (reading_on l s)
@@ -143,7 +150,7 @@ ReadsOn-reading_on l s = by_half l s s.input.half refl
 
 -- a state behind what was read of an item: the input is changed by reading alone, and what isn't read stays
 pub record Behind (most : ℕ) (s t : State) : Type 0 where
-  pub input : Keeps most s.input t.input
+  pub input : Keeps most s.input t.input t.reading
   pub tape : t.tape ≡ s.tape
   pub history : t.history ≡ s.history
   pub is_closing : t.is_closing ≡ s.is_closing
@@ -151,7 +158,7 @@ pub record Behind (most : ℕ) (s t : State) : Type 0 where
   pub last_message : t.last_message ≡ s.last_message
 
 -- a byte
-pub Behind-byte_taken : (b : ℕ) (s : State) → Behind (length s.input.half + 1) s (byte_taken b s)
+pub Behind-byte_taken : (b : ℕ) (s : State) → Behind (endings_of s.input.half + begun s.reading + 1) s (byte_taken b s)
 Behind-byte_taken b s = record {
   input = Keeps-taking (known s) s.reading s.input b;
   tape = refl;
@@ -162,16 +169,16 @@ Behind-byte_taken b s = record {
 }
 
 -- an item ahead of the source
-pub Behind-ahead_taken : (item : Ahead PageEvent) (s : State) → Behind (length s.input.half + 1) s (ahead_taken item s)
+pub Behind-ahead_taken : (item : Ahead PageEvent) (s : State) → Behind (endings_of s.input.half + begun s.reading + 1) s (ahead_taken item s)
 Behind-ahead_taken (ByteAhead b) s = Behind-byte_taken b s
 Behind-ahead_taken (FreeAhead b) s = Behind-byte_taken b s
 Behind-ahead_taken EndAhead s =
-    record { input = KeepsOneMore-same s.input; tape = refl; history = refl; is_closing = refl; ended = refl; last_message = refl }
+    record { input = KeepsOneMore-same s.input s.reading; tape = refl; history = refl; is_closing = refl; ended = refl; last_message = refl }
 Behind-ahead_taken (DoAhead event) s =
     record { input = Keeps-interrupted s.reading s.input; tape = refl; history = refl; is_closing = refl; ended = refl; last_message = refl }
 
 -- what is half read
-pub Behind-half_ends : (s : State) (first : Half) (others : List Half) → s.input.half ≡ first ∷ others → Behind (length others) s (half_ends s)
+pub Behind-half_ends : (s : State) (first : Half) (others : List Half) → s.input.half ≡ first ∷ others → Behind (endings_of s.input.half + begun s.reading - 1) s (half_ends s)
 Behind-half_ends s first others is = record {
   input = Keeps-half_ended (known s) s.reading s.input first others is;
   tape = refl;

@@ -7,14 +7,14 @@ use Rattle.std.proofs.Common.{◌≡◌, ℕ, ◌+◌, Bool, true, false, List, 
 use Rattle.std.specs.Prelude.{nat_lt, if◌then◌else◌}
 use Rattle.roff_num.specs.declared.limit.Limit.{Limit}
 use Rattle.roff_num.specs.declared.limits.Limits.{Limits}
-use Rattle.roff_scan.specs.Halves.{seen_stays, newline_stays}
+use Rattle.roff_scan.specs.Halves.{decides_now, seen_stays, newline_stays}
 use Rattle.roff_scan.specs.Input.{Ahead, ByteAhead, FreeAhead, EndAhead, DoAhead, cost, item_taken, counting}
 use Rattle.roff_scan.specs.Tape.{Answer, Gives, Ends, OneByte, OneNote, Ended, Failed, Stopped, front}
 use Rattle.roff_scan.specs.Unread.{Sighted, SeesByte, SeesNothing, SeesNote, SeesEnding, seen_ahead}
 use Rattle.roff_scan.specs.Half.{Half}
 use Rattle.roff_run.specs.Laws.{OnlyCuts}
 use Rattle.roff_run.specs.Requests.{PageEvent}
-use Rattle.roff_run.specs.Run.{State, passes_bytes, performing, refusal, first_passed, unless_refused, grown, made, moved, byte_taken, half_ends, end_met, ahead_taken, taking_ahead, taking_byte, ending_input, answered, in_front_taken, front_seen, awaited_of_source, awaited, reading_on, step_with, step}
+use Rattle.roff_run.specs.Run.{waiting, State, passes_bytes, performing, refusal, first_passed, unless_refused, grown, made, moved, byte_taken, half_ends, end_met, ahead_taken, taking_ahead, taking_byte, ending_input, answered, in_front_taken, front_seen, awaited_of_source, awaited, reading_on, step_with, step}
 use Rattle.roff_run.proofs.Beginnings.{IsBeginning-same, IsBeginning-append, IsBeginning-trans}
 
 -- a state of the same history and messages
@@ -136,11 +136,15 @@ OnlyCuts-awaited l (Some (SeesNote message)) s = OnlyCuts-front_seen l None s
 OnlyCuts-awaited l (Some (SeesEnding ending)) s = OnlyCuts-front_seen l None s
 OnlyCuts-awaited l None s = OnlyCuts-awaited_of_source l (front s.tape) s
 
+-- what is half read waits
+pub OnlyCuts-waiting : (l : Limits) (s : State) → OnlyCuts s (waiting l s)
+OnlyCuts-waiting l s =
+    OnlyCuts-if (decides_now s.input.half) (OnlyCuts-made l s _ (OnlyCuts-half_ends s)) (OnlyCuts-awaited l (seen_ahead s.input.ahead) s)
+
 -- one item of the input
 pub OnlyCuts-reading_on : (l : Limits) (s : State) → OnlyCuts s (reading_on l s)
 OnlyCuts-reading_on l s =
-    OnlyCuts-if (newline_stays s.input.half) (OnlyCuts-awaited l (seen_ahead s.input.ahead) s)
-    (OnlyCuts-in_front_taken l s.input.ahead s)
+    OnlyCuts-if (newline_stays s.input.half) (OnlyCuts-waiting l s) (OnlyCuts-in_front_taken l s.input.ahead s)
 
 -- a step of a run that hasn't ended
 pub OnlyCuts-step_with : (l : Limits) (es : List PageEvent) (s : State) → OnlyCuts s (step_with l es s)

@@ -12,7 +12,7 @@ use Rattle.roff_num.specs.LimitValues.{value_of}
 use Rattle.roff_num.specs.declared.limit.Limit.{Limit}
 use Rattle.roff_num.specs.declared.limit.Limit.TheVariants.{Bytes}
 use Rattle.roff_num.specs.declared.limits.Limits.{Limits}
-use Rattle.roff_scan.specs.Halves.{seen_stays, newline_stays}
+use Rattle.roff_scan.specs.Halves.{decides_now, seen_stays, newline_stays}
 use Rattle.roff_scan.specs.Input.{Ahead, ByteAhead, FreeAhead, EndAhead, DoAhead, cost}
 use Rattle.roff_scan.specs.Tape.{Tape, Answer, Gives, Ends, OneByte, OneNote, Ended, Failed, Stopped, front, behind_front}
 use Rattle.roff_scan.specs.Unread.{Sighted, SeesByte, SeesNothing, SeesNote, SeesEnding, seen_ahead}
@@ -20,7 +20,7 @@ use Rattle.roff_scan.specs.Half.{Half}
 use Rattle.roff_run.specs.Laws.{OnlyCuts, over}
 use Rattle.roff_run.specs.Limits.{AreWithin}
 use Rattle.roff_run.specs.Requests.{PageEvent}
-use Rattle.roff_run.specs.Run.{State, ending_with, counts, first_passed, unless_refused, stopped_by, passes_bytes, performing, grown, made, half_ends, taking_ahead, taking_byte, ending_input, answered, in_front_taken, front_seen, awaited_of_source, awaited, reading_on, step_with, step, after}
+use Rattle.roff_run.specs.Run.{waiting, State, ending_with, counts, first_passed, unless_refused, stopped_by, passes_bytes, performing, grown, made, half_ends, taking_ahead, taking_byte, ending_input, answered, in_front_taken, front_seen, awaited_of_source, awaited, reading_on, step_with, step, after}
 use Rattle.roff_run.specs.declared.message.Message.TheVariants.{ReadFailed}
 use Rattle.roff_run.specs.declared.status.Status.{Status}
 use Rattle.roff_run.specs.declared.status.Status.TheVariants.{Device, Limit as Limited}
@@ -203,11 +203,15 @@ module _ (Beside : Tape → Tape → Type 0) (IsCause : Status → Type 0) where
     Cut-awaited None s tape beside =
         Cut-front awaited_of_source s tape beside refl (λ a. OnlyCuts-awaited_of_source large a (over tape s)) (λ a. Cut-awaited_of_source a s tape beside)
 
+    -- what is half read waits in both
+    pub Cut-waiting : (s : State) (tape : Tape) → Beside s.tape tape → Cut (waiting small s) (waiting large (over tape s))
+    Cut-waiting s tape beside =
+        Cut-if (decides_now s.input.half) (Cut-half_ends s tape beside) (Cut-awaited (seen_ahead s.input.ahead) s tape beside)
+
     -- both go on reading
     pub Cut-reading_on : (s : State) (tape : Tape) → Beside s.tape tape → Cut (reading_on small s) (reading_on large (over tape s))
     Cut-reading_on s tape beside =
-        Cut-if (newline_stays s.input.half) (Cut-awaited (seen_ahead s.input.ahead) s tape beside)
-        (Cut-in_front_taken s.input.ahead s tape beside)
+        Cut-if (newline_stays s.input.half) (Cut-waiting s tape beside) (Cut-in_front_taken s.input.ahead s tape beside)
 
     -- both make a step, and haven't ended
     pub Cut-step_with : (es : List PageEvent) (s : State) (tape : Tape) → Beside s.tape tape → Cut (step_with small es s) (step_with large es (over tape s))

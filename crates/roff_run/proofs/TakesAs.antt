@@ -1,20 +1,20 @@
 -- What the code of the reader takes, piece by piece, as the definition takes it.
 use Rattle.std.proofs.Common.{◌≡◌, ℕ, ◌≤◌, Bool, true, false, cond, List, [], length, Option, Some, None, Result, Ok, Err, refl, sym, subst, ap, ◌∙◌, arith}
 use Rattle.std.specs.Option.{option_to_list}
-use Rattle.std.specs.Prelude.{nat_lt, ◌&&◌, is_some, if◌then◌else◌}
+use Rattle.std.specs.Prelude.{nat_lt, ◌&&◌, is_some, if◌then◌else◌, ◌==◌}
 use Rattle.roff_lines.specs.Env.Stands.{Stands}
 use Rattle.roff_lines.specs.declared.env.Env.{Env}
 use Rattle.roff_num.specs.declared.limit.Limit.{Limit}
 use Rattle.roff_num.specs.declared.limit.Limit.TheVariants.{Names}
 use Rattle.roff_num.specs.Ranges.{is_in_range}
-use Rattle.roff_scan.specs.Bytes.{is_dropped, newline}
+use Rattle.roff_scan.specs.Bytes.{blank, is_dropped, newline}
 use Rattle.roff_scan.specs.Half.{Half, texts_held}
 use Rattle.roff_scan.specs.Halves.{Reads, reading_ended}
 use Rattle.roff_scan.specs.Input.{pushing, with_half}
 use Rattle.roff_scan.specs.Unread.{changing, input_refusal, reading, unless_passed}
 use Rattle.roff_scan.specs.declared.half.CopyUnit.{CopyUnit}
 use Rattle.roff_scan.specs.declared.half.Read.{Read}
-use Rattle.roff_scan.specs.declared.half.Read.TheVariants.{GoesOn, Unit as OneUnit, Holds, Escape, Asks, Motion, Measures, Tells}
+use Rattle.roff_scan.specs.declared.half.Read.TheVariants.{GoesOn, Unit as OneUnit, Holds, Escape, Asks, Motion, Measures, Tells, Decides}
 use Rattle.roff_store.proofs.Entries.{length-with_entry}
 use Rattle.roff_store.specs.Named.{with_entry, entry_of}
 use Rattle.roff_store.specs.Registers.{Registers, register_of, with_step, next_value}
@@ -23,7 +23,7 @@ use Rattle.roff_store.specs.declared.register.Register.{Register}
 use Rattle.roff_run.specs.Output.{PageHistory, text_of}
 use Rattle.roff_run.specs.Reader.State.{ReaderState}
 use Rattle.roff_run.specs.Reader.Taken.{IsReady, PageUnread, Takes, TakesAs, Took}
-use Rattle.roff_run.specs.Reading.{PageInput, Taking, arguments_found, end_taking, going_on, half_ended, interpolating, interrupted, kept_taking, meaning_events, no_unit_found, settling, taking}
+use Rattle.roff_run.specs.Reading.{PageInput, Taking, arguments_found, end_taking, first_taking, going_on, half_ended, interpolating, interrupted, kept_taking, line_begun, meaning_events, no_unit_found, settling, taking}
 use Rattle.roff_run.specs.Registers.{AllRegisters, Known, changed_by_all, is_page, is_read_only, known_behind, step_changes, step_messages, stepped_page, text_of_register}
 use Rattle.roff_run.specs.Registers.Capped.{Capped}
 use Rattle.roff_run.specs.Registers.Coded.{known_of}
@@ -32,7 +32,7 @@ use Rattle.roff_run.specs.Run.{counts_in, first_passed, known_at}
 use Rattle.roff_run.specs.declared.message.Message.{Message}
 use Rattle.roff_run.specs.declared.reader.Meaning.{Meaning}
 use Rattle.roff_run.specs.declared.reading.Reading.{Reading}
-use Rattle.roff_run.specs.declared.reading.Reading.TheVariants.{LineStart, Text as InText, Control, Name, Arguments as InArguments, Dropped}
+use Rattle.roff_run.specs.declared.reading.Reading.TheVariants.{LineStart, Branch, Braced, Text as InText, Control, Name, Arguments as InArguments, Deciding, Skipping, Dropped}
 use Rattle.roff_run.specs.declared.reading.TextLine.{TextLine}
 use Rattle.roff_run.specs.declared.reading.TextStep.{TextStep}
 use Rattle.roff_run.specs.declared.registers.Facts.{Facts}
@@ -57,7 +57,7 @@ Takes-elsewhere t old new before behind i (Err limit) passed = passed
 
 -- where no more is held of texts that are half read
 NoMore-with_half : (half : List Half) (i : PageInput) → texts_held half ≤ texts_held i.half → NoMore (with_half half i) i
-NoMore-with_half half i fewer = record { bytes = omega (arith, fewer); texts = omega arith }
+NoMore-with_half half i fewer = record { bytes = omega (arith, fewer); texts = omega arith; results = omega arith }
 
 -- what something reads, with what is half read then
 pub TakesAs-read : (t : Known → PageInput → Read → Taking) (r : Reads) (env : Env) (old new : ReaderState) (before mid behind : PageUnread)
@@ -116,13 +116,13 @@ TakesAs-settled t env old new before mid behind result settles takes =
     }
 
 -- an input that changed
-passed_none : (refusal : Option Limit) (i : PageInput) (u behind : PageUnread) (done : Unit {0}) → (Ok done, behind) ≡ unless_passed refusal i u
+pub passed_none : (refusal : Option Limit) (i : PageInput) (u behind : PageUnread) (done : Unit {0}) → (Ok done, behind) ≡ unless_passed refusal i u
     → (behind ≡ record u { input = i }) × (refusal ≡ None)
 passed_none None i u behind done is = (ap (λ (answer : Result (Unit {0}) Limit × PageUnread). answer.1) is, refl)
 passed_none (Some limit) i u behind done is =
     let differs = ap (λ (answer : Result (Unit {0}) Limit × PageUnread). answer.0) is in cc
 
-passed_one : (refusal : Option Limit) (i : PageInput) (u behind : PageUnread) (limit : Limit) → (Err limit, behind) ≡ unless_passed refusal i u → refusal ≡ Some limit
+pub passed_one : (refusal : Option Limit) (i : PageInput) (u behind : PageUnread) (limit : Limit) → (Err limit, behind) ≡ unless_passed refusal i u → refusal ≡ Some limit
 passed_one None i u behind limit is =
     let differs = ap (λ (answer : Result (Unit {0}) Limit × PageUnread). answer.0) is in cc
 passed_one (Some other) i u behind limit is =
@@ -147,7 +147,7 @@ length-step_changes (Some direction) name rs =
     (length-stepped name _ rs.named (is_some (entry_of name rs.named)) (is_in_range (next_value direction (register_of name rs.named))) refl))
 
 -- no count is above its limit, so no more names than may have a register
-few_names-of : {A : Type 0} (x : A) (rest : Option A) (many : Bool) → (if many then Some x else rest) ≡ None → many ≡ false
+pub few_names-of : {A : Type 0} (x : A) (rest : Option A) (many : Bool) → (if many then Some x else rest) ≡ None → many ≡ false
 few_names-of x rest true none = cc
 few_names-of x rest false none = refl
 
@@ -301,6 +301,23 @@ TakesAs-not_changed i place env old new before behind limit changes = record {
       first_passed-few_names before.limits old.registers.all i (few_names old.registers before ready) ∙ refused;
 }
 
+-- where a branch begins, or its rest behind its brace, a byte without a meaning of its own there begins a line
+pub first_taking-any : (i : PageInput) (at : Reading) (b : ℕ) → (at ≡ Branch → (b == blank) ≡ false) → (at ≡ Braced → ((b == blank) ≡ false) × ((b == newline) ≡ false))
+    → line_begun i b ≡ first_taking i at b
+first_taking-any i LineStart b in_branch in_brace = refl
+first_taking-any i Branch b in_branch in_brace =
+    ap (λ (c : Bool). if c then going_on i Branch else line_begun i b) (sym (in_branch refl))
+first_taking-any i Braced b in_branch in_brace =
+    ap (λ (c : Bool). if c then going_on i LineStart else line_begun i b) (sym (in_brace refl).1)
+    ∙ ap (λ (c : Bool). if c then going_on i Braced else (if b == newline then going_on i LineStart else line_begun i b)) (sym (in_brace refl).0)
+first_taking-any i (InText line) b in_branch in_brace = refl
+first_taking-any i (Control breaks) b in_branch in_brace = refl
+first_taking-any i (Name breaks first) b in_branch in_brace = refl
+first_taking-any i (InArguments breaks request) b in_branch in_brace = refl
+first_taking-any i (Deciding keeps) b in_branch in_brace = refl
+first_taking-any i (Skipping opened closed behind) b in_branch in_brace = refl
+first_taking-any i Dropped b in_branch in_brace = refl
+
 -- by whether a byte is dropped
 pub taking-of : (k : Known) (r : Reading) (i : PageInput) (b : ℕ) (c : Bool) → c ≡ is_dropped b
     → (if c then going_on (interrupted r i) r else kept_taking k r i b) ≡ taking k r i b
@@ -309,10 +326,14 @@ taking-of k r i b c is = ap (λ (dropped : Bool). if dropped then going_on (inte
 -- behind a line's beginning the end of the input is a newline
 pub end_taking-newline : (k : Known) (r : Reading) (i : PageInput) → (r ≡ LineStart → ⊥) → kept_taking k r i newline ≡ end_taking k r i
 end_taking-newline k LineStart i begun = absurd (begun refl)
+end_taking-newline k Branch i begun = refl
+end_taking-newline k Braced i begun = refl
 end_taking-newline k (InText line) i begun = refl
 end_taking-newline k (Control breaks) i begun = refl
 end_taking-newline k (Name breaks first) i begun = refl
 end_taking-newline k (InArguments breaks request) i begun = refl
+end_taking-newline k (Deciding keeps) i begun = refl
+end_taking-newline k (Skipping opened closed behind) i begun = refl
 end_taking-newline k Dropped i begun = refl
 
 -- behind a request's name anything but a unit is no byte of an argument
@@ -326,13 +347,19 @@ arguments_found-no_unit k i breaks request (Asks purpose name) no_unit no_escape
 arguments_found-no_unit k i breaks request (Motion columns remark) no_unit no_escape = refl
 arguments_found-no_unit k i breaks request (Measures width) no_unit no_escape = refl
 arguments_found-no_unit k i breaks request (Tells remark) no_unit no_escape = refl
+arguments_found-no_unit k i breaks request (Decides decision freed) no_unit no_escape = refl
 
 -- where nothing of what is half read is kept when it ends
-pub half_ended-dropped : (k : Known) (r : Reading) (i : PageInput) → (r ≡ LineStart → ⊥) → ((line : TextLine) → r ≡ InText line → ⊥)
-    → ((breaks : Bool) (request : Request) → r ≡ InArguments breaks request → ⊥) → going_on (with_half (reading_ended true i.half).1 i) r ≡ half_ended k r i
-half_ended-dropped k LineStart i begun no_text no_arguments = absurd (begun refl)
-half_ended-dropped k (InText line) i begun no_text no_arguments = absurd (no_text line refl)
-half_ended-dropped k (Control breaks) i begun no_text no_arguments = refl
-half_ended-dropped k (Name breaks first) i begun no_text no_arguments = refl
-half_ended-dropped k (InArguments breaks request) i begun no_text no_arguments = absurd (no_arguments breaks request refl)
-half_ended-dropped k Dropped i begun no_text no_arguments = refl
+pub half_ended-dropped : (k : Known) (r : Reading) (i : PageInput) → (r ≡ LineStart → ⊥) → (r ≡ Branch → ⊥) → (r ≡ Braced → ⊥) → ((line : TextLine) → r ≡ InText line → ⊥)
+    → ((breaks : Bool) (request : Request) → r ≡ InArguments breaks request → ⊥) → ((keeps : Bool) → r ≡ Deciding keeps → ⊥)
+    → going_on (with_half (reading_ended true i.half).1 i) r ≡ half_ended k r i
+half_ended-dropped k LineStart i begun no_branch no_brace no_text no_arguments no_condition = absurd (begun refl)
+half_ended-dropped k Branch i begun no_branch no_brace no_text no_arguments no_condition = absurd (no_branch refl)
+half_ended-dropped k Braced i begun no_branch no_brace no_text no_arguments no_condition = absurd (no_brace refl)
+half_ended-dropped k (InText line) i begun no_branch no_brace no_text no_arguments no_condition = absurd (no_text line refl)
+half_ended-dropped k (Control breaks) i begun no_branch no_brace no_text no_arguments no_condition = refl
+half_ended-dropped k (Name breaks first) i begun no_branch no_brace no_text no_arguments no_condition = refl
+half_ended-dropped k (InArguments breaks request) i begun no_branch no_brace no_text no_arguments no_condition = absurd (no_arguments breaks request refl)
+half_ended-dropped k (Deciding keeps) i begun no_branch no_brace no_text no_arguments no_condition = absurd (no_condition keeps refl)
+half_ended-dropped k (Skipping opened closed behind) i begun no_branch no_brace no_text no_arguments no_condition = refl
+half_ended-dropped k Dropped i begun no_branch no_brace no_text no_arguments no_condition = refl

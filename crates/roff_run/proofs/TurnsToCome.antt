@@ -13,8 +13,10 @@ use Rattle.roff_run.specs.Reading.{PageInput, half_ended, taking as byte_taking}
 use Rattle.roff_run.specs.Registers.{Known}
 use Rattle.roff_run.specs.Requests.{PageEvent}
 use Rattle.roff_run.specs.declared.reading.Reading.{Reading}
-use Rattle.roff_run.specs.TurnsToCome.{turns_within, turns_to_come}
-use Rattle.roff_run.proofs.Keeping.{Keeps, KeepsOneMore, Keeps-taking, Keeps-half_ended}
+use Rattle.roff_run.specs.declared.reading.Reading.TheVariants.{LineStart, Branch, Braced, Text as InText, Control, Name, Arguments as InArguments, Deciding, Skipping, Dropped}
+use Rattle.roff_run.specs.TurnsToCome.{endings_of, turns_within, turns_to_come}
+use Rattle.roff_run.proofs.HalfCounts.{some_ending}
+use Rattle.roff_run.proofs.Keeping.{KeepsOneMore, begun, Keeps-taking, Keeps-half_ended}
 
 -- a call took a byte, the end of a text, or an event
 abbrev pub IsTaken : Shown PageEvent → Type 0
@@ -27,16 +29,16 @@ IsTaken (ShowsRefusal limit) = ⊥
 
 -- fewer turns are to come behind a call, if it took something
 abbrev Falls : Unread PageEvent → Shown PageEvent × Unread PageEvent → Type 0
-Falls u call = IsTaken call.0 → turns_to_come call.1 + 2 ≤ turns_to_come u
+Falls u call = IsTaken call.0 → turns_to_come call.1 + 3 ≤ turns_to_come u
 
 -- unless the limit on bytes refuses the item
 falls_unless : (limit count : ℕ) (refused : Bool) → nat_lt limit count ≡ refused → (u left : Unread PageEvent) (call : Shown PageEvent × Unread PageEvent)
-    → (count ≤ limit → turns_to_come call.1 + 2 ≤ turns_to_come u) → Falls u (if refused then (ShowsRefusal Bytes, left) else call)
+    → (count ≤ limit → turns_to_come call.1 + 3 ≤ turns_to_come u) → Falls u (if refused then (ShowsRefusal Bytes, left) else call)
 falls_unless limit count true is u left call falls taken = absurd taken
 falls_unless limit count false is u left call falls taken = falls (ltb-false limit count is)
 
 falls-item : (item : Ahead PageEvent) (items : List (Ahead PageEvent)) (bytes : ℕ) (i : PageInput) → i.charge + cost item ≤ bytes
-    → turns_within bytes (item_taken item items i) + 2 ≤ turns_within bytes (record i { ahead = item ∷ items })
+    → turns_within bytes (item_taken item items i) + 3 ≤ turns_within bytes (record i { ahead = item ∷ items })
 falls-item (ByteAhead b) items bytes i room = omega arith
 falls-item (FreeAhead b) items bytes i room = omega arith
 falls-item EndAhead items bytes i room = omega arith
@@ -54,32 +56,58 @@ falls-taking (item ∷ items) a i looked limits =
     let u : Unread PageEvent = record { input = record i { ahead = item ∷ items }; looked = looked; limits = limits } in
     falls_unless limits.bytes (i.charge + cost item) _ refl u _ _ (falls-item item items limits.bytes u.input)
 
--- behind each item that is taken, fewer turns are to come, by two
-pub turns_to_come-taking : (a : Answer) (u : Unread PageEvent) → IsTaken (taking a u).0 → turns_to_come (taking a u).1 + 2 ≤ turns_to_come u
+-- behind each item that is taken, fewer turns are to come, by three
+pub turns_to_come-taking : (a : Answer) (u : Unread PageEvent) → IsTaken (taking a u).0 → turns_to_come (taking a u).1 + 3 ≤ turns_to_come u
 turns_to_come-taking a u taken = falls-taking u.input.ahead a u.input u.looked u.limits taken
 
--- what keeps the input's counts, and leaves one thing more half read at most, leaves one turn more at most
-turns-one_more : (bytes : ℕ) (i j : PageInput) → KeepsOneMore i j → turns_within bytes j ≤ turns_within bytes i + 1
-turns-one_more bytes i j keeps = omega (arith, keeps.charge, keeps.free, keeps.half)
+-- a name's first byte is kept for one ending at most
+begun-one : (reading : Reading) → begun reading ≤ 1
+begun-one LineStart = omega arith
+begun-one Branch = omega arith
+begun-one Braced = omega arith
+begun-one (InText line) = omega arith
+begun-one (Control breaks) = omega arith
+begun-one (Name breaks first) = omega arith
+begun-one (InArguments breaks request) = omega arith
+begun-one (Deciding keeping) = omega arith
+begun-one (Skipping opened closed behind) = omega arith
+begun-one Dropped = omega arith
 
--- so does a byte
+-- so what keeps the input's counts, and leaves one ending more to come, leaves two turns more at most
+turns-two_more : (bytes : ℕ) (i j : PageInput) (old reading : Reading) → KeepsOneMore i old j reading → turns_within bytes j ≤ turns_within bytes i + 2
+turns-two_more bytes i j old reading keeps = omega (arith, keeps.charge, keeps.free, keeps.half, begun-one old)
+
+-- and so does a byte
 pub turns_within-byte : (bytes : ℕ) (k : Known) (reading : Reading) (i : PageInput) (b : ℕ)
-    → turns_within bytes (byte_taking k reading i b).input ≤ turns_within bytes i + 1
-turns_within-byte bytes k reading i b = turns-one_more bytes i _ (Keeps-taking k reading i b)
+    → turns_within bytes (byte_taking k reading i b).input ≤ turns_within bytes i + 2
+turns_within-byte bytes k reading i b = turns-two_more bytes i _ reading _ (Keeps-taking k reading i b)
 
 -- what is half read where a newline stays
 pub length-newline_stays : (half : List Half) → newline_stays half ≡ true → 1 ≤ length half
 length-newline_stays [] stays = cc
 length-newline_stays (first ∷ rest) stays = omega arith
 
--- where what is half read ends, a turn fewer is to come
+-- where what is half read ends, a name goes on
+begun-half_ended : (k : Known) (reading : Reading) (i : PageInput) → begun reading ≤ begun (half_ended k reading i).reading
+begun-half_ended k LineStart i = omega arith
+begun-half_ended k Branch i = omega arith
+begun-half_ended k Braced i = omega arith
+begun-half_ended k (InText line) i = omega arith
+begun-half_ended k (Control breaks) i = omega arith
+begun-half_ended k (Name breaks first) i = omega arith
+begun-half_ended k (InArguments breaks request) i = omega arith
+begun-half_ended k (Deciding keeping) i = omega arith
+begun-half_ended k (Skipping opened closed behind) i = omega arith
+begun-half_ended k Dropped i = omega arith
+
+-- and a turn fewer is to come
 ended : (bytes : ℕ) (k : Known) (reading : Reading) (i : PageInput) (half : List Half) → i.half ≡ half → 1 ≤ length half
     → turns_within bytes (half_ended k reading i).input + 1 ≤ turns_within bytes i
 ended bytes k reading i [] is some = omega (arith, some)
 ended bytes k reading i (first ∷ others) is some =
-    let keeps : Keeps (length others) i (half_ended k reading i).input = Keeps-half_ended k reading i first others is in
-    let long : length i.half ≡ length (first ∷ others) = ap (λ (h : List Half). length h) is in
-    omega (arith, keeps.charge, keeps.free, keeps.half, long)
+    let keeps = Keeps-half_ended k reading i first others is in
+    let some : 1 ≤ endings_of i.half = rw is (omega (arith, some_ending first others)) in
+    omega (arith, keeps.charge, keeps.free, keeps.half, some, begun-half_ended k reading i)
 
 pub turns_within-half_ended : (bytes : ℕ) (k : Known) (reading : Reading) (i : PageInput) → 1 ≤ length i.half
     → turns_within bytes (half_ended k reading i).input + 1 ≤ turns_within bytes i

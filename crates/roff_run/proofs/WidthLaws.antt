@@ -16,38 +16,38 @@ use Rattle.roff_num.specs.declared.limits.Limits.{Limits}
 use Rattle.roff_scan.specs.Arguments.{Arguments}
 use Rattle.roff_scan.specs.Bytes.{newline, backslash, is_dropped}
 use Rattle.roff_scan.specs.Half.{Half, Backslash, Width}
-use Rattle.roff_scan.specs.Halves.{Reads, byte_read, newline_stays, reading_ended, seen_stays}
+use Rattle.roff_scan.specs.Halves.{Reads, byte_read, decides_now, newline_stays, reading_ended, seen_stays}
 use Rattle.roff_scan.specs.Input.{pushing, Ahead}
 use Rattle.roff_scan.specs.Measures.{byte_columns, most_width, wider}
 use Rattle.roff_scan.specs.Tape.{Answer}
 use Rattle.roff_scan.specs.Unread.{seen_ahead}
 use Rattle.roff_scan.specs.declared.half.Read.TheVariants.{GoesOn, Measures}
-use Rattle.roff_run.proofs.Interpolation.{Fits-IsWithin, FindsAtLast, AtLast, Behind, FromAhead, FromSource, IsRead, IsRead-itself, Means, Origin, ReadsEscapes, AtBeginning, OnText, OnArguments, ReadsEscapes-reads_escapes, after-escape, ahead_at, going, input_of, is-going, line_behind, not-first, not-second, settled_for, settled_for-settled_for, source_behind, step-byte, tape_at, taken_as-going_on, made-Fits, step-TakesItems}
+use Rattle.roff_run.proofs.Interpolation.{Fits-IsWithin, FindsAtLast, AtLast, Behind, FromAhead, FromSource, IsRead, IsRead-itself, Means, Origin, ReadsEscapes, AtBeginning, AtBranch, AtBraced, OnText, OnArguments, OnCondition, ReadsEscapes-reads_escapes, after-escape, ahead_at, going, input_of, interrupted-arguments, is-going, is_no_newline, line_behind, not-first, not-second, read_in, settled_for, settled_for-settled_for, settled_input, source_behind, step-byte, tape_at, taken_as-going_on, taking-reads, made-Fits, step-TakesItems}
 use Rattle.roff_run.specs.InterpolationLaws.{TakesItems, StandsForItself, reads_escapes}
 use Rattle.roff_run.specs.Laws.{IsWithin}
 use Rattle.roff_run.specs.Output.{text_of}
-use Rattle.roff_run.specs.Reading.{PageInput, Taking, arguments_read_on, beginning_read, going_on, kept_taking, measuring, settling, taking, text_read, half_ended, interrupted}
+use Rattle.roff_run.specs.Reading.{PageInput, Taking, measuring, taking, half_ended}
 use Rattle.roff_run.specs.Registers.{Known}
 use Rattle.roff_run.specs.Requests.{PageEvent}
 use Rattle.roff_run.specs.Run.{State, after, first_passed, known, step, taken_as, answered, awaited, awaited_of_source, ending_input, half_ends, in_front_taken, made, reading_on}
 use Rattle.roff_run.specs.WidthLaws.{MayDelimit, IsPlain, text_units, width_escape, with_width_ahead, WidthsReadAsDigits, WidthsOfTheSourceReadAsDigits, MeasuredTextsReadAsDigits, MeasuredTextsOfTheSourceReadAsDigits, MotionsAreAsLongAsTheirColumns, MotionsCountInTheLine, EndsText, NewlineAhead, NewlineOfTheSource, EndOfTheSource, WidthsEndWithTheirLine}
 use Rattle.roff_run.specs.declared.reading.Reading.{Reading}
-use Rattle.roff_run.specs.declared.reading.Reading.TheVariants.{LineStart, Text as InText, Arguments as InArguments}
+
+-- a width was measured where escapes are read
+read_in-measures : (k : Known) (reading : Reading) (is_text : Bool) (i : PageInput) (half : List Half) (width : ℕ) → ReadsEscapes reading is_text
+    → read_in k reading i (Measures width, half) ≡ measuring (settled_input reading half i) reading width
+read_in-measures k _ _ i half width AtBeginning = refl
+read_in-measures k _ _ i half width AtBranch = refl
+read_in-measures k _ _ i half width AtBraced = refl
+read_in-measures k _ _ i half width (OnText line) = refl
+read_in-measures k _ _ i half width (OnArguments breaks request) = refl
+read_in-measures k _ _ i half width (OnCondition keeps) = refl
 
 -- a byte that ends a text that is measured
 taking-measures : (k : Known) (reading : Reading) (is_text : Bool) (i : PageInput) (b width : ℕ) (half : List Half) → ReadsEscapes reading is_text
-    → IsRead b → byte_read is_text i.half b ≡ (Measures width, half)
-    → taking k reading i b ≡ measuring (record i { half = half; arguments = settled_for reading i.arguments }) reading width
-taking-measures k _ _ i b width half AtBeginning read reads =
-    ap (λ (d : Bool). if d then going_on i LineStart else kept_taking k LineStart i b) (not-first (is_dropped b) (b == newline) read)
-    ∙ ap (beginning_read k i) reads
-taking-measures k _ _ i b width half (OnText line) read reads =
-    ap (λ (d : Bool). if d then going_on i (InText line) else kept_taking k (InText line) i b) (not-first (is_dropped b) (b == newline) read)
-    ∙ ap (text_read k i line) reads
-taking-measures k _ _ i b width half (OnArguments breaks request) read reads =
-    ap (λ (d : Bool). if d then going_on (settling i) (InArguments breaks request) else kept_taking k (InArguments breaks request) i b)
-    (not-first (is_dropped b) (b == newline) read)
-    ∙ ap (arguments_read_on k i breaks request) reads
+    → IsRead b → byte_read is_text i.half b ≡ (Measures width, half) → taking k reading i b ≡ measuring (settled_input reading half i) reading width
+taking-measures k reading is_text i b width half on read reads =
+    taking-reads k reading is_text i b on read ∙ ap (read_in k reading i) reads ∙ read_in-measures k reading is_text i half width on
 
 -- a width was measured in such a run
 abbrev measured : State → Reading → Origin → Arguments → List Half → ℕ → ℕ → ℕ → State
@@ -69,17 +69,23 @@ means-measures s reading is_text from a charge line width behind on half b read 
 abbrev width_from : Origin → ℕ → List Half → ℕ → State → State
 width_from from width half taken s = with_width_ahead width half taken (ahead_at from []) (source_behind from s)
 
--- and in such a run
+-- before them no quote follows the quote before
+with_width_ahead-arguments : (width : ℕ) (half : List Half) (taken : ℕ) (rest : List (Ahead PageEvent)) (s : State) (is_text : Bool) → ReadsEscapes s.reading is_text
+    → with_width_ahead width half taken rest s
+    ≡ record s { input = pushing (decimal width) (record (settled_input s.reading half s.input) { ahead = rest; charge = s.input.charge + taken }) }
+with_width_ahead-arguments width half taken rest s is_text on =
+    ap (λ (i : PageInput). record s { input = pushing (decimal width) (record i { ahead = rest; half = half; charge = s.input.charge + taken }) })
+    (interrupted-arguments s.reading is_text s.input on)
+
+-- so it is the width that was measured
 width_from-measured : (s : State) (reading : Reading) (is_text : Bool) (from : Origin) (bytes : List ℕ) (a : Arguments) (half behind : List Half)
     (charge taken line width : ℕ) → ReadsEscapes reading is_text
     → width_from from width behind taken (going s reading from bytes a half charge line)
     ≡ measured s reading from (settled_for reading a) behind (charge + taken) (line_behind from s line) width
-width_from-measured s _ _ (FromAhead rest) bytes a half behind charge taken line width AtBeginning = refl
-width_from-measured s _ _ (FromAhead rest) bytes a half behind charge taken line width (OnText text) = refl
-width_from-measured s _ _ (FromAhead rest) bytes a half behind charge taken line width (OnArguments breaks request) = refl
-width_from-measured s _ _ (FromSource tape) bytes a half behind charge taken line width AtBeginning = refl
-width_from-measured s _ _ (FromSource tape) bytes a half behind charge taken line width (OnText text) = refl
-width_from-measured s _ _ (FromSource tape) bytes a half behind charge taken line width (OnArguments breaks request) = refl
+width_from-measured s reading is_text (FromAhead rest) bytes a half behind charge taken line width on =
+    with_width_ahead-arguments width behind taken rest (going s reading (FromAhead rest) bytes a half charge line) is_text on
+width_from-measured s reading is_text (FromSource tape) bytes a half behind charge taken line width on =
+    with_width_ahead-arguments width behind taken [] (going s reading (FromSource tape) [] a half charge (s.input.newlines + 1)) is_text on
 
 -- a byte is itself
 itself : (b : ℕ) → (b == b) ≡ true
@@ -130,38 +136,39 @@ pub widths_of_the_source_read_as_digits : WidthsOfTheSourceReadAsDigits
 widths_of_the_source_read_as_digits l s d width is_deep half tape may takes reads measures none stands =
     delimiter-reads l s (FromSource tape) d width is_deep half may takes reads measures none stands
 
+-- what is half read ends
+half_ended-reads : (k : Known) (reading : Reading) (is_text : Bool) (i : PageInput) → ReadsEscapes reading is_text
+    → half_ended k reading i ≡ read_in k reading i (reading_ended is_text i.half)
+half_ended-reads k _ _ i AtBeginning = refl
+half_ended-reads k _ _ i AtBranch = refl
+half_ended-reads k _ _ i AtBraced = refl
+half_ended-reads k _ _ i (OnText line) = refl
+half_ended-reads k _ _ i (OnArguments breaks request) = refl
+half_ended-reads k _ _ i (OnCondition keeps) = refl
+
 -- the end of a text that is measured
 half_ended-measures : (k : Known) (reading : Reading) (is_text : Bool) (i : PageInput) (delimiter : Option ℕ) (width : ℕ) (is_deep : Bool) (half : List Half)
     → ReadsEscapes reading is_text → i.half ≡ Width delimiter width is_deep ∷ half
-    → half_ended k reading i ≡ measuring (record (interrupted reading i) { half = half }) reading width
-half_ended-measures k _ _ i delimiter width is_deep half AtBeginning measures =
-    ap (λ (h : List Half). beginning_read k i (reading_ended true h)) measures
-half_ended-measures k _ _ i delimiter width is_deep half (OnText line) measures =
-    ap (λ (h : List Half). text_read k i line (reading_ended true h)) measures
-half_ended-measures k _ _ i delimiter width is_deep half (OnArguments breaks request) measures =
-    ap (λ (h : List Half). arguments_read_on k i breaks request (reading_ended false h)) measures
-
--- what isn't a byte of the line changes the arguments alone
-interrupted-arguments : (reading : Reading) (is_text : Bool) (i : PageInput) → ReadsEscapes reading is_text
-    → interrupted reading i ≡ record i { arguments = settled_for reading i.arguments }
-interrupted-arguments _ _ i AtBeginning = refl
-interrupted-arguments _ _ i (OnText line) = refl
-interrupted-arguments _ _ i (OnArguments breaks request) = refl
+    → half_ended k reading i ≡ measuring (settled_input reading half i) reading width
+half_ended-measures k reading is_text i delimiter width is_deep half on measures =
+    half_ended-reads k reading is_text i on
+    ∙ ap (λ (h : List Half). read_in k reading i (reading_ended is_text h)) measures
+    ∙ read_in-measures k reading is_text i half width on
 
 -- where it ends so, its end is the step
 reading_on-ends : (l : Limits) (s : State) (delimiter : Option ℕ) (width : ℕ) (is_deep : Bool) (half : List Half) → EndsText s
     → s.input.half ≡ Width delimiter width is_deep ∷ half → reading_on l s ≡ made l s (half_ends s)
 reading_on-ends l s delimiter width is_deep half (NewlineAhead rest ahead) measures =
-    ap (λ (h : List Half). if newline_stays h then awaited l (seen_ahead s.input.ahead) s else in_front_taken l s.input.ahead s) measures
+    ap (λ (h : List Half). if newline_stays h then (if decides_now h then made l s (half_ends s) else awaited l (seen_ahead s.input.ahead) s) else in_front_taken l s.input.ahead s) measures
     ∙ ap (λ (items : List (Ahead PageEvent)). awaited l (seen_ahead items) s) ahead
     ∙ ap (λ (h : List Half). if seen_stays h (Some newline) then made l s (half_ends s) else in_front_taken l s.input.ahead s) measures
 reading_on-ends l s delimiter width is_deep half (NewlineOfTheSource ahead gives) measures =
-    ap (λ (h : List Half). if newline_stays h then awaited l (seen_ahead s.input.ahead) s else in_front_taken l s.input.ahead s) measures
+    ap (λ (h : List Half). if newline_stays h then (if decides_now h then made l s (half_ends s) else awaited l (seen_ahead s.input.ahead) s) else in_front_taken l s.input.ahead s) measures
     ∙ ap (λ (items : List (Ahead PageEvent)). awaited l (seen_ahead items) s) ahead
     ∙ ap (λ (a : Answer). awaited_of_source l a s) gives
     ∙ ap (λ (h : List Half). if seen_stays h (Some newline) then made l s (half_ends s) else in_front_taken l s.input.ahead s) measures
 reading_on-ends l s delimiter width is_deep half (EndOfTheSource ahead ends) measures =
-    ap (λ (h : List Half). if newline_stays h then awaited l (seen_ahead s.input.ahead) s else in_front_taken l s.input.ahead s) measures
+    ap (λ (h : List Half). if newline_stays h then (if decides_now h then made l s (half_ends s) else awaited l (seen_ahead s.input.ahead) s) else in_front_taken l s.input.ahead s) measures
     ∙ ap (λ (items : List (Ahead PageEvent)). awaited l (seen_ahead items) s) ahead
     ∙ ap (λ (a : Answer). awaited_of_source l a s) ends
     ∙ ap (λ (h : List Half). if seen_stays h None then made l s (half_ends s) else in_front_taken l s.input.ahead s) measures
@@ -173,14 +180,11 @@ pub widths_end_with_their_line : WidthsEndWithTheirLine
 widths_end_with_their_line l s delimiter width is_deep half ends takes reads measures within within_read =
     let on = ReadsEscapes-reads_escapes s.reading reads in
     let read : State = with_width_ahead width half 0 s.input.ahead s in
-    let same : record (interrupted s.reading s.input) { half = half } ≡ record (interrupted s.reading s.input) { ahead = s.input.ahead; half = half; charge = s.input.charge + 0 } =
-    ap (λ (i : PageInput). record i { half = half }) (interrupted-arguments s.reading on.0 s.input on.1)
-    ∙ ap (λ (c : ℕ). record s.input { half = half; arguments = settled_for s.reading s.input.arguments; charge = c }) (omega arith)
-    ∙ ap (λ (i : PageInput). record i { ahead = s.input.ahead; half = half; charge = s.input.charge + 0 }) (sym (interrupted-arguments s.reading on.0 s.input on.1)) in
     let is : half_ends s ≡ read =
     ap (λ (taking : Taking). taken_as taking s) (half_ended-measures (known s) s.reading on.0 s.input delimiter width is_deep half on.1 measures)
-    ∙ taken_as-going_on (pushing (decimal width) (record (interrupted s.reading s.input) { half = half })) s.reading s
-    ∙ ap (λ (i : PageInput). let t : State = record s { input = pushing (decimal width) i } in t) same in
+    ∙ taken_as-going_on (pushing (decimal width) (settled_input s.reading half s.input)) s.reading s
+    ∙ ap (λ (c : ℕ). let t : State = record s { input = pushing (decimal width) (record (settled_input s.reading half s.input) { charge = c }) } in t) (omega arith)
+    ∙ sym (with_width_ahead-arguments width half 0 s.input.ahead s on.0 on.1) in
     step-TakesItems l s takes ∙ reading_on-ends l s delimiter width is_deep half ends measures
     ∙ ap (made l s) is ∙ made-Fits l s read (Fits-IsWithin l read within_read)
 
@@ -215,10 +219,10 @@ byte_read-measured is_text d width b plain =
 -- its bytes and its delimiter
 finds-text : (is_text : Bool) (d width : ℕ) (text : List ℕ) → MayDelimit d → IsPlain d text
     → FindsAtLast is_text (Measures (grown_by width text)) [] (Width (Some d) width false ∷ []) (text ++ d ∷ [])
-finds-text is_text d width [] may plain = AtLast _ d may refl (byte_read-delimiter is_text d width false [])
+finds-text is_text d width [] may plain = AtLast _ d may (not-second (is_dropped d) (d == newline) may) (byte_read-delimiter is_text d width false [])
 finds-text is_text d width (b ∷ text) may plain =
     let first = All-head (λ b. ((b == d) ≡ false) × StandsForItself b) b text plain in
-    Behind _ _ b (text ++ d ∷ []) (IsRead-itself b first.1) refl (byte_read-measured is_text d width b first) refl
+    Behind _ _ b (text ++ d ∷ []) (IsRead-itself b first.1) (is_no_newline b first.1) (byte_read-measured is_text d width b first) refl
     (finds-text is_text d (wider width (byte_columns b)) text may (All-tail (λ b. ((b == d) ≡ false) × StandsForItself b) b text plain))
 
 -- `w`
@@ -232,7 +236,7 @@ finds-escape : (is_text : Bool) (d : ℕ) (text : List ℕ) → MayDelimit d →
 finds-escape is_text d text may plain =
     subst (λ (width : ℕ). FindsAtLast is_text (Measures width) [] (Backslash ∷ []) (119 ∷ d ∷ text ++ d ∷ [])) (grown_by-nothing text)
     (Behind _ _ 119 (d ∷ text ++ d ∷ []) refl refl (byte_read-w is_text) refl
-    (Behind (Width None 0 false ∷ []) (Width (Some d) 0 false ∷ []) d (text ++ d ∷ []) may refl refl refl (finds-text is_text d 0 text may plain)))
+    (Behind (Width None 0 false ∷ []) (Width (Some d) 0 false ∷ []) d (text ++ d ∷ []) may (not-second (is_dropped d) (d == newline) may) refl refl (finds-text is_text d 0 text may plain)))
 
 -- the steps at the escape
 after-width : (l : Limits) (s : State) (reading : Reading) (is_text : Bool) (from : Origin) (a : Arguments) (d : ℕ) (text : List ℕ) (charge line : ℕ)

@@ -2,7 +2,7 @@
 pub use Rattle.roff_run.specs.Output.{PageHistory, text_of}
 pub use Rattle.roff_run.specs.Reader.State.{fresh_reader}
 pub use Rattle.roff_run.specs.Reader.Taken.{Changed, PageUnread, TakesAs}
-pub use Rattle.roff_run.specs.Reading.{PageInput, arguments_found, asking, beginning_found, behind_name, branch_of, condition_found, decided, end_taking, first_escape, first_taking, going_on, half_ended, holding, interpolating, interrupted, is_so, kept_if, kept_taking, line_begun, line_ended, meaning_events, measuring, name_taking, name_whole_taking, no_unit_found, putting_nothing, reads_else, taking, telling, text_found, unit_found}
+pub use Rattle.roff_run.specs.Reading.{PageInput, arguments_found, asking, beginning_found, behind_name, condition_found, decided, end_taking, first_escape, first_taking, going_on, half_ended, holding, interpolating, interrupted, is_so, kept_taking, line_begun, line_ended, meaning_events, measuring, name_taking, no_unit_found, putting_nothing, taking, telling, text_found, unit_found}
 pub use Rattle.roff_scan.specs.Input.{holding_text}
 pub use Rattle.roff_run.specs.Registers.{AllRegisters, Remove, changed_by, value_in_force}
 pub use Rattle.roff_run.specs.Registers.Coded.{known_of}

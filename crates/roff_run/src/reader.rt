@@ -6,7 +6,7 @@ ghost use Rattle.roff_lines.specs.declared.event.Event.TheVariants.{Gap, Print, 
 ghost use Rattle.roff_lines.specs.declared.glyph.Glyph.TheVariants.{Printed};
 ghost use Rattle.roff_run.specs.Requests.{Text};
 ghost use Rattle.roff_run.specs.Registers.{Known as KnownOf};
-ghost use Rattle.roff_run.specs.Clauses.{AllRegisters, Changed, Env, LineStart, NameOf, PageHistory, PageInput, PageUnread, Remove, Stands, TakesAs, arguments_found, asking, beginning_found, behind_name, branch_of, changed_by, changes_of, condition_found, decided, effect_of, end_taking, first_escape, first_taking, fresh_reader, going_on, meaning_events, half_ended, holding, holding_text, interpolating, interrupted, is_so, kept_if, kept_taking, known_at, known_of, line_begun, line_ended, listed, name_whole_taking, reads_else, row_of, measuring, name_taking, names_given, no_unit_found, putting_nothing, register_named, request_effect, taking, telling, text_found, text_of, unit_found, value_in_force};
+ghost use Rattle.roff_run.specs.Clauses.{AllRegisters, Changed, Env, LineStart, NameOf, PageHistory, PageInput, PageUnread, Remove, Stands, TakesAs, arguments_found, asking, beginning_found, behind_name, changed_by, changes_of, condition_found, decided, effect_of, end_taking, first_escape, first_taking, fresh_reader, going_on, meaning_events, half_ended, holding, holding_text, interpolating, interrupted, is_so, kept_taking, known_at, known_of, line_begun, line_ended, listed, row_of, measuring, name_taking, names_given, no_unit_found, putting_nothing, register_named, request_effect, taking, telling, text_found, text_of, unit_found, value_in_force};
 
 use crate::event::{Events, PageEvent};
 use crate::message::Message;
@@ -314,9 +314,8 @@ impl Reader {
         match found {
             Read::GoesOn => Ok(self.read_on(at)),
             Read::Unit(CopyUnit::Byte(byte)) => Ok(self.begin_with(at, byte)),
-            Read::Unit(CopyUnit::Kept(byte)) | Read::Escape(byte) => {
-                Ok(self.begin_with_escape(at, byte))
-            }
+            Read::Unit(CopyUnit::Kept(byte)) => Ok(self.begin_with_escape(at, byte)),
+            Read::Escape(byte) => Ok(self.begin_with_escape(at, byte)),
             Read::Holds(unit) => self.hold_text(unit, at, unread),
             Read::Motion(columns, remark) => {
                 Ok(self.step(TextLine::new().motion(columns, remark)))
@@ -439,10 +438,12 @@ impl Reader {
         match found {
             Read::Decides(decision, freed) => {
                 let so = self.is_so(decision);
+                // The limit on results is the last that is looked at.
+                let meaning = self.begin_branch(so, freed, env, unread)?;
                 if keeps {
                     unread.keep(so)?;
                 }
-                self.begin_branch(so, freed, env, unread)
+                Ok(meaning)
             }
             _ => self.read_in_arguments(Reading::Deciding { keeps }, found, env, unread),
         }

@@ -1,5 +1,5 @@
 use Rattle.roff_run.proofs.interpolation_laws.escapes.Goals as goal
-use Rattle.roff_run.proofs.Interpolation.{escapes_read_as_texts, escapes_of_the_source_read_as_texts, escapes_of_text_read_as_texts}
+use Rattle.roff_run.proofs.InterpolatedNames.{escapes_read_as_texts, escapes_of_the_source_read_as_texts, escapes_of_text_read_as_texts}
 
 pub returns-clause-ahead : goal.returns-clause-ahead
 returns-clause-ahead c = escapes_read_as_texts

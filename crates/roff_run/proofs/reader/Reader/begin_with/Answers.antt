@@ -1,15 +1,16 @@
-use Rattle.std.proofs.Common.{◌≡◌, false, rules, ap, ◌∙◌, ◌==◌}
-use Rattle.roff_run.specs.Reading.{PageInput, first_taking, text_taking}
-use Rattle.roff_run.specs.declared.reading.TextLine.{TextLine}
-use Rattle.roff_run.specs.TextLine.Stepping.{step_at}
-use Rattle.roff_run.proofs.TakesAs.{TakesAs-stepped}
+use Rattle.std.proofs.Common.{◌≡◌, Ok, rules}
+use Rattle.roff_run.specs.Reading.{first_taking, line_begun}
+use Rattle.roff_run.proofs.TakesAs.{TakesAs-as, first_taking-any}
+use Rattle.roff_run.proofs.reader.Reader.begin_with.Goals.{in_default-via-in-Branch+in_default, in_default-via-in-Braced+in_default, in_default-via-in_default}
 use Rattle.roff_run.proofs.reader.Reader.begin_with.Goals as goal
 
 pub returns-in_default : goal.returns-in_default
 returns-in_default c = λ env u.
     let b = c.args.byte in
-    let no_dot : (b == 46) ≡ false = search rules in
-    let no_apostrophe : (b == 39) ≡ false = search rules in
-    let as_defined : (i : PageInput) → step_at i c.taking.result ≡ first_taking i b = λ i.
-    rw (no_dot, no_apostrophe) (c.taking.ensures i ∙ ap (λ (line : TextLine). text_taking i line b) c.new.ensures) in
-    TakesAs-stepped (λ i. first_taking i b) c.taking.result env c.args.self.now c.step.new.self u c.step.result as_defined c.step.ensures.reading c.step.ensures.message c.step.ensures.events
+    let any = c.begin_with_any in
+    let as_defined : line_begun u.input b ≡ first_taking u.input c.args.at b = elim c.in_default.branch [
+      | in_default-via-in-Branch+in_default w ↦ first_taking-any u.input c.args.at b (λ at. search rules) (λ at. absurd (search rules))
+      | in_default-via-in-Braced+in_default w ↦ first_taking-any u.input c.args.at b (λ at. absurd (search rules)) (λ at. search rules)
+      | in_default-via-in_default w ↦ first_taking-any u.input c.args.at b (λ at. absurd (search rules)) (λ at. absurd (search rules))
+    ] in
+    TakesAs-as (λ k. line_begun u.input b) (λ k. first_taking u.input c.args.at b) env c.args.self.now any.new.self u u (Ok any.result) (λ k. as_defined) (any.ensures env u)

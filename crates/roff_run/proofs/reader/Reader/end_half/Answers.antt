@@ -3,8 +3,8 @@ use Rattle.roff_scan.specs.Halves.{reading_ended}
 use Rattle.roff_scan.proofs.TextsHeld.{texts_held-reading_ended}
 use Rattle.roff_scan.specs.Input.{with_half}
 use Rattle.roff_run.specs.Reader.State.{ReaderState}
-use Rattle.roff_run.specs.Reading.{arguments_found, beginning_found, going_on, half_ended, text_found}
-use Rattle.roff_run.specs.declared.reading.Reading.TheVariants.{Arguments as InArguments, LineStart, Text as InText}
+use Rattle.roff_run.specs.Reading.{arguments_found, beginning_found, condition_found, going_on, half_ended, text_found}
+use Rattle.roff_run.specs.declared.reading.Reading.TheVariants.{Arguments as InArguments, Branch, Braced, Deciding, LineStart, Text as InText}
 use Rattle.roff_run.proofs.TakesAs.{TakesAs-as, TakesAs-meant, TakesAs-read, TakesAs-where, half_ended-dropped}
 use Rattle.roff_run.proofs.reader.Reader.end_half.Goals as goal
 
@@ -13,10 +13,36 @@ returns-in-LineStart c =
     let env = c.args.env.now in
     let old = c.args.self.now in
     let u = c.args.unread.now in
+    let done = c.begin_line in
+    let read = c.end_reading-found in
     let is : old.reading ≡ LineStart = search rules in
-    TakesAs-where (λ k r. half_ended k r u.input) LineStart env old c.begin_line.new.self u c.begin_line.new.unread c.begin_line.result is
-    (TakesAs-read beginning_found (reading_ended true u.input.half) env old c.begin_line.new.self u c.end_reading-found.new.self c.begin_line.new.unread
-    c.end_reading-found.result c.begin_line.result c.end_reading-found.ensures.reading (texts_held-reading_ended true u.input.half) c.begin_line.ensures)
+    TakesAs-where (λ k r. half_ended k r u.input) LineStart env old done.new.self u done.new.unread done.result is
+    (TakesAs-read (λ k i found. beginning_found k i LineStart found) (reading_ended true u.input.half) env old done.new.self u read.new.self done.new.unread
+    read.result done.result read.ensures.reading (texts_held-reading_ended true u.input.half) done.ensures)
+
+pub returns-in-Branch : goal.returns-in-Branch
+returns-in-Branch c =
+    let env = c.args.env.now in
+    let old = c.args.self.now in
+    let u = c.args.unread.now in
+    let done = c.begin_line-in-Branch in
+    let read = c.end_reading-found-in-Branch in
+    let is : old.reading ≡ Branch = search rules in
+    TakesAs-where (λ k r. half_ended k r u.input) Branch env old done.new.self u done.new.unread done.result is
+    (TakesAs-read (λ k i found. beginning_found k i Branch found) (reading_ended true u.input.half) env old done.new.self u read.new.self done.new.unread
+    read.result done.result read.ensures.reading (texts_held-reading_ended true u.input.half) done.ensures)
+
+pub returns-in-Braced : goal.returns-in-Braced
+returns-in-Braced c =
+    let env = c.args.env.now in
+    let old = c.args.self.now in
+    let u = c.args.unread.now in
+    let done = c.begin_line-in-Braced in
+    let read = c.end_reading-found-in-Braced in
+    let is : old.reading ≡ Braced = search rules in
+    TakesAs-where (λ k r. half_ended k r u.input) Braced env old done.new.self u done.new.unread done.result is
+    (TakesAs-read (λ k i found. beginning_found k i Braced found) (reading_ended true u.input.half) env old done.new.self u read.new.self done.new.unread
+    read.result done.result read.ensures.reading (texts_held-reading_ended true u.input.half) done.ensures)
 
 pub returns-in-Text : goal.returns-in-Text
 returns-in-Text c =
@@ -43,6 +69,18 @@ returns-in-Arguments c =
     c.end_reading-found-in-Arguments.new.self c.read_arguments.new.unread c.end_reading-found-in-Arguments.result c.read_arguments.result
     c.end_reading-found-in-Arguments.ensures.reading (texts_held-reading_ended false u.input.half) c.read_arguments.ensures)
 
+pub returns-in-Deciding : goal.returns-in-Deciding
+returns-in-Deciding c =
+    let env = c.args.env.now in
+    let old = c.args.self.now in
+    let u = c.args.unread.now in
+    let keeps = c.in-Deciding.keeps in
+    let is : old.reading ≡ Deciding keeps = search rules in
+    TakesAs-where (λ k r. half_ended k r u.input) (Deciding keeps) env old c.read_condition.new.self u c.read_condition.new.unread c.read_condition.result is
+    (TakesAs-read (λ k i found. condition_found k i keeps found) (reading_ended false u.input.half) env old c.read_condition.new.self u
+    c.end_reading-found-in-Deciding.new.self c.read_condition.new.unread c.end_reading-found-in-Deciding.result c.read_condition.result
+    c.end_reading-found-in-Deciding.ensures.reading (texts_held-reading_ended false u.input.half) c.read_condition.ensures)
+
 pub returns-in_default : goal.returns-in_default
 returns-in_default c =
     let env = c.args.env.now in
@@ -51,10 +89,12 @@ returns-in_default c =
     let mid = c.end_reading.new.self in
     let read = reading_ended true u.input.half in
     let m = c.nothing.result in
+    let others = c.in_default in
     let same = ap (λ (s : ReaderState). s.reading) c.self.view_is in
     TakesAs-as (λ k. going_on (with_half read.1 u.input) old.reading) (λ k. half_ended k old.reading u.input) env old old u mid (Ok m)
-    (λ k. half_ended-dropped k old.reading u.input (λ is. c.in_default.not-LineStart (same ∙ is)) (λ line is. c.in_default.not-Text line (same ∙ is))
-    (λ breaks request is. c.in_default.not-Arguments breaks request (same ∙ is)))
+    (λ k. half_ended-dropped k old.reading u.input (λ is. others.not-LineStart (same ∙ is)) (λ is. others.not-Branch (same ∙ is)) (λ is. others.not-Braced (same ∙ is))
+    (λ line is. others.not-Text line (same ∙ is)) (λ breaks request is. others.not-Arguments breaks request (same ∙ is))
+    (λ keeps is. others.not-Deciding keeps (same ∙ is)))
     (TakesAs-read (λ k i found. going_on i old.reading) read env old old u mid mid c.end_reading.result (Ok m) c.end_reading.ensures.reading
     (texts_held-reading_ended true u.input.half)
     (TakesAs-meant (λ k. going_on mid.input old.reading) old.reading [] env old old mid m (λ k. refl) refl c.nothing.ensures.message c.nothing.ensures.events))

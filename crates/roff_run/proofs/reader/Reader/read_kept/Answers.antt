@@ -1,8 +1,8 @@
 use Rattle.std.proofs.Common.{◌≡◌, [], Ok, true, false, rules}
 use Rattle.roff_scan.specs.Halves.{byte_read}
 use Rattle.roff_scan.proofs.TextsHeld.{texts_held-byte_read}
-use Rattle.roff_run.specs.Reading.{arguments_found, beginning_found, kept_taking, text_found}
-use Rattle.roff_run.specs.declared.reading.Reading.TheVariants.{Arguments as InArguments, Control, Dropped, LineStart, Text as InText}
+use Rattle.roff_run.specs.Reading.{arguments_found, beginning_found, condition_found, kept_taking, text_found}
+use Rattle.roff_run.specs.declared.reading.Reading.TheVariants.{Arguments as InArguments, Branch, Braced, Control, Deciding, Dropped, LineStart, Name, Skipping, Text as InText}
 use Rattle.roff_run.proofs.TakesAs.{TakesAs-meant, TakesAs-read, TakesAs-where}
 use Rattle.roff_run.proofs.reader.Reader.read_kept.Goals as goal
 
@@ -11,10 +11,36 @@ returns-in-LineStart c =
     let env = c.args.env.now in
     let old = c.args.self.now in
     let u = c.args.unread.now in
+    let done = c.begin_line in
+    let read = c.read_byte-found in
     let is : old.reading ≡ LineStart = search rules in
-    TakesAs-where (λ k r. kept_taking k r u.input c.args.byte) LineStart env old c.begin_line.new.self u c.begin_line.new.unread c.begin_line.result is
-    (TakesAs-read beginning_found (byte_read true u.input.half c.args.byte) env old c.begin_line.new.self u c.read_byte-found.new.self c.begin_line.new.unread
-    c.read_byte-found.result c.begin_line.result c.read_byte-found.ensures.reading (texts_held-byte_read true c.args.byte u.input.half) c.begin_line.ensures)
+    TakesAs-where (λ k r. kept_taking k r u.input c.args.byte) LineStart env old done.new.self u done.new.unread done.result is
+    (TakesAs-read (λ k i found. beginning_found k i LineStart found) (byte_read true u.input.half c.args.byte) env old done.new.self u read.new.self done.new.unread
+    read.result done.result read.ensures.reading (texts_held-byte_read true c.args.byte u.input.half) done.ensures)
+
+pub returns-in-Branch : goal.returns-in-Branch
+returns-in-Branch c =
+    let env = c.args.env.now in
+    let old = c.args.self.now in
+    let u = c.args.unread.now in
+    let done = c.begin_line-in-Branch in
+    let read = c.read_byte-found-in-Branch in
+    let is : old.reading ≡ Branch = search rules in
+    TakesAs-where (λ k r. kept_taking k r u.input c.args.byte) Branch env old done.new.self u done.new.unread done.result is
+    (TakesAs-read (λ k i found. beginning_found k i Branch found) (byte_read true u.input.half c.args.byte) env old done.new.self u read.new.self done.new.unread
+    read.result done.result read.ensures.reading (texts_held-byte_read true c.args.byte u.input.half) done.ensures)
+
+pub returns-in-Braced : goal.returns-in-Braced
+returns-in-Braced c =
+    let env = c.args.env.now in
+    let old = c.args.self.now in
+    let u = c.args.unread.now in
+    let done = c.begin_line-in-Braced in
+    let read = c.read_byte-found-in-Braced in
+    let is : old.reading ≡ Braced = search rules in
+    TakesAs-where (λ k r. kept_taking k r u.input c.args.byte) Braced env old done.new.self u done.new.unread done.result is
+    (TakesAs-read (λ k i found. beginning_found k i Braced found) (byte_read true u.input.half c.args.byte) env old done.new.self u read.new.self done.new.unread
+    read.result done.result read.ensures.reading (texts_held-byte_read true c.args.byte u.input.half) done.ensures)
 
 pub returns-in-Text : goal.returns-in-Text
 returns-in-Text c =
@@ -51,6 +77,38 @@ returns-in-Arguments c =
     (TakesAs-read (λ k i found. arguments_found k i breaks request found) (byte_read false u.input.half c.args.byte) env old c.read_arguments.new.self u
     c.read_byte-found-in-Arguments.new.self c.read_arguments.new.unread c.read_byte-found-in-Arguments.result c.read_arguments.result
     c.read_byte-found-in-Arguments.ensures.reading (texts_held-byte_read false c.args.byte u.input.half) c.read_arguments.ensures)
+
+pub returns-in-Name : goal.returns-in-Name
+returns-in-Name c =
+    let u = c.args.unread.now in
+    let place = Name c.in-Name.breaks c.in-Name.first in
+    let is : c.args.self.now.reading ≡ place = search rules in
+    TakesAs-where (λ k r. kept_taking k r u.input c.args.byte) place c.args.env.now c.args.self.now c.end_name.new.self u c.end_name.new.unread (Ok c.end_name.result) is
+    (c.end_name.ensures c.args.env.now)
+
+pub returns-in-Deciding : goal.returns-in-Deciding
+returns-in-Deciding c =
+    let env = c.args.env.now in
+    let old = c.args.self.now in
+    let u = c.args.unread.now in
+    let keeps = c.in-Deciding.keeps in
+    let is : old.reading ≡ Deciding keeps = search rules in
+    TakesAs-where (λ k r. kept_taking k r u.input c.args.byte) (Deciding keeps) env old c.read_condition.new.self u c.read_condition.new.unread c.read_condition.result is
+    (TakesAs-read (λ k i found. condition_found k i keeps found) (byte_read false u.input.half c.args.byte) env old c.read_condition.new.self u
+    c.read_byte-found-in-Deciding.new.self c.read_condition.new.unread c.read_byte-found-in-Deciding.result c.read_condition.result
+    c.read_byte-found-in-Deciding.ensures.reading (texts_held-byte_read false c.args.byte u.input.half) c.read_condition.ensures)
+
+pub returns-in-Skipping : goal.returns-in-Skipping
+returns-in-Skipping c =
+    let env = c.args.env.now in
+    let old = c.args.self.now in
+    let u = c.args.unread.now in
+    let place = Skipping c.in-Skipping.opened c.in-Skipping.closed c.in-Skipping.behind in
+    let is : old.reading ≡ place = search rules in
+    let done = c.read_on-in-Skipping in
+    TakesAs-where (λ k r. kept_taking k r u.input c.args.byte) place env old done.new.self u u (Ok done.result) is
+    (TakesAs-meant (λ k. kept_taking k place u.input c.args.byte) c.behind_skipped.result [] env old done.new.self u done.result
+    (λ k. c.behind_skipped.ensures u.input) done.ensures.reading done.ensures.message done.ensures.events)
 
 pub returns-in-Dropped : goal.returns-in-Dropped
 returns-in-Dropped c =

@@ -50,3 +50,7 @@ returns-in-Text-Motion c = λ i.
 pub returns-in-Width : goal.returns-in-Width
 returns-in-Width c = λ i.
     c.other-in-Width.ensures i ∙ ap (escape_meant i c.args.self c.args.byte) (sym c.in-Width.is ∙ c.escape_of.ensures)
+
+pub returns-in-Brace : goal.returns-in-Brace
+returns-in-Brace c = λ i.
+    c.brace.ensures i ∙ ap (escape_meant i c.args.self c.args.byte) (sym c.in-Brace.is ∙ c.escape_of.ensures)
