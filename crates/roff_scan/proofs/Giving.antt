@@ -27,6 +27,15 @@ told_byte bytes rest ending b split = record {
   some_given = refl;
 }
 
+-- so many of them at once
+pub told_bytes : (bytes : List ℕ) (ending : Ending) (count : ℕ)
+    → Took (λ t. t ≡ record { items = map OneByte bytes; ending = ending }) (λ t. t ≡ record { items = map OneByte (drop count bytes); ending = ending }) (map OneByte (take count bytes))
+told_bytes bytes ending count = record {
+  before = λ t given. rw given (ap (λ items. record { items = items; ending = ending }) (sym (map-append OneByte (take count bytes) (drop count bytes)) ∙ ap (map OneByte) (take-append-drop count bytes)));
+  some = record { items = map OneByte (drop count bytes); ending = ending };
+  some_given = refl;
+}
+
 -- an ending that was given
 pub told_ending : (ending : Ending) → Answers (λ t. t ≡ only ending) (λ t. t ≡ only ending) (Ends ending)
 told_ending ending = record {

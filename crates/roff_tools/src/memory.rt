@@ -50,6 +50,8 @@ impl ByteSource for MemSource<'_> {
 
     ghost gives = { λ s t. t ≡ tape_of s };
 
+    ghost ready = { λ s. s.rest.now };
+
     ghost notes = { λ _. 0 };
 
     ghost failures = { faults_of_source };
@@ -76,6 +78,14 @@ impl ByteSource for MemSource<'_> {
             }
             None => None,
         }
+    }
+
+    fn buffered(&self) -> &[u8] {
+        self.rest
+    }
+
+    fn pass(&mut self, count: usize) {
+        self.rest = self.rest.split_at(count).1;
     }
 }
 
