@@ -1,31 +1,32 @@
 -- Bytes of the source that stand ready and change nothing: the run has come behind them.
-use Rattle.std.proofs.Common.{◌≡◌, ◌⊎◌, ℕ, ◌+◌, ◌≤◌, Bool, true, List, [], ◌∷◌, ◌++◌, length, Option, Some, None, inl, inr, refl, sym, ap, subst, ◌∙◌, arith}
-use Rattle.std.specs.Prelude.{map, All, IfSome}
-use Rattle.std.proofs.lemmas.List.Elements.{All-head, All-tail}
+use Rattle.std.proofs.Common.{◌≡◌, ℕ, ◌+◌, ◌≤◌, Bool, true, false, List, [], ◌∷◌, ◌++◌, length, Option, Some, None, inl, inr, refl, sym, ap, subst, ◌∙◌, arith}
+use Rattle.std.specs.Prelude.{map}
+use Rattle.std.specs.List.{AllByRecursion}
 use Rattle.roff_num.specs.declared.limits.Limits.{Limits}
 use Rattle.roff_scan.specs.Bytes.{is_passed}
-use Rattle.roff_scan.specs.Input.{counting, lines_taken}
+use Rattle.roff_scan.specs.Input.{lines_taken}
 use Rattle.roff_scan.specs.Tape.{Tape, OneByte, items_then}
 use Rattle.roff_scan.specs.Unread.{Stays, looked_then}
 use Rattle.roff_scan.specs.Unread.Calls.{IsBare, PassesOver}
-use Rattle.roff_run.specs.Output.{PageHistory, text_of}
 use Rattle.roff_run.specs.Reader.Taken.{IsReady, PageUnread}
 use Rattle.roff_run.specs.Reading.{PageInput, Passes}
 use Rattle.roff_run.specs.Run.{State, Leads, initial}
 use Rattle.roff_run.specs.TurnsToCome.{turns_to_come}
 use Rattle.roff_run.specs.declared.reading.Reading.{Reading}
 use Rattle.roff_engine.specs.declared.running.Running.{Running as Coded}
-use Rattle.roff_engine.specs.Engine.Outcome.{Seen}
+use Rattle.roff_engine.specs.Engine.Outcome.{Seen, seen}
 use Rattle.roff_engine.specs.Formatter.Performing.{going}
-use Rattle.roff_engine.specs.Running.Turning.{HasCome, HasTape, IsAt, state_at}
+use Rattle.roff_engine.specs.Running.Turning.{GoesPast, HasCome, IsAt, state_at}
+use Rattle.roff_engine.specs.Sinks.{Sunk}
 use Rattle.roff_engine.proofs.Waiting.{items_then-append}
 use Rattle.roff_run.proofs.Leads.{Leads-trans}
 use Rattle.roff_run.proofs.PassingRuns.{IsPlain, IsPlain-lines_taken, after-passed, turns_within-lines_taken}
 
 -- each byte of these changes nothing
 all_pass : (reading : Reading) (within_block : Bool) (bytes : List ℕ) → ((b : ℕ) → is_passed within_block b ≡ true → Passes reading b)
-    → All (λ b. is_passed within_block b ≡ true) bytes → All (λ b. Passes reading b) bytes
-all_pass reading within_block bytes passes plain = λ i within. passes _ (plain i within)
+    → AllByRecursion (λ b. is_passed within_block b ≡ true) bytes → AllByRecursion (λ b. Passes reading b) bytes
+all_pass reading within_block [] passes plain = tt
+all_pass reading within_block (b ∷ bytes) passes plain = (passes b plain.0, all_pass reading within_block bytes passes plain.1)
 
 -- the code behind them
 abbrev behind : Coded → Limits → List ℕ → PageInput → Coded
@@ -34,7 +35,7 @@ behind old limits bytes input = record old { unread = record { input = lines_tak
 -- the run is at its place behind them
 IsAt-passed : (whole t : Tape) (start now : Seen) (old : Coded) (limits : Limits) (bytes : List ℕ) (input : PageInput)
     → old.unread ≡ record { input = input; looked = None; limits = limits } → input.ahead ≡ [] → input.half ≡ []
-    → input.charge + length bytes ≤ limits.bytes → All (λ b. Passes old.formatter.reader.reading b) bytes
+    → input.charge + length bytes ≤ limits.bytes → AllByRecursion (λ b. Passes old.formatter.reader.reading b) bytes
     → IsAt whole (items_then (map OneByte bytes) t) start now old → IsAt whole t start now (behind old limits bytes input)
 IsAt-passed whole t start now old limits bytes input is none_ahead none_half within pass at =
     let l : Limits = old.limits in
@@ -63,12 +64,18 @@ IsAt-passed whole t start now old limits bytes input is none_ahead none_half wit
       limits = same;
     }
 
--- the run has come behind some bytes
-come-some : {first gave gives : Tape → Type 0} (ready : List ℕ) (start now : Seen) (old : Coded) (after : PageUnread) (within_block : Bool)
+-- no more turns are to come behind them
+turns-passed : (gave gives : Tape → Type 0) (ready : List ℕ) (before after : PageUnread) (within_block : Bool) → PassesOver gave gives ready before after within_block
+    → turns_to_come after ≤ turns_to_come before
+turns-passed gave gives ready before after within_block passes =
+    subst (λ (u : PageUnread). turns_to_come u ≤ turns_to_come before) (sym passes.input) (turns_within-lines_taken before.limits.bytes passes.bytes before.input)
+
+-- the run goes past some bytes
+past-some : (gave gives : Tape → Type 0) (ready : List ℕ) (notes : ℕ) (now : Seen) (old : Coded) (after : PageUnread) (within_block : Bool)
     → (passes : PassesOver gave gives ready old.unread after within_block) → IsBare old.unread → (t : Tape) × gives t
     → ((b : ℕ) → is_passed within_block b ≡ true → Passes old.formatter.reader.reading b)
-    → HasCome first gave start now old → HasCome first gives start now (record old { unread = after })
-come-some {first} ready start now old after within_block passes bare some pass come =
+    → GoesPast gave gives notes notes old (record old { unread = after }) now now
+past-some gave gives ready notes now old after within_block passes bare some pass =
     let bytes : List ℕ = passes.bytes in
     let input : PageInput = old.unread.input in
     let limits : Limits = old.unread.limits in
@@ -76,46 +83,68 @@ come-some {first} ready start now old after within_block passes bare some pass c
     ap (λ (looked : Option ℕ). record { input = input; looked = looked; limits = limits }) bare.looked in
     let left : after ≡ record { input = lines_taken bytes input; looked = None; limits = limits } =
     passes.input ∙ ap (λ (looked : Option ℕ). record { input = lines_taken bytes input; looked = looked; limits = limits }) bare.looked in
+    let few : turns_to_come after ≤ turns_to_come old.unread = turns-passed gave gives ready old.unread after within_block passes in
     record {
-      taken = come.taken ++ map OneByte bytes;
-      before = λ t may. subst first (sym (items_then-append come.taken (map OneByte bytes) t)) (come.before (items_then (map OneByte bytes) t) (passes.before_them t may));
-      some = inr some;
-      at = λ t may.
-          let tape : Tape = items_then (map OneByte bytes) t in
-          let whole : Tape = items_then come.taken tape in
-          let at : IsAt whole t start now (behind old limits bytes input) =
-          IsAt-passed whole t start now old limits bytes input is bare.ahead bare.half passes.within (all_pass _ within_block bytes pass passes.plain)
-          (come.at tape (passes.before_them t may)) in
-          subst (λ (w : Tape). IsAt w t start now (record old { unread = after })) (sym (items_then-append come.taken (map OneByte bytes) t))
-          (subst (λ (u : PageUnread). IsAt whole t start now (record old { unread = u })) (sym left) at);
+      limits = refl;
+      taken = map OneByte bytes;
+      before = passes.in_front;
+      some = λ known. inr some;
+      past = λ t tape start may at.
+          subst (λ (u : PageUnread). IsAt t tape start now (record old { unread = u })) (sym left)
+          (IsAt-passed t tape start now old limits bytes input is bare.ahead bare.half passes.within (all_pass _ within_block bytes pass passes.plain) at);
+      turns = omega (arith, few);
     }
 
--- no byte was passed over
-come-none : {first gave gives : Tape → Type 0} (start now : Seen) (old : Coded) (after : PageUnread) → after ≡ old.unread → Stays gave gives
-    → HasCome first gave start now old → HasCome first gives start now (record old { unread = after })
-come-none {first} {gave} {gives} start now old after same stays come =
-    subst (λ (u : PageUnread). HasCome first gives start now (record old { unread = u })) (sym same) (record {
-      taken = come.taken;
-      before = λ t may. come.before t (stays.before t may);
-      some = elim come.some [ inl asks ↦ inl asks | inr given ↦ inr (given.0, stays.after given.0 given.1) ];
-      at = λ t may. come.at t (stays.before t may);
-    })
+-- the run stays where it is, over a source that isn't asked
+pub past-nothing : (gave gives : Tape → Type 0) (notes : ℕ) (now : Seen) (old : Coded) → Stays gave gives → GoesPast gave gives notes notes old old now now
+past-nothing gave gives notes now old stays = record {
+  limits = refl;
+  taken = [];
+  before = stays.before;
+  some = λ known. elim known [ inl asks ↦ inl asks | inr given ↦ inr (given.0, stays.after given.0 given.1) ];
+  past = λ t tape start may at. at;
+  turns = omega arith;
+}
 
--- the run has come behind the bytes that were passed over, if any were
-pub come-passed : {first gave gives : Tape → Type 0} (ready : List ℕ) (start now : Seen) (old : Coded) (after : PageUnread) (within_block : Bool)
+-- no byte was passed over
+past-none : (gave gives : Tape → Type 0) (notes : ℕ) (now : Seen) (old : Coded) (after : PageUnread) → after ≡ old.unread → Stays gave gives
+    → GoesPast gave gives notes notes old (record old { unread = after }) now now
+past-none gave gives notes now old after same stays =
+    subst (λ (u : PageUnread). GoesPast gave gives notes notes old (record old { unread = u }) now now) (sym same) (past-nothing gave gives notes now old stays)
+
+-- the run goes past the bytes that were passed over, if any were
+past-passed : (gave gives : Tape → Type 0) (ready : List ℕ) (notes : ℕ) (now : Seen) (old : Coded) (after : PageUnread) (within_block : Bool)
     → PassesOver gave gives ready old.unread after within_block
     → ((b : ℕ) → is_passed within_block b ≡ true → Passes old.formatter.reader.reading b)
-    → HasCome first gave start now old → HasCome first gives start now (record old { unread = after })
-come-passed ready start now old after within_block passes pass come = elim passes.bare [
-  | inl none ↦ come-none start now old after (passes.input ∙ ap (λ (bytes : List ℕ). record old.unread { input = lines_taken bytes old.unread.input }) none) (passes.stays none) come
-  | inr bare ↦ elim passes.some [
-    | inl none ↦ come-none start now old after (passes.input ∙ ap (λ (bytes : List ℕ). record old.unread { input = lines_taken bytes old.unread.input }) none) (passes.stays none) come
-    | inr some ↦ come-some ready start now old after within_block passes bare some pass come
-  ]
-]
+    → GoesPast gave gives notes notes old (record old { unread = after }) now now
+past-passed gave gives ready notes now old after within_block passes pass =
+    let nothing : passes.bytes ≡ [] → GoesPast gave gives notes notes old (record old { unread = after }) now now =
+    λ none. past-none gave gives notes now old after (passes.input ∙ ap (λ (bytes : List ℕ). record old.unread { input = lines_taken bytes old.unread.input }) none) (passes.stays none) in
+    elim passes.bare [
+      | inl none ↦ nothing none
+      | inr bare ↦ elim passes.some [ inl none ↦ nothing none | inr some ↦ past-some gave gives ready notes now old after within_block passes bare some pass ]
+    ]
 
--- and no more turns are to come
-pub turns-passed : (gave gives : Tape → Type 0) (ready : List ℕ) (before after : PageUnread) (within_block : Bool) → PassesOver gave gives ready before after within_block
-    → turns_to_come after ≤ turns_to_come before
-turns-passed gave gives ready before after within_block passes =
-    subst (λ (u : PageUnread). turns_to_come u ≤ turns_to_come before) (sym passes.input) (turns_within-lines_taken before.limits.bytes passes.bytes before.input)
+-- the same, as the source counts
+pub goes_past : (gave gives : Tape → Type 0) (ready : List ℕ) (noted notes failed failures : ℕ) (out err : Sunk) (old : Coded) (after : PageUnread) (within_block : Bool)
+    → PassesOver gave gives ready old.unread after within_block → notes ≡ noted → failures ≡ failed
+    → ((b : ℕ) → is_passed within_block b ≡ true → Passes old.formatter.reader.reading b)
+    → GoesPast gave gives noted notes old (record old { unread = after }) (seen failed out err) (seen failures out err)
+goes_past gave gives ready noted notes failed failures out err old after within_block passes same_notes same_failures pass =
+    let new : Coded = record old { unread = after } in
+    subst (λ (n : ℕ). GoesPast gave gives noted n old new (seen failed out err) (seen failures out err)) (sym same_notes)
+    (subst (λ (f : ℕ). GoesPast gave gives noted noted old new (seen failed out err) (seen f out err)) (sym same_failures)
+    (past-passed gave gives ready noted (seen failed out err) old after within_block passes pass))
+
+-- a run that has come so far has come behind what it went past
+pub come-past : {first gave gives : Tape → Type 0} (noted notes : ℕ) (start now behind : Seen) (old new : Coded) → HasCome first gave start now old
+    → GoesPast gave gives noted notes old new now behind → HasCome first gives start behind new
+come-past {first} noted notes start now behind old new come goes = record {
+  taken = come.taken ++ goes.taken;
+  before = λ t may. subst first (sym (items_then-append come.taken goes.taken t)) (come.before (items_then goes.taken t) (goes.before t may));
+  some = goes.some come.some;
+  at = λ t may.
+      let tape : Tape = items_then goes.taken t in
+      subst (λ (whole : Tape). IsAt whole t start behind new) (sym (items_then-append come.taken goes.taken t))
+      (goes.past (items_then come.taken tape) t start may (come.at tape (goes.before t may)));
+}

@@ -1,6 +1,6 @@
 //! A run under way: what each item of the input does.
 
-ghost use Rattle.std.specs.Prelude.{◌≡◌, ◌≤◌, ◌+◌, ℕ, length, true, None, Result, Err, IsOkUnless, OnOk};
+ghost use Rattle.std.specs.Prelude.{◌≡◌, ◌≤◌, ℕ, length, true, None, Result, Err, IsOkUnless, OnOk};
 ghost use Rattle.roff_run.specs.Run.{ahead_taken, awaited, byte_taken, end_met, half_ends, in_front_taken, step, waiting};
 ghost use Rattle.roff_scan.specs.Halves.{newline_stays};
 ghost use Rattle.roff_scan.specs.Input.{DoAhead};
@@ -24,18 +24,15 @@ pub(crate) struct Running {
 }
 
 impl Running {
-    ghost use Rattle.roff_engine.specs.Running.Turning.{Acts, HasCome, Halts, TurnsBy, input_ends, line_told};
-    ghost use Rattle.roff_run.specs.TurnsToCome.{turns_to_come};
+    ghost use Rattle.roff_engine.specs.Running.Turning.{Acts, GoesPast, Halts, TurnsBy, input_ends, line_told};
 
     /// Passes over bytes of the source that stand ready and change nothing, if there are some.
     #[inline(always)]
     pub(crate) fn pass_over<S: ByteSource>(&mut self, source: &mut S)
-        ensures come { (first : Tape → Type 0) (start : Seen) (out err : Sunk)
-            → HasCome first (S.gives source.old) start (seen (S.failures source.old) out err) self.old
-            → HasCome first (S.gives source.new) start (seen (S.failures source.new) out err) self.new }
-        ensures limits { self.new.limits ≡ self.old.limits }
-        ensures turns { turns_to_come self.new.unread + S.notes source.new
-            ≤ turns_to_come self.old.unread + S.notes source.old }
+        ensures { (out err : Sunk) → GoesPast
+            (S.gives source.old) (S.gives source.new) (S.notes source.old) (S.notes source.new)
+            self.old self.new
+            (seen (S.failures source.old) out err) (seen (S.failures source.new) out err) }
     {
         if let Some(within_block) = self.formatter.passes_over() {
             self.unread.pass_over(source, within_block);

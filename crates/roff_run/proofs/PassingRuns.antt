@@ -1,7 +1,7 @@
 -- Runs pass over bytes of the source that mean nothing where they are read: one step for each, and each costs one.
 use Rattle.std.proofs.Common.{◌≡◌, ℕ, ◌+◌, ◌≤◌, List, [], ◌∷◌, length, Option, Some, None, refl, ap, ◌∙◌, arith}
-use Rattle.std.specs.Prelude.{map, All}
-use Rattle.std.proofs.lemmas.List.Elements.{All-head, All-tail}
+use Rattle.std.specs.Prelude.{map}
+use Rattle.std.specs.List.{AllByRecursion}
 use Rattle.roff_num.specs.declared.limit.Limit.{Limit}
 use Rattle.roff_num.specs.declared.limits.Limits.{Limits}
 use Rattle.roff_scan.specs.Half.{Half}
@@ -42,12 +42,12 @@ step-passed l s tape b bytes input on plain within passes =
 
 -- the steps at such bytes
 pub after-passed : (l : Limits) (s : State) (tape : Tape) (bytes : List ℕ) (input : PageInput)
-    → TakesItems s → IsPlain l s input → input.charge + length bytes ≤ l.bytes → All (λ b. Passes s.reading b) bytes
+    → TakesItems s → IsPlain l s input → input.charge + length bytes ≤ l.bytes → AllByRecursion (λ b. Passes s.reading b) bytes
     → after l (length bytes) (run_at s tape bytes input) ≡ run_at s tape [] (lines_taken bytes input)
 after-passed l s tape [] input on plain within pass = refl
 after-passed l s tape (b ∷ bytes) input on plain within pass =
-    ap (after l (length bytes)) (step-passed l s tape b bytes input on plain (omega (arith, within)) (All-head (λ c. Passes s.reading c) b bytes pass))
-    ∙ after-passed l s tape bytes (counting b input) on (IsPlain-counting l s input b plain) (omega (arith, within)) (All-tail (λ c. Passes s.reading c) b bytes pass)
+    ap (after l (length bytes)) (step-passed l s tape b bytes input on plain (omega (arith, within)) pass.0)
+    ∙ after-passed l s tape bytes (counting b input) on (IsPlain-counting l s input b plain) (omega (arith, within)) pass.1
 
 -- behind them nothing is ahead or half read either, and no more turns are to come
 pub IsPlain-lines_taken : (l : Limits) (s : State) (bytes : List ℕ) (input : PageInput) → IsPlain l s input → IsPlain l s (lines_taken bytes input)

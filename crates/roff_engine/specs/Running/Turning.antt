@@ -1,5 +1,5 @@
 -- How far a run of the code has come, as a run of the definition.
-use Rattle.std.specs.Prelude.{◌≡◌, ◌⊎◌, ℕ, ◌+◌, ◌<◌, true, false, List, [], ◌∷◌, None, OnOk, Result, Ok, Err}
+use Rattle.std.specs.Prelude.{◌≡◌, ◌⊎◌, ℕ, ◌+◌, ◌<◌, ◌≤◌, true, false, List, [], ◌∷◌, None, OnOk, Result, Ok, Err}
 use Rattle.std.specs.Io.KnownBytes.{Appends}
 use Rattle.roff_num.specs.declared.limit.Limit.{Limit}
 use Rattle.roff_num.specs.declared.limits.Limits.{Limits}
@@ -123,6 +123,15 @@ pub record TurnsBy (does : State → State) (gave gives : Tape → Type 0) (note
       → StepDoes does (items_then taken tape) old at.history at.messages → Continues t tape start behind r new
   pub falls : (t tape : Tape) (start : Seen) → gives tape → (at : IsAt t (items_then taken tape) start now old)
       → StepDoes does (items_then taken tape) old at.history at.messages → OnOk r (turns_to_come new.unread + notes < turns_to_come old.unread + noted)
+
+-- The run took items of its source, and goes on behind them, whatever the source may still give; no more turns are to come.
+pub record GoesPast (gave gives : Tape → Type 0) (noted notes : ℕ) (old new : Coded) (now behind : Seen) : Type 0 where
+  pub limits : new.limits ≡ old.limits
+  pub taken : List Item
+  pub before : (tape : Tape) → gives tape → gave (items_then taken tape)
+  pub some : HasTape old gave → HasTape new gives
+  pub past : (t tape : Tape) (start : Seen) → gives tape → IsAt t (items_then taken tape) start now old → IsAt t tape start behind new
+  pub turns : turns_to_come new.unread + notes ≤ turns_to_come old.unread + noted
 
 -- The run of the code has come so far, over a source that might have given the tapes `old` and may now give
 -- the tapes `new`: it took items, and whatever may still come, it is at its place in the run over all of these.

@@ -1,4 +1,5 @@
-use Rattle.std.proofs.Common.{[], ◌∙◌}
+use Rattle.std.proofs.Common.{[], ◌∙◌, arith}
+use Rattle.roff_engine.proofs.Passing.{come-past}
 use Rattle.roff_engine.proofs.WholeRuns.{HasTape-fresh, fewer_to_come, goes_on, has_ended, starts}
 use Rattle.roff_engine.proofs.engine.Engine.format.Goals as goal
 
@@ -15,14 +16,20 @@ loop-status-init g c = record {
 
 pub returns-in-Err : goal.returns-in-Err
 returns-in-Err g c =
-    let before = c.loop-status.invariant in has_ended _ _ _ _ _ _ _ before.come _ c.in-Err.status before.limits c.in-Err.ensures
+    let before = c.loop-status.invariant in
+    let past = c.pass_over.ensures _ _ in
+    has_ended _ _ _ _ _ _ _ (come-past _ _ _ _ _ _ _ before.come past) _ c.in-Err.status (past.limits ∙ before.limits) c.in-Err.ensures
 
 pub loop-status-preserved : goal.loop-status-preserved
 loop-status-preserved g c =
-    let before = c.loop-status.invariant in record {
-      come = goes_on _ _ _ _ _ _ _ before.come c.in_default.ensures;
-      limits = c.in_default.ensures.limits ∙ before.limits;
+    let before = c.loop-status.invariant in
+    let past = c.pass_over.ensures _ _ in record {
+      come = goes_on _ _ _ _ _ _ _ (come-past _ _ _ _ _ _ _ before.come past) c.in_default.ensures;
+      limits = c.in_default.ensures.limits ∙ (past.limits ∙ before.limits);
     }
 
 pub loop-status-smaller : goal.loop-status-smaller
-loop-status-smaller g c = fewer_to_come _ _ _ _ _ _ _ c.loop-status.invariant.come c.in_default.ensures
+loop-status-smaller g c =
+    let past = c.pass_over.ensures _ _ in
+    let fewer = fewer_to_come _ _ _ _ _ _ _ (come-past _ _ _ _ _ _ _ c.loop-status.invariant.come past) c.in_default.ensures in
+    omega (arith, fewer, past.turns)
