@@ -9,7 +9,6 @@ use Rattle.roff_run.specs.ResultLaws.{EveryRunEnds, StepsLeadToTheLastState, NoO
 use Rattle.roff_run.specs.Run.{State, Leads, initial, moved, performing, step_with, step, after}
 use Rattle.roff_scan.specs.Input.{Ahead, ByteAhead, FreeAhead, EndAhead, DoAhead, cost, item_taken, counting}
 use Rattle.roff_scan.specs.Tape.{Tape, Item, Gives, OneByte, OneNote, front, behind_front}
-use Rattle.roff_scan.specs.Half.{Half}
 use Rattle.roff_run.specs.TurnsToCome.{endings_of, free_ahead}
 use Rattle.roff_run.proofs.HalfCounts.{some_ending}
 use Rattle.roff_run.proofs.Keeping.{begun}

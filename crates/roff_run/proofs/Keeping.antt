@@ -2,16 +2,16 @@
 --
 -- Each function f of reading has its lemma here, with a line for each of its cases: Stays-f where it leaves the input,
 -- and else Keeps-f.
-use Rattle.std.proofs.Common.{◌≡◌, ℕ, ◌+◌, ◌-◌, ◌≤◌, Bool, true, false, List, [], ◌∷◌, ◌++◌, length, map, Option, Some, None, refl, sym, subst, ap, ◌∙◌, arith}
-use Rattle.std.specs.Prelude.{◌&&◌, ◌||◌, bytes_eq, decimal, find, nat_le, not, if◌then◌else◌, ◌==◌}
+use Rattle.std.proofs.Common.{◌≡◌, ℕ, ◌+◌, ◌-◌, ◌≤◌, Bool, true, false, List, [], ◌∷◌, ◌++◌, map, Option, Some, None, refl, sym, subst, ◌∙◌, arith}
+use Rattle.std.specs.Prelude.{◌&&◌, ◌||◌, decimal, find, nat_le, if◌then◌else◌, ◌==◌}
 use Rattle.std.specs.List.{AllByRecursion}
 use Rattle.std.proofs.Math.Bool.{and-false}
 use Rattle.roff_lines.specs.declared.glyph.Glyph.TheVariants.{Printed}
 use Rattle.roff_scan.specs.Bytes.{tab, newline, blank, apostrophe, dot, backslash, is_silent, is_dropped}
 use Rattle.roff_scan.specs.Characters.{character}
 use Rattle.roff_scan.specs.Escapes.{escape_of}
-use Rattle.roff_scan.specs.Halves.{Reads, byte_read, reading_ended}
-use Rattle.roff_scan.specs.Input.{Ahead, ByteAhead, EndAhead, choosing, holding_text, kept_last, without_last}
+use Rattle.roff_scan.specs.Halves.{byte_read, reading_ended}
+use Rattle.roff_scan.specs.Input.{Ahead, ByteAhead, EndAhead, holding_text, kept_last}
 use Rattle.roff_scan.specs.declared.escapes.Escape.{Escape as Kind}
 use Rattle.roff_scan.specs.declared.escapes.Escape.TheVariants.{Prints, Blank, NoWidth, Nothing as GivesNothing, Brace, LeftOut as IsLeftOut, Comment as BeginsComment, Size as BeginsSize, Name as BeginsName, Text as BeginsText, Width as BeginsWidth}
 use Rattle.roff_scan.specs.declared.escapes.NameUse.{NameUse}

@@ -1,5 +1,5 @@
 -- How many turns of a run are still to come at the most: each takes something, or ends what is half read.
-use Rattle.std.specs.Prelude.{ℕ, ◌+◌, ◌-◌, ◌*◌, List, [], ◌∷◌, Option, None}
+use Rattle.std.specs.Prelude.{ℕ, ◌+◌, ◌-◌, ◌*◌, List, [], ◌∷◌, None}
 use Rattle.roff_scan.specs.Half.{Half, Condition}
 use Rattle.roff_scan.specs.Input.{Ahead, ByteAhead, FreeAhead, EndAhead, DoAhead}
 use Rattle.roff_scan.specs.Unread.{Unread}
