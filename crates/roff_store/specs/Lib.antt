@@ -3,3 +3,10 @@ pub mod Buckets
 pub mod NameTable
 pub mod Registers
 pub mod Laws
+pub mod Chains
+pub mod Chunks
+pub mod Texts
+pub mod TextCalls
+pub mod TextRows
+pub mod TextStore
+pub mod TextLaws

@@ -1,14 +1,23 @@
-//! What a run of the formatter keeps under names: the number registers (manual, section 8).
+//! What a run of the formatter keeps under names: the number registers (manual, section 8), and
+//! strings, macros and diversions (section 7).
 //!
 //! All memory is reserved as a table is made; no call after that takes any.
 #![tactic(auto)]
 
+mod chunks;
 pub mod laws;
 mod name_table;
 mod reg_table;
 #[cfg(test)]
 mod reg_table_tests;
 mod register;
+mod strand;
+mod text;
+pub mod text_laws;
+pub mod text_rows;
+mod text_store;
 
 pub use reg_table::RegTable;
 pub use register::{Direction, Register};
+pub use text::{Entry, Kind, LeaseId, OpenId};
+pub use text_store::TextStore;

@@ -1,6 +1,6 @@
 //! Entries by name, found through the first two bytes of the name.
 
-ghost use Rattle.std.specs.Prelude.{◌≡◌, ℕ, ◌<◌, ◌≤◌, ◌^◌, ◌+◌, [], length, slice_index, Option, IfOk, IfSome, IfNone, vec_len, vec_capacity};
+ghost use Rattle.std.specs.Prelude.{◌≡◌, ℕ, ◌<◌, ◌≤◌, ◌^◌, ◌+◌, ◌==◌, [], length, slice_index, Option, IfOk, IfSome, IfNone, vec_len, vec_capacity};
 ghost use Rattle.roff_store.specs.Named.{EachOnce, entry_of, with_entry, without_entry};
 ghost use Rattle.roff_store.specs.Buckets.{bucket_of};
 ghost use Rattle.roff_store.specs.NameTable.Slots.{buckets_of, entries_in, IsIndexed, LeadsTo, StandsAt};
@@ -55,7 +55,7 @@ impl<E> Model for NameTable<E> {
 }
 
 impl<E: Copy> NameTable<E> {
-    ghost use Rattle.roff_store.specs.Named.{Table, admitted, put_into, removed_from};
+    ghost use Rattle.roff_store.specs.Named.{Table, admitted, has_room, put_into, removed_from};
 
     /// An empty table for so many names.
     pub(crate) fn new(alloc: Global, cap: u32) -> Result<Self, AllocError>
@@ -76,6 +76,20 @@ impl<E: Copy> NameTable<E> {
         ensures { result ≡ length self.now.entries }
     {
         self.count as usize
+    }
+
+    /// Whether a new name would be refused.
+    pub(crate) fn is_full(&self) -> bool
+        ensures { result ≡ (length self.now.entries == self.now.cap) }
+    {
+        self.count == self.cap
+    }
+
+    /// Whether a name may be given an entry: the table isn't full, or the name has one.
+    pub(crate) fn has_room(&self, name: &Name) -> bool
+        ensures { result ≡ has_room name.now self.now }
+    {
+        self.count < self.cap || self.get(name).is_some()
     }
 
     /// The entry of a name.

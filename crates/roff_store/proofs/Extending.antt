@@ -1,0 +1,507 @@
+-- What a text is once bytes are put behind it.
+use Rattle.std.proofs.Common.{◌≡◌, ◌≢◌, ℕ, zero, suc, ◌+◌, ◌-◌, ◌*◌, ◌<◌, ◌≤◌, List, [], ◌∷◌, ◌++◌, length, take, drop, set, get_or, inl, inr, refl, sym, ap, subst, ◌∙◌, arith, length-append, length-set}
+use Rattle.std.specs.Prelude.{◌==◌, if◌then◌else◌, min, sum}
+use Rattle.std.proofs.lemmas.Bool.{cases_eq, eq-eqb}
+use Rattle.std.proofs.lemmas.Bool.Decides.{nat_tests}
+use Rattle.std.proofs.lemmas.List.{append_assoc, append-nil, get_or-set_other, get_or-set_same, nil_from_length, take_all}
+use Rattle.arrayvec.specs.ArrayVec.{ArrayVec as Bytes}
+use Rattle.roff_store.specs.declared.strand.Strand.{Strand}
+use Rattle.roff_store.specs.declared.chunks.Chunks.TheInside.{Inside}
+use Rattle.roff_store.specs.Chunks.Kept.{kept_by, IsSound}
+use Rattle.roff_store.specs.Chains.{Chunks, bytes_of, chain_bytes, content, has, link, others, share, shares_in, times_in, IsChain, IsExtended, IsShared, IsText, LeavesOthers}
+use Rattle.roff_store.proofs.Leaving.{strand-left, text-left}
+use Rattle.roff_store.proofs.Filling.{IsFilled, IsGrown, IsLinked, bytes-grown, bytes-linked, comes_to, filled-grown, filled-linked, last_comes, last_there, length-filled, times-grown, times-last, times-linked}
+
+-- a text that has chunks, as a chain
+pub text-filled : (m : Chunks) (s : Strand) → length m.contents ≤ m.most → IsText m s → 0 < s.chunks
+    → IsFilled m (s.chunks - 1) s.first s.last s.rest
+text-filled m s within text some =
+    let whole = text.whole in
+    let ends = text.ends some in
+    let count : s.chunks ≡ suc (s.chunks - 1) = omega arith in
+    let need : s.at + s.rest ≡ s.rest = omega arith in
+    let chain = subst (λ chunks. IsChain m chunks s.first s.rest) count
+    (subst (λ k. IsChain m s.chunks s.first k) need text.strand.chain) in
+    record {
+      chain = chain;
+      comes = comes_to m (s.chunks - 1) s.first s.last s.rest within chain ends.last ends.end;
+      filled = ends.filled;
+    }
+
+-- and such a chain as a text
+pub filled-text : (m : Chunks) (s : Strand) → IsFilled m (s.chunks - 1) s.first s.last s.rest → m.most ≤ link m s.last
+    → s.at ≡ 0 → 0 < s.chunks → IsText m s
+filled-text m s f none whole some =
+    let count : suc (s.chunks - 1) ≡ s.chunks = omega arith in
+    let need : s.rest ≡ s.at + s.rest = omega arith in
+    let chain = subst (λ chunks. IsChain m chunks s.first s.rest) count f.chain in
+    record {
+      strand = record {
+        chain = subst (λ k. IsChain m s.chunks s.first k) need chain;
+        start = omega arith;
+        some = λ _. f.chain.0.some;
+      };
+      whole = whole;
+      ends = λ _. record {
+        last = last_comes m (s.chunks - 1) s.first s.last f.comes;
+        end = none;
+        filled = f.filled;
+      };
+      none = λ empty. absurd (omega arith);
+    }
+
+-- the last chunk of a text is there, and has room for what is missing
+pub text-last : (m : Chunks) (s : Strand) → length m.contents ≤ m.most → IsText m s → 0 < s.chunks → s.last < length m.contents
+text-last m s within text some =
+    let f = text-filled m s within text some in
+    last_there m (s.chunks - 1) s.first s.last s.rest f.chain f.comes
+
+pub text-room : (m : Chunks) (s : Strand) (room : ℕ) → IsText m s → 0 < s.chunks → room + length (content m s.last) ≡ 120
+    → room + s.rest ≡ 120 * s.chunks
+text-room m s room text some left =
+    let filled = (text.ends some).filled in omega arith
+
+-- the bytes of a whole text are those of its chain
+whole-bytes : (m : Chunks) (s : Strand) → s.at ≡ 0 → length (chain_bytes m s.chunks s.first) ≤ s.rest
+    → bytes_of m s ≡ chain_bytes m s.chunks s.first
+whole-bytes m s whole few =
+    ap (λ at. take s.rest (drop at (chain_bytes m s.chunks s.first))) whole
+    ∙ take_all s.rest (chain_bytes m s.chunks s.first) few
+
+-- and there are as many as it says
+length-text : (m : Chunks) (s : Strand) → ((chunk : ℕ) → length (content m chunk) ≤ 120)
+    → IsFilled m (s.chunks - 1) s.first s.last s.rest → 0 < s.chunks → length (chain_bytes m s.chunks s.first) ≡ s.rest
+length-text m s fits f some =
+    let count : suc (s.chunks - 1) ≡ s.chunks = omega arith in
+    subst (λ chunks. length (chain_bytes m chunks s.first) ≡ s.rest) count
+    (length-filled m (s.chunks - 1) s.first s.last s.rest fits f)
+
+-- a text whose last chunk has more bytes
+pub fill-extended : (m m' : Chunks) (s : Strand) (more : List ℕ) → length m.contents ≤ m.most
+    → ((chunk : ℕ) → length (content m chunk) ≤ 120) → IsText m s → IsShared m s → 0 < length more
+    → s.rest + length more ≤ 120 * s.chunks → IsGrown s.last more m m'
+    → IsExtended (others m s) m s more m' (record s { rest = s.rest + length more })
+fill-extended m m' s more within fits text shared more_some room g =
+    let some : 0 < s.chunks = omega arith in
+    let f = text-filled m s within text some in
+    let whole = f.filled in
+    let f' = filled-grown s.last more m m' g (s.chunks - 1) s.first s.rest f (omega arith) in
+    let none : m'.most ≤ link m' s.last = rw (g.links s.last, g.most) (text.ends some).end in
+    let count : suc (s.chunks - 1) ≡ s.chunks = omega arith in
+    let bytes = subst (λ chunks. chain_bytes m' chunks s.first ≡ chain_bytes m chunks s.first ++ more) count
+    (bytes-grown s.last more m m' g (s.chunks - 1) s.first f.comes) in
+    let long = length-text m s fits f some in
+    let longer : length (chain_bytes m' s.chunks s.first) ≡ s.rest + length more =
+    rw (bytes, length-append (chain_bytes m s.chunks s.first) more) (omega arith) in
+    let t : Strand = record s { rest = s.rest + length more } in
+    record {
+      text = filled-text m' t f' none text.whole some;
+      bytes = whole-bytes m' t text.whole (omega arith) ∙ bytes
+          ∙ ap (λ bytes. bytes ++ more) (sym (whole-bytes m s text.whole (omega arith)));
+      len = refl;
+      shared = λ chunk.
+          let here = shared chunk in
+          let same : share m' chunk ≡ share m chunk = ap (λ shares. get_or shares chunk 0) g.shares in
+          rw (same, times-grown s.last more m m' g s.chunks s.first chunk) (omega arith);
+      leaves = record {
+        most = g.most;
+        chunks = let n = g.chunks in omega arith;
+        same_bytes = λ chunk _ other. g.others chunk other;
+        same_link = λ chunk _ _. g.links chunk;
+        grown = λ _. record { more = more; grown = g.grown };
+      };
+      apart = λ chunk _ other. other;
+      within = rw (g.chunks, g.most) within;
+    }
+
+-- a chunk that strands have is there
+share-there : (shares : List ℕ) (chunk : ℕ) → 0 < get_or shares chunk 0 → chunk < length shares
+share-there [] chunk some = absurd (omega arith)
+share-there (x ∷ xs) zero some = omega arith
+share-there (x ∷ xs) (suc chunk) some = let behind = share-there xs chunk some in omega arith
+
+-- a chunk has been claimed
+pub record IsClaimed (m mc : Chunks) (chunk : ℕ) : Type 0 where
+  pub fresh : share m chunk ≡ 0
+  pub there : chunk < length mc.contents
+  pub end : mc.most ≤ link mc chunk
+  pub claimed : share mc chunk ≡ 1
+  pub shares : (other : ℕ) → other ≢ chunk → share mc other ≡ share m other
+  pub leaves : LeavesOthers (share m) m.most m mc
+  pub within : length mc.contents ≤ mc.most
+  pub known : length mc.shares ≤ mc.most
+  pub fits : (other : ℕ) → length (content mc other) ≤ 120
+
+-- the last chunk of a text is still there
+pub last-claimed : (m mc : Chunks) (s : Strand) (chunk : ℕ) → IsClaimed m mc chunk → IsText m s → 0 < s.chunks
+    → s.last < length mc.contents
+last-claimed m mc s chunk claimed text some =
+    let most = claimed.leaves.most in
+    let chunks = claimed.leaves.chunks in
+    let within = claimed.within in
+    let there = text-last m s (omega arith) text some in
+    omega arith
+
+-- bytes are put into it, and the last chunk of a text may lead elsewhere
+pub record IsPut (last chunk : ℕ) (piece : List ℕ) (mc m' : Chunks) : Type 0 where
+  pub most : m'.most ≡ mc.most
+  pub chunks : length m'.contents ≡ length mc.contents
+  pub contents : (other : ℕ) → other ≢ chunk → content m' other ≡ content mc other
+  pub holds : content m' chunk ≡ piece
+  pub links : (other : ℕ) → other ≢ last → link m' other ≡ link mc other
+  pub shares : m'.shares ≡ mc.shares
+
+module _ (m mc m' : Chunks) (s : Strand) (chunk : ℕ) (piece : List ℕ) (claimed : IsClaimed m mc chunk)
+    (put : IsPut s.last chunk piece mc m') where
+  -- a chunk that strands had is another one, and one of the most
+  had-other : (other : ℕ) → 0 < share m other → other ≢ chunk
+  had-other other some same =
+      let fresh = claimed.fresh in
+      let here : 0 < share m chunk = subst (λ x. 0 < share m x) same some in
+      omega arith
+
+  had-few : (other : ℕ) → 0 < share m other → other < m.most
+  had-few other some =
+      let still = claimed.shares other (had-other other some) in
+      let there = share-there mc.shares other (omega arith) in
+      let known = claimed.known in
+      let most = claimed.leaves.most in
+      omega arith
+
+  had-there : (other : ℕ) → 0 < share m other → other ≢ m.most
+  had-there other some same = let few = had-few other some in omega arith
+
+  -- its bytes are as they were
+  had-content : (other : ℕ) → 0 < share m other → content m' other ≡ content m other
+  had-content other some =
+      put.contents other (had-other other some) ∙ claimed.leaves.same_bytes other some (had-there other some)
+
+  -- what others have is left, but for where the last chunk of the text leads
+  put-leaves : LeavesOthers (others m s) s.last m m'
+  put-leaves = record {
+    most = put.most ∙ claimed.leaves.most;
+    chunks = let more = claimed.leaves.chunks in let n = put.chunks in omega arith;
+    same_bytes = λ other some _. had-content other (omega arith);
+    same_link = λ other some apart. put.links other apart
+        ∙ claimed.leaves.same_link other (omega arith) (had-there other (omega arith));
+    grown = λ some. record {
+      more = [];
+      grown = had-content s.last (omega arith) ∙ sym (append-nil (content m s.last));
+    };
+  }
+
+  -- how many strands have a chunk then
+  put-shares : (n first : ℕ) → IsShared m s
+      → ((other : ℕ) → times_in m' n first other ≡ has m s other + (if other == chunk then 1 else 0))
+      → (other : ℕ) → share m' other ≡ others m s other + times_in m' n first other
+  put-shares n first shared times other =
+      let same : share m' other ≡ share mc other = ap (λ shares. get_or shares other 0) put.shares in
+      let here = shared other in
+      elim (cases_eq other chunk) [
+        | inl e ↦ (
+            let fresh : share m other ≡ 0 = rw e claimed.fresh in
+            let one : share mc other ≡ 1 = rw e claimed.claimed in
+            let once : times_in m' n first other ≡ has m s other + 1 =
+            subst (λ b. times_in m' n first other ≡ has m s other + (if b then 1 else 0)) (eq-eqb other chunk e) (times other) in
+            omega arith)
+        | inr e ↦ (
+            let still = claimed.shares other e in
+            let as_often : times_in m' n first other ≡ has m s other =
+            (let t = times other in grind (arith, nat_tests)) in
+            omega arith)
+      ]
+
+  -- the first chunk of a text
+  pub link-first : IsText m s → s.chunks ≡ 0 → 0 < length piece → length piece ≤ 120 → link m' chunk ≡ link mc chunk
+      → IsExtended (others m s) m s piece m'
+      (record { first = chunk; last = chunk; chunks = 1; at = 0; rest = length piece })
+  link-first text none some fits same_link =
+      let t : Strand = record { first = chunk; last = chunk; chunks = 1; at = 0; rest = length piece } in
+      let rest : s.at + s.rest ≡ 0 = subst (λ chunks. IsChain m chunks s.first (s.at + s.rest)) none text.strand.chain in
+      let no_rest : 0 ≡ s.rest = omega arith in
+      let without : (other : ℕ) → has m s other ≡ 0 = λ other. ap (λ chunks. times_in m chunks s.first other) none in
+      let shared : IsShared m s = λ other. rw (without other) (omega arith) in
+      let there = claimed.there in
+      let n = put.chunks in
+      let held : length (content m' chunk) ≡ length piece = ap (λ bytes. length bytes) put.holds in
+      let f : IsFilled m' 0 chunk chunk t.rest = record {
+        chain = (record { chunk = omega arith; some = omega arith; held = omega arith }, omega arith);
+        comes = refl;
+        filled = omega arith;
+      } in
+      let end = claimed.end in
+      let most = put.most in
+      let bytes : chain_bytes m' 1 chunk ≡ piece = append-nil (content m' chunk) ∙ put.holds in
+      let few : length (chain_bytes m' 1 chunk) ≤ t.rest = rw bytes (omega arith) in
+      record {
+        text = filled-text m' t f (rw (same_link, put.most) claimed.end) refl (omega arith);
+        bytes = whole-bytes m' t refl few ∙ bytes
+            ∙ ap (λ k. take k (drop s.at (chain_bytes m s.chunks s.first)) ++ piece) no_rest;
+        len = omega arith;
+        shared = put-shares 1 chunk shared (λ other. rw (without other) (omega arith));
+        leaves = put-leaves;
+        apart = λ other some _. had-other other (omega arith);
+        within = rw (put.chunks, put.most) claimed.within;
+      }
+
+  -- one more chunk of a text whose chunks are full
+  pub link-extended : IsText m s → IsShared m s → 0 < s.chunks → s.rest ≡ 120 * s.chunks → 0 < length piece → length piece ≤ 120
+      → link m' s.last ≡ chunk → IsExtended (others m s) m s piece m'
+      (record { first = s.first; last = chunk; chunks = s.chunks + 1; at = 0; rest = s.rest + length piece })
+  link-extended text shared has_chunks full some fits linked =
+      let t : Strand = record { first = s.first; last = chunk; chunks = s.chunks + 1; at = 0; rest = s.rest + length piece } in
+      let most = claimed.leaves.most in
+      let chunks = claimed.leaves.chunks in
+      let known = claimed.within in
+      let within : length m.contents ≤ m.most = omega arith in
+      let no_end : 0 < share m m.most → m.most ≤ link m m.most = λ some. absurd (had-there m.most some refl) in
+      let had : (other : ℕ) → 0 < has m s other → 0 < share m other =
+      λ other some. (let here = shared other in let lt : 0 < share m other = omega arith in lt) in
+      let last_known = text-last m s within text has_chunks in
+      let there : IsText mc s = text-left (share m) m.most m mc s claimed.leaves within no_end text had (λ _ same. omega arith) in
+      let left = (strand-left (share m) m.most m mc s claimed.leaves within no_end text.strand had).1 in
+      let f = text-filled mc s known there has_chunks in
+      let count : suc (s.chunks - 1) ≡ s.chunks = omega arith in
+      let fresh : times_in mc (suc (s.chunks - 1)) s.first chunk ≡ 0 =
+      subst (λ n. times_in mc n s.first chunk ≡ 0) (sym count)
+      (let here = shared chunk in let new = claimed.fresh in rw (left.has chunk) (omega arith)) in
+      let last_had = times-last mc (s.chunks - 1) s.first s.last f.comes in
+      let other : chunk ≢ s.last = λ same. (
+      let again = subst (λ x. times_in mc (suc (s.chunks - 1)) s.first x ≡ 0) same fresh in
+      let no : ⊥ = omega arith in no) in
+      let links : IsLinked s.last chunk mc m' = record {
+        chunks = let n = put.chunks in omega arith;
+        there = let n = put.chunks in let here = claimed.there in omega arith;
+        contents = put.contents;
+        links = put.links;
+        linked = linked;
+      } in
+      let held : length (content m' chunk) ≡ length piece = ap (λ bytes. length bytes) put.holds in
+      let f' = filled-linked s.last chunk mc m' links (s.chunks - 1) s.first s.rest f (omega arith) fresh (omega arith)
+      (omega arith) in
+      let back : suc (s.chunks - 1) ≡ s.chunks + 1 - 1 = omega arith in
+      let longer : IsFilled m' (s.chunks + 1 - 1) s.first chunk (s.rest + length piece) =
+      subst (λ n. IsFilled m' n s.first chunk (s.rest + length piece)) back
+      (subst (λ k. IsFilled m' (suc (s.chunks - 1)) s.first chunk (s.rest + k)) held f') in
+      let again : suc (suc (s.chunks - 1)) ≡ s.chunks + 1 = omega arith in
+      let bytes : chain_bytes m' (s.chunks + 1) s.first ≡ chain_bytes mc s.chunks s.first ++ piece =
+      subst (λ n. chain_bytes m' n s.first ≡ chain_bytes mc s.chunks s.first ++ piece) again
+      (subst (λ n. chain_bytes m' (suc (suc (s.chunks - 1))) s.first ≡ chain_bytes mc n s.first ++ piece) count
+      (bytes-linked s.last chunk mc m' links (s.chunks - 1) s.first f.comes fresh
+      ∙ ap (λ piece. chain_bytes mc (suc (s.chunks - 1)) s.first ++ piece) put.holds)) in
+      let long = length-text mc s claimed.fits f has_chunks in
+      let few : length (chain_bytes m' (s.chunks + 1) s.first) ≤ t.rest =
+      rw (bytes, length-append (chain_bytes mc s.chunks s.first) piece) (omega arith) in
+      let times : (x : ℕ) → times_in m' (s.chunks + 1) s.first x ≡ has m s x + (if x == chunk then 1 else 0) = λ x.
+      subst (λ n. times_in m' n s.first x ≡ has m s x + (if x == chunk then 1 else 0)) again
+      (times-linked s.last chunk mc m' links (s.chunks - 1) s.first x f.comes
+      ∙ ap (λ n. times_in mc n s.first x + (if x == chunk then 1 else 0)) count
+      ∙ ap (λ times. times + (if x == chunk then 1 else 0)) (left.has x)) in
+      record {
+        text = filled-text m' t longer (rw (put.links chunk other, put.most) claimed.end) refl (omega arith);
+        bytes = whole-bytes m' t refl few ∙ bytes
+            ∙ ap (λ bytes. bytes ++ piece) (sym (whole-bytes mc s text.whole (omega arith)) ∙ left.bytes);
+        len = refl;
+        shared = put-shares (s.chunks + 1) s.first shared times;
+        leaves = put-leaves;
+        apart = λ x some _. had-other x (omega arith);
+        within = rw (put.chunks, put.most) claimed.within;
+      }
+
+-- no bytes behind a text
+pub extended-none : (m : Chunks) (s : Strand) → IsText m s → IsShared m s → length m.contents ≤ m.most
+    → IsExtended (others m s) m s [] m s
+extended-none m s text shared within = record {
+  text = text;
+  bytes = sym (append-nil (bytes_of m s));
+  len = omega arith;
+  shared = λ chunk. let here = shared chunk in omega arith;
+  leaves = record {
+    most = refl;
+    chunks = omega arith;
+    same_bytes = λ chunk _ _. refl;
+    same_link = λ chunk _ _. refl;
+    grown = λ _. record { more = []; grown = sym (append-nil (content m s.last)) };
+  };
+  apart = λ chunk _ other. other;
+  within = within;
+}
+
+-- a text that was extended shares its chunks with the others
+pub extended-shared : (claims : ℕ → ℕ) (m0 m : Chunks) (s0 s : Strand) (done : List ℕ) → IsExtended claims m0 s0 done m s
+    → IsShared m s
+extended-shared claims m0 m s0 s done e chunk = let here = e.shared chunk in omega arith
+
+-- bytes behind a text, and then more
+pub extended-on : (claims : ℕ → ℕ) (m0 m1 m2 : Chunks) (s0 s1 s2 : Strand) (done more : List ℕ)
+    → IsExtended claims m0 s0 done m1 s1 → IsExtended (others m1 s1) m1 s1 more m2 s2
+    → IsExtended claims m0 s0 (done ++ more) m2 s2
+extended-on claims m0 m1 m2 s0 s1 s2 done more before behind =
+    let same : (chunk : ℕ) → others m1 s1 chunk ≡ claims chunk = λ chunk. (let here = before.shared chunk in omega arith) in
+    let had : (chunk : ℕ) → 0 < claims chunk → 0 < others m1 s1 chunk = λ chunk some. rw (same chunk) some in
+    record {
+      text = behind.text;
+      bytes = behind.bytes ∙ ap (λ bytes. bytes ++ more) before.bytes ∙ append_assoc (bytes_of m0 s0) done more;
+      len = let a = before.len in let b = behind.len in rw (length-append done more) (omega arith);
+      shared = λ chunk. behind.shared chunk ∙ ap (λ n. n + has m2 s2 chunk) (same chunk);
+      leaves = record {
+        most = behind.leaves.most ∙ before.leaves.most;
+        chunks = let a = before.leaves.chunks in let b = behind.leaves.chunks in omega arith;
+        same_bytes = λ chunk some other. behind.leaves.same_bytes chunk (had chunk some) (before.apart chunk some other)
+            ∙ before.leaves.same_bytes chunk some other;
+        same_link = λ chunk some other. behind.leaves.same_link chunk (had chunk some) (before.apart chunk some other)
+            ∙ before.leaves.same_link chunk some other;
+        grown = λ some.
+            let first = before.leaves.grown some in
+            elim (cases_eq s0.last s1.last) [
+              | inl e ↦ (
+                  let last_had : 0 < others m1 s1 s1.last = subst (λ chunk. 0 < others m1 s1 chunk) e (had s0.last some) in
+                  let second = behind.leaves.grown last_had in
+                  record {
+                    more = first.more ++ second.more;
+                    grown = ap (λ chunk. content m2 chunk) e ∙ second.grown
+                        ∙ ap (λ chunk. content m1 chunk ++ second.more) (sym e)
+                        ∙ ap (λ bytes. bytes ++ second.more) first.grown
+                        ∙ append_assoc (content m0 s0.last) first.more second.more;
+                  })
+              | inr e ↦ record {
+                more = first.more;
+                grown = behind.leaves.same_bytes s0.last (had s0.last some) e ∙ first.grown;
+              }
+            ];
+      };
+      apart = λ chunk some other. behind.apart chunk (had chunk some) (before.apart chunk some other);
+      within = behind.within;
+    }
+
+-- while bytes are put behind a text: where some are left, its chunks are full
+pub record Extending (m0 : Chunks) (s0 : Strand) (text : List ℕ) (m : Chunks) (s : Strand) (behind : List ℕ) : Type 0 where
+  pub done : List ℕ
+  pub split : done ++ behind ≡ text
+  pub extended : IsExtended (others m0 s0) m0 s0 done m s
+  pub full : 0 < length behind → s.rest ≡ 120 * s.chunks
+  pub sum : shares_in m + s0.chunks ≡ shares_in m0 + s.chunks
+
+-- a chunk with more bytes
+pub grown-set : (m : Chunks) (last : ℕ) (bytes : Bytes ℕ) (more : List ℕ) → last < length m.contents
+    → bytes.items ≡ content m last ++ more → IsGrown last more m (record m { contents = set m.contents last bytes })
+grown-set m last bytes more there longer = record {
+  most = refl;
+  chunks = length-set m.contents last bytes;
+  others = λ other apart. ap (λ (b : Bytes ℕ). b.items) (get_or-set_other m.contents last other bytes _ apart);
+  links = λ other. refl;
+  shares = refl;
+  grown = ap (λ (b : Bytes ℕ). b.items) (get_or-set_same m.contents last bytes _ there) ∙ longer;
+}
+
+-- a claimed chunk with bytes, and links of which one may be another
+pub put-set : (mc : Chunks) (last chunk : ℕ) (bytes : Bytes ℕ) (piece links : List ℕ) → chunk < length mc.contents
+    → bytes.items ≡ piece → ((other : ℕ) → other ≢ last → get_or links other mc.most ≡ link mc other)
+    → IsPut last chunk piece mc (record mc { contents = set mc.contents chunk bytes; links = links })
+put-set mc last chunk bytes piece links there holds same = record {
+  most = refl;
+  chunks = length-set mc.contents chunk bytes;
+  contents = λ other apart. ap (λ (b : Bytes ℕ). b.items) (get_or-set_other mc.contents chunk other bytes _ apart);
+  holds = ap (λ (b : Bytes ℕ). b.items) (get_or-set_same mc.contents chunk bytes _ there) ∙ holds;
+  links = same;
+  shares = refl;
+}
+
+-- what is known of a claimed chunk, of the fields
+pub claimed-chunk : (a : Inside) (m mc : Chunks) (chunk : ℕ) → IsSound a → kept_by a ≡ mc → share m chunk ≡ 0
+    → chunk < length mc.contents → mc.most ≤ link mc chunk → share mc chunk ≡ 1
+    → ((other : ℕ) → other ≢ chunk → share mc other ≡ share m other) → LeavesOthers (share m) m.most m mc
+    → IsClaimed m (kept_by a) chunk
+claimed-chunk a m mc chunk sound is fresh there end once shares leaves =
+    let contents = a.contents.ok.0 in
+    let lengths = a.shares.ok.0 in
+    let within = sound.within in
+    let as_many = sound.shares in
+    subst (λ new. length new.contents ≤ new.most → length new.shares ≤ new.most
+    → ((other : ℕ) → length (content new other) ≤ 120) → IsClaimed m new chunk) (sym is)
+    (λ within known fits. record {
+      fresh = fresh;
+      there = there;
+      end = end;
+      claimed = once;
+      shares = shares;
+      leaves = leaves;
+      within = within;
+      known = known;
+      fits = fits;
+    }) (omega arith) (omega arith) sound.fits
+
+-- the room behind a text and its bytes are all that its chunks hold
+pub room-full : (m : Chunks) (s : Strand) (room : ℕ) → IsText m s → (s.chunks ≡ 0 → room ≡ 0)
+    → (0 < s.chunks → room + s.rest ≡ 120 * s.chunks) → room + s.rest ≡ 120 * s.chunks
+room-full m s room text none left =
+    elim (cases_eq s.chunks 0) [
+      | inl e ↦ (
+          let rest : s.at + s.rest ≡ 0 = subst (λ chunks. IsChain m chunks s.first (s.at + s.rest)) e text.strand.chain in
+          let no = none e in
+          omega arith)
+      | inr e ↦ left (omega arith)
+    ]
+
+-- what stands once the last chunk has as many of the bytes as it has room for
+pub extending-first : (m0 m : Chunks) (s0 s : Strand) (text front behind : List ℕ) (room : ℕ) → IsText m0 s0
+    → (s0.chunks ≡ 0 → room ≡ 0) → (0 < s0.chunks → room + s0.rest ≡ 120 * s0.chunks) → front ++ behind ≡ text
+    → length front ≡ min (length text) room → IsExtended (others m0 s0) m0 s0 front m s → s.chunks ≡ s0.chunks
+    → m.shares ≡ m0.shares → Extending m0 s0 text m s behind
+extending-first m0 m s0 s text front behind room is_text none left split count extended chunks shares =
+    let full = room-full m0 s0 room is_text none left in
+    let len = extended.len in
+    let all : length front + length behind ≡ length text = sym (length-append front behind) ∙ ap length split in
+    record {
+      done = front;
+      split = split;
+      extended = extended;
+      full = λ some. omega arith;
+      sum = ap (λ shares. sum shares + s0.chunks) shares ∙ ap (λ n. shares_in m0 + n) (sym chunks);
+    }
+
+-- there is room for one more chunk
+pub extending-room : (m0 m : Chunks) (s0 s : Strand) (text behind : List ℕ) → Extending m0 s0 text m s behind
+    → 120 * shares_in m0 + s0.rest + length text + 119 ≤ 120 * (m0.most + s0.chunks) → 0 < length behind
+    → shares_in m < m.most
+extending-room m0 m s0 s text behind e room some =
+    let full = e.full some in
+    let sum = e.sum in
+    let len = e.extended.len in
+    let most = e.extended.leaves.most in
+    let all : length e.done + length behind ≡ length text = sym (length-append e.done behind) ∙ ap length e.split in
+    omega arith
+
+-- and the text doesn't get too long
+pub extending-short : (m0 m : Chunks) (s0 s : Strand) (text behind : List ℕ) → Extending m0 s0 text m s behind
+    → s.rest + length behind ≡ s0.rest + length text
+extending-short m0 m s0 s text behind e =
+    let len = e.extended.len in
+    let all : length e.done + length behind ≡ length text = sym (length-append e.done behind) ∙ ap length e.split in
+    omega arith
+
+-- what stands once one more chunk has the next bytes
+pub extending-next : (m0 m m' : Chunks) (s0 s s' : Strand) (text behind piece later : List ℕ) → Extending m0 s0 text m s behind
+    → 0 < length behind → piece ++ later ≡ behind → length piece ≡ min (length behind) 120
+    → IsExtended (others m s) m s piece m' s' → s'.chunks ≡ s.chunks + 1 → shares_in m' ≡ shares_in m + 1
+    → Extending m0 s0 text m' s' later
+extending-next m0 m m' s0 s s' text behind piece later e some split count extended chunks more =
+    let full = e.full some in
+    let sum = e.sum in
+    let len = extended.len in
+    let all : length piece + length later ≡ length behind = sym (length-append piece later) ∙ ap length split in
+    record {
+      done = e.done ++ piece;
+      split = append_assoc e.done piece later ∙ ap (λ behind. e.done ++ behind) split ∙ e.split;
+      extended = extended-on (others m0 s0) m0 m m' s0 s s' e.done piece e.extended extended;
+      full = λ left. omega arith;
+      sum = omega arith;
+    }
+
+-- once no bytes are left, all are behind the text
+pub extending-last : (m0 m : Chunks) (s0 s : Strand) (text behind : List ℕ) → Extending m0 s0 text m s behind
+    → length behind ≡ 0 → IsExtended (others m0 s0) m0 s0 text m s
+extending-last m0 m s0 s text behind e none =
+    let all : e.done ≡ text =
+    sym (append-nil e.done) ∙ ap (λ behind. e.done ++ behind) (sym (nil_from_length behind none)) ∙ e.split in
+    subst (λ done. IsExtended (others m0 s0) m0 s0 done m s) all e.extended

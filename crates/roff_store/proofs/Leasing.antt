@@ -1,0 +1,515 @@
+-- A store of texts once leases change.
+use Rattle.std.proofs.Common.{◌≡◌, ◌≢◌, ℕ, zero, suc, ◌+◌, ◌-◌, ◌<◌, ◌≤◌, true, false, cond, List, [], ◌∷◌, ◌++◌, length, map, get_or, sum_by, All, Some, None, is_some, IsSome, refl, sym, ap, subst, ◌∙◌, arith, Vec, Global, Option}
+use Rattle.std.specs.Prelude.{set, drop, count_by, AllPairs, vec_len, vec_capacity, ◌==◌}
+use Rattle.std.specs.Vec.{with_item}
+use Rattle.std.proofs.lemmas.List.{get_or-map, get_or_default, get_or-set_same, get_or-set_other, get_or_append_left, get_or_push, length-append, length-map, length-set, map-append, map-set}
+use Rattle.std.proofs.lemmas.List.Elements.{All-append}
+use Rattle.std.proofs.lemmas.List.Quantifiers.{all_pairs_push}
+use Rattle.std.proofs.lemmas.List.Sums.{sum_by-append, sum_by-cons, sum_by-set}
+use Rattle.std.proofs.lemmas.Bool.Decides.{nat_tests}
+use Rattle.roff_store.specs.declared.strand.Strand.{Strand}
+use Rattle.roff_store.specs.declared.text_store.Meaning.{Meaning}
+use Rattle.roff_store.specs.declared.text_store.Meaning.TheVariants.{Body as BodyIn, Request as RequestOf}
+use Rattle.roff_store.specs.declared.text_store.TextStore.TheInside.{Inside}
+use Rattle.roff_store.specs.Chains.{Chunks, bytes_of, has, others, share, shares_in, AreSameChunks, IsShared, IsStrand, IsText}
+use Rattle.roff_store.specs.Named.{entry_of}
+use Rattle.roff_store.specs.Texts.{Texts, body_if_any, IsFree, body_of, has_body, is_body, kept, lease_of, live, rest_of}
+use Rattle.roff_store.specs.TextCalls.{Lease, Release, Take, after, bytes_given, with_lease as with_lease_in}
+use Rattle.roff_store.specs.TextStore.Kept.{kept_by, strands_in, IsSound}
+use Rattle.roff_store.specs.TextStore.Strands.{Lie, entries_in, in_texts, lease_in, of_lease, strands_of}
+use Rattle.roff_store.proofs.Hands.{with_lease, without_name, entry-in, entry-none, name-is-body, name-out, lease-out, lease-is-strand, lease-in, lease-behind}
+use Rattle.roff_store.proofs.Leaving.{chunks-few, is-left, length-bytes_of, strand-same}
+use Rattle.roff_store.proofs.Lying.{bytes-leases, chunks-in, give-same, released, shared}
+use Rattle.roff_store.proofs.Opening.{All-one, used-by}
+
+-- a place where something is lies inside
+inside-some : {X : Type 0} (xs : List (Option X)) (i : ℕ) → IsSome (get_or xs i None) → i < length xs
+inside-some [] i h = absurd (cc)
+inside-some (x ∷ xs) zero h = omega arith
+inside-some (x ∷ xs) (suc i) h = let n = inside-some xs i h in omega arith
+
+-- what is written twice
+set-set : {X : Type 0} (xs : List X) (i : ℕ) (x y : X) → set (set xs i x) i y ≡ set xs i y
+set-set [] i x y = refl
+set-set (z ∷ zs) zero x y = refl
+set-set (z ∷ zs) (suc i) x y = ap (λ l. z ∷ l) (set-set zs i x y)
+
+-- how many live once one is written
+live-set : (leases : List (Option Strand)) (id : ℕ) (lease : Option Strand) → id < length leases
+    → count_by is_some (set leases id lease) + cond (is_some (get_or leases id None)) 1 0
+    ≡ count_by is_some leases + cond (is_some lease) 1 0
+live-set leases id lease within = sum_by-set (λ (x : Option Strand). cond (is_some x) 1 0) leases id lease None within
+
+some-living : (m : Chunks) (lease : Option Strand)
+    → ◌≡◌ {A = ℕ} (cond (is_some (lease_in m lease)) 1 0) (cond (is_some lease) 1 0)
+some-living m None = refl
+some-living m (Some strand) = refl
+
+-- as many leases live as have a strand
+count-living : (m : Chunks) (leases : List (Option Strand)) → count_by is_some (map (lease_in m) leases) ≡ count_by is_some leases
+count-living m [] = refl
+count-living m (lease ∷ leases) =
+    let given = sum_by-cons (λ (x : Option (List ℕ)). cond (is_some x) 1 0) (lease_in m lease) (map (lease_in m) leases) in
+    let strands = sum_by-cons (λ (x : Option Strand). cond (is_some x) 1 0) lease leases in
+    let others = count-living m leases in
+    let same = some-living m lease in omega arith
+
+-- leases in other chunks, which names and texts in the making don't notice
+pub record IsLent (a : Inside) (m : Chunks) (leases : Vec (Option Strand) Global) (ended : Vec ℕ Global) : Type 0 where
+  pub lie : Lie m (record (strands_in a) { leases = leases.items }) []
+  pub names : entries_in m a.names.entries ≡ entries_in a.chunks a.names.entries
+  pub texts : map (bytes_of m) a.open.items ≡ map (bytes_of a.chunks) a.open.items
+  pub most : m.most ≡ a.chunks.most
+  pub given : sum_by (of_lease (λ strand. strand.rest)) leases.items ≤ a.cap_kept
+  pub living : count_by is_some leases.items ≤ a.cap_leases
+  pub known : All (λ id. id < vec_len leases) ended.items
+  pub dead : All (λ id. get_or leases.items id None ≡ None) ended.items
+  pub once : AllPairs (λ id later. id ≢ later) ended.items
+  pub count : count_by is_some leases.items + vec_len ended ≡ vec_len leases
+  pub taken : vec_len leases ≤ a.cap_leases
+  pub reserved : a.cap_leases ≤ vec_capacity leases
+  pub reserved_ended : a.cap_leases ≤ vec_capacity ended
+
+-- the store stays sound
+pub IsSound-lent : (a : Inside) (m : Chunks) (leases : Vec (Option Strand) Global) (ended : Vec ℕ Global) → IsSound a
+    → IsLent a m leases ended → IsSound (record a { chunks = m; leases = leases; ended = ended })
+IsSound-lent a m leases ended sound lent = record {
+  lie = lent.lie;
+  apart = sound.apart;
+  once = sound.once;
+  counted = rw (lent.names, lent.texts) sound.counted;
+  within = sound.within;
+  given =
+      let all = bytes-leases m (record (strands_in a) { leases = leases.items }) [] lent.lie in
+      let given = lent.given in omega arith;
+  living = rw count-living lent.living;
+  few = sound.few;
+  opens = sound.opens;
+  room = rw lent.most sound.room;
+  most = rw lent.most sound.most;
+  ended_known = lent.known;
+  ended_dead = lent.dead;
+  ended_once = lent.once;
+  ended_count = rw count-living lent.count;
+  leases_taken = lent.taken;
+  opens_reserved = sound.opens_reserved;
+  leases_reserved = lent.reserved;
+  ended_reserved = lent.reserved_ended;
+}
+
+module _ (a : Inside) (t : Texts) (sound : IsSound a) (is : kept_by a ≡ t) (id : ℕ) (given : IsSome (lease_of id t))
+    (item : Option Strand)
+    (was : item ≡ get_or a.leases.items id item) (strand : Strand) (some : item ≡ Some strand) where
+  -- the lease is one of those that live
+  inside : id < length a.leases.items
+  inside =
+      let lives : IsSome (get_or (map (lease_in a.chunks) a.leases.items) id None) =
+      subst (λ (x : Texts). IsSome (lease_of id x)) (sym is) given in
+      let n = inside-some (map (lease_in a.chunks) a.leases.items) id lives in
+      let long = length-map a.leases.items (lease_in a.chunks) in
+      omega arith
+
+  lives : get_or a.leases.items id None ≡ Some strand
+  lives = get_or_default a.leases.items id None item inside ∙ (sym was ∙ some)
+
+  is-strand : IsStrand a.chunks strand
+  is-strand = lease-is-strand a.chunks (strands_in a) [] id strand lives sound.lie
+
+  -- what it gives
+  pub given-by : lease_of id t ≡ Some (bytes_of a.chunks strand)
+  given-by =
+      subst (λ (x : Texts). lease_of id x ≡ Some (bytes_of a.chunks strand)) is
+      (get_or-map (lease_in a.chunks) a.leases.items id None None inside ∙ ap (lease_in a.chunks) lives)
+
+  pub rest-by : rest_of (lease_of id t) ≡ strand.rest
+  rest-by = rw given-by (length-bytes_of a.chunks strand is-strand)
+
+  -- its strand is in hand
+  pub in-hand : Lie a.chunks (with_lease id None (strands_in a)) (strand ∷ [])
+  in-hand = lease-out a.chunks (strands_in a) [] id strand inside lives sound.lie
+
+  -- how many bytes and leases there are once it is written
+  bytes-set : (lease : Option Strand) → sum_by (of_lease (λ s. s.rest)) (set a.leases.items id lease) + strand.rest
+      ≡ sum_by (of_lease (λ s. s.rest)) a.leases.items + of_lease (λ s. s.rest) lease
+  bytes-set lease =
+      let all = sum_by-set (of_lease (λ (s : Strand). s.rest)) a.leases.items id lease None inside in
+      let one : of_lease (λ (s : Strand). s.rest) (get_or a.leases.items id None)
+      ≡ strand.rest = ap (of_lease (λ (s : Strand). s.rest)) lives in
+      omega arith
+
+  count-set : (lease : Option Strand) → count_by is_some (set a.leases.items id lease) + 1
+      ≡ count_by is_some a.leases.items + cond (is_some lease) 1 0
+  count-set lease =
+      let all = live-set a.leases.items id lease inside in
+      let one : ◌≡◌ {A = ℕ} (cond (is_some (get_or a.leases.items id None)) 1 0) 1 =
+      ap (λ (x : Option Strand). cond (is_some x) 1 0) lives in
+      omega arith
+
+  bytes-all : sum_by (of_lease (λ s. s.rest)) a.leases.items ≤ a.cap_kept
+  bytes-all = let all = bytes-leases a.chunks (strands_in a) [] sound.lie in let given = sound.given in omega arith
+
+  count-all : count_by is_some a.leases.items + vec_len a.ended ≡ vec_len a.leases
+  count-all = let all = count-living a.chunks a.leases.items in let count = sound.ended_count in omega arith
+
+  -- the numbers of leases that have ended are other ones
+  ended-other : (k d : ℕ) → k < length a.ended.items → get_or a.ended.items k d ≢ id
+  ended-other k d within same =
+      let dead = sound.ended_dead k d within in
+      let none : get_or a.leases.items id None ≡ None = rw same at dead in
+      let both : ◌≡◌ {A = Option Strand} None (Some strand) = sym none ∙ lives in cc
+
+  -- bytes are taken from it
+  module _ (m : Chunks) (rest : Strand) (count : ℕ) (within : count ≤ rest_of (lease_of id t)) (strand_now : IsStrand m rest)
+      (bytes : bytes_of m rest ≡ drop count (bytes_of a.chunks strand)) (len : rest.rest ≡ strand.rest - count)
+      (shares : (chunk : ℕ) → share m chunk ≡ others a.chunks strand chunk + has m rest chunk)
+      (sum : shares_in m + strand.chunks ≡ shares_in a.chunks + rest.chunks) (same : AreSameChunks a.chunks m) where
+    lie-passed : Lie m (with_lease id (Some rest) (strands_in a)) []
+    lie-passed =
+        let lie : Lie m (with_lease id None (strands_in a)) (rest ∷ []) =
+        shared a.chunks m (with_lease id None (strands_in a)) (strand ∷ []) (rest ∷ []) in-hand same
+        (λ chunk.
+        let now = shares chunk in let before = in-hand.shares chunk in
+        let left = (is-left a.chunks m rest same).has chunk in omega arith)
+        (let before = in-hand.sum in omega arith) in
+        let long : id < length (set a.leases.items id None) =
+        omega (arith, inside, length-set {A = Option Strand} a.leases.items id None) in
+        subst (λ (l : List (Option Strand)). Lie m (record (strands_in a) { leases = l }) [])
+        (set-set a.leases.items id None (Some rest))
+        (lease-in m (with_lease id None (strands_in a)) [] id rest long (get_or-set_same a.leases.items id None None inside) lie
+        strand_now)
+
+    lent-passed : IsLent a m (with_item a.leases id (Some rest)) a.ended
+    lent-passed =
+        let gives = give-same a.chunks m (strands_in a) same in
+        let one = count-set (Some rest) in
+        let all = count-all in
+        record {
+          lie = lie-passed;
+          names = gives.names;
+          texts = gives.opens;
+          most = same.most;
+          given = let bytes = bytes-set (Some rest) in let all = bytes-all in omega arith;
+          living = let living = sound.living in let same = count-living a.chunks a.leases.items in omega arith;
+          known = sound.ended_known;
+          dead = λ k d within.
+              let other = ended-other k d within in
+              get_or-set_other a.leases.items id (get_or a.ended.items k d) (Some rest) None other ∙ sound.ended_dead k d within;
+          once = sound.ended_once;
+          count = omega arith;
+          taken = sound.leases_taken;
+          reserved = sound.leases_reserved;
+          reserved_ended = sound.ended_reserved;
+        }
+
+    pub sound-passed : IsSound (record a { chunks = m; leases = with_item a.leases id (Some rest) })
+    sound-passed = IsSound-lent a m (with_item a.leases id (Some rest)) a.ended sound lent-passed
+
+    pub after-passed : kept_by (record a { chunks = m; leases = with_item a.leases id (Some rest) }) ≡ after (Take id count) t
+    after-passed =
+        let gives = give-same a.chunks m (strands_in a) same in
+        let names = gives.names in
+        let texts = gives.opens in
+        let one : Some (bytes_of m rest) ≡ bytes_given count (get_or (map (lease_in a.chunks) a.leases.items) id None) =
+        ap Some bytes ∙ ap (bytes_given count)
+        (sym (subst (λ (x : Texts). lease_of id x ≡ Some (bytes_of a.chunks strand)) (sym is) given-by)) in
+        let leases : map (lease_in m) (set a.leases.items id (Some rest))
+        ≡ set (map (lease_in a.chunks) a.leases.items) id
+        (bytes_given count (get_or (map (lease_in a.chunks) a.leases.items) id None)) =
+        map-set (lease_in m) a.leases.items id (Some rest)
+        ∙ (ap (λ l. set l id (Some (bytes_of m rest))) gives.leases
+        ∙ ap (λ x. set (map (lease_in a.chunks) a.leases.items) id x) one) in
+        subst (λ (x : Texts). kept_by (record a { chunks = m; leases = with_item a.leases id (Some rest) })
+        ≡ after (Take id count) x) is (cc)
+
+  -- it ends
+  module _ (m : Chunks) (ended : Vec ℕ Global) (items : ended.items ≡ a.ended.items ++ id ∷ [])
+      (len : vec_len ended ≡ vec_len a.ended + 1) (capacity : vec_capacity a.ended ≤ vec_capacity ended)
+      (shares : (chunk : ℕ) → share m chunk ≡ others a.chunks strand chunk)
+      (sum : shares_in m + strand.chunks ≡ shares_in a.chunks)
+      (same : AreSameChunks a.chunks m) where
+    lent-ended : IsLent a m (with_item a.leases id None) ended
+    lent-ended =
+        let gives = give-same a.chunks m (strands_in a) same in
+        let one = count-set None in
+        let all = count-all in
+        record {
+          lie =
+              released a.chunks m (with_lease id None (strands_in a)) (strand ∷ []) [] in-hand same
+              (λ chunk. let e = shares chunk in omega arith) (omega (arith, sum));
+          names = gives.names;
+          texts = gives.opens;
+          most = same.most;
+          given = let bytes = bytes-set None in let all = bytes-all in omega arith;
+          living = let living = sound.living in let same = count-living a.chunks a.leases.items in omega arith;
+          known = rw items (
+              All-append (λ (n : ℕ). n < vec_len a.leases) a.ended.items (id ∷ []) sound.ended_known
+              (All-one (λ (n : ℕ). n < vec_len a.leases) id (omega (arith, inside))));
+          dead = rw items (
+              All-append (λ (n : ℕ). get_or (set a.leases.items id None) n None ≡ None) a.ended.items (id ∷ [])
+              (λ k d within.
+              let other = ended-other k d within in
+              get_or-set_other a.leases.items id (get_or a.ended.items k d) None None other ∙ sound.ended_dead k d within)
+              (All-one (λ (n : ℕ). get_or (set a.leases.items id None) n None ≡ None) id
+              (get_or-set_same a.leases.items id None None inside)));
+          once = rw items (all_pairs_push (λ (n later : ℕ). n ≢ later) a.ended.items id sound.ended_once ended-other);
+          count = omega arith;
+          taken = sound.leases_taken;
+          reserved = sound.leases_reserved;
+          reserved_ended = let n = sound.ended_reserved in omega arith;
+        }
+
+    pub sound-ended : IsSound (record a { chunks = m; leases = with_item a.leases id None; ended = ended })
+    sound-ended = IsSound-lent a m (with_item a.leases id None) ended sound lent-ended
+
+    pub after-ended : kept_by (record a { chunks = m; leases = with_item a.leases id None; ended = ended }) ≡ after (Release id) t
+    after-ended =
+        let gives = give-same a.chunks m (strands_in a) same in
+        let names = gives.names in
+        let texts = gives.opens in
+        let leases : map (lease_in m) (set a.leases.items id None) ≡ set (map (lease_in a.chunks) a.leases.items) id None =
+        map-set (lease_in m) a.leases.items id None ∙ ap (λ l. set l id None) gives.leases in
+        subst (λ (x : Texts). kept_by (record a { chunks = m; leases = with_item a.leases id None; ended = ended })
+        ≡ after (Release id) x) is
+        (cc)
+
+-- what holds of all but the last
+All-front : {X : Type 0} (P : X → Type 0) (xs : List X) (x : X) → All P (xs ++ x ∷ []) → All P xs
+All-front P xs x all k d within =
+    subst P (get_or_append_left xs (x ∷ []) d k within) (all k d (omega (arith, length-append xs (x ∷ []))))
+
+-- and of the last
+All-last : {X : Type 0} (P : X → Type 0) (xs : List X) (x : X) → All P (xs ++ x ∷ []) → P x
+All-last P xs x all = subst P (get_or_push xs x x (length xs) refl) (all (length xs) x (omega (arith, length-append xs (x ∷ []))))
+
+AllPairs-front : {X : Type 0} (R : X → X → Type 0) (xs : List X) (x : X) → AllPairs R (xs ++ x ∷ []) → AllPairs R xs
+AllPairs-front R xs x all i j d before within =
+    let first = get_or_append_left xs (x ∷ []) d i (omega arith) in
+    let second = get_or_append_left xs (x ∷ []) d j within in
+    let both = all i j d before (omega (arith, length-append xs (x ∷ []))) in
+    rw (← first, ← second) both
+
+-- each stands in a pair with the last
+AllPairs-last : {X : Type 0} (R : X → X → Type 0) (xs : List X) (x : X) → AllPairs R (xs ++ x ∷ []) → All (λ y. R y x) xs
+AllPairs-last {X} R xs x all k d within =
+    let first = get_or_append_left xs (x ∷ []) d k within in
+    let second = get_or_push xs x d (length xs) refl in
+    let both = all k (length xs) d within (omega (arith, length-append xs (x ∷ []))) in
+    subst (λ (y : X). R (get_or xs k d) y) second (subst (λ (y : X). R y (get_or (xs ++ x ∷ []) (length xs) d)) first both)
+
+-- a name without a body
+pub no-body-none : (a : Inside) (t : Texts) → kept_by a ≡ t → (name : List ℕ) → entry_of name a.names.entries ≡ None
+    → has_body name t ≡ false
+no-body-none a t is name found =
+    subst (λ (x : Texts). has_body name x ≡ false) is (ap is_body (entry-none a.chunks a.names.entries name found))
+
+pub no-body-request : (a : Inside) (t : Texts) → kept_by a ≡ t → (name : List ℕ) (number : ℕ)
+    → entry_of name a.names.entries ≡ Some (RequestOf number) → has_body name t ≡ false
+no-body-request a t is name number found =
+    subst (λ (x : Texts). has_body name x ≡ false) is
+    (ap is_body (entry-in a.chunks a.names.entries name (RequestOf number) found))
+
+module _ (a : Inside) (t : Texts) (sound : IsSound a) (is : kept_by a ≡ t) (name : List ℕ) (strand : Strand)
+    (found : entry_of name a.names.entries ≡ Some (BodyIn strand)) where
+  -- a name with a body
+  pub has-body : has_body name t ≡ true
+  has-body =
+      subst (λ (x : Texts). has_body name x ≡ true) is
+      (ap is_body (entry-in a.chunks a.names.entries name (BodyIn strand) found))
+
+  body-by : body_of name (kept_by a) ≡ bytes_of a.chunks strand
+  body-by = ap body_if_any (entry-in a.chunks a.names.entries name (BodyIn strand) found)
+
+  is-text : IsText a.chunks strand
+  is-text = name-is-body a.chunks (strands_in a) [] name (BodyIn strand) sound.lie found
+
+  pub body-strand : IsStrand a.chunks strand
+  body-strand = is-text.strand
+
+  body-in-hand : Lie a.chunks (without_name name (strands_in a)) (strand ∷ [])
+  body-in-hand =
+      subst (λ (e : Option Meaning). Lie a.chunks (without_name name (strands_in a)) (strands_of e ++ [])) found
+      (name-out a.chunks (strands_in a) [] name sound.once sound.lie)
+
+  pub body-shared : IsShared a.chunks strand
+  body-shared chunk = let shares = body-in-hand.shares chunk in omega arith
+
+  module _ (fewer : live t < t.cap_leases) (room : kept t + length (body_of name t) ≤ t.cap_kept) where
+    rest-fits : sum_by (of_lease (λ s. s.rest)) a.leases.items + strand.rest ≤ a.cap_kept
+    rest-fits =
+        let fits : kept (kept_by a) + length (body_of name (kept_by a)) ≤ a.cap_kept =
+        subst (λ (x : Texts). kept x + length (body_of name x) ≤ x.cap_kept) (sym is) room in
+        let body : length (body_of name (kept_by a)) ≡ length (bytes_of a.chunks strand) = ap length body-by in
+        let all = bytes-leases a.chunks (strands_in a) [] sound.lie in
+        let long = length-bytes_of a.chunks strand body-strand in
+        omega arith
+
+    few-live : count_by is_some a.leases.items < a.cap_leases
+    few-live =
+        let few : live (kept_by a) < a.cap_leases = subst (λ (x : Texts). live x < x.cap_leases) (sym is) fewer in
+        let same = count-living a.chunks a.leases.items in
+        omega arith
+
+    pub room-to-share : shares_in a.chunks + strand.chunks ≤ a.chunks.most
+    room-to-share =
+        let fits = rest-fits in
+        let few = chunks-few a.chunks strand body-strand in
+        let whole = is-text.whole in
+        let chunks = chunks-in a.chunks (strands_in a) [] sound.lie in
+        let sum = sound.lie.sum in
+        let used : a.used ≡ in_texts (λ s. s.rest) (strands_in a) = sound.counted ∙ used-by a sound.lie in
+        let within = sound.within in
+        let names = sound.few in
+        let opens = sound.opens in
+        let taken = sound.leases_taken in
+        let all = sound.room in
+        omega arith
+
+    module _ (m : Chunks) (shares : (chunk : ℕ) → share m chunk ≡ share a.chunks chunk + has a.chunks strand chunk)
+        (sum : shares_in m ≡ shares_in a.chunks + strand.chunks) (same : AreSameChunks a.chunks m) where
+      -- the chunks are shared
+      lie-shared : Lie m (strands_in a) (strand ∷ [])
+      lie-shared =
+          shared a.chunks m (strands_in a) [] (strand ∷ []) sound.lie same
+          (λ chunk. let now = shares chunk in let before = sound.lie.shares chunk in omega arith)
+          (let before = sound.lie.sum in omega arith)
+
+      body-now : body_of name (kept_by a) ≡ bytes_of m strand
+      body-now = body-by ∙ sym (is-left a.chunks m strand same).bytes
+
+      -- a number serves again
+      module _ (id : ℕ) (ended : Vec ℕ Global) (items : a.ended.items ≡ ended.items ++ id ∷ [])
+          (len : vec_len ended + 1 ≡ vec_len a.ended) (capacity : vec_capacity ended ≡ vec_capacity a.ended) where
+        known-again : id < vec_len a.leases
+        known-again =
+            All-last (λ (n : ℕ). n < vec_len a.leases) ended.items id
+            (subst (All (λ (n : ℕ). n < vec_len a.leases)) items sound.ended_known)
+
+        dead-again : get_or a.leases.items id None ≡ None
+        dead-again =
+            All-last (λ (n : ℕ). get_or a.leases.items n None ≡ None) ended.items id
+            (subst (All (λ (n : ℕ). get_or a.leases.items n None ≡ None)) items sound.ended_dead)
+
+        lent-again : IsLent a m (with_item a.leases id (Some strand)) ended
+        lent-again =
+            let gives = give-same a.chunks m (strands_in a) same in
+            let inside : id < length a.leases.items = omega (arith, known-again) in
+            let count = live-set a.leases.items id (Some strand) inside in
+            let none : ◌≡◌ {A = ℕ} (cond (is_some (get_or a.leases.items id None)) 1 0) 0 =
+            ap (λ (x : Option Strand). cond (is_some x) 1 0) dead-again in
+            let bytes = sum_by-set (of_lease (λ (s : Strand). s.rest)) a.leases.items id (Some strand) None inside in
+            let nothing : of_lease (λ (s : Strand). s.rest) (get_or a.leases.items id None) ≡ 0 =
+            ap (of_lease (λ (s : Strand). s.rest)) dead-again in
+            let living = count-living a.chunks a.leases.items in
+            let all = sound.ended_count in
+            let dead = All-front (λ (n : ℕ). get_or a.leases.items n None ≡ None) ended.items id
+            (subst (All (λ (n : ℕ). get_or a.leases.items n None ≡ None)) items sound.ended_dead) in
+            let once = subst (AllPairs (λ (n later : ℕ). n ≢ later)) items sound.ended_once in
+            record {
+              lie =
+                  lease-in m (strands_in a) [] id strand inside dead-again lie-shared
+                  (strand-same a.chunks m strand same body-strand);
+              names = gives.names;
+              texts = gives.opens;
+              most = same.most;
+              given = let fits = rest-fits in omega arith;
+              living = let few = few-live in omega arith;
+              known =
+                  All-front (λ (n : ℕ). n < vec_len a.leases) ended.items id
+                  (subst (All (λ (n : ℕ). n < vec_len a.leases)) items sound.ended_known);
+              dead = λ k d within.
+                  let other = AllPairs-last (λ (n later : ℕ). n ≢ later) ended.items id once k d within in
+                  get_or-set_other a.leases.items id (get_or ended.items k d) (Some strand) None other ∙ dead k d within;
+              once = AllPairs-front (λ (n later : ℕ). n ≢ later) ended.items id once;
+              count = omega arith;
+              taken = sound.leases_taken;
+              reserved = sound.leases_reserved;
+              reserved_ended = let n = sound.ended_reserved in omega arith;
+            }
+
+        pub inside-again : id < vec_len a.leases
+        inside-again = known-again
+
+        pub sound-again : IsSound (record a { chunks = m; leases = with_item a.leases id (Some strand); ended = ended })
+        sound-again = IsSound-lent a m (with_item a.leases id (Some strand)) ended sound lent-again
+
+        pub free-again : IsFree id t
+        free-again =
+            subst (λ (x : Texts). IsFree id x) is (record {
+              known = omega (arith, known-again, length-map a.leases.items (lease_in a.chunks));
+              free =
+                  get_or-map (lease_in a.chunks) a.leases.items id None None (omega (arith, known-again))
+                  ∙ ap (lease_in a.chunks) dead-again;
+            })
+
+        pub after-again : kept_by (record a { chunks = m; leases = with_item a.leases id (Some strand); ended = ended })
+            ≡ after (Lease name id) t
+        after-again =
+            let gives = give-same a.chunks m (strands_in a) same in
+            let names = gives.names in
+            let texts = gives.opens in
+            let long = length-map a.leases.items (lease_in a.chunks) in
+            let known = known-again in
+            let test : (id == length (map (lease_in a.chunks) a.leases.items)) ≡ false = grind (arith, nat_tests) in
+            let leases : map (lease_in m) (set a.leases.items id (Some strand))
+            ≡ with_lease_in id (Some (body_of name (kept_by a))) (map (lease_in a.chunks) a.leases.items) =
+            map-set (lease_in m) a.leases.items id (Some strand)
+            ∙ (ap (λ l. set l id (Some (bytes_of m strand))) gives.leases
+            ∙ (ap (λ (b : List ℕ). set (map (lease_in a.chunks) a.leases.items) id (Some b)) (sym body-now)
+            ∙ sym (rw test refl))) in
+            subst (λ (x : Texts). kept_by (record a { chunks = m; leases = with_item a.leases id (Some strand); ended = ended })
+            ≡ after (Lease name id) x) is (cc)
+
+      -- or a new number
+      module _ (id : ℕ) (leases : Vec (Option Strand) Global) (ended : Vec ℕ Global) (last : id ≡ vec_len a.leases)
+          (none_ended : vec_len a.ended ≡ 0) (none_now : vec_len ended ≡ 0)
+          (items : leases.items ≡ a.leases.items ++ Some strand ∷ [])
+          (len : vec_len leases ≡ vec_len a.leases + 1) (capacity : vec_capacity a.leases ≤ vec_capacity leases)
+          (capacity_ended : vec_capacity ended ≡ vec_capacity a.ended) where
+        lent-behind : IsLent a m leases ended
+        lent-behind =
+            let gives = give-same a.chunks m (strands_in a) same in
+            let count = sum_by-append (λ (x : Option Strand). cond (is_some x) 1 0) a.leases.items (Some strand ∷ []) in
+            let bytes = sum_by-append (of_lease (λ (s : Strand). s.rest)) a.leases.items (Some strand ∷ []) in
+            let living = count-living a.chunks a.leases.items in
+            let all = sound.ended_count in
+            let count_now : count_by is_some leases.items
+            ≡ count_by is_some (a.leases.items ++ Some strand ∷ []) = ap (count_by is_some) items in
+            let bytes_now : sum_by (of_lease (λ s. s.rest)) leases.items
+            ≡ sum_by (of_lease (λ s. s.rest)) (a.leases.items ++ Some strand ∷ []) =
+            ap (sum_by (of_lease (λ (s : Strand). s.rest))) items in
+            record {
+              lie = rw items (lease-behind m (strands_in a) [] strand lie-shared
+                  (strand-same a.chunks m strand same body-strand));
+              names = gives.names;
+              texts = gives.opens;
+              most = same.most;
+              given = let fits = rest-fits in omega arith;
+              living = let few = few-live in omega arith;
+              known = λ k d within. absurd (omega arith);
+              dead = λ k d within. absurd (omega arith);
+              once = λ i j d before within. absurd (omega arith);
+              count = omega arith;
+              taken = let few = few-live in omega arith;
+              reserved = let n = sound.leases_reserved in omega arith;
+              reserved_ended = let n = sound.ended_reserved in omega arith;
+            }
+
+        pub sound-behind : IsSound (record a { chunks = m; leases = leases; ended = ended })
+        sound-behind = IsSound-lent a m leases ended sound lent-behind
+
+        pub after-behind : kept_by (record a { chunks = m; leases = leases; ended = ended }) ≡ after (Lease name id) t
+        after-behind =
+            let gives = give-same a.chunks m (strands_in a) same in
+            let names = gives.names in
+            let texts = gives.opens in
+            let long = length-map a.leases.items (lease_in a.chunks) in
+            let test : (id == length (map (lease_in a.chunks) a.leases.items)) ≡ true = grind (arith, nat_tests) in
+            let all : map (lease_in m) leases.items
+            ≡ with_lease_in id (Some (body_of name (kept_by a))) (map (lease_in a.chunks) a.leases.items) =
+            ap (map (lease_in m)) items
+            ∙ (map-append (lease_in m) a.leases.items (Some strand ∷ [])
+            ∙ (ap (λ l. l ++ Some (bytes_of m strand) ∷ []) gives.leases
+            ∙ (ap (λ (b : List ℕ). map (lease_in a.chunks) a.leases.items ++ Some b ∷ []) (sym body-now)
+            ∙ sym (rw test refl)))) in
+            subst (λ (x : Texts). kept_by (record a { chunks = m; leases = leases; ended = ended }) ≡ after (Lease name id) x)
+            is (cc)

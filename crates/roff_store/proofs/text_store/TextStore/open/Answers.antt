@@ -1,0 +1,11 @@
+use Rattle.std.proofs.Common.{arith}
+use Rattle.roff_store.proofs.Opening.{sound-begun}
+use Rattle.roff_store.proofs.text_store.TextStore.open.Goals as goal
+
+pub invariant_of-self : goal.invariant_of-self
+invariant_of-self c =
+    let items = rw c.unwrap.ensures at c.push.ensures.items in
+    let len = rw c.unwrap.ensures at c.push.ensures.len in
+    sound-begun c.self.inside c.args.self.now c.self.invariant c.self.view_is c.requires c.push.new.self c.empty.result
+    c.empty.ensures.chunks c.empty.ensures.at c.empty.ensures.rest
+    (let last = c.empty.ensures.last in let most = c.self.invariant.most in omega arith) items len c.push.ensures.capacity

@@ -1,0 +1,46 @@
+use Rattle.std.proofs.Common.{sym, ap, refl, ◌∙◌}
+use Rattle.roff_store.specs.Named.{put_into}
+use Rattle.roff_store.specs.TextStore.Kept.{strands_in}
+use Rattle.roff_store.proofs.Naming.{counted-out, shared-in-hand, strands-in-hand}
+use Rattle.roff_store.proofs.Renaming.{admitted-renamed, after-renamed, names-apart, nothing-renamed, sound-renamed}
+use Rattle.roff_store.proofs.text_store.TextStore.rename.Goals as goal
+
+pub overflow_sub-self : goal.overflow_sub-self
+overflow_sub-self c =
+    counted-out c.self.inside c.args.self.now c.self.invariant c.self.view_is c.args.to.now c.get-old.result c.get-old.ensures
+    c.body_len.result c.body_len.ensures
+
+pub let_go-requires-clause-strands : goal.let_go-requires-clause-strands
+let_go-requires-clause-strands c =
+    strands-in-hand c.self.inside.chunks (strands_in c.self.inside) c.args.to.now c.self.invariant.once c.self.invariant.lie
+    c.get-old.result c.get-old.ensures
+
+pub let_go-requires-clause-shared : goal.let_go-requires-clause-shared
+let_go-requires-clause-shared c =
+    shared-in-hand c.self.inside.chunks (strands_in c.self.inside) c.args.to.now c.self.invariant.once c.self.invariant.lie
+    c.get-old.result c.get-old.ensures
+
+pub unwrap-requires : goal.unwrap-requires
+unwrap-requires c =
+    let found = sym c.get.ensures ∙ c.in-Some.is in
+    let room = admitted-renamed c.args.from.now c.args.to.now c.self.inside.names c.in-Some.meaning c.self.invariant.once found c.self.invariant.few in
+    rw (c.put.ensures.answer, c.remove.ensures, room) refl
+
+pub invariant_of-self : goal.invariant_of-self
+invariant_of-self c =
+    sound-renamed c.self.inside c.args.self.now c.self.invariant c.self.view_is c.args.from.now c.args.to.now
+    (names-apart c.args.from.now c.args.to.now c.is_same.result c.is_same.ensures c.if-is_same.false) c.in-Some.meaning (sym c.get.ensures ∙ c.in-Some.is) c.get-old.result c.get-old.ensures
+    c.body_len.result c.body_len.ensures c.let_go.new.chunks c.let_go.ensures.shares c.let_go.ensures.sum c.let_go.ensures.same
+    c.put.new.self (c.put.ensures.table ∙ ap (put_into c.args.to.now c.in-Some.meaning) c.remove.ensures)
+
+pub returns-in-Some : goal.returns-in-Some
+returns-in-Some c =
+    after-renamed c.self.inside c.args.self.now c.self.invariant c.self.view_is c.args.from.now c.args.to.now
+    (names-apart c.args.from.now c.args.to.now c.is_same.result c.is_same.ensures c.if-is_same.false) c.in-Some.meaning (sym c.get.ensures ∙ c.in-Some.is) c.get-old.result c.get-old.ensures
+    c.body_len.result c.body_len.ensures c.let_go.new.chunks c.let_go.ensures.shares c.let_go.ensures.sum c.let_go.ensures.same
+    c.put.new.self (c.put.ensures.table ∙ ap (put_into c.args.to.now c.in-Some.meaning) c.remove.ensures)
+
+pub returns-in_default : goal.returns-in_default
+returns-in_default c =
+    nothing-renamed c.self.inside c.args.self.now c.self.view_is c.args.from.now c.args.to.now
+    (names-apart c.args.from.now c.args.to.now c.is_same.result c.is_same.ensures c.if-is_same.false) (sym c.get.ensures ∙ c.in_default.is)

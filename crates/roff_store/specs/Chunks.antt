@@ -1,0 +1,2 @@
+-- The chunks in which texts lie.
+pub mod Kept

@@ -1,0 +1,3 @@
+-- The store of texts by name.
+pub mod Strands
+pub mod Kept

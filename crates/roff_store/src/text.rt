@@ -1,0 +1,27 @@
+//! What a name stands for, and how texts in the making and leases are called (manual, section 7).
+
+/// What a name stands for.
+#[derive(Clone, Copy, Debug)]
+pub enum Entry<'a> {
+    /// A string, macro or diversion: its bytes.
+    Body(&'a [u8]),
+    /// A request: its number.
+    Request(u16),
+}
+
+/// What a name stands for, without the bytes.
+#[derive(Clone, Copy, Debug, PartialEq, Eq)]
+pub enum Kind {
+    /// A string, macro or diversion: how many bytes it has.
+    Body(usize),
+    /// A request: its number.
+    Request(u16),
+}
+
+/// A text in the making, by its number: the oldest is 0.
+#[derive(Clone, Copy, Debug, PartialEq, Eq)]
+pub struct OpenId(pub u32);
+
+/// A lease on a body, by its number.
+#[derive(Clone, Copy, Debug, PartialEq, Eq)]
+pub struct LeaseId(pub u32);
