@@ -54,31 +54,44 @@ count-living m (lease ∷ leases) =
     let others = count-living m leases in
     let same = some-living m lease in omega arith
 
+-- how many bytes all leases still give
+pub kept-counted : (a : Inside) (t : Texts) → IsSound a → kept_by a ≡ t → a.kept ≡ kept t
+kept-counted a t sound is =
+    subst (λ (x : Texts). a.kept ≡ kept x) is
+    (sound.kept_counted ∙ sym (bytes-leases a.chunks (strands_in a) [] sound.lie))
+
+pub kept-within : (a : Inside) (t : Texts) → IsSound a → kept_by a ≡ t → a.kept ≤ t.cap_kept
+kept-within a t sound is =
+    let all = bytes-leases a.chunks (strands_in a) [] sound.lie in
+    subst (λ (x : Texts). a.kept ≤ x.cap_kept) is (omega (arith, sound.kept_counted, sound.given, all))
+
 -- leases in other chunks, which names and texts in the making don't notice
-pub record IsLent (a : Inside) (m : Chunks) (leases : Vec (Option Strand) Global) (ended : Vec ℕ Global) : Type 0 where
+pub record IsLent (a : Inside) (m : Chunks) (leases : Vec (Option Strand) Global) (ended : Vec ℕ Global) (count : ℕ) : Type 0 where
   pub lie : Lie m (record (strands_in a) { leases = leases.items }) []
   pub names : entries_in m a.names.entries ≡ entries_in a.chunks a.names.entries
   pub texts : map (bytes_of m) a.open.items ≡ map (bytes_of a.chunks) a.open.items
   pub most : m.most ≡ a.chunks.most
+  pub counted : count ≡ sum_by (of_lease (λ strand. strand.rest)) leases.items
   pub given : sum_by (of_lease (λ strand. strand.rest)) leases.items ≤ a.cap_kept
   pub living : count_by is_some leases.items ≤ a.cap_leases
   pub known : All (λ id. id < vec_len leases) ended.items
   pub dead : All (λ id. get_or leases.items id None ≡ None) ended.items
   pub once : AllPairs (λ id later. id ≢ later) ended.items
-  pub count : count_by is_some leases.items + vec_len ended ≡ vec_len leases
+  pub all : count_by is_some leases.items + vec_len ended ≡ vec_len leases
   pub taken : vec_len leases ≤ a.cap_leases
   pub reserved : a.cap_leases ≤ vec_capacity leases
   pub reserved_ended : a.cap_leases ≤ vec_capacity ended
 
 -- the store stays sound
-pub IsSound-lent : (a : Inside) (m : Chunks) (leases : Vec (Option Strand) Global) (ended : Vec ℕ Global) → IsSound a
-    → IsLent a m leases ended → IsSound (record a { chunks = m; leases = leases; ended = ended })
-IsSound-lent a m leases ended sound lent = record {
+pub IsSound-lent : (a : Inside) (m : Chunks) (leases : Vec (Option Strand) Global) (ended : Vec ℕ Global) (count : ℕ) → IsSound a
+    → IsLent a m leases ended count → IsSound (record a { chunks = m; leases = leases; ended = ended; kept = count })
+IsSound-lent a m leases ended count sound lent = record {
   lie = lent.lie;
   apart = sound.apart;
   once = sound.once;
   counted = rw (lent.names, lent.texts) sound.counted;
   within = sound.within;
+  kept_counted = lent.counted;
   given =
       let all = bytes-leases m (record (strands_in a) { leases = leases.items }) [] lent.lie in
       let given = lent.given in omega arith;
@@ -90,7 +103,7 @@ IsSound-lent a m leases ended sound lent = record {
   ended_known = lent.known;
   ended_dead = lent.dead;
   ended_once = lent.once;
-  ended_count = rw count-living lent.count;
+  ended_count = rw count-living lent.all;
   leases_taken = lent.taken;
   opens_reserved = sound.opens_reserved;
   leases_reserved = lent.reserved;
@@ -178,7 +191,7 @@ module _ (a : Inside) (t : Texts) (sound : IsSound a) (is : kept_by a ≡ t) (id
         (lease-in m (with_lease id None (strands_in a)) [] id rest long (get_or-set_same a.leases.items id None None inside) lie
         strand_now)
 
-    lent-passed : IsLent a m (with_item a.leases id (Some rest)) a.ended
+    lent-passed : IsLent a m (with_item a.leases id (Some rest)) a.ended (a.kept - count)
     lent-passed =
         let gives = give-same a.chunks m (strands_in a) same in
         let one = count-set (Some rest) in
@@ -188,6 +201,7 @@ module _ (a : Inside) (t : Texts) (sound : IsSound a) (is : kept_by a ≡ t) (id
           names = gives.names;
           texts = gives.opens;
           most = same.most;
+          counted = let bytes = bytes-set (Some rest) in let now = sound.kept_counted in let most = rest-by in omega arith;
           given = let bytes = bytes-set (Some rest) in let all = bytes-all in omega arith;
           living = let living = sound.living in let same = count-living a.chunks a.leases.items in omega arith;
           known = sound.ended_known;
@@ -195,16 +209,16 @@ module _ (a : Inside) (t : Texts) (sound : IsSound a) (is : kept_by a ≡ t) (id
               let other = ended-other k d within in
               get_or-set_other a.leases.items id (get_or a.ended.items k d) (Some rest) None other ∙ sound.ended_dead k d within;
           once = sound.ended_once;
-          count = omega arith;
+          all = omega arith;
           taken = sound.leases_taken;
           reserved = sound.leases_reserved;
           reserved_ended = sound.ended_reserved;
         }
 
-    pub sound-passed : IsSound (record a { chunks = m; leases = with_item a.leases id (Some rest) })
-    sound-passed = IsSound-lent a m (with_item a.leases id (Some rest)) a.ended sound lent-passed
+    pub sound-passed : IsSound (record a { chunks = m; leases = with_item a.leases id (Some rest); kept = a.kept - count })
+    sound-passed = IsSound-lent a m (with_item a.leases id (Some rest)) a.ended (a.kept - count) sound lent-passed
 
-    pub after-passed : kept_by (record a { chunks = m; leases = with_item a.leases id (Some rest) }) ≡ after (Take id count) t
+    pub after-passed : kept_by (record a { chunks = m; leases = with_item a.leases id (Some rest); kept = a.kept - count }) ≡ after (Take id count) t
     after-passed =
         let gives = give-same a.chunks m (strands_in a) same in
         let names = gives.names in
@@ -218,7 +232,7 @@ module _ (a : Inside) (t : Texts) (sound : IsSound a) (is : kept_by a ≡ t) (id
         map-set (lease_in m) a.leases.items id (Some rest)
         ∙ (ap (λ l. set l id (Some (bytes_of m rest))) gives.leases
         ∙ ap (λ x. set (map (lease_in a.chunks) a.leases.items) id x) one) in
-        subst (λ (x : Texts). kept_by (record a { chunks = m; leases = with_item a.leases id (Some rest) })
+        subst (λ (x : Texts). kept_by (record a { chunks = m; leases = with_item a.leases id (Some rest); kept = a.kept - count })
         ≡ after (Take id count) x) is (cc)
 
   -- it ends
@@ -227,7 +241,7 @@ module _ (a : Inside) (t : Texts) (sound : IsSound a) (is : kept_by a ≡ t) (id
       (shares : (chunk : ℕ) → share m chunk ≡ others a.chunks strand chunk)
       (sum : shares_in m + strand.chunks ≡ shares_in a.chunks)
       (same : AreSameChunks a.chunks m) where
-    lent-ended : IsLent a m (with_item a.leases id None) ended
+    lent-ended : IsLent a m (with_item a.leases id None) ended (a.kept - strand.rest)
     lent-ended =
         let gives = give-same a.chunks m (strands_in a) same in
         let one = count-set None in
@@ -239,6 +253,7 @@ module _ (a : Inside) (t : Texts) (sound : IsSound a) (is : kept_by a ≡ t) (id
           names = gives.names;
           texts = gives.opens;
           most = same.most;
+          counted = let bytes = bytes-set None in let now = sound.kept_counted in omega arith;
           given = let bytes = bytes-set None in let all = bytes-all in omega arith;
           living = let living = sound.living in let same = count-living a.chunks a.leases.items in omega arith;
           known = rw items (
@@ -252,23 +267,23 @@ module _ (a : Inside) (t : Texts) (sound : IsSound a) (is : kept_by a ≡ t) (id
               (All-one (λ (n : ℕ). get_or (set a.leases.items id None) n None ≡ None) id
               (get_or-set_same a.leases.items id None None inside)));
           once = rw items (all_pairs_push (λ (n later : ℕ). n ≢ later) a.ended.items id sound.ended_once ended-other);
-          count = omega arith;
+          all = omega arith;
           taken = sound.leases_taken;
           reserved = sound.leases_reserved;
           reserved_ended = let n = sound.ended_reserved in omega arith;
         }
 
-    pub sound-ended : IsSound (record a { chunks = m; leases = with_item a.leases id None; ended = ended })
-    sound-ended = IsSound-lent a m (with_item a.leases id None) ended sound lent-ended
+    pub sound-ended : IsSound (record a { chunks = m; leases = with_item a.leases id None; ended = ended; kept = a.kept - strand.rest })
+    sound-ended = IsSound-lent a m (with_item a.leases id None) ended (a.kept - strand.rest) sound lent-ended
 
-    pub after-ended : kept_by (record a { chunks = m; leases = with_item a.leases id None; ended = ended }) ≡ after (Release id) t
+    pub after-ended : kept_by (record a { chunks = m; leases = with_item a.leases id None; ended = ended; kept = a.kept - strand.rest }) ≡ after (Release id) t
     after-ended =
         let gives = give-same a.chunks m (strands_in a) same in
         let names = gives.names in
         let texts = gives.opens in
         let leases : map (lease_in m) (set a.leases.items id None) ≡ set (map (lease_in a.chunks) a.leases.items) id None =
         map-set (lease_in m) a.leases.items id None ∙ ap (λ l. set l id None) gives.leases in
-        subst (λ (x : Texts). kept_by (record a { chunks = m; leases = with_item a.leases id None; ended = ended })
+        subst (λ (x : Texts). kept_by (record a { chunks = m; leases = with_item a.leases id None; ended = ended; kept = a.kept - strand.rest })
         ≡ after (Release id) x) is
         (cc)
 
@@ -343,6 +358,9 @@ module _ (a : Inside) (t : Texts) (sound : IsSound a) (is : kept_by a ≡ t) (na
         let long = length-bytes_of a.chunks strand body-strand in
         omega arith
 
+    pub kept-fits : a.kept + strand.rest ≤ a.cap_kept
+    kept-fits = let fits = rest-fits in let counted = sound.kept_counted in omega arith
+
     few-live : count_by is_some a.leases.items < a.cap_leases
     few-live =
         let few : live (kept_by a) < a.cap_leases = subst (λ (x : Texts). live x < x.cap_leases) (sym is) fewer in
@@ -389,7 +407,7 @@ module _ (a : Inside) (t : Texts) (sound : IsSound a) (is : kept_by a ≡ t) (na
             All-last (λ (n : ℕ). get_or a.leases.items n None ≡ None) ended.items id
             (subst (All (λ (n : ℕ). get_or a.leases.items n None ≡ None)) items sound.ended_dead)
 
-        lent-again : IsLent a m (with_item a.leases id (Some strand)) ended
+        lent-again : IsLent a m (with_item a.leases id (Some strand)) ended (a.kept + strand.rest)
         lent-again =
             let gives = give-same a.chunks m (strands_in a) same in
             let inside : id < length a.leases.items = omega (arith, known-again) in
@@ -411,6 +429,7 @@ module _ (a : Inside) (t : Texts) (sound : IsSound a) (is : kept_by a ≡ t) (na
               names = gives.names;
               texts = gives.opens;
               most = same.most;
+              counted = let now = sound.kept_counted in omega arith;
               given = let fits = rest-fits in omega arith;
               living = let few = few-live in omega arith;
               known =
@@ -420,7 +439,7 @@ module _ (a : Inside) (t : Texts) (sound : IsSound a) (is : kept_by a ≡ t) (na
                   let other = AllPairs-last (λ (n later : ℕ). n ≢ later) ended.items id once k d within in
                   get_or-set_other a.leases.items id (get_or ended.items k d) (Some strand) None other ∙ dead k d within;
               once = AllPairs-front (λ (n later : ℕ). n ≢ later) ended.items id once;
-              count = omega arith;
+              all = omega arith;
               taken = sound.leases_taken;
               reserved = sound.leases_reserved;
               reserved_ended = let n = sound.ended_reserved in omega arith;
@@ -429,8 +448,8 @@ module _ (a : Inside) (t : Texts) (sound : IsSound a) (is : kept_by a ≡ t) (na
         pub inside-again : id < vec_len a.leases
         inside-again = known-again
 
-        pub sound-again : IsSound (record a { chunks = m; leases = with_item a.leases id (Some strand); ended = ended })
-        sound-again = IsSound-lent a m (with_item a.leases id (Some strand)) ended sound lent-again
+        pub sound-again : IsSound (record a { chunks = m; leases = with_item a.leases id (Some strand); ended = ended; kept = a.kept + strand.rest })
+        sound-again = IsSound-lent a m (with_item a.leases id (Some strand)) ended (a.kept + strand.rest) sound lent-again
 
         pub free-again : IsFree id t
         free-again =
@@ -441,7 +460,7 @@ module _ (a : Inside) (t : Texts) (sound : IsSound a) (is : kept_by a ≡ t) (na
                   ∙ ap (lease_in a.chunks) dead-again;
             })
 
-        pub after-again : kept_by (record a { chunks = m; leases = with_item a.leases id (Some strand); ended = ended })
+        pub after-again : kept_by (record a { chunks = m; leases = with_item a.leases id (Some strand); ended = ended; kept = a.kept + strand.rest })
             ≡ after (Lease name id) t
         after-again =
             let gives = give-same a.chunks m (strands_in a) same in
@@ -456,7 +475,7 @@ module _ (a : Inside) (t : Texts) (sound : IsSound a) (is : kept_by a ≡ t) (na
             ∙ (ap (λ l. set l id (Some (bytes_of m strand))) gives.leases
             ∙ (ap (λ (b : List ℕ). set (map (lease_in a.chunks) a.leases.items) id (Some b)) (sym body-now)
             ∙ sym (rw test refl))) in
-            subst (λ (x : Texts). kept_by (record a { chunks = m; leases = with_item a.leases id (Some strand); ended = ended })
+            subst (λ (x : Texts). kept_by (record a { chunks = m; leases = with_item a.leases id (Some strand); ended = ended; kept = a.kept + strand.rest })
             ≡ after (Lease name id) x) is (cc)
 
       -- or a new number
@@ -465,7 +484,7 @@ module _ (a : Inside) (t : Texts) (sound : IsSound a) (is : kept_by a ≡ t) (na
           (items : leases.items ≡ a.leases.items ++ Some strand ∷ [])
           (len : vec_len leases ≡ vec_len a.leases + 1) (capacity : vec_capacity a.leases ≤ vec_capacity leases)
           (capacity_ended : vec_capacity ended ≡ vec_capacity a.ended) where
-        lent-behind : IsLent a m leases ended
+        lent-behind : IsLent a m leases ended (a.kept + strand.rest)
         lent-behind =
             let gives = give-same a.chunks m (strands_in a) same in
             let count = sum_by-append (λ (x : Option Strand). cond (is_some x) 1 0) a.leases.items (Some strand ∷ []) in
@@ -483,21 +502,22 @@ module _ (a : Inside) (t : Texts) (sound : IsSound a) (is : kept_by a ≡ t) (na
               names = gives.names;
               texts = gives.opens;
               most = same.most;
+              counted = let now = sound.kept_counted in omega arith;
               given = let fits = rest-fits in omega arith;
               living = let few = few-live in omega arith;
               known = λ k d within. absurd (omega arith);
               dead = λ k d within. absurd (omega arith);
               once = λ i j d before within. absurd (omega arith);
-              count = omega arith;
+              all = omega arith;
               taken = let few = few-live in omega arith;
               reserved = let n = sound.leases_reserved in omega arith;
               reserved_ended = let n = sound.ended_reserved in omega arith;
             }
 
-        pub sound-behind : IsSound (record a { chunks = m; leases = leases; ended = ended })
-        sound-behind = IsSound-lent a m leases ended sound lent-behind
+        pub sound-behind : IsSound (record a { chunks = m; leases = leases; ended = ended; kept = a.kept + strand.rest })
+        sound-behind = IsSound-lent a m leases ended (a.kept + strand.rest) sound lent-behind
 
-        pub after-behind : kept_by (record a { chunks = m; leases = leases; ended = ended }) ≡ after (Lease name id) t
+        pub after-behind : kept_by (record a { chunks = m; leases = leases; ended = ended; kept = a.kept + strand.rest }) ≡ after (Lease name id) t
         after-behind =
             let gives = give-same a.chunks m (strands_in a) same in
             let names = gives.names in
@@ -511,5 +531,5 @@ module _ (a : Inside) (t : Texts) (sound : IsSound a) (is : kept_by a ≡ t) (na
             ∙ (ap (λ l. l ++ Some (bytes_of m strand) ∷ []) gives.leases
             ∙ (ap (λ (b : List ℕ). map (lease_in a.chunks) a.leases.items ++ Some b ∷ []) (sym body-now)
             ∙ sym (rw test refl)))) in
-            subst (λ (x : Texts). kept_by (record a { chunks = m; leases = leases; ended = ended }) ≡ after (Lease name id) x)
+            subst (λ (x : Texts). kept_by (record a { chunks = m; leases = leases; ended = ended; kept = a.kept + strand.rest }) ≡ after (Lease name id) x)
             is (cc)

@@ -49,6 +49,7 @@ IsSound-changed a names m opens count sound changed = record {
   once = changed.once;
   counted = changed.counted ∙ sym (used-by (record a { names = names; chunks = m; «open» = opens; used = count }) changed.lie);
   within = changed.within;
+  kept_counted = sound.kept_counted;
   given = rw changed.leases sound.given;
   living = rw changed.leases sound.living;
   few = changed.few;

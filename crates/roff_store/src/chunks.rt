@@ -52,6 +52,7 @@ impl Chunks {
     }
 
     /// The bytes that the first chunk of a strand has of it.
+    #[inline]
     pub(crate) fn front(&self, strand: Strand) -> &[u8]
         requires { IsStrand self.now strand }
         ensures bytes { result.now ≡ take (length result.now) (bytes_of self.now strand) }
@@ -144,7 +145,7 @@ impl Chunks {
         strand
     }
 
-    /// A text with what a strand has behind it. The strand goes.
+    /// Puts the bytes of a strand behind a text, and releases the strand.
     pub(crate) fn append(&mut self, to: Strand, from: Strand) -> Strand
         requires text { IsText self.old to }
         requires strand { IsStrand self.old from }
@@ -157,7 +158,7 @@ impl Chunks {
         ensures sum { shares_in self.new + to.chunks + from.chunks
             ≡ shares_in self.old + result.chunks }
     {
-        // what holds of the chunks is known where a field of theirs is named
+        // the invariant is known where a field is named
         let _ = &self.contents;
         let (mut to, mut from) = (to, from);
         while from.rest > 0 {
@@ -227,7 +228,7 @@ impl Chunks {
         ensures chunks { result.chunks ≡ strand.chunks }
         ensures shares { self.new.shares ≡ self.old.shares }
     {
-        // what holds of the chunks is known where a field of theirs is named
+        // the invariant is known where a field is named
         let _ = &self.contents;
         if front.is_empty() {
             return strand;

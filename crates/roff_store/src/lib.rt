@@ -1,7 +1,7 @@
 //! What a run of the formatter keeps under names: the number registers (manual, section 8), and
 //! strings, macros and diversions (section 7).
 //!
-//! All memory is reserved as a table is made; no call after that takes any.
+//! All memory is reserved as a table or a store is made; no call after that takes any.
 #![tactic(auto)]
 
 mod chunks;

@@ -1,7 +1,7 @@
 //! Strings, macros and diversions under their names, with texts in the making and leases (manual,
 //! section 7).
 
-ghost use Rattle.std.specs.Prelude.{◌≡◌, ◌<◌, ◌≤◌, ◌+◌, ◌-◌, ℕ, true, false, [], ◌∷◌, All, length, option_map, sum_by, take, IsSome, IsTrue, ◌↔◌, IfOk, IfSome, IfNone};
+ghost use Rattle.std.specs.Prelude.{◌≡◌, ◌<◌, ◌≤◌, ◌+◌, ◌-◌, ℕ, true, false, [], ◌∷◌, All, length, option_map, sum_by, take, IsSome, IsTrue, is_some, ◌↔◌, IfOk, IfSome, IfNone};
 ghost use Rattle.roff_store.specs.Chains.{has, share, shares_in, AreSameChunks, IsShared, IsStrand};
 ghost use Rattle.roff_store.specs.Named.{entry_of};
 ghost use Rattle.roff_store.specs.TextStore.Strands.{strands_of};
@@ -21,7 +21,8 @@ pub(crate) enum Meaning {
     Request(u16),
 }
 
-/// So many chunks more than can be full or begun: a text is copied behind another one by chunks.
+/// So many chunks more than can be full or begun: one for what the division leaves, and three while
+/// a text is copied behind another one.
 const SPARE: usize = 4;
 
 /// Strings, macros, diversions and requests under their names, texts in the making, and leases.
@@ -40,6 +41,8 @@ pub struct TextStore {
     ended: Vec<u32>,
     /// How many bytes bodies and texts in the making have.
     used: usize,
+    /// How many bytes the leases still give.
+    kept: usize,
     cap_bytes: u32,
     cap_open: u32,
     cap_leases: u32,
@@ -91,6 +94,7 @@ impl TextStore {
             leases: Vec::with_capacity(alloc, cap_leases as usize)?,
             ended: Vec::with_capacity(alloc, cap_leases as usize)?,
             used: 0,
+            kept: 0,
             cap_bytes,
             cap_open,
             cap_leases,
@@ -100,14 +104,24 @@ impl TextStore {
 
     /// How many bytes bodies and texts in the making have.
     pub fn used(&self) -> usize
-        ensures { result ≡ used self.now }
+        ensures value { result ≡ used self.now }
+        ensures within { result ≤ self.now.cap_bytes }
     {
         self.used
     }
 
+    /// How many bytes the leases still give.
+    pub fn kept(&self) -> usize
+        ensures value { result ≡ kept self.now }
+        ensures within { result ≤ self.now.cap_kept }
+    {
+        self.kept
+    }
+
     /// How many names stand for something.
     pub fn len(&self) -> usize
-        ensures { result ≡ length self.now.names.entries }
+        ensures value { result ≡ length self.now.names.entries }
+        ensures within { result ≤ self.now.names.cap }
     {
         self.names.len()
     }
@@ -152,7 +166,7 @@ impl TextStore {
         if old.is_none() && self.names.is_full() {
             return Err(Limit::Names);
         }
-        let_go(&mut self.chunks, old);
+        release_body(&mut self.chunks, old);
         let meaning = match entry {
             Entry::Body(text) => Meaning::Body(self.chunks.extend(Strand::empty(), text)),
             Entry::Request(number) => Meaning::Request(number),
@@ -188,7 +202,7 @@ impl TextStore {
     {
         let old = self.names.get(name);
         self.used -= body_len(old);
-        let_go(&mut self.chunks, old);
+        release_body(&mut self.chunks, old);
         self.names.remove(name);
     }
 
@@ -203,10 +217,24 @@ impl TextStore {
         if let Some(meaning) = self.names.get(from) {
             let old = self.names.get(to);
             self.used -= body_len(old);
-            let_go(&mut self.chunks, old);
+            release_body(&mut self.chunks, old);
             self.names.remove(from);
             self.names.put(to, meaning).unwrap();
         }
+    }
+
+    /// Whether a text may be begun.
+    pub fn can_open(&self) -> bool
+        ensures { IsTrue result ↔ (length self.now.open_texts < self.now.cap_open) }
+    {
+        self.open.len() < self.cap_open as usize
+    }
+
+    /// Whether a number is that of a text in the making.
+    pub fn is_open(&self, id: OpenId) -> bool
+        ensures { IsTrue result ↔ (id.0 < length self.now.open_texts) }
+    {
+        (id.0 as usize) < self.open.len()
     }
 
     /// Begins a text.
@@ -262,7 +290,7 @@ impl TextStore {
             }
             None => {
                 self.used -= body_len(old);
-                let_go(&mut self.chunks, old);
+                release_body(&mut self.chunks, old);
                 self.names.put(name, Meaning::Body(text))
             }
         }
@@ -276,6 +304,23 @@ impl TextStore {
         let text = self.open.remove(id.0 as usize);
         self.used -= text.rest;
         self.chunks.release(text);
+    }
+
+    /// Whether one lease more may live.
+    pub fn has_lease(&self) -> bool
+        ensures { IsTrue result ↔ (live self.now < self.now.cap_leases) }
+    {
+        self.leases.len() - self.ended.len() < self.cap_leases as usize
+    }
+
+    /// Whether a number is that of a lease that lives.
+    pub fn lives(&self, id: LeaseId) -> bool
+        ensures { result ≡ is_some (lease_of id.0 self.now) }
+    {
+        match self.leases.get(id.0 as usize) {
+            Some(lease) => lease.is_some(),
+            None => false,
+        }
     }
 
     /// Leases the body of a name, if it has one.
@@ -293,6 +338,7 @@ impl TextStore {
             Meaning::Request(_) => return None,
         };
         self.chunks.share(body);
+        self.kept += body.rest;
         match self.ended.pop() {
             Some(id) => {
                 self.leases[id as usize] = Some(body);
@@ -306,6 +352,7 @@ impl TextStore {
     }
 
     /// The next byte that a lease gives, if it has one.
+    #[inline]
     pub fn lease_take(&mut self, id: LeaseId) -> Option<u8>
         requires { IsSome (lease_of id.0 self.old) }
         ensures byte { result ≡ next_byte (lease_of id.0 self.old) }
@@ -317,6 +364,7 @@ impl TextStore {
     }
 
     /// Bytes that a lease gives next: at least one, if it has one.
+    #[inline]
     pub fn lease_front(&self, id: LeaseId) -> &[u8]
         requires { IsSome (lease_of id.0 self.now) }
         ensures bytes { result.now ≡ take (length result.now) (lease_bytes (lease_of id.0 self.now)) }
@@ -329,6 +377,7 @@ impl TextStore {
     }
 
     /// Takes so many bytes from a lease, as many as it still gives at most.
+    #[inline]
     pub fn lease_pass(&mut self, id: LeaseId, count: usize)
         requires lives { IsSome (lease_of id.0 self.old) }
         requires within { count ≤ rest_of (lease_of id.0 self.old) }
@@ -336,6 +385,7 @@ impl TextStore {
     {
         if let Some(strand) = self.leases[id.0 as usize] {
             self.leases[id.0 as usize] = Some(self.chunks.pass(strand, count));
+            self.kept -= count;
         }
     }
 
@@ -358,13 +408,14 @@ impl TextStore {
         if let Some(strand) = self.leases[id.0 as usize] {
             self.leases[id.0 as usize] = None;
             self.ended.push(id.0).unwrap();
+            self.kept -= strand.rest;
             self.chunks.release(strand);
         }
     }
 }
 
-/// Takes a name off what it stood for.
-fn let_go(chunks: &mut Chunks, meaning: Option<Meaning>)
+/// Releases the chunks of what a name stood for.
+fn release_body(chunks: &mut Chunks, meaning: Option<Meaning>)
     requires strands { All (IsStrand chunks.old) (strands_of meaning) }
     requires shared { All (IsShared chunks.old) (strands_of meaning) }
     ensures shares { (chunk : ℕ) → share chunks.new chunk

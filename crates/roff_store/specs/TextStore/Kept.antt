@@ -1,10 +1,10 @@
 -- What a store of texts keeps.
-use Rattle.std.specs.Prelude.{◌≡◌, ◌≢◌, ◌+◌, ◌*◌, ◌^◌, ◌<◌, ◌≤◌, [], length, map, get_or, All, AllPairs, None, vec_len, vec_capacity}
+use Rattle.std.specs.Prelude.{◌≡◌, ◌≢◌, ◌+◌, ◌*◌, ◌^◌, ◌<◌, ◌≤◌, [], length, map, get_or, All, AllPairs, None, sum_by, vec_len, vec_capacity}
 use Rattle.roff_store.specs.declared.text_store.TextStore.TheInside.{Inside}
 use Rattle.roff_store.specs.Chains.{bytes_of}
 use Rattle.roff_store.specs.Named.{EachOnce}
 use Rattle.roff_store.specs.Texts.{Texts, kept, live, used}
-use Rattle.roff_store.specs.TextStore.Strands.{Strands, AreApart, Lie, entries_in, lease_in}
+use Rattle.roff_store.specs.TextStore.Strands.{Strands, AreApart, Lie, entries_in, lease_in, of_lease}
 
 -- what the fields keep
 abbrev pub kept_by : Inside → Texts
@@ -29,6 +29,7 @@ pub record IsSound (a : Inside) : Type 0 where
   pub once : EachOnce a.names.entries
   pub counted : a.used ≡ used (kept_by a)
   pub within : a.used ≤ a.cap_bytes
+  pub kept_counted : a.kept ≡ sum_by (of_lease (λ strand. strand.rest)) a.leases.items
   pub given : kept (kept_by a) ≤ a.cap_kept
   pub living : live (kept_by a) ≤ a.cap_leases
   pub few : length a.names.entries ≤ a.names.cap

@@ -16,13 +16,13 @@ overflow_sub-self c =
     rw c.body_len.ensures (old-fits c.self.inside c.args.self.now c.self.invariant c.self.view_is c.args.id.0 c.requires
     c.remove-text.result c.remove-text.ensures.value c.args.name.now c.get-old.result c.get-old.ensures)
 
-pub let_go-requires-clause-strands : goal.let_go-requires-clause-strands
-let_go-requires-clause-strands c =
+pub release_body-requires-clause-strands : goal.release_body-requires-clause-strands
+release_body-requires-clause-strands c =
     old-strands c.self.inside c.args.self.now c.self.invariant c.self.view_is c.args.id.0 c.requires
     c.remove-text.result c.remove-text.ensures.value c.args.name.now c.get-old.result c.get-old.ensures
 
-pub let_go-requires-clause-shared : goal.let_go-requires-clause-shared
-let_go-requires-clause-shared c =
+pub release_body-requires-clause-shared : goal.release_body-requires-clause-shared
+release_body-requires-clause-shared c =
     old-shared c.self.inside c.args.self.now c.self.invariant c.self.view_is c.args.id.0 c.requires
     c.remove-text.result c.remove-text.ensures.value c.args.name.now c.get-old.result c.get-old.ensures
 
@@ -65,9 +65,9 @@ pub invariant_of-self-in-None : goal.invariant_of-self-in-None
 invariant_of-self-in-None c =
     sound-alone c.self.inside c.args.self.now c.self.invariant c.self.view_is c.args.id.0 c.requires
     c.remove-text.result c.remove-text.ensures.value c.args.name.now c.get-old.result c.get-old.ensures
-    c.args.append c.in-None.ensures.none (sym c.if-not-has_room.ensures) c.let_go.new.chunks c.let_go.ensures.shares
-    c.let_go.ensures.sum
-    c.let_go.ensures.same c.body_len.result c.body_len.ensures
+    c.args.append c.in-None.ensures.none (sym c.if-not-has_room.ensures) c.release_body.new.chunks c.release_body.ensures.shares
+    c.release_body.ensures.sum
+    c.release_body.ensures.same c.body_len.result c.body_len.ensures
     c.remove-text.new.self c.remove-text.ensures.items c.remove-text.ensures.len c.remove-text.ensures.capacity
     c.put-in-None.new.self c.put-in-None.ensures.table
 
@@ -95,8 +95,8 @@ pub returns-in-None-clause-texts : goal.returns-in-None-clause-texts
 returns-in-None-clause-texts c =
     after-alone c.self.inside c.args.self.now c.self.invariant c.self.view_is c.args.id.0 c.requires
     c.remove-text.result c.remove-text.ensures.value c.args.name.now c.get-old.result c.get-old.ensures
-    c.args.append c.in-None.ensures.none (sym c.if-not-has_room.ensures) c.let_go.new.chunks c.let_go.ensures.shares
-    c.let_go.ensures.sum
-    c.let_go.ensures.same c.body_len.result c.body_len.ensures
+    c.args.append c.in-None.ensures.none (sym c.if-not-has_room.ensures) c.release_body.new.chunks c.release_body.ensures.shares
+    c.release_body.ensures.sum
+    c.release_body.ensures.same c.body_len.result c.body_len.ensures
     c.remove-text.new.self c.remove-text.ensures.items c.remove-text.ensures.len c.remove-text.ensures.capacity
     c.put-in-None.new.self c.put-in-None.ensures.table

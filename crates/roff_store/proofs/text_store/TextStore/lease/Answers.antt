@@ -1,5 +1,5 @@
 use Rattle.std.proofs.Common.{◌-◌, ap, refl, sym, ◌∙◌, Some, arith}
-use Rattle.roff_store.proofs.Leasing.{after-again, after-behind, free-again, inside-again, sound-again, sound-behind, no-body-none, no-body-request, has-body, body-strand, body-shared, room-to-share}
+use Rattle.roff_store.proofs.Leasing.{after-again, after-behind, free-again, inside-again, sound-again, sound-behind, no-body-none, no-body-request, has-body, body-strand, body-shared, room-to-share, kept-fits}
 use Rattle.roff_store.proofs.text_store.TextStore.lease.Goals as goal
 
 pub returns-in_err-body-clause-no_body : goal.returns-in_err-body-clause-no_body
@@ -84,3 +84,9 @@ returns-in-None-clause-leased c =
     c.share.new.self c.share.ensures.shares c.share.ensures.sum c.share.ensures.same (c.len.result - 1) c.push.new.self
     c.pop.new.self (omega (arith, len, c.len.ensures))
     c.in-None.ensures.cases.0 c.in-None.ensures.cases.1 items len c.push.ensures.capacity c.in-None.ensures.capacity
+
+pub overflow_add-self : goal.overflow_add-self
+overflow_add-self c =
+    let fits = kept-fits c.self.inside c.args.self.now c.self.invariant c.self.view_is c.args.name.now c.in-Body.body
+    (sym c.get.ensures ∙ (c.in_ok-body.was ∙ ap Some c.in-Body.is)) c.requires.fewer c.requires.room in
+    omega arith

@@ -7,24 +7,24 @@ overflow_sub-self c =
     counted-out c.self.inside c.args.self.now c.self.invariant c.self.view_is c.args.name.now c.get-old.result c.get-old.ensures
     c.body_len.result c.body_len.ensures
 
-pub let_go-requires-clause-strands : goal.let_go-requires-clause-strands
-let_go-requires-clause-strands c =
+pub release_body-requires-clause-strands : goal.release_body-requires-clause-strands
+release_body-requires-clause-strands c =
     strands-in-hand c.self.inside.chunks (strands_in c.self.inside) c.args.name.now c.self.invariant.once c.self.invariant.lie
     c.get-old.result c.get-old.ensures
 
-pub let_go-requires-clause-shared : goal.let_go-requires-clause-shared
-let_go-requires-clause-shared c =
+pub release_body-requires-clause-shared : goal.release_body-requires-clause-shared
+release_body-requires-clause-shared c =
     shared-in-hand c.self.inside.chunks (strands_in c.self.inside) c.args.name.now c.self.invariant.once c.self.invariant.lie
     c.get-old.result c.get-old.ensures
 
 pub invariant_of-self : goal.invariant_of-self
 invariant_of-self c =
     sound-removed c.self.inside c.args.self.now c.self.invariant c.self.view_is c.args.name.now c.get-old.result c.get-old.ensures
-    c.body_len.result c.body_len.ensures c.let_go.new.chunks c.let_go.ensures.shares c.let_go.ensures.sum c.let_go.ensures.same
+    c.body_len.result c.body_len.ensures c.release_body.new.chunks c.release_body.ensures.shares c.release_body.ensures.sum c.release_body.ensures.same
     c.remove.new.self c.remove.ensures
 
 pub returns : goal.returns
 returns c =
     after-removed c.self.inside c.args.self.now c.self.invariant c.self.view_is c.args.name.now c.get-old.result c.get-old.ensures
-    c.body_len.result c.body_len.ensures c.let_go.new.chunks c.let_go.ensures.shares c.let_go.ensures.sum c.let_go.ensures.same
+    c.body_len.result c.body_len.ensures c.release_body.new.chunks c.release_body.ensures.shares c.release_body.ensures.sum c.release_body.ensures.same
     c.remove.new.self c.remove.ensures

@@ -10,13 +10,13 @@ overflow_sub-self c =
     counted-out c.self.inside c.args.self.now c.self.invariant c.self.view_is c.args.to.now c.get-old.result c.get-old.ensures
     c.body_len.result c.body_len.ensures
 
-pub let_go-requires-clause-strands : goal.let_go-requires-clause-strands
-let_go-requires-clause-strands c =
+pub release_body-requires-clause-strands : goal.release_body-requires-clause-strands
+release_body-requires-clause-strands c =
     strands-in-hand c.self.inside.chunks (strands_in c.self.inside) c.args.to.now c.self.invariant.once c.self.invariant.lie
     c.get-old.result c.get-old.ensures
 
-pub let_go-requires-clause-shared : goal.let_go-requires-clause-shared
-let_go-requires-clause-shared c =
+pub release_body-requires-clause-shared : goal.release_body-requires-clause-shared
+release_body-requires-clause-shared c =
     shared-in-hand c.self.inside.chunks (strands_in c.self.inside) c.args.to.now c.self.invariant.once c.self.invariant.lie
     c.get-old.result c.get-old.ensures
 
@@ -30,14 +30,14 @@ pub invariant_of-self : goal.invariant_of-self
 invariant_of-self c =
     sound-renamed c.self.inside c.args.self.now c.self.invariant c.self.view_is c.args.from.now c.args.to.now
     (names-apart c.args.from.now c.args.to.now c.is_same.result c.is_same.ensures c.if-is_same.false) c.in-Some.meaning (sym c.get.ensures ∙ c.in-Some.is) c.get-old.result c.get-old.ensures
-    c.body_len.result c.body_len.ensures c.let_go.new.chunks c.let_go.ensures.shares c.let_go.ensures.sum c.let_go.ensures.same
+    c.body_len.result c.body_len.ensures c.release_body.new.chunks c.release_body.ensures.shares c.release_body.ensures.sum c.release_body.ensures.same
     c.put.new.self (c.put.ensures.table ∙ ap (put_into c.args.to.now c.in-Some.meaning) c.remove.ensures)
 
 pub returns-in-Some : goal.returns-in-Some
 returns-in-Some c =
     after-renamed c.self.inside c.args.self.now c.self.invariant c.self.view_is c.args.from.now c.args.to.now
     (names-apart c.args.from.now c.args.to.now c.is_same.result c.is_same.ensures c.if-is_same.false) c.in-Some.meaning (sym c.get.ensures ∙ c.in-Some.is) c.get-old.result c.get-old.ensures
-    c.body_len.result c.body_len.ensures c.let_go.new.chunks c.let_go.ensures.shares c.let_go.ensures.sum c.let_go.ensures.same
+    c.body_len.result c.body_len.ensures c.release_body.new.chunks c.release_body.ensures.shares c.release_body.ensures.sum c.release_body.ensures.same
     c.put.new.self (c.put.ensures.table ∙ ap (put_into c.args.to.now c.in-Some.meaning) c.remove.ensures)
 
 pub returns-in_default : goal.returns-in_default

@@ -52,13 +52,13 @@ returns-then-is_full-clause-answer c = names c
 pub returns-then-is_full-clause-texts : goal.returns-then-is_full-clause-texts
 returns-then-is_full-clause-texts c = after-refused c.args.self.now c.args.name.now (entry_given c.args.entry) Names (names c)
 
-pub let_go-requires-clause-strands : goal.let_go-requires-clause-strands
-let_go-requires-clause-strands c =
+pub release_body-requires-clause-strands : goal.release_body-requires-clause-strands
+release_body-requires-clause-strands c =
     strands-out c.self.inside c.args.self.now c.self.invariant c.self.view_is c.args.name.now c.get-old.result c.get-old.ensures
     c.body_len.result c.body_len.ensures
 
-pub let_go-requires-clause-shared : goal.let_go-requires-clause-shared
-let_go-requires-clause-shared c =
+pub release_body-requires-clause-shared : goal.release_body-requires-clause-shared
+release_body-requires-clause-shared c =
     all-shared-out c.self.inside c.args.self.now c.self.invariant c.self.view_is c.args.name.now c.get-old.result
     c.get-old.ensures
     c.body_len.result c.body_len.ensures
@@ -72,7 +72,7 @@ extend-requires-clause-room c =
       | in-Request w ↦ absurd (let e = sym w.in-Request.is ∙ c.in-Body-entry.is in cc)
     ] in
     blank-room c.self.inside c.args.self.now c.self.invariant c.self.view_is c.args.name.now c.get-old.result c.get-old.ensures
-    c.body_len.result c.body_len.ensures c.let_go.new.chunks c.let_go.ensures.shares c.let_go.ensures.sum c.let_go.ensures.same
+    c.body_len.result c.body_len.ensures c.release_body.new.chunks c.release_body.ensures.shares c.release_body.ensures.sum c.release_body.ensures.same
     c.empty.result c.empty.ensures.chunks c.empty.ensures.at c.empty.ensures.rest c.empty.ensures.last
     (length c.in-Body-entry.text.now)
     (subst (λ x. length x ≤ c.self.inside.cap_bytes - (c.self.inside.used - c.body_len.result)) same c.if-self-others.false)
@@ -103,15 +103,15 @@ made c =
       | in-Body-entry w ↦ held-as (ap entry_given w.in-Body-entry.is) w.meaning-is w.self-inside-is
           (body-in-hand c.self.inside c.args.self.now c.self.invariant c.self.view_is c.args.name.now c.get-old.result
           c.get-old.ensures
-          c.body_len.result c.body_len.ensures c.let_go.new.chunks c.let_go.ensures.shares c.let_go.ensures.sum
-          c.let_go.ensures.same
+          c.body_len.result c.body_len.ensures c.release_body.new.chunks c.release_body.ensures.shares c.release_body.ensures.sum
+          c.release_body.ensures.same
           w.empty.result w.empty.ensures.chunks w.empty.ensures.at w.empty.ensures.rest w.empty.ensures.last w.extend.new.self
           w.extend.result w.in-Body-entry.text.now w.extend.ensures.extended w.extend.ensures.sum)
       | in-Request-entry w ↦ held-as (ap entry_given w.in-Request-entry.is) w.meaning-is w.self-inside-is
           (request-in-hand c.self.inside c.args.self.now c.self.invariant c.self.view_is c.args.name.now c.get-old.result
           c.get-old.ensures
-          c.body_len.result c.body_len.ensures c.let_go.new.chunks c.let_go.ensures.shares c.let_go.ensures.sum
-          c.let_go.ensures.same
+          c.body_len.result c.body_len.ensures c.release_body.new.chunks c.release_body.ensures.shares c.release_body.ensures.sum
+          c.release_body.ensures.same
           w.in-Request-entry.number)
     ] in
     name-set c.self.inside c.args.self.now c.self.invariant c.self.view_is c.args.name.now c.get-old.result c.get-old.ensures
