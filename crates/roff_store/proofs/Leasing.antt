@@ -1,6 +1,6 @@
 -- A store of texts once leases change.
-use Rattle.std.proofs.Common.{◌≡◌, ◌≢◌, ℕ, zero, suc, ◌+◌, ◌-◌, ◌<◌, ◌≤◌, true, false, cond, List, [], ◌∷◌, ◌++◌, length, map, get_or, sum_by, All, Some, None, is_some, IsSome, refl, sym, ap, subst, ◌∙◌, arith, Vec, Global, Option}
-use Rattle.std.specs.Prelude.{set, drop, count_by, AllPairs, vec_len, vec_capacity, ◌==◌}
+use Rattle.std.proofs.Common.{◌≡◌, ◌≢◌, ℕ, zero, suc, ◌+◌, ◌-◌, ◌<◌, ◌≤◌, true, false, cond, List, [], ◌∷◌, ◌++◌, length, map, get_or, sum_by, All, Some, None, is_some, IsSome, IsTrue, ◌↔◌, refl, sym, ap, subst, ◌∙◌, arith, Vec, Global, Option}
+use Rattle.std.specs.Prelude.{set, slice_index, take, drop, count_by, AllPairs, vec_len, vec_capacity, nat_le, ◌==◌}
 use Rattle.std.specs.Vec.{with_item}
 use Rattle.std.proofs.lemmas.List.{get_or-map, get_or_default, get_or-set_same, get_or-set_other, get_or_append_left, get_or_push, length-append, length-map, length-set, map-append, map-set}
 use Rattle.std.proofs.lemmas.List.Elements.{All-append}
@@ -13,7 +13,7 @@ use Rattle.roff_store.specs.declared.text_store.Meaning.TheVariants.{Body as Bod
 use Rattle.roff_store.specs.declared.text_store.TextStore.TheInside.{Inside}
 use Rattle.roff_store.specs.Chains.{Chunks, bytes_of, has, others, share, shares_in, AreSameChunks, IsShared, IsStrand, IsText}
 use Rattle.roff_store.specs.Named.{entry_of}
-use Rattle.roff_store.specs.Texts.{Texts, body_if_any, IsFree, body_of, has_body, is_body, kept, lease_of, live, rest_of}
+use Rattle.roff_store.specs.Texts.{Texts, body_if_any, IsFree, body_of, has_body, is_body, kept, lease_bytes, lease_of, live, next_byte, rest_of}
 use Rattle.roff_store.specs.TextCalls.{Lease, Release, Take, after, bytes_given, with_lease as with_lease_in}
 use Rattle.roff_store.specs.TextStore.Kept.{kept_by, strands_in, IsSound}
 use Rattle.roff_store.specs.TextStore.Strands.{Lie, entries_in, in_texts, lease_in, of_lease, strands_of}
@@ -64,6 +64,21 @@ pub kept-within : (a : Inside) (t : Texts) → IsSound a → kept_by a ≡ t →
 kept-within a t sound is =
     let all = bytes-leases a.chunks (strands_in a) [] sound.lie in
     subst (λ (x : Texts). a.kept ≤ x.cap_kept) is (omega (arith, sound.kept_counted, sound.given, all))
+
+-- they are within the limit
+pub kept-inside : (a : Inside) → IsSound a → a.kept ≤ a.cap_kept
+kept-inside a sound = kept-within a (kept_by a) sound refl
+
+-- whether leases may give so many bytes more
+pub room-tested : (a : Inside) (t : Texts) → IsSound a → kept_by a ≡ t → (count : ℕ)
+    → vec_len a.leases - vec_len a.ended < a.cap_leases
+    → IsTrue (nat_le count (a.cap_kept - a.kept)) ↔ ((live t < t.cap_leases) × (kept t + count ≤ t.cap_kept))
+room-tested a t sound is count fewer =
+    let given = kept-inside a sound in
+    let counted = kept-counted a (kept_by a) sound refl in
+    let all = sound.ended_count in
+    subst (λ (x : Texts). IsTrue (nat_le count (a.cap_kept - a.kept)) ↔ ((live x < x.cap_leases) × (kept x + count ≤ x.cap_kept))) is
+    (grind (arith, nat_tests))
 
 -- leases in other chunks, which names and texts in the making don't notice
 pub record IsLent (a : Inside) (m : Chunks) (leases : Vec (Option Strand) Global) (ended : Vec ℕ Global) (count : ℕ) : Type 0 where
@@ -533,3 +548,11 @@ module _ (a : Inside) (t : Texts) (sound : IsSound a) (is : kept_by a ≡ t) (na
             ∙ sym (rw test refl)))) in
             subst (λ (x : Texts). kept_by (record a { chunks = m; leases = leases; ended = ended; kept = a.kept + strand.rest }) ≡ after (Lease name id) x)
             is (cc)
+
+-- the first byte in front is the next one
+pub first-given : (front : List ℕ) (lease : Option (List ℕ)) → front ≡ take (length front) (lease_bytes lease) → 0 < length front
+    → Some (slice_index front 0) ≡ next_byte lease
+first-given [] lease is some = absurd (omega (arith, some))
+first-given (byte ∷ front) None is some = absurd (cc)
+first-given (byte ∷ front) (Some []) is some = absurd (cc)
+first-given (byte ∷ front) (Some (next ∷ bytes)) is some = cc

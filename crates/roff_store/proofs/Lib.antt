@@ -6,6 +6,7 @@ pub mod Linking
 pub mod Tables
 pub mod Calls
 pub mod TextCalls
+pub mod CountedTexts
 pub mod Free
 pub mod Leaving
 pub mod Sharing

@@ -1,5 +1,5 @@
 -- A store of texts once a name stands for something else.
-use Rattle.std.proofs.Common.{◌≡◌, ℕ, ◌+◌, ◌-◌, ◌≤◌, List, [], ◌++◌, sum_by, All, Some, None, refl, sym, ap, subst, ◌∙◌, arith}
+use Rattle.std.proofs.Common.{◌≡◌, ℕ, ◌+◌, ◌-◌, ◌≤◌, List, [], ◌++◌, length, sum_by, All, Some, None, refl, sym, ap, subst, ◌∙◌, arith}
 use Rattle.std.specs.Prelude.{Option, option_map}
 use Rattle.roff_store.specs.declared.strand.Strand.{Strand}
 use Rattle.roff_store.specs.declared.text_store.Meaning.{Meaning}
@@ -7,7 +7,7 @@ use Rattle.roff_store.specs.declared.text_store.Meaning.TheVariants.{Body as Bod
 use Rattle.roff_store.specs.declared.text_store.TextStore.TheInside.{Inside}
 use Rattle.roff_store.specs.Chains.{Chunks, has, share, shares_in, AreSameChunks, IsShared, IsStrand}
 use Rattle.roff_store.specs.Named.{Table, EachOnce, entry_of, without_entry, removed_from}
-use Rattle.roff_store.specs.Texts.{Texts, Kind, BodyOf, RequestOf, kind_of}
+use Rattle.roff_store.specs.Texts.{Texts, Kind, BodyOf, RequestOf, body_of, kind_of}
 use Rattle.roff_store.specs.TextCalls.{Remove, after}
 use Rattle.roff_store.specs.TextStore.Kept.{kept_by, strands_in, IsSound}
 use Rattle.roff_store.specs.TextStore.Strands.{Strands, AreApart, Lie, entries_in, in_texts, of_meaning, strands_of}
@@ -127,4 +127,16 @@ kind-of-entry a t sound is name (Some (BodyIn strand)) was =
     let long = length-bytes_of a.chunks strand (name-is-body a.chunks (strands_in a) [] name (BodyIn strand) sound.lie (sym was)).strand in
     rw (← is, found, long) refl
 kind-of-entry a t sound is name (Some (RequestIn number)) was =
+    let found = entry-in a.chunks a.names.entries name (RequestIn number) (sym was) in rw (← is, found) refl
+
+-- the body of a name has as many bytes as the strand of what it stands for
+pub body-length : (a : Inside) (t : Texts) → IsSound a → kept_by a ≡ t → (name : List ℕ) (old : Option Meaning) → old ≡ entry_of name a.names.entries
+    → length (body_of name t) ≡ sum_by (λ strand. strand.rest) (strands_of old)
+body-length a t sound is name None was =
+    let none = entry-none a.chunks a.names.entries name (sym was) in rw (← is, none) refl
+body-length a t sound is name (Some (BodyIn strand)) was =
+    let found = entry-in a.chunks a.names.entries name (BodyIn strand) (sym was) in
+    let long = length-bytes_of a.chunks strand (name-is-body a.chunks (strands_in a) [] name (BodyIn strand) sound.lie (sym was)).strand in
+    rw (← is, found, long) (omega arith)
+body-length a t sound is name (Some (RequestIn number)) was =
     let found = entry-in a.chunks a.names.entries name (RequestIn number) (sym was) in rw (← is, found) refl

@@ -1,6 +1,7 @@
 -- The buckets of names.
-use Rattle.std.specs.Prelude.{ℕ, ◌+◌, ◌*◌, List, slice_index}
+use Rattle.std.specs.Prelude.{ℕ, ◌+◌, ◌*◌, ◌%◌, List, fold}
 
--- the bucket of a name: its first two bytes as one number, the second byte 0 if there is none
+-- the bucket of a name: its bytes as the digits of a number in base 691, of which the remainder is taken, by 65536. Names of
+-- two printed bytes are apart so.
 abbrev pub bucket_of : List ℕ → ℕ
-bucket_of name = slice_index name 0 * 256 + slice_index name 1
+bucket_of name = fold (λ number byte. (number * 691 + byte) % 65536) 0 name

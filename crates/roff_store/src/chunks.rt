@@ -68,6 +68,24 @@ impl Chunks {
         &behind[..behind.len().min(strand.rest)]
     }
 
+    /// What is left of a strand behind so many of its bytes, where its first chunk has more of it.
+    #[inline]
+    pub(crate) fn pass_inside(&self, strand: Strand, count: usize) -> Strand
+        requires strand { IsStrand self.now strand }
+        requires shared { IsShared self.now strand }
+        requires within { count < strand.rest }
+        requires chunk { strand.at + count < CHUNK }
+        ensures strand { IsStrand self.now result }
+        ensures bytes { bytes_of self.now result ≡ drop count (bytes_of self.now strand) }
+        ensures length { result.rest ≡ strand.rest - count }
+        ensures shares { (chunk : ℕ)
+            → share self.now chunk ≡ others self.now strand chunk + has self.now result chunk }
+        ensures chunks { result.chunks ≡ strand.chunks }
+    {
+        let (at, rest) = (strand.at + count, strand.rest - count);
+        Strand { at, rest, ..strand }
+    }
+
     /// What is left of a strand behind so many of its bytes.
     pub(crate) fn pass(&mut self, strand: Strand, count: usize) -> Strand
         requires strand { IsStrand self.old strand }
@@ -191,7 +209,7 @@ impl Chunks {
             return Strand::empty();
         }
         if at < CHUNK {
-            return Strand { at, rest, ..strand };
+            return self.pass_inside(strand, count);
         }
         let first = self.links[strand.first];
         self.let_go(strand.first);

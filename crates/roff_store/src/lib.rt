@@ -16,6 +16,10 @@ mod text;
 pub mod text_laws;
 pub mod text_rows;
 mod text_store;
+#[cfg(test)]
+mod text_store_calls;
+#[cfg(test)]
+mod text_store_tests;
 
 pub use reg_table::RegTable;
 pub use register::{Direction, Register};

@@ -9,7 +9,7 @@ use roff_num::{Limit, Name};
 use std::alloc::{AllocError, Global};
 use std::marker::Model;
 
-/// A bucket for each pair of bytes.
+/// How many buckets there are.
 const BUCKETS: usize = 1 << 16;
 
 /// At least so many slots more than names, so that unused slots are seldom swept.
@@ -140,16 +140,17 @@ impl<E: Copy> NameTable<E> {
     }
 }
 
-/// The bucket of a name: its first two bytes, the second one 0 if there is none.
+/// The bucket of a name: its bytes as the digits of a number, of which the remainder is taken. Names
+/// of two printed bytes are apart so.
 fn bucket_of(name: &Name) -> usize
     ensures value { result ≡ bucket_of name.now }
     ensures within { result < BUCKETS }
 {
-    match name.as_bytes() {
-        [] => 0,
-        [first] => usize::from(*first) * 256,
-        [first, second, ..] => usize::from(*first) * 256 + usize::from(*second),
+    let mut bucket = 0;
+    for byte in name.as_bytes() {
+        bucket = (bucket * 691 + usize::from(*byte)) % BUCKETS;
     }
+    bucket
 }
 
 /// The place of the slot of a name.

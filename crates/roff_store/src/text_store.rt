@@ -306,11 +306,14 @@ impl TextStore {
         self.chunks.release(text);
     }
 
-    /// Whether one lease more may live.
-    pub fn has_lease(&self) -> bool
-        ensures { IsTrue result ↔ (live self.now < self.now.cap_leases) }
+    /// Whether the body of a name may be leased: one lease more may live, and leases may still give
+    /// so many bytes more.
+    pub fn can_lease(&self, name: &Name) -> bool
+        ensures { IsTrue result ↔ ((live self.now < self.now.cap_leases)
+            × (kept self.now + length (body_of name.now self.now) ≤ self.now.cap_kept)) }
     {
         self.leases.len() - self.ended.len() < self.cap_leases as usize
+            && body_len(self.names.get(name)) <= self.cap_kept as usize - self.kept
     }
 
     /// Whether a number is that of a lease that lives.
@@ -358,8 +361,25 @@ impl TextStore {
         ensures byte { result ≡ next_byte (lease_of id.0 self.old) }
         ensures taken { self.new ≡ after (Take id.0 1) self.old }
     {
+        match self.leases[id.0 as usize] {
+            Some(strand) if strand.goes_on_inside(1) => {
+                let byte = self.lease_front(id)[0];
+                self.lease_pass(id, 1);
+                Some(byte)
+            }
+            _ => self.lease_take_last(id),
+        }
+    }
+
+    /// As [`lease_take`](TextStore::lease_take), where a chunk or the lease may have been read.
+    #[inline(never)]
+    fn lease_take_last(&mut self, id: LeaseId) -> Option<u8>
+        requires { IsSome (lease_of id.0 self.old) }
+        ensures byte { result ≡ next_byte (lease_of id.0 self.old) }
+        ensures taken { self.new ≡ after (Take id.0 1) self.old }
+    {
         let byte = *self.lease_front(id).first()?;
-        self.lease_pass(id, 1);
+        self.lease_pass_chunks(id, 1);
         Some(byte)
     }
 
@@ -379,6 +399,22 @@ impl TextStore {
     /// Takes so many bytes from a lease, as many as it still gives at most.
     #[inline]
     pub fn lease_pass(&mut self, id: LeaseId, count: usize)
+        requires lives { IsSome (lease_of id.0 self.old) }
+        requires within { count ≤ rest_of (lease_of id.0 self.old) }
+        ensures { self.new ≡ after (Take id.0 count) self.old }
+    {
+        match self.leases[id.0 as usize] {
+            Some(strand) if strand.goes_on_inside(count) => {
+                self.leases[id.0 as usize] = Some(self.chunks.pass_inside(strand, count));
+                self.kept -= count;
+            }
+            _ => self.lease_pass_chunks(id, count),
+        }
+    }
+
+    /// As [`lease_pass`](TextStore::lease_pass), where a chunk or the lease may have been read.
+    #[inline(never)]
+    fn lease_pass_chunks(&mut self, id: LeaseId, count: usize)
         requires lives { IsSome (lease_of id.0 self.old) }
         requires within { count ≤ rest_of (lease_of id.0 self.old) }
         ensures { self.new ≡ after (Take id.0 count) self.old }

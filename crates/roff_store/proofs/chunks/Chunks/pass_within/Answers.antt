@@ -1,13 +1,10 @@
 use Rattle.std.proofs.Common.{arith}
-use Rattle.roff_store.proofs.Sharing.{bytes-none, drop-part, first-had, IsNext-read}
+use Rattle.roff_store.proofs.Sharing.{bytes-none, first-had, IsNext-read}
 use Rattle.roff_store.proofs.chunks.Chunks.pass_within.Goals as goal
 
 pub returns-then-rest-eq0-clause-bytes : goal.returns-then-rest-eq0-clause-bytes
 returns-then-rest-eq0-clause-bytes c =
     bytes-none c.args.self.now c.release.new.self c.args.strand c.empty.result c.args.count (omega arith) c.empty.ensures.rest
-
-pub returns-then-at-lt-CHUNK-clause-bytes : goal.returns-then-at-lt-CHUNK-clause-bytes
-returns-then-at-lt-CHUNK-clause-bytes c = drop-part _ _ _ _ c.requires.within
 
 pub let_go-requires : goal.let_go-requires
 let_go-requires c =
