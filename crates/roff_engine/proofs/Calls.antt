@@ -1,7 +1,6 @@
 -- What the calls of the unread input leave of a run: of its source, its limits and its turns to come.
 use Rattle.std.proofs.Common.{◌≡◌, ◌⊎◌, inl, inr, ℕ, ◌+◌, ◌≤◌, Bool, true, false, List, [], ◌∷◌, Option, Some, None, refl, sym, subst, arith}
 use Rattle.std.specs.Prelude.{nat_lt, is_none, ◌&&◌}
-use Rattle.roff_num.specs.declared.limits.Limits.{Limits}
 use Rattle.roff_scan.specs.Halves.{decides_now}
 use Rattle.roff_scan.specs.Input.{Ahead, ByteAhead, FreeAhead, EndAhead, DoAhead, cost, item_taken}
 use Rattle.roff_scan.specs.Tape.{Tape, Item, Answer, OneByte, OneNote, Gives, Ends, items_then}
@@ -50,11 +49,11 @@ left_behind None asked a before behind none (WasNot t) = inl refl
 left_behind (Some b) asked a before behind none (WasNot t) = inr refl
 
 -- a source is asked only if no byte was looked at
-asked-to_take : (ahead : List (Ahead PageEvent)) (i : PageInput) (looked : Option ℕ) (limits : Limits)
-    → let u : PageUnread = record { input = record i { ahead = ahead }; looked = looked; limits = limits } in asks_to_take u ≡ true → looked ≡ None
-asked-to_take [] i None limits asks = refl
-asked-to_take [] i (Some b) limits asks = cc
-asked-to_take (item ∷ items) i looked limits asks = cc
+asked-to_take : (ahead : List (Ahead PageEvent)) (i : PageInput) (looked : Option ℕ) (v : PageUnread)
+    → let u : PageUnread = record v { input = record i { ahead = ahead }; looked = looked } in asks_to_take u ≡ true → looked ≡ None
+asked-to_take [] i None v asks = refl
+asked-to_take [] i (Some b) v asks = cc
+asked-to_take (item ∷ items) i looked v asks = cc
 
 asked-to_look : (sight : Option Sighted) (looked : Option ℕ) → is_none sight && is_none looked ≡ true → looked ≡ None
 asked-to_look None None asks = refl
@@ -62,10 +61,10 @@ asked-to_look None (Some b) asks = cc
 asked-to_look (Some sight) looked asks = cc
 
 -- one that is asked for the item in front is asked for what is seen
-asks-both : (ahead : List (Ahead PageEvent)) (i : PageInput) (looked : Option ℕ) (limits : Limits)
-    → let u : PageUnread = record { input = record i { ahead = ahead }; looked = looked; limits = limits } in asks_to_take u ≡ true → asks_to_look u ≡ true
-asks-both [] i looked limits asks = asks
-asks-both (item ∷ items) i looked limits asks = cc
+asks-both : (ahead : List (Ahead PageEvent)) (i : PageInput) (looked : Option ℕ) (v : PageUnread)
+    → let u : PageUnread = record v { input = record i { ahead = ahead }; looked = looked } in asks_to_take u ≡ true → asks_to_look u ≡ true
+asks-both [] i looked v asks = asks
+asks-both (item ∷ items) i looked v asks = cc
 
 -- no more turns are to come behind a call
 abbrev NoMoreTurns : PageUnread → Shown PageEvent × PageUnread → Type 0
@@ -83,12 +82,12 @@ turns-answer (Gives (OneByte b)) u = one_of (NoMoreTurns u) (nat_lt u.limits.byt
 turns-answer (Gives (OneNote message)) u = omega arith
 turns-answer (Ends ending) u = omega arith
 
-turns-taking : (ahead : List (Ahead PageEvent)) (a : Answer) (i : PageInput) (looked : Option ℕ) (limits : Limits)
-    → let u : PageUnread = record { input = record i { ahead = ahead }; looked = looked; limits = limits } in NoMoreTurns u (taking a u)
-turns-taking [] a i looked limits = turns-answer (answer_behind looked a) (record { input = record i { ahead = [] }; looked = looked; limits = limits })
-turns-taking (item ∷ items) a i looked limits =
-    let u : PageUnread = record { input = record i { ahead = item ∷ items }; looked = looked; limits = limits } in
-    one_of (NoMoreTurns u) (nat_lt limits.bytes (i.charge + cost item)) _ _ (omega arith) (turns-item item items limits.bytes u.input)
+turns-taking : (ahead : List (Ahead PageEvent)) (a : Answer) (i : PageInput) (looked : Option ℕ) (v : PageUnread)
+    → let u : PageUnread = record v { input = record i { ahead = ahead }; looked = looked } in NoMoreTurns u (taking a u)
+turns-taking [] a i looked v = turns-answer (answer_behind looked a) (record v { input = record i { ahead = [] }; looked = looked })
+turns-taking (item ∷ items) a i looked v =
+    let u : PageUnread = record v { input = record i { ahead = item ∷ items }; looked = looked } in
+    one_of (NoMoreTurns u) (nat_lt v.limits.bytes (i.charge + cost item)) _ _ (omega arith) (turns-item item items v.limits.bytes u.input)
 
 -- the call that takes the item in front
 pub Leaves-takes : (gave gives : Tape → Type 0) (u : PageUnread) (a : Answer) → Asked gave gives (asks_to_take u) a
@@ -97,10 +96,10 @@ Leaves-takes gave gives u a asked = record {
   before = before-asked gave gives (asks_to_take u) a asked;
   some = some-asked gave gives (asks_to_take u) (asks_to_take u) a (λ is. is) asked;
   rest = λ t may.
-      left_behind u.looked (asks_to_take u) a _ t (asked-to_take u.input.ahead u.input u.looked u.limits) (Given-asked gave gives (asks_to_take u) a asked t may);
+      left_behind u.looked (asks_to_take u) a _ t (asked-to_take u.input.ahead u.input u.looked u) (Given-asked gave gives (asks_to_take u) a asked t may);
   limits = limits-taking a u;
   within = λ rs none. first_passed-taking u.limits rs a u none;
-  turns = turns-taking u.input.ahead a u.input u.looked u.limits;
+  turns = turns-taking u.input.ahead a u.input u.looked u;
 }
 
 -- the call that looks ahead
@@ -109,7 +108,7 @@ pub Leaves-looks : (gave gives : Tape → Type 0) (u : PageUnread) (a : Answer) 
 Leaves-looks gave gives u a asked =
     let same = Looks-looking a u in record {
       before = before-asked gave gives (asks_to_look u) a asked;
-      some = some-asked gave gives (asks_to_take u) (asks_to_look u) a (asks-both u.input.ahead u.input u.looked u.limits) asked;
+      some = some-asked gave gives (asks_to_take u) (asks_to_look u) a (asks-both u.input.ahead u.input u.looked u) asked;
       rest = λ t may.
           left_behind u.looked (asks_to_look u) a _ t (asked-to_look (seen_ahead u.input.ahead) u.looked) (Given-asked gave gives (asks_to_look u) a asked t may);
       limits = same.limits;
@@ -157,20 +156,20 @@ no_ending_ahead (DoAhead event) is = is
 ends-byte : (b : ℕ) (u : PageUnread) (taken : List Item) → TakesEnding u taken (taking_answer (Gives (OneByte b)) u)
 ends-byte b u taken = one_of (TakesEnding u taken) (nat_lt u.limits.bytes (u.input.charge + 1)) _ _ (λ is. absurd is) (λ is. absurd is)
 
-ends-taking : (ahead : List (Ahead PageEvent)) (a : Answer) (i : PageInput) (looked : Option ℕ) (limits : Limits)
-    → let u : PageUnread = record { input = record i { ahead = ahead }; looked = looked; limits = limits } in
+ends-taking : (ahead : List (Ahead PageEvent)) (a : Answer) (i : PageInput) (looked : Option ℕ) (v : PageUnread)
+    → let u : PageUnread = record v { input = record i { ahead = ahead }; looked = looked } in
     TakesEnding u (items_asked (asks_to_take u) a) (taking a u)
-ends-taking [] (Gives (OneByte b)) i None limits = ends-byte b (record { input = record i { ahead = [] }; looked = None; limits = limits }) _
-ends-taking [] (Gives (OneNote message)) i None limits = λ is. absurd is
-ends-taking [] (Ends ending) i None limits = λ is. record { looked = refl; taken_is = refl; same = refl }
-ends-taking [] a i (Some b) limits = ends-byte b (record { input = record i { ahead = [] }; looked = Some b; limits = limits }) _
-ends-taking (item ∷ items) a i looked limits =
-    let u : PageUnread = record { input = record i { ahead = item ∷ items }; looked = looked; limits = limits } in
-    one_of (TakesEnding u _) (nat_lt limits.bytes (i.charge + cost item)) _ _ (λ is. absurd is) (λ is. absurd (no_ending_ahead item is))
+ends-taking [] (Gives (OneByte b)) i None v = ends-byte b (record v { input = record i { ahead = [] }; looked = None }) _
+ends-taking [] (Gives (OneNote message)) i None v = λ is. absurd is
+ends-taking [] (Ends ending) i None v = λ is. record { looked = refl; taken_is = refl; same = refl }
+ends-taking [] a i (Some b) v = ends-byte b (record v { input = record i { ahead = [] }; looked = Some b }) _
+ends-taking (item ∷ items) a i looked v =
+    let u : PageUnread = record v { input = record i { ahead = item ∷ items }; looked = looked } in
+    one_of (TakesEnding u _) (nat_lt v.limits.bytes (i.charge + cost item)) _ _ (λ is. absurd is) (λ is. absurd (no_ending_ahead item is))
 
 -- the source's items end behind the call that takes the item in front
 pub EndsThere-takes : (u : PageUnread) (a : Answer) → IsEnding (taking a u).0 → EndsThere u (taking a u).1 (items_asked (asks_to_take u) a)
-EndsThere-takes u a is = ends-taking u.input.ahead a u.input u.looked u.limits is
+EndsThere-takes u a is = ends-taking u.input.ahead a u.input u.looked u is
 
 -- an ending is seen
 abbrev pub IsEndingSeen : Sighted → Type 0
@@ -187,16 +186,16 @@ no_ending_seen (FreeAhead b ∷ items) sight is ending = let same : SeesByte b �
 no_ending_seen (EndAhead ∷ items) sight is ending = no_ending_seen items sight is ending
 no_ending_seen (DoAhead event ∷ items) sight is ending = let same : SeesNothing ≡ sight = cc in subst IsEndingSeen (sym same) ending
 
-ends-looking : (sight : Option Sighted) (a : Answer) (i : PageInput) (looked : Option ℕ) (limits : Limits)
-    → let u : PageUnread = record { input = i; looked = looked; limits = limits } in
+ends-looking : (sight : Option Sighted) (a : Answer) (i : PageInput) (looked : Option ℕ) (v : PageUnread)
+    → let u : PageUnread = record v { input = i; looked = looked } in
     ((seen : Sighted) → sight ≡ Some seen → IsEndingSeen seen → ⊥)
     → IsEndingSeen (looking_past sight a u).0 → EndsThere u (looking_past sight a u).1 (items_asked (is_none sight && is_none looked) a)
-ends-looking None (Gives (OneByte b)) i None limits none is = absurd is
-ends-looking None (Gives (OneNote message)) i None limits none is = absurd is
-ends-looking None (Ends ending) i None limits none is = record { looked = refl; taken_is = refl; same = refl }
-ends-looking None a i (Some b) limits none is = absurd is
-ends-looking (Some seen) a i looked limits none is = absurd (none seen refl is)
+ends-looking None (Gives (OneByte b)) i None v none is = absurd is
+ends-looking None (Gives (OneNote message)) i None v none is = absurd is
+ends-looking None (Ends ending) i None v none is = record { looked = refl; taken_is = refl; same = refl }
+ends-looking None a i (Some b) v none is = absurd is
+ends-looking (Some seen) a i looked v none is = absurd (none seen refl is)
 
 -- the source's items end behind the call that looks ahead
 pub EndsThere-looks : (u : PageUnread) (a : Answer) → IsEndingSeen (looking a u).0 → EndsThere u (looking a u).1 (items_asked (asks_to_look u) a)
-EndsThere-looks u a is = ends-looking (seen_ahead u.input.ahead) a u.input u.looked u.limits (no_ending_seen u.input.ahead) is
+EndsThere-looks u a is = ends-looking (seen_ahead u.input.ahead) a u.input u.looked u (no_ending_seen u.input.ahead) is

@@ -30,16 +30,16 @@ all_pass reading within_block (b ∷ bytes) passes plain = (passes b plain.0, al
 
 -- the code behind them
 abbrev behind : Coded → Limits → List ℕ → PageInput → Coded
-behind old limits bytes input = record old { unread = record { input = lines_taken bytes input; looked = None; limits = limits } }
+behind old limits bytes input = record old { unread = record old.unread { input = lines_taken bytes input; looked = None; limits = limits } }
 
 -- the run is at its place behind them
 IsAt-passed : (whole t : Tape) (start now : Seen) (old : Coded) (limits : Limits) (bytes : List ℕ) (input : PageInput)
-    → old.unread ≡ record { input = input; looked = None; limits = limits } → input.ahead ≡ [] → input.half ≡ []
+    → old.unread ≡ record old.unread { input = input; looked = None; limits = limits } → input.ahead ≡ [] → input.half ≡ []
     → input.charge + length bytes ≤ limits.bytes → AllByRecursion (λ b. Passes old.formatter.reader.reading b) bytes
     → IsAt whole (items_then (map OneByte bytes) t) start now old → IsAt whole t start now (behind old limits bytes input)
 IsAt-passed whole t start now old limits bytes input is none_ahead none_half within pass at =
     let l : Limits = old.limits in
-    let u : PageUnread = record { input = input; looked = None; limits = limits } in
+    let u : PageUnread = record old.unread { input = input; looked = None; limits = limits } in
     let same : limits ≡ l = ap (λ (v : PageUnread). v.limits) (sym is) ∙ at.limits in
     let from : State = state_at (items_then (map OneByte bytes) t) old at.history at.messages in
     let here : PageUnread → Tape → State = λ v tape. going (looked_then v.looked tape) v.input old.formatter.reader.reading old.formatter.reader.registers.all at.history at.messages false [] in
@@ -79,10 +79,10 @@ past-some gave gives ready notes now old after within_block passes bare some pas
     let bytes : List ℕ = passes.bytes in
     let input : PageInput = old.unread.input in
     let limits : Limits = old.unread.limits in
-    let is : old.unread ≡ record { input = input; looked = None; limits = limits } =
-    ap (λ (looked : Option ℕ). record { input = input; looked = looked; limits = limits }) bare.looked in
-    let left : after ≡ record { input = lines_taken bytes input; looked = None; limits = limits } =
-    passes.input ∙ ap (λ (looked : Option ℕ). record { input = lines_taken bytes input; looked = looked; limits = limits }) bare.looked in
+    let is : old.unread ≡ record old.unread { input = input; looked = None; limits = limits } =
+    ap (λ (looked : Option ℕ). record old.unread { input = input; looked = looked; limits = limits }) bare.looked in
+    let left : after ≡ record old.unread { input = lines_taken bytes input; looked = None; limits = limits } =
+    passes.input ∙ ap (λ (looked : Option ℕ). record old.unread { input = lines_taken bytes input; looked = looked; limits = limits }) bare.looked in
     let few : turns_to_come after ≤ turns_to_come old.unread = turns-passed gave gives ready old.unread after within_block passes in
     record {
       limits = refl;

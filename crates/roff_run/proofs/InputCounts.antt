@@ -10,6 +10,7 @@ use Rattle.roff_scan.specs.Half.{texts_held}
 use Rattle.roff_scan.specs.Input.{Ahead, ByteAhead, FreeAhead, EndAhead, DoAhead, counting, item_taken, pushed, depth, results, bytes_ahead, ends_ahead}
 use Rattle.roff_scan.specs.Tape.{Answer, Gives, Ends, OneByte, OneNote}
 use Rattle.roff_scan.specs.Unread.{Unread, Shown, taking, taking_answer, answer_behind, input_refusal}
+use Rattle.roff_store.specs.Texts.{Texts}
 use Rattle.roff_scan.proofs.KeptArguments.{held-only_kept, held-settled}
 use Rattle.roff_run.specs.Reading.{PageInput, interrupted, settling}
 use Rattle.roff_run.specs.Registers.{AllRegisters}
@@ -69,16 +70,16 @@ NoMore-answer (Gives (OneByte b)) u = one_of (LeavesNoMore u.input) _ _ _ (NoMor
 NoMore-answer (Gives (OneNote message)) u = NoMore-same u.input
 NoMore-answer (Ends ending) u = NoMore-same u.input
 
-NoMore-taking_of : (ahead : List (Ahead PageEvent)) (a : Answer) (i : PageInput) (looked : Option ℕ) (limits : Limits)
-    → let u : Unread PageEvent = record { input = record i { ahead = ahead }; looked = looked; limits = limits } in LeavesNoMore u.input (taking a u)
-NoMore-taking_of [] a i looked limits = NoMore-answer (answer_behind looked a) (record { input = record i { ahead = [] }; looked = looked; limits = limits })
-NoMore-taking_of (item ∷ items) a i looked limits =
+NoMore-taking_of : (ahead : List (Ahead PageEvent)) (a : Answer) (i : PageInput) (looked : Option ℕ) (limits : Limits) (texts : Texts)
+    → let u : Unread PageEvent = record { input = record i { ahead = ahead }; looked = looked; limits = limits; texts = texts } in LeavesNoMore u.input (taking a u)
+NoMore-taking_of [] a i looked limits texts = NoMore-answer (answer_behind looked a) (record { input = record i { ahead = [] }; looked = looked; limits = limits; texts = texts })
+NoMore-taking_of (item ∷ items) a i looked limits texts =
     let before : PageInput = record i { ahead = item ∷ items } in
     one_of (LeavesNoMore before) _ _ _ (NoMore-same before) (NoMore-item_taken item items before refl)
 
 -- the call that takes the item in front
 pub NoMore-taking : (a : Answer) (u : Unread PageEvent) → NoMore (taking a u).1.input u.input
-NoMore-taking a u = NoMore-taking_of u.input.ahead a u.input u.looked u.limits
+NoMore-taking a u = NoMore-taking_of u.input.ahead a u.input u.looked u.limits u.texts
 
 -- where no quote follows, as many bytes are held
 pub pushed-settling : (i : PageInput) → pushed (settling i) ≡ pushed i

@@ -3,7 +3,6 @@ use Rattle.std.proofs.Common.{◌≡◌, ℕ, ◌+◌, ◌≤◌, Bool, true, fa
 use Rattle.std.specs.Prelude.{nat_lt, if◌then◌else◌}
 use Rattle.std.proofs.lemmas.Bool.{ltb-false}
 use Rattle.roff_num.specs.declared.limit.Limit.TheVariants.{Bytes}
-use Rattle.roff_num.specs.declared.limits.Limits.{Limits}
 use Rattle.roff_scan.specs.Halves.{newline_stays}
 use Rattle.roff_scan.specs.Input.{Ahead, ByteAhead, FreeAhead, EndAhead, DoAhead, cost, item_taken}
 use Rattle.roff_scan.specs.Tape.{Answer, Gives, Ends, OneByte, OneNote}
@@ -49,16 +48,16 @@ falls-answer (Gives (OneByte b)) u = falls_unless u.limits.bytes (u.input.charge
 falls-answer (Gives (OneNote message)) u = λ taken. absurd taken
 falls-answer (Ends ending) u = λ taken. absurd taken
 
-falls-taking : (ahead : List (Ahead PageEvent)) (a : Answer) (i : PageInput) (looked : Option ℕ) (limits : Limits)
-    → let u : Unread PageEvent = record { input = record i { ahead = ahead }; looked = looked; limits = limits } in Falls u (taking a u)
-falls-taking [] a i looked limits = falls-answer (answer_behind looked a) (record { input = record i { ahead = [] }; looked = looked; limits = limits })
-falls-taking (item ∷ items) a i looked limits =
-    let u : Unread PageEvent = record { input = record i { ahead = item ∷ items }; looked = looked; limits = limits } in
-    falls_unless limits.bytes (i.charge + cost item) _ refl u _ _ (falls-item item items limits.bytes u.input)
+falls-taking : (ahead : List (Ahead PageEvent)) (a : Answer) (i : PageInput) (looked : Option ℕ) (v : Unread PageEvent)
+    → let u : Unread PageEvent = record v { input = record i { ahead = ahead }; looked = looked } in Falls u (taking a u)
+falls-taking [] a i looked v = falls-answer (answer_behind looked a) (record v { input = record i { ahead = [] }; looked = looked })
+falls-taking (item ∷ items) a i looked v =
+    let u : Unread PageEvent = record v { input = record i { ahead = item ∷ items }; looked = looked } in
+    falls_unless v.limits.bytes (i.charge + cost item) _ refl u _ _ (falls-item item items v.limits.bytes u.input)
 
 -- behind each item that is taken, fewer turns are to come, by three
 pub turns_to_come-taking : (a : Answer) (u : Unread PageEvent) → IsTaken (taking a u).0 → turns_to_come (taking a u).1 + 3 ≤ turns_to_come u
-turns_to_come-taking a u taken = falls-taking u.input.ahead a u.input u.looked u.limits taken
+turns_to_come-taking a u taken = falls-taking u.input.ahead a u.input u.looked u taken
 
 -- a name's first byte is kept for one ending at most
 begun-one : (reading : Reading) → begun reading ≤ 1

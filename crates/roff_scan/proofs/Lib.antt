@@ -23,3 +23,10 @@ pub mod Copying
 pub mod ConditionHalves
 pub mod ConditionsRead
 pub mod Passing
+pub mod Bodies
+pub mod Framing
+pub mod Leased
+pub mod BodyTaken
+pub mod Pushed
+pub mod Seeing
+pub mod NamedTexts

@@ -3,9 +3,8 @@ use Rattle.std.proofs.Common.{true, false, ◌≡◌, ◌<◌, ◌≤◌, ◌+�
 use Rattle.std.specs.Prelude.{replicate}
 use Rattle.std.proofs.lemmas.Bool.Decides.{nat_tests}
 use Rattle.std.proofs.lemmas.List.{take_more, take_all}
-use Rattle.roff_scan.specs.Input.{Ahead, ByteAhead, EndAhead}
+use Rattle.roff_scan.specs.Input.{Ahead, ByteAhead, EndAhead, first_but_ends}
 use Rattle.roff_scan.specs.Slots.Standing.{standing, items_of, is_byte_next, IsStacked}
-use Rattle.roff_scan.specs.Unread.{seen_ahead}
 use Rattle.roff_scan.specs.declared.slots.Slot.{Slot}
 use Rattle.roff_scan.proofs.Standing.{standing-append, standing_mark}
 
@@ -52,7 +51,8 @@ module _ {E : Type 0} where
       → standing (slot ∷ slots) bytes ≡ items_of slot.mark ++ standing slots bytes
   standing_behind slot slots bytes next stacked = standing_mark slot slots bytes (at_mark slot slots bytes next stacked)
 
-  -- what is seen of ends is seen behind them
-  pub seen_ahead-ends : (n : ℕ) (items : List (Ahead E)) → seen_ahead (replicate n EndAhead ++ items) ≡ seen_ahead items
-  seen_ahead-ends zero items = refl
-  seen_ahead-ends (suc n) items = seen_ahead-ends n items
+  -- the first item behind ends is behind these ends
+  pub first_but_ends-ends : (n : ℕ) (items : List (Ahead E))
+      → first_but_ends (replicate n EndAhead ++ items) ≡ first_but_ends items
+  first_but_ends-ends zero items = refl
+  first_but_ends-ends (suc n) items = first_but_ends-ends n items

@@ -116,6 +116,19 @@ cost (FreeAhead b) = 0
 cost EndAhead = 1
 cost (DoAhead event) = 1
 
+-- the front item, if there is one
+abbrev pub first : {E : Type 0} → List (Ahead E) → Option (Ahead E)
+first [] = None
+first (item ∷ items) = Some item
+
+-- the first item behind any ends of texts
+abbrev pub first_but_ends : {E : Type 0} → List (Ahead E) → Option (Ahead E)
+first_but_ends [] = None
+first_but_ends (ByteAhead b ∷ items) = Some (ByteAhead b)
+first_but_ends (FreeAhead b ∷ items) = Some (FreeAhead b)
+first_but_ends (EndAhead ∷ items) = first_but_ends items
+first_but_ends (DoAhead event ∷ items) = Some (DoAhead event)
+
 -- what the front item costs, if there is one
 abbrev pub front_cost : {E : Type 0} → List (Ahead E) → ℕ
 front_cost [] = 0

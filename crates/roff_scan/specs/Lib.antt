@@ -16,4 +16,5 @@ pub mod ArgumentList
 pub mod Quoting
 pub mod Input
 pub mod Slots
+pub mod Frames
 pub mod Unread

@@ -4,13 +4,14 @@
 -- stands behind what is ahead, and before what the source still gives.
 pub mod Calls
 pub mod Kept
-use Rattle.std.specs.Prelude.{ℕ, ◌+◌, ◌-◌, ◌≤◌, ◌&&◌, is_none, Bool, true, false, List, [], ◌∷◌, length, take, take_while, ◌==◌, nat_lt, Option, Some, None, if◌then◌else◌, Result, Ok, Err}
+use Rattle.std.specs.Prelude.{ℕ, ◌+◌, ◌-◌, ◌≤◌, ◌&&◌, is_none, min, Bool, true, false, List, [], ◌∷◌, length, take, take_while, ◌==◌, nat_lt, Option, Some, None, if◌then◌else◌, Result, Ok, Err}
 use Rattle.roff_num.specs.declared.limit.Limit.{Limit}
 use Rattle.roff_num.specs.declared.limit.Limit.TheVariants.{Bytes, Stack, Depth, Conditions}
 use Rattle.roff_num.specs.declared.limits.Limits.{Limits}
 use Rattle.roff_scan.specs.Bytes.{is_passed}
 use Rattle.roff_scan.specs.Halves.{Reads}
 use Rattle.roff_scan.specs.Input.{with_half, Input, initial_input, is_none_ahead, Ahead, ByteAhead, FreeAhead, EndAhead, DoAhead, cost, counting, item_taken, pushed, depth, results}
+use Rattle.roff_store.specs.Texts.{Texts}
 use Rattle.roff_scan.specs.Tape.{Tape, Answer, Answers, Gives, Ends, OneByte, OneNote, Ending, Ended, Failed, Stopped, items_then}
 use Rattle.roff_scan.specs.declared.half.Read.{Read}
 use Rattle.roff_scan.specs.declared.unread.Item.{Item}
@@ -23,6 +24,8 @@ pub record Unread (E : Type 0) : Type 0 where
   pub input : Input E
   -- the byte of the source that was looked at
   pub looked : Option ℕ
+  -- strings, macros and diversions by name, and texts in the making
+  pub texts : Texts
   pub limits : Limits
 
 -- no count is above its limit
@@ -33,9 +36,21 @@ pub record IsWithin {E : Type 0} (u : Unread E) : Type 0 where
   pub depth : depth u.input ≤ u.limits.depth
   pub results : results u.input ≤ u.limits.conditions
 
+-- no name stands for anything
+abbrev pub no_texts : Limits → Texts
+no_texts l = record {
+  names = record { entries = []; cap = l.names };
+  open_texts = [];
+  leases = [];
+  cap_bytes = l.store;
+  cap_kept = l.stack;
+  cap_open = min (l.diversions + 1) 4294967295;
+  cap_leases = l.depth;
+}
+
 -- before anything is read
 abbrev pub initial_unread : {E : Type 0} → Limits → Unread E
-initial_unread limits = record { input = initial_input; looked = None; limits = limits }
+initial_unread limits = record { input = initial_input; looked = None; texts = no_texts limits; limits = limits }
 
 -- whether the source's next byte is the next one: nothing is ahead, nothing half read, and nothing looked at
 abbrev pub is_bare : {E : Type 0} → Unread E → Bool

@@ -7,6 +7,7 @@ mod bytes;
 mod characters;
 mod conditions;
 mod escapes;
+mod frames;
 mod half;
 pub mod half_laws;
 mod halves;

@@ -1,15 +1,15 @@
 //! What stands ahead of the source: pushed texts, events put back, and bytes in front again.
 
 ghost use Rattle.std.specs.Prelude.{false, ◌≡◌, ◌+◌, ◌<◌, ◌≤◌, ◌^◌, [], ◌∷◌, ◌++◌, map, reverse, length, IfOk, option_map, vec_len, vec_capacity};
+ghost use Rattle.roff_scan.specs.Slots.Held.{most_marks};
 ghost use Rattle.roff_scan.specs.Slots.Standing.{standing, items_of, item_of, is_byte_next, IsStacked};
-ghost use Rattle.roff_scan.specs.Input.{is_none_ahead, front_cost, ByteAhead, FreeAhead, EndAhead, DoAhead, bytes_ahead, ends_ahead, events_ahead, frees_ahead, most_events, most_frees};
+ghost use Rattle.roff_scan.specs.Input.{is_none_ahead, first, first_but_ends, ByteAhead, FreeAhead, EndAhead, DoAhead, bytes_ahead, ends_ahead, events_ahead, frees_ahead, most_frees};
 
-use crate::unread::{Item, Sight};
 use std::alloc::{AllocError, Global};
 use std::marker::Model;
 
-/// How many events may stand ahead before each end, and before none.
-const EVENTS: usize = 3;
+/// How many events may stand ahead before each end, and before none; bodies are among them.
+const EVENTS: usize = 4;
 
 /// How many bytes may stand in front again.
 const FREES: usize = 21;
@@ -25,21 +25,6 @@ pub(crate) enum Front<E> {
     End,
     /// An event that was put back.
     Do(E),
-}
-
-impl<E> Front<E> {
-    ghost use Rattle.roff_scan.specs.Unread.{shown, shown_ahead};
-
-    /// The item, as it is shown.
-    pub(crate) fn into_item(self) -> Item<E>
-        ensures { shown result ≡ shown_ahead (item_of self) }
-    {
-        match self {
-            Front::Byte(byte) | Front::Free(byte) => Item::Byte(byte),
-            Front::End => Item::End,
-            Front::Do(event) => Item::Do(event),
-        }
-    }
 }
 
 /// What stands behind the bytes of a text.
@@ -86,8 +71,6 @@ impl<E> Model for Slots<E> {
 }
 
 impl<E: Copy> Slots<E> {
-    ghost use Rattle.roff_scan.specs.Unread.{sighted, seen_ahead};
-
     /// Nothing stands ahead; there is room for so many unread bytes and texts.
     pub(crate) fn new(alloc: Global, stack: u32, depth: u32) -> Result<Self, AllocError>
         ensures { IfOk result
@@ -142,25 +125,26 @@ impl<E: Copy> Slots<E> {
 
     /// Puts an event in front.
     pub(crate) fn put_back(&mut self, event: E)
-        requires { events_ahead self.old.ahead < most_events self.old.most_texts }
+        requires { events_ahead self.old.ahead < most_marks self.old.most_texts }
         ensures { self.new ≡ record self.old { ahead = DoAhead event ∷ self.old.ahead } }
     {
         put_mark(&mut self.slots, self.bytes.as_slice(), Mark::Do(event));
     }
 
-    /// What the front item costs, if there is one.
-    pub(crate) fn cost(&self) -> u32
-        ensures { result ≡ front_cost self.now.ahead }
+    /// The front item, if there is one. It isn't taken.
+    pub(crate) fn front(&self) -> Option<Front<E>>
+        ensures { option_map item_of result ≡ first self.now.ahead }
     {
         if is_byte_next(self.slots.as_slice(), self.bytes.as_slice()) {
-            return 1;
+            return Some(Front::Byte(self.bytes[self.bytes.len() - 1]));
         }
         match self.slots.as_slice().split_last() {
-            Some((slot, _)) => match slot.mark {
-                Mark::Free(_) => 0,
-                Mark::Ends(_) | Mark::Do(_) => 1,
-            },
-            None => 0,
+            Some((slot, _)) => Some(match slot.mark {
+                Mark::Ends(_) => Front::End,
+                Mark::Free(byte) => Front::Free(byte),
+                Mark::Do(event) => Front::Do(event),
+            }),
+            None => None,
         }
     }
 
@@ -179,19 +163,19 @@ impl<E: Copy> Slots<E> {
         front
     }
 
-    /// What is seen in front, behind any ends of texts; nothing where only those are there.
-    pub(crate) fn seen(&self) -> Option<Sight>
-        ensures { option_map sighted result ≡ seen_ahead self.now.ahead }
+    /// The first item behind any ends of texts; none where only those are there.
+    pub(crate) fn seen(&self) -> Option<Front<E>>
+        ensures { option_map item_of result ≡ first_but_ends self.now.ahead }
     {
         let mut slots = self.slots.as_slice();
         while let Some((slot, below)) = slots.split_last() {
             if slot.height < self.bytes.len() {
-                return Some(Sight::Byte(self.bytes[self.bytes.len() - 1]));
+                return Some(Front::Byte(self.bytes[self.bytes.len() - 1]));
             }
             match slot.mark {
                 Mark::Ends(_) => slots = below,
-                Mark::Free(byte) => return Some(Sight::Byte(byte)),
-                Mark::Do(_) => return Some(Sight::Nothing),
+                Mark::Free(byte) => return Some(Front::Free(byte)),
+                Mark::Do(event) => return Some(Front::Do(event)),
             }
         }
         None

@@ -2,18 +2,21 @@
 
 ghost use Rattle.roff_scan.specs.Arguments.{with_unit, settled, finished};
 ghost use Rattle.roff_scan.specs.ArgumentList.{listed};
+ghost use Rattle.roff_store.specs.Named.{entry_of};
+ghost use Rattle.roff_store.specs.Texts.{body_of, entry_given, kind_given, kind_of};
 ghost use Rattle.roff_scan.specs.Halves.{byte_read, decides_now, reading_ended, newline_stays, seen_stays};
-ghost use Rattle.std.specs.Prelude.{reverse, true, false, not, ◌≡◌, ◌==◌, ◌+◌, ◌<◌, ◌≤◌, length, None, IfOk, IfSome};
+ghost use Rattle.std.specs.Prelude.{reverse, true, false, not, ◌≡◌, ◌==◌, ◌+◌, ◌<◌, ◌≤◌, length, None, option_map, IfOk, IfSome};
 ghost use Rattle.roff_scan.specs.Tape.{Answer, OneByte, OneNote, Gives, Failed, Rises};
 ghost use Rattle.roff_scan.specs.Input.{is_none_ahead, counting, choosing, keeping, kept_last, without_last, events_ahead, frees_ahead, most_events, most_frees, holding_text, pushed, depth, pushing, putting_back, freeing, with_arguments, without_arguments};
 
 use crate::arguments::{ArgumentList, ArgumentTexts};
 use crate::bytes::{newlines_among, passed_len};
+use crate::frames::Frames;
 use crate::half::{CopyUnit, Read};
 use crate::halves::Halves;
-use crate::slots::Slots;
 use crate::source::{ByteSource, Note, Taken};
-use roff_num::{Limit, Limits};
+use roff_num::{Limit, Limits, Name};
+use roff_store::{Entry, Kind, OpenId};
 use std::alloc::{AllocError, Global};
 use std::marker::Model;
 
@@ -61,7 +64,7 @@ pub enum Sight {
 #[derive(Drop)]
 pub struct Unread<E> {
     limits: Limits,
-    slots: Slots<E>,
+    frames: Frames<E>,
     arguments: ArgumentTexts,
     half: Halves,
     /// The results of conditions that are kept for their other branch, the newest at the back.
@@ -88,6 +91,7 @@ impl<E> Model for Unread<E> {
 impl<E: Copy> Unread<E> {
     ghost use Rattle.roff_scan.specs.Unread.{initial_unread, is_bare, IsWithin, Shown, shown, ShowsByte, ShowsNote, ShowsEnding, sighted, SeesNote, SeesEnding, taking, taking_answer, changing, reading};
     ghost use Rattle.roff_scan.specs.Unread.Calls.{Takes, Looks, PassesOver};
+    ghost use Rattle.roff_store.specs.TextCalls.{Append, DropOpen, Enter, Open, PushOpen, Remove, Rename, Set, after, answered};
 
     /// The input before anything is read.
     pub fn new(alloc: Global, limits: Limits) -> Result<Self, AllocError>
@@ -95,7 +99,7 @@ impl<E: Copy> Unread<E> {
     {
         Ok(Unread {
             limits,
-            slots: Slots::new(alloc, limits.stack, limits.depth)?,
+            frames: Frames::new(alloc, &limits)?,
             arguments: ArgumentTexts::new(alloc, limits.stack)?,
             half: Halves::new(alloc, limits.stack)?,
             kept: Vec::with_capacity(alloc, limits.conditions as usize)?,
@@ -133,14 +137,14 @@ impl<E: Copy> Unread<E> {
     pub fn pushed(&self) -> usize
         ensures { result ≡ pushed self.now.input }
     {
-        self.slots.byte_count() + self.arguments.held() + self.half.held()
+        self.frames.byte_count() + self.arguments.held() + self.half.held()
     }
 
     /// What counts in the limit on the depth: the pushed texts that haven't ended.
     pub fn depth(&self) -> usize
         ensures { result ≡ depth self.now.input }
     {
-        self.slots.depth()
+        self.frames.depth()
     }
 
     /// Whether the source's next byte is the next one: nothing is ahead, nothing half read, and
@@ -149,7 +153,7 @@ impl<E: Copy> Unread<E> {
     pub fn is_bare(&self) -> bool
         ensures { result ≡ is_bare self.now }
     {
-        self.slots.is_empty() && self.looked.is_none() && self.half.is_empty()
+        self.frames.is_empty() && self.looked.is_none() && self.half.is_empty()
     }
 
     /// Takes the item in front. The source is asked where nothing is ahead and no byte was looked
@@ -166,7 +170,7 @@ impl<E: Copy> Unread<E> {
             → Rises (S.failures source.old) (S.failures source.new) }
         ensures within { IsWithin self.new }
     {
-        if !self.slots.is_empty() {
+        if !self.frames.is_empty() {
             return self.take_ahead();
         }
         if let Some(byte) = self.looked {
@@ -193,7 +197,7 @@ impl<E: Copy> Unread<E> {
         ensures failures { S.failures source.old ≤ S.failures source.new }
         ensures within { IsWithin self.new }
     {
-        if !self.slots.is_empty() || self.looked.is_some() || self.charge >= self.limits.bytes {
+        if !self.frames.is_empty() || self.looked.is_some() || self.charge >= self.limits.bytes {
             return None;
         }
         match source.ready_byte() {
@@ -283,12 +287,12 @@ impl<E: Copy> Unread<E> {
         ensures ending { (e : _) → shown result ≡ ShowsEnding e → ⊥ }
         ensures within { IsWithin self.new }
     {
-        let cost = self.slots.cost();
+        let cost = self.frames.cost();
         if cost > self.limits.bytes - self.charge {
             return Item::Refused(Limit::Bytes);
         }
         self.charge += cost;
-        self.slots.take().into_item()
+        self.frames.take()
     }
 
     /// Looks at the first byte behind any ends of texts. The source is asked where none stands
@@ -305,7 +309,7 @@ impl<E: Copy> Unread<E> {
             → Rises (S.failures source.old) (S.failures source.new) }
         ensures within { IsWithin self.new }
     {
-        if let Some(sight) = self.slots.seen() {
+        if let Some(sight) = self.frames.seen() {
             return sight;
         }
         if let Some(byte) = self.looked {
@@ -323,6 +327,14 @@ impl<E: Copy> Unread<E> {
         }
     }
 
+    /// Whether as many pushed texts haven't ended as may be.
+    fn is_deep(&self) -> bool
+        ensures deep { result ≡ true → self.now.limits.depth ≤ depth self.now.input }
+        ensures shallow { result ≡ false → depth self.now.input < self.now.limits.depth }
+    {
+        self.depth() >= self.limits.depth as usize
+    }
+
     /// Puts a text and its end in front.
     ///
     /// # Errors
@@ -335,10 +347,31 @@ impl<E: Copy> Unread<E> {
         if text.len() > self.limits.stack as usize - self.pushed() {
             return Err(Limit::Stack);
         }
-        if self.depth() >= self.limits.depth as usize {
+        if self.is_deep() {
             return Err(Limit::Depth);
         }
-        self.slots.push(text);
+        self.frames.push(text);
+        Ok(())
+    }
+
+    /// Puts the body of a name and its end in front, as it is now: it is read where it lies, whatever
+    /// becomes of the name. A name without a body has an empty one.
+    ///
+    /// # Errors
+    ///
+    /// As for [`push`](Unread::push).
+    pub fn push_body(&mut self, name: &Name) -> Result<(), Limit>
+        ensures change { (result, self.new)
+            ≡ changing (pushing (body_of name.now self.old.texts) self.old.input) self.old }
+        ensures within { IsWithin self.new }
+    {
+        if self.frames.body_len(name) > self.limits.stack as usize - self.pushed() {
+            return Err(Limit::Stack);
+        }
+        if self.is_deep() {
+            return Err(Limit::Depth);
+        }
+        self.frames.push_body(name);
         Ok(())
     }
 
@@ -348,7 +381,7 @@ impl<E: Copy> Unread<E> {
         ensures change { self.new ≡ record self.old { input = putting_back event self.old.input } }
         ensures within { IsWithin self.new }
     {
-        self.slots.put_back(event);
+        self.frames.put_back(event);
     }
 
     /// Puts bytes that were taken in front again. They cost nothing.
@@ -357,7 +390,7 @@ impl<E: Copy> Unread<E> {
         ensures change { self.new ≡ record self.old { input = freeing bytes.now self.old.input } }
         ensures within { IsWithin self.new }
     {
-        self.slots.free(bytes);
+        self.frames.free(bytes);
     }
 
     /// Whether something is half read.
@@ -508,5 +541,114 @@ impl<E: Copy> Unread<E> {
         ensures { listed result ≡ reverse self.now.input.arguments.whole }
     {
         self.arguments.list()
+    }
+
+    /// What a name stands for: a request, or a body with so many bytes.
+    pub fn get(&self, name: &Name) -> Option<Kind>
+        ensures { option_map kind_given result
+            ≡ option_map kind_of (entry_of name.now self.now.texts.names.entries) }
+    {
+        self.frames.get(name)
+    }
+
+    /// Lets a name stand for an entry from now on.
+    ///
+    /// # Errors
+    ///
+    /// [`Limit::Store`] if there would be too many bytes, else [`Limit::Names`] if the name is new
+    /// and the table is full; nothing changes then.
+    pub fn set(&mut self, name: &Name, entry: Entry<'_>) -> Result<(), Limit>
+        ensures answer { result ≡ answered (Set name.now (entry_given entry.entry)) self.old.texts }
+        ensures texts { self.new ≡ record self.old {
+          texts = after (Set name.now (entry_given entry.entry)) self.old.texts;
+        } }
+        ensures within { IsWithin self.new }
+    {
+        self.frames.set(name, entry)
+    }
+
+    /// Puts bytes behind the body of a name. A request is replaced, and a name that stands for
+    /// nothing gets the bytes as its body.
+    ///
+    /// # Errors
+    ///
+    /// As for [`set`](Unread::set).
+    pub fn append(&mut self, name: &Name, text: &[u8]) -> Result<(), Limit>
+        ensures answer { result ≡ answered (Append name.now text.now) self.old.texts }
+        ensures texts { self.new
+            ≡ record self.old { texts = after (Append name.now text.now) self.old.texts } }
+        ensures within { IsWithin self.new }
+    {
+        self.frames.append(name, text)
+    }
+
+    /// Removes a name.
+    pub fn remove(&mut self, name: &Name)
+        ensures texts { self.new
+            ≡ record self.old { texts = after (Remove name.now) self.old.texts } }
+        ensures within { IsWithin self.new }
+    {
+        self.frames.remove(name);
+    }
+
+    /// Lets one name stand for what another one stood for, which then stands for nothing. Nothing
+    /// changes where that one stands for nothing, or is the same name.
+    pub fn rename(&mut self, from: &Name, to: &Name)
+        ensures texts { self.new
+            ≡ record self.old { texts = after (Rename from.now to.now) self.old.texts } }
+        ensures within { IsWithin self.new }
+    {
+        self.frames.rename(from, to);
+    }
+
+    /// Begins a text.
+    pub fn open(&mut self) -> OpenId
+        requires { length self.old.texts.open_texts < self.old.texts.cap_open }
+        ensures number { result.0 ≡ length self.old.texts.open_texts }
+        ensures texts { self.new ≡ record self.old { texts = after Open self.old.texts } }
+        ensures within { IsWithin self.new }
+    {
+        self.frames.open()
+    }
+
+    /// Puts bytes behind a text in the making.
+    ///
+    /// # Errors
+    ///
+    /// [`Limit::Store`] if there would be too many bytes; nothing changes then.
+    pub fn push_open(&mut self, id: OpenId, text: &[u8]) -> Result<(), Limit>
+        requires { id.0 < length self.old.texts.open_texts }
+        ensures answer { result ≡ answered (PushOpen id.0 text.now) self.old.texts }
+        ensures texts { self.new
+            ≡ record self.old { texts = after (PushOpen id.0 text.now) self.old.texts } }
+        ensures within { IsWithin self.new }
+    {
+        self.frames.push_open(id, text)
+    }
+
+    /// Ends a text in the making: it is put behind the body of a name, or is its body from now on.
+    /// The number of each newer one goes down by one.
+    ///
+    /// # Errors
+    ///
+    /// [`Limit::Names`] if the name is new and the table is full; nothing changes then.
+    pub fn enter(&mut self, id: OpenId, name: &Name, append: bool) -> Result<(), Limit>
+        requires { id.0 < length self.old.texts.open_texts }
+        ensures answer { result ≡ answered (Enter id.0 name.now append) self.old.texts }
+        ensures texts { self.new
+            ≡ record self.old { texts = after (Enter id.0 name.now append) self.old.texts } }
+        ensures within { IsWithin self.new }
+    {
+        self.frames.enter(id, name, append)
+    }
+
+    /// Drops a text in the making. The number of each newer one goes down by one.
+    pub fn drop_open(&mut self, id: OpenId)
+        requires { id.0 < length self.old.texts.open_texts }
+        ensures texts { self.new
+            ≡ record self.old { texts = after (DropOpen id.0) self.old.texts } }
+        ensures within { IsWithin self.new }
+    {
+        self.frames.drop_open(id);
     }
 }

@@ -1,6 +1,6 @@
 -- What slots hold.
-use Rattle.std.specs.Prelude.{◌≡◌, ℕ, ◌+◌, ◌≤◌, List, length, reverse, vec_capacity}
-use Rattle.roff_scan.specs.Input.{Ahead, bytes_ahead, ends_ahead, events_ahead, frees_ahead, most_events, most_frees}
+use Rattle.std.specs.Prelude.{◌≡◌, ℕ, ◌+◌, ◌*◌, ◌≤◌, List, length, reverse, vec_capacity}
+use Rattle.roff_scan.specs.Input.{Ahead, bytes_ahead, ends_ahead, events_ahead, frees_ahead, most_frees}
 use Rattle.roff_scan.specs.Slots.Standing.{standing, IsStacked}
 use Rattle.roff_scan.specs.declared.slots.Slots.TheInside.{Inside}
 
@@ -10,11 +10,15 @@ pub record Held (E : Type 0) : Type 0 where
   pub most_bytes : ℕ
   pub most_texts : ℕ
 
+-- so many events may stand ahead: four before each end, and four behind the last
+abbrev pub most_marks : ℕ → ℕ
+most_marks most_texts = 4 * (most_texts + 1)
+
 -- no more stands ahead than there is room for
 pub record HasRoom {E : Type 0} (h : Held E) : Type 0 where
   pub bytes : bytes_ahead h.ahead ≤ h.most_bytes
   pub ends : ends_ahead h.ahead ≤ h.most_texts
-  pub events : events_ahead h.ahead ≤ most_events h.most_texts
+  pub events : events_ahead h.ahead ≤ most_marks h.most_texts
   pub frees : frees_ahead h.ahead ≤ most_frees
 
 -- what the fields hold
@@ -27,7 +31,7 @@ held_by a = record {
 
 -- the room is reserved, the heights are in order, and the ends are counted
 pub record IsSound {E : Type 0} (a : Inside E) : Type 0 where
-  pub slots : a.most_texts + most_events a.most_texts + most_frees ≤ vec_capacity a.slots
+  pub slots : a.most_texts + most_marks a.most_texts + most_frees ≤ vec_capacity a.slots
   pub bytes : a.most_bytes ≤ vec_capacity a.bytes
   pub stacked : IsStacked (reverse a.slots.items) (length a.bytes.items)
   pub ends : a.ends ≡ ends_ahead (held_by a).ahead

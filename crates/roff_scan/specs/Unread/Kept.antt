@@ -7,7 +7,7 @@ use Rattle.roff_scan.specs.declared.unread.Unread.TheInside.{Inside}
 abbrev pub kept_by : {E : Type 0} → Inside E → Unread E
 kept_by a = record {
   input = record {
-    ahead = a.slots.ahead;
+    ahead = a.frames.ahead;
     arguments = a.arguments.arguments;
     half = a.half.half;
     kept = reverse a.kept.items;
@@ -16,13 +16,14 @@ kept_by a = record {
     line = a.line;
   };
   looked = a.looked;
+  texts = a.frames.texts;
   limits = a.limits;
 }
 
 -- there is room by the limits, and no count is above its limit
 pub record IsSound {E : Type 0} (a : Inside E) : Type 0 where
-  pub bytes : a.slots.most_bytes ≡ a.limits.stack
-  pub texts : a.slots.most_texts ≡ a.limits.depth
+  pub bytes : a.frames.most_bytes ≡ a.limits.stack
+  pub texts : a.frames.most_texts ≡ a.limits.depth
   pub arguments : a.arguments.room ≡ a.limits.stack
   pub held : a.half.room ≡ a.limits.stack
   pub small : a.limits.stack < 2 ^ 32

@@ -1,11 +1,11 @@
 use Rattle.std.proofs.Common.{◌≡◌, ◌≤◌, ℕ, List, [], ◌∷◌, ◌++◌, length, arith}
 use Rattle.std.specs.Prelude.{reverse}
 use Rattle.roff_scan.specs.Slots.Standing.{standing, IsStacked}
-use Rattle.roff_scan.specs.Unread.{seen_ahead}
+use Rattle.roff_scan.specs.Input.{first_but_ends}
 use Rattle.roff_scan.specs.declared.slots.Slot.{Slot}
 use Rattle.roff_scan.specs.declared.slots.Mark.TheVariants.{Ends}
 use Rattle.roff_scan.proofs.Standing.{standing_mark, reverse_front}
-use Rattle.roff_scan.proofs.Taking.{seen_ahead-ends}
+use Rattle.roff_scan.proofs.Taking.{first_but_ends-ends}
 use Rattle.roff_scan.proofs.slots.Slots.seen.Goals as goal
 
 module _ {E : Type 0} (slots below : List (Slot E)) (slot : Slot E) (bytes : List ℕ) (split : slots ≡ below ++ slot ∷ []) (stacked : IsStacked (reverse slots) (length bytes)) where
@@ -17,9 +17,11 @@ module _ {E : Type 0} (slots below : List (Slot E)) (slot : Slot E) (bytes : Lis
   at_end reached = omega (arith, in_order.0)
 
   -- what is seen of ends stands below them
-  seen_below : (more : ℕ) → length bytes ≤ slot.height → slot.mark ≡ Ends more → seen_ahead (standing (reverse slots) bytes) ≡ seen_ahead (standing (reverse below) bytes)
+  seen_below : (more : ℕ) → length bytes ≤ slot.height → slot.mark ≡ Ends more
+      → first_but_ends (standing (reverse slots) bytes) ≡ first_but_ends (standing (reverse below) bytes)
   seen_below more reached is =
-      rw (reverse_front slots below slot split, standing_mark slot (reverse below) bytes (at_end reached), is) (seen_ahead-ends more (standing (reverse below) bytes))
+      let passed = first_but_ends-ends more (standing (reverse below) bytes) in
+      rw (reverse_front slots below slot split, standing_mark slot (reverse below) bytes (at_end reached), is) passed
 
   stacked_below : length bytes ≤ slot.height → IsStacked (reverse below) (length bytes)
   stacked_below reached = rw (← at_end reached) in_order.1

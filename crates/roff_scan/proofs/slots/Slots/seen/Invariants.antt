@@ -1,14 +1,14 @@
 use Rattle.std.proofs.Common.{◌≡◌, length}
 use Rattle.std.specs.Prelude.{reverse}
 use Rattle.roff_scan.specs.Slots.Standing.{standing, IsStacked}
-use Rattle.roff_scan.specs.Unread.{seen_ahead}
+use Rattle.roff_scan.specs.Input.{first_but_ends}
 use Rattle.roff_scan.proofs.slots.Slots.seen.Given as goal
 
 abbrev pub invariant-loop-slot : goal.invariant-loop-slot
 invariant-loop-slot g l =
     let bytes = l.self-inside.bytes.items in
     record {
-      seen : seen_ahead (standing (reverse l.slots) bytes) ≡ seen_ahead (standing (reverse l.self-inside.slots.items) bytes);
+      seen : first_but_ends (standing (reverse l.slots) bytes) ≡ first_but_ends (standing (reverse l.self-inside.slots.items) bytes);
       stacked : IsStacked (reverse l.slots) (length bytes);
     }
 

@@ -10,18 +10,18 @@ returns-then-text-self-clause-change g c =
     let counted = rw (← c.self.view_is) at c.pushed.ensures in
     rw (← c.self.view_is) (sym (push_past_stack kept c.args.text.now c.pushed.result counted c.if-text-self.true))
 
-pub returns-then-depth-self-clause-change : goal.returns-then-depth-self-clause-change
-returns-then-depth-self-clause-change g c =
+pub returns-then-is_deep-clause-change : goal.returns-then-is_deep-clause-change
+returns-then-is_deep-clause-change g c =
     let kept = kept_by c.self.inside in
     let counted = rw (← c.self.view_is) at c.pushed.ensures in
-    let deep : kept.limits.depth ≤ depth kept.input = rw (← (rw (← c.self.view_is) at c.depth.ensures)) c.if-depth-self.true in
+    let deep : kept.limits.depth ≤ depth kept.input = rw (← c.self.view_is) at (c.is_deep.ensures.deep c.if-is_deep.true) in
     rw (← c.self.view_is) (sym (push_past_depth kept c.args.text.now c.pushed.result counted c.self.invariant.within c.if-text-self.false deep))
 
 pub invariant_of-self : goal.invariant_of-self
 invariant_of-self g c =
     let kept = kept_by c.self.inside in
     let counted = rw (← c.self.view_is) at c.pushed.ensures in
-    let shallow : depth kept.input < kept.limits.depth = rw (← (rw (← c.self.view_is) at c.depth.ensures)) c.if-depth-self.false in
+    let shallow : depth kept.input < kept.limits.depth = rw (← c.self.view_is) at (c.is_deep.ensures.shallow c.if-is_deep.false) in
     record {
       bytes = rw c.push.ensures c.self.invariant.bytes;
       texts = rw c.push.ensures c.self.invariant.texts;
@@ -36,7 +36,7 @@ pub returns-clause-change : goal.returns-clause-change
 returns-clause-change g c =
     let kept = kept_by c.self.inside in
     let counted = rw (← c.self.view_is) at c.pushed.ensures in
-    let shallow : depth kept.input < kept.limits.depth = rw (← (rw (← c.self.view_is) at c.depth.ensures)) c.if-depth-self.false in
+    let shallow : depth kept.input < kept.limits.depth = rw (← c.self.view_is) at (c.is_deep.ensures.shallow c.if-is_deep.false) in
     rw (← c.self.view_is, c.push.ensures) (sym (push_within kept c.args.text.now c.pushed.result counted c.self.invariant.within c.if-text-self.false shallow))
 
 pub returns-clause-within : goal.returns-clause-within

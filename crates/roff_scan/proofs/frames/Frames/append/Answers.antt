@@ -1,0 +1,10 @@
+use Rattle.roff_scan.proofs.NamedTexts.{IsSound-unless_refused}
+use Rattle.roff_scan.proofs.frames.Frames.append.Goals as goal
+use Rattle.roff_store.specs.TextCalls.{Append, answered, made}
+
+pub invariant_of-self : goal.invariant_of-self
+invariant_of-self g c =
+    let texts = c.self.inside.texts in
+    let call = Append c.args.name.now c.args.text.now in
+    let then_made = made call texts in
+    rw c.append.ensures.texts (IsSound-unless_refused c.self.inside (answered call texts) then_made.names then_made.open_texts c.self.invariant)

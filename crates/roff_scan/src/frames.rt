@@ -1,0 +1,310 @@
+//! Frames: what stands ahead of the source. Bodies of strings and macros are read where they lie.
+
+ghost use Rattle.std.specs.Prelude.{false, true, ◌≡◌, ◌+◌, ◌<◌, ◌≤◌, ◌^◌, [], ◌∷◌, ◌++◌, map, length, option_map, IfOk};
+ghost use Rattle.roff_scan.specs.Input.{is_none_ahead, front_cost, ByteAhead, FreeAhead, EndAhead, DoAhead, bytes_ahead, ends_ahead, events_ahead, frees_ahead, most_events, most_frees};
+ghost use Rattle.roff_store.specs.Named.{entry_of};
+ghost use Rattle.roff_store.specs.Texts.{body_of, entry_given, kind_given, kind_of};
+
+use crate::slots::{Front, Slots};
+use crate::unread::{Item, Sight};
+use roff_num::{Limit, Limits, Name};
+use roff_store::{Entry, Kind, LeaseId, OpenId, TextStore};
+use std::alloc::{AllocError, Global};
+use std::marker::Model;
+
+/// What stands ahead beside bytes and ends.
+#[derive(Clone, Copy)]
+pub(crate) enum Frame<E> {
+    /// An event that was put back.
+    Event(E),
+    /// A body, by the lease on it.
+    Body(LeaseId),
+}
+
+/// What stands ahead of the source, and the texts by name. All its memory is reserved as it is made.
+#[derive(Drop)]
+pub(crate) struct Frames<E> {
+    slots: Slots<Frame<E>>,
+    texts: TextStore,
+}
+
+impl<E> Model for Frames<E> {
+    ghost use Rattle.roff_scan.specs.Frames.Kept.{Framed};
+
+    ghost Value = { Framed E };
+
+    ghost use Rattle.roff_scan.specs.Frames.Kept.{kept_by, IsSound};
+
+    ghost view = { kept_by };
+
+    ghost invariant = { IsSound };
+}
+
+impl<E: Copy> Frames<E> {
+    ghost use Rattle.roff_scan.specs.Unread.{no_texts, shown, sighted, seen_ahead};
+    ghost use Rattle.roff_scan.specs.Frames.Calls.{TakesFront};
+    ghost use Rattle.roff_store.specs.TextCalls.{Append, DropOpen, Enter, Open, PushOpen, Remove, Rename, Set, after, answered};
+
+    /// Nothing stands ahead, and no name stands for anything.
+    pub(crate) fn new(alloc: Global, limits: &Limits) -> Result<Self, AllocError>
+        ensures { IfOk result (λ f. f ≡ record {
+          ahead = [];
+          texts = no_texts limits.now;
+          most_bytes = limits.now.stack;
+          most_texts = limits.now.depth;
+        }) }
+    {
+        Ok(Frames {
+            slots: Slots::new(alloc, limits.stack, limits.depth)?,
+            texts: TextStore::new(
+                alloc,
+                limits.store,
+                limits.names,
+                limits.diversions.saturating_add(1),
+                limits.depth,
+                limits.stack,
+            )?,
+        })
+    }
+
+    /// Whether nothing stands ahead.
+    #[inline(always)]
+    pub(crate) fn is_empty(&self) -> bool
+        ensures { result ≡ is_none_ahead self.now.ahead }
+    {
+        self.slots.is_empty()
+    }
+
+    /// How many unread bytes of pushed texts there are.
+    pub(crate) fn byte_count(&self) -> usize
+        ensures count { result ≡ bytes_ahead self.now.ahead }
+        ensures within { result ≤ self.now.most_bytes }
+    {
+        self.slots.byte_count() + self.texts.kept()
+    }
+
+    /// How many pushed texts haven't ended.
+    pub(crate) fn depth(&self) -> usize
+        ensures count { result ≡ ends_ahead self.now.ahead }
+        ensures within { result ≤ self.now.most_texts }
+    {
+        self.slots.depth()
+    }
+
+    /// Puts a text and its end in front.
+    pub(crate) fn push(&mut self, text: &[u8])
+        requires bytes { length text.now + bytes_ahead self.old.ahead ≤ self.old.most_bytes }
+        requires ends { ends_ahead self.old.ahead < self.old.most_texts }
+        ensures { self.new
+            ≡ record self.old { ahead = map ByteAhead text.now ++ EndAhead ∷ self.old.ahead } }
+    {
+        self.slots.push(text);
+    }
+
+    /// How many bytes the body of a name has.
+    pub(crate) fn body_len(&self, name: &Name) -> usize
+        ensures { result ≡ length (body_of name.now self.now.texts) }
+    {
+        match self.texts.get(name) {
+            Some(Kind::Body(len)) => len,
+            _ => 0,
+        }
+    }
+
+    /// Puts the body of a name and its end in front; it is read where it lies.
+    pub(crate) fn push_body(&mut self, name: &Name)
+        requires bytes { length (body_of name.now self.old.texts) + bytes_ahead self.old.ahead
+            ≤ self.old.most_bytes }
+        requires ends { ends_ahead self.old.ahead < self.old.most_texts }
+        ensures { self.new ≡ record self.old {
+          ahead = map ByteAhead (body_of name.now self.old.texts) ++ EndAhead ∷ self.old.ahead;
+        } }
+    {
+        self.slots.push(&[]);
+        if self.body_len(name) == 0 {
+            return;
+        }
+        if let Some(lease) = self.texts.lease(name) {
+            self.slots.put_back(Frame::Body(lease));
+        }
+    }
+
+    /// Puts an event in front.
+    pub(crate) fn put_back(&mut self, event: E)
+        requires { events_ahead self.old.ahead < most_events self.old.most_texts }
+        ensures { self.new ≡ record self.old { ahead = DoAhead event ∷ self.old.ahead } }
+    {
+        self.slots.put_back(Frame::Event(event));
+    }
+
+    /// What the front item costs, if there is one.
+    pub(crate) fn cost(&self) -> u32
+        ensures { result ≡ front_cost self.now.ahead }
+    {
+        match self.slots.front() {
+            None | Some(Front::Free(_)) => 0,
+            Some(Front::Byte(_)) => 1,
+            Some(Front::End) => 1,
+            Some(Front::Do(_)) => 1,
+        }
+    }
+
+    /// Takes the front item.
+    pub(crate) fn take(&mut self) -> Item<E>
+        requires { is_none_ahead self.old.ahead ≡ false }
+        ensures { TakesFront self.old self.new (shown result) }
+    {
+        match self.slots.front() {
+            Some(Front::Byte(byte)) => {
+                self.slots.take();
+                Item::Byte(byte)
+            }
+            Some(Front::Free(byte)) => {
+                self.slots.take();
+                Item::Byte(byte)
+            }
+            Some(Front::End) => {
+                self.slots.take();
+                Item::End
+            }
+            Some(Front::Do(Frame::Event(event))) => {
+                self.slots.take();
+                Item::Do(event)
+            }
+            Some(Front::Do(Frame::Body(lease))) => {
+                let byte = self.texts.lease_front(lease)[0];
+                if self.texts.lease_rest(lease) == 1 {
+                    self.texts.release(lease);
+                    self.slots.take();
+                    return Item::Byte(byte);
+                }
+                self.texts.lease_pass(lease, 1);
+                Item::Byte(byte)
+            }
+            None => unreachable!(),
+        }
+    }
+
+    /// What is seen in front, behind any ends of texts; nothing where only those are there.
+    pub(crate) fn seen(&self) -> Option<Sight>
+        ensures { option_map sighted result ≡ seen_ahead self.now.ahead }
+    {
+        match self.slots.seen() {
+            None => None,
+            Some(Front::Do(Frame::Body(lease))) => {
+                Some(Sight::Byte(self.texts.lease_front(lease)[0]))
+            }
+            Some(Front::Byte(byte)) => Some(Sight::Byte(byte)),
+            Some(Front::Free(byte)) => Some(Sight::Byte(byte)),
+            Some(Front::End) => Some(Sight::Nothing),
+            Some(Front::Do(Frame::Event(_))) => Some(Sight::Nothing),
+        }
+    }
+
+    /// Puts bytes in front again.
+    pub(crate) fn free(&mut self, bytes: &[u8])
+        requires { frees_ahead self.old.ahead + length bytes.now ≤ most_frees }
+        ensures { self.new ≡ record self.old { ahead = map FreeAhead bytes.now ++ self.old.ahead } }
+    {
+        self.slots.free(bytes);
+    }
+
+    /// What a name stands for: a request, or a body with so many bytes.
+    pub(crate) fn get(&self, name: &Name) -> Option<Kind>
+        ensures { option_map kind_given result
+            ≡ option_map kind_of (entry_of name.now self.now.texts.names.entries) }
+    {
+        self.texts.get(name)
+    }
+
+    /// Lets a name stand for an entry from now on.
+    ///
+    /// # Errors
+    ///
+    /// [`Limit::Store`] if there would be too many bytes, else [`Limit::Names`] if the name is new
+    /// and the table is full; nothing changes then.
+    pub(crate) fn set(&mut self, name: &Name, entry: Entry<'_>) -> Result<(), Limit>
+        ensures answer { result ≡ answered (Set name.now (entry_given entry.entry)) self.old.texts }
+        ensures texts { self.new ≡ record self.old {
+          texts = after (Set name.now (entry_given entry.entry)) self.old.texts;
+        } }
+    {
+        self.texts.set(name, entry)
+    }
+
+    /// Puts bytes behind the body of a name. A request is replaced, and a name that stands for
+    /// nothing gets the bytes as its body.
+    ///
+    /// # Errors
+    ///
+    /// As for [`set`](Frames::set).
+    pub(crate) fn append(&mut self, name: &Name, text: &[u8]) -> Result<(), Limit>
+        ensures answer { result ≡ answered (Append name.now text.now) self.old.texts }
+        ensures texts { self.new
+            ≡ record self.old { texts = after (Append name.now text.now) self.old.texts } }
+    {
+        self.texts.append(name, text)
+    }
+
+    /// Removes a name.
+    pub(crate) fn remove(&mut self, name: &Name)
+        ensures { self.new ≡ record self.old { texts = after (Remove name.now) self.old.texts } }
+    {
+        self.texts.remove(name);
+    }
+
+    /// Lets one name stand for what another one stood for, which then stands for nothing. Nothing
+    /// changes where that one stands for nothing, or is the same name.
+    pub(crate) fn rename(&mut self, from: &Name, to: &Name)
+        ensures { self.new
+            ≡ record self.old { texts = after (Rename from.now to.now) self.old.texts } }
+    {
+        self.texts.rename(from, to);
+    }
+
+    /// Begins a text.
+    pub(crate) fn open(&mut self) -> OpenId
+        requires { length self.old.texts.open_texts < self.old.texts.cap_open }
+        ensures number { result.0 ≡ length self.old.texts.open_texts }
+        ensures texts { self.new ≡ record self.old { texts = after Open self.old.texts } }
+    {
+        self.texts.open()
+    }
+
+    /// Puts bytes behind a text in the making.
+    ///
+    /// # Errors
+    ///
+    /// [`Limit::Store`] if there would be too many bytes; nothing changes then.
+    pub(crate) fn push_open(&mut self, id: OpenId, text: &[u8]) -> Result<(), Limit>
+        requires { id.0 < length self.old.texts.open_texts }
+        ensures answer { result ≡ answered (PushOpen id.0 text.now) self.old.texts }
+        ensures texts { self.new
+            ≡ record self.old { texts = after (PushOpen id.0 text.now) self.old.texts } }
+    {
+        self.texts.push_open(id, text)
+    }
+
+    /// Ends a text in the making: it is put behind the body of a name, or is its body from now on.
+    /// The number of each newer one goes down by one.
+    ///
+    /// # Errors
+    ///
+    /// [`Limit::Names`] if the name is new and the table is full; nothing changes then.
+    pub(crate) fn enter(&mut self, id: OpenId, name: &Name, append: bool) -> Result<(), Limit>
+        requires { id.0 < length self.old.texts.open_texts }
+        ensures answer { result ≡ answered (Enter id.0 name.now append) self.old.texts }
+        ensures texts { self.new
+            ≡ record self.old { texts = after (Enter id.0 name.now append) self.old.texts } }
+    {
+        self.texts.enter(id, name, append)
+    }
+
+    /// Drops a text in the making. The number of each newer one goes down by one.
+    pub(crate) fn drop_open(&mut self, id: OpenId)
+        requires { id.0 < length self.old.texts.open_texts }
+        ensures { self.new ≡ record self.old { texts = after (DropOpen id.0) self.old.texts } }
+    {
+        self.texts.drop_open(id);
+    }
+}
