@@ -1,14 +1,14 @@
 -- What the code does with an item that it took, as a step of the definition.
-use Rattle.std.proofs.Common.{◌≡◌, ℕ, Bool, true, false, List, [], ◌∷◌, ◌++◌, length, Option, Some, None, Result, Ok, Err, OnOk, inl, inr, refl, subst, sym, ap, append-nil, ◌∙◌}
+use Rattle.std.proofs.Common.{◌≡◌, ℕ, ◌-◌, Bool, true, false, List, [], ◌∷◌, ◌++◌, length, Option, Some, None, Result, Ok, Err, OnOk, inl, inr, refl, subst, sym, ap, append-nil, ◌∙◌}
 use Rattle.std.proofs.Math.Dec.{eqb-suc-zero}
 use Rattle.std.specs.Prelude.{not, ◌==◌}
 use Rattle.roff_lines.specs.declared.env.Env.{Env}
 use Rattle.roff_lines.specs.Env.Stands.{Stands}
 use Rattle.roff_num.specs.declared.limit.Limit.{Limit}
-use Rattle.roff_num.specs.declared.limit.Limit.TheVariants.{Names, Stack, Depth, Conditions}
+use Rattle.roff_num.specs.declared.limit.Limit.TheVariants.{Names, Stack, Depth, Store, Diversions, Conditions}
 use Rattle.roff_num.specs.declared.limits.Limits.{Limits}
 use Rattle.roff_scan.specs.Halves.{reading_ended}
-use Rattle.roff_scan.specs.Input.{DoAhead, depth, results}
+use Rattle.roff_scan.specs.Input.{DoAhead, depth, results, stored}
 use Rattle.roff_scan.specs.Tape.{Tape}
 use Rattle.roff_scan.specs.Unread.{looked_then}
 use Rattle.roff_scan.specs.Half.{Half}
@@ -285,7 +285,9 @@ counts_in-interrupted rs (InText line) i = refl
 counts_in-interrupted rs (Control breaks) i = refl
 counts_in-interrupted rs (Name breaks byte) i = refl
 counts_in-interrupted rs (InArguments breaks request) i =
-    ap (λ bytes. (Names, length rs.named) ∷ (Stack, bytes) ∷ (Depth, depth i) ∷ (Conditions, results i) ∷ []) (pushed-settling i)
+    let others : List (Limit × ℕ) =
+    (Depth, depth i) ∷ (Store, stored i) ∷ (Names, length i.names) ∷ (Diversions, length i.open_texts - 1) ∷ (Conditions, results i) ∷ [] in
+    ap (λ bytes. (Names, length rs.named) ∷ (Stack, bytes) ∷ others) (pushed-settling i)
 counts_in-interrupted rs (Deciding keeping) i = refl
 counts_in-interrupted rs (Skipping opened closed behind) i = refl
 counts_in-interrupted rs Dropped i = refl

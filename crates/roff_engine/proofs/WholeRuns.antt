@@ -1,6 +1,6 @@
 -- A whole run of the code, turn by turn: each turn is a step of the definition.
 use Rattle.std.proofs.Common.{◌≡◌, ℕ, ◌+◌, ◌<◌, Bool, true, false, List, [], ◌++◌, Some, None, Result, Ok, Err, inl, inr, refl, sym, ap, subst, ◌∙◌, arith}
-use Rattle.std.specs.Prelude.{if◌then◌else◌}
+use Rattle.std.specs.Prelude.{nat_lt, if◌then◌else◌}
 use Rattle.std.proofs.lemmas.Bool.{le-ltb}
 use Rattle.roff_lines.specs.Env.Stands.{Stands}
 use Rattle.roff_num.specs.declared.limits.Limits.{Limits}
@@ -57,16 +57,11 @@ module _ (gave gives : Tape → Type 0) (noted notes : ℕ) (old new : Coded) (n
       ap (λ (c : Bool). if c then waiting old.limits s else in_front_taken old.limits old.unread.input.ahead s) stays)
       turn
 
--- where no count is above its limit, none is refused
-none_passed : {A : Type 0} (first second third fourth : A) (a b c d : Bool) → a ≡ false → b ≡ false → c ≡ false → d ≡ false
-    → (if a then Some first else if b then Some second else if c then Some third else if d then Some fourth else None) ≡ None
-none_passed first second third fourth a b c d one two three four = rw (one, two, three, four) refl
-
--- nor before the first item
+-- before the first item no count is above its limit
 none_passed-fresh : (l : Limits) → first_passed l (counts_in no_registers initial_input) ≡ None
 none_passed-fresh l =
-    none_passed _ _ _ _ _ _ _ _ (le-ltb l.names 0 (omega arith)) (le-ltb l.stack 0 (omega arith)) (le-ltb l.depth 0 (omega arith))
-    (le-ltb l.conditions 0 (omega arith))
+    let none : (limit : ℕ) → nat_lt limit 0 ≡ false = λ limit. le-ltb limit 0 (omega arith) in
+    rw (none l.names, none l.stack, none l.depth, none l.store, none l.diversions, none l.conditions) refl
 
 -- a run before its first item
 pub starts : (t : Tape) (now : Seen) (run : Coded) → Stands run.limits.line [] run.formatter.env → IsFresh run.limits run.formatter run.unread

@@ -1,16 +1,16 @@
 -- A condition that decides, as the definition takes it: its result is kept, if it is to be, and its branch comes.
-use Rattle.std.proofs.Common.{◌≡◌, ℕ, ◌≤◌, Bool, true, false, List, length, Option, Some, None, Result, Ok, Err, refl, sym, subst, ap, ◌∙◌, arith}
+use Rattle.std.proofs.Common.{◌≡◌, ℕ, ◌-◌, ◌≤◌, Bool, true, false, List, length, Option, Some, None, Result, Ok, Err, refl, sym, subst, ap, ◌∙◌, arith}
 use Rattle.std.specs.Prelude.{nat_lt, nat_le, ◌||◌, ◌&&◌, if◌then◌else◌, ◌==◌}
 use Rattle.std.proofs.lemmas.Bool.{lt-ltb, ltb-true}
 use Rattle.roff_lines.specs.declared.env.Env.{Env}
 use Rattle.roff_num.specs.declared.limit.Limit.{Limit}
-use Rattle.roff_num.specs.declared.limit.Limit.TheVariants.{Names, Stack, Depth, Conditions}
+use Rattle.roff_num.specs.declared.limit.Limit.TheVariants.{Names, Stack, Depth, Store, Diversions, Conditions}
 use Rattle.roff_num.specs.declared.limits.Limits.{Limits}
 use Rattle.roff_scan.specs.Bytes.{tab, newline, blank, apostrophe, dot, backslash, is_silent}
 use Rattle.roff_scan.specs.Characters.{character}
 use Rattle.roff_scan.specs.Escapes.{escape_of}
 use Rattle.roff_scan.specs.Halves.{byte_read}
-use Rattle.roff_scan.specs.Input.{keeping, pushed, depth, results}
+use Rattle.roff_scan.specs.Input.{keeping, pushed, depth, results, stored}
 use Rattle.roff_scan.specs.Unread.{changing, input_refusal}
 use Rattle.roff_scan.specs.declared.escapes.Escape.{Escape as Kind}
 use Rattle.roff_scan.specs.declared.escapes.Escape.TheVariants.{Prints, Blank, NoWidth, Brace, Nothing, Comment as BeginsComment, Size as BeginsSize, Name as BeginsName, Text as BeginsText, Width as BeginsWidth, LeftOut as IsLeftOut}
@@ -128,7 +128,10 @@ first_passed-keeping l rs so i limit passed =
     unless_first limit Names _ _ (nat_lt l.names (length rs.named))
     (unless_first limit Stack _ _ (nat_lt l.stack (pushed i))
     (unless_first limit Depth _ _ (nat_lt l.depth (depth i))
-    (results_more limit l.conditions (results i) (results (keeping so i)) (nat_lt l.conditions (results i)) refl (omega arith)))) passed
+    (unless_first limit Store _ _ (nat_lt l.store (stored i))
+    (unless_first limit Names _ _ (nat_lt l.names (length i.names))
+    (unless_first limit Diversions _ _ (nat_lt l.diversions (length i.open_texts - 1))
+    (results_more limit l.conditions (results i) (results (keeping so i)) (nat_lt l.conditions (results i)) refl (omega arith))))))) passed
 
 -- the limit that a taking would pass, if it would pass one
 abbrev passed_by : Limits → AllRegisters → Taking → Option Limit

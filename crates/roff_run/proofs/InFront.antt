@@ -7,7 +7,6 @@ use Rattle.roff_scan.specs.Halves.{seen_stays}
 use Rattle.roff_scan.specs.Input.{Ahead, ByteAhead, FreeAhead, EndAhead, DoAhead, cost, item_taken}
 use Rattle.roff_scan.specs.Tape.{Tape, Item, Answer, Gives, Ends, OneByte, OneNote, Ending, Ended, Failed, Stopped, front, behind_front, items_then, only, Took}
 use Rattle.roff_scan.specs.Unread.{Unread, Shown, ShowsByte, ShowsEnd, ShowsDo, ShowsNote, ShowsEnding, ShowsRefusal, taking, taking_ahead, taking_answer, looked_then, answer_behind, asks_to_take, shown_ahead, Sighted, SeesByte, SeesNothing, SeesNote, SeesEnding, seen_ahead, looking, looking_at, looking_past, asks_to_look, Asked}
-use Rattle.roff_store.specs.Texts.{Texts}
 use Rattle.roff_run.proofs.InputCounts.{one_of}
 use Rattle.roff_run.specs.Reading.{PageInput, interrupted}
 use Rattle.roff_run.specs.Requests.{PageEvent}
@@ -77,10 +76,10 @@ same_test : (old new count : ℕ) → old ≡ new → nat_lt old count ≡ nat_l
 same_test old new count same = ap (λ limit. nat_lt limit count) same
 
 -- calls on this input, where the code's limits have the same limit on bytes
-module _ (l limits : Limits) (texts : Texts) (i : PageInput) (tape : Tape) (s : State) (cap : limits.bytes ≡ l.bytes) where
+module _ (l limits : Limits) (i : PageInput) (tape : Tape) (s : State) (cap : limits.bytes ≡ l.bytes) where
   -- an item ahead that no limit refuses
   allowed_shown : (looked : Option ℕ) (item : Ahead PageEvent) (behind : List (Ahead PageEvent))
-      → let u : Unread PageEvent = record { input = i; looked = looked; limits = limits; texts = texts } in
+      → let u : Unread PageEvent = record { input = i; looked = looked; limits = limits } in
       let from : State = over_unread u tape s in
       let taken : PageInput = item_taken item behind i in
       IsShown l from tape s (made l from (ahead_taken item (record from { input = taken }))) (shown_ahead item, record u { input = taken })
@@ -91,27 +90,27 @@ module _ (l limits : Limits) (texts : Texts) (i : PageInput) (tape : Tape) (s : 
 
   -- an item ahead
   ahead_shown : (looked : Option ℕ) (item : Ahead PageEvent) (behind : List (Ahead PageEvent))
-      → let u : Unread PageEvent = record { input = i; looked = looked; limits = limits; texts = texts } in
+      → let u : Unread PageEvent = record { input = i; looked = looked; limits = limits } in
       let from : State = over_unread u tape s in
       IsShown l from tape s (in_front_taken l (item ∷ behind) from) (taking_ahead item behind u)
   ahead_shown looked item behind =
-      let from : State = over_unread (record { input = i; looked = looked; limits = limits; texts = texts }) tape s in
+      let from : State = over_unread (record { input = i; looked = looked; limits = limits }) tape s in
       either (IsShown l from tape s) _ _ _ _ _ _ (same_test limits.bytes l.bytes (i.charge + cost item) cap) refl (allowed_shown looked item behind)
 
   -- the byte that was looked at
-  looked_shown : (b : ℕ) → let u : Unread PageEvent = record { input = i; looked = Some b; limits = limits; texts = texts } in
+  looked_shown : (b : ℕ) → let u : Unread PageEvent = record { input = i; looked = Some b; limits = limits } in
       let from : State = over_unread u tape s in
       IsShown l from tape s (in_front_taken l [] from) (taking_answer (Gives (OneByte b)) u)
   looked_shown b =
-      let from : State = over_unread (record { input = i; looked = Some b; limits = limits; texts = texts }) tape s in
+      let from : State = over_unread (record { input = i; looked = Some b; limits = limits }) tape s in
       either (IsShown l from tape s) _ _ _ _ _ _ (same_test limits.bytes l.bytes (i.charge + 1) cap) refl refl
 
   -- an answer of the source
-  answer_shown : (a : Answer) → let u : Unread PageEvent = record { input = i; looked = None; limits = limits; texts = texts } in
+  answer_shown : (a : Answer) → let u : Unread PageEvent = record { input = i; looked = None; limits = limits } in
       let from : State = over_unread u tape s in
       IsShown l from (behind_front tape) s (answered l a from) (taking_answer a u)
   answer_shown (Gives (OneByte b)) =
-      let from : State = over_unread (record { input = i; looked = None; limits = limits; texts = texts }) tape s in
+      let from : State = over_unread (record { input = i; looked = None; limits = limits }) tape s in
       either (IsShown l from (behind_front tape) s) _ _ _ _ _ _ (same_test limits.bytes l.bytes (i.charge + 1) cap) refl refl
   answer_shown (Gives (OneNote message)) = refl
   answer_shown (Ends Ended) = refl
@@ -119,26 +118,26 @@ module _ (l limits : Limits) (texts : Texts) (i : PageInput) (tape : Tape) (s : 
   answer_shown (Ends (Stopped limit)) = refl
 
 -- by what stands in front
-in_front_of : (l limits : Limits) (texts : Texts) (i : PageInput) (s : State) → limits.bytes ≡ l.bytes
+in_front_of : (l limits : Limits) (i : PageInput) (s : State) → limits.bytes ≡ l.bytes
     → (ahead : List (Ahead PageEvent)) (looked : Option ℕ) (a : Answer) (tape behind : Tape)
-    → let u : Unread PageEvent = record { input = record i { ahead = ahead }; looked = looked; limits = limits; texts = texts } in
+    → let u : Unread PageEvent = record { input = record i { ahead = ahead }; looked = looked; limits = limits } in
     Given a (asks_to_take u) tape behind
     → IsShown l (over_unread u tape s) behind s (in_front_taken l ahead (over_unread u tape s)) (taking a u)
-in_front_of l limits texts i s cap [] None a tape behind (WasAsked t gives) =
-    let u : Unread PageEvent = record { input = record i { ahead = [] }; looked = None; limits = limits; texts = texts } in
+in_front_of l limits i s cap [] None a tape behind (WasAsked t gives) =
+    let u : Unread PageEvent = record { input = record i { ahead = [] }; looked = None; limits = limits } in
     let from : State = over_unread u t s in
     subst (λ (b : Answer). IsShown l from (behind_front t) s (answered l b from) (taking_answer a u)) (sym gives)
-    (answer_shown l limits texts u.input t s cap a)
-in_front_of l limits texts i s cap [] (Some b) a tape behind (WasNot t) = looked_shown l limits texts (record i { ahead = [] }) t s cap b
-in_front_of l limits texts i s cap (item ∷ items) looked a tape behind (WasNot t) =
-    ahead_shown l limits texts (record i { ahead = item ∷ items }) t s cap looked item items
+    (answer_shown l limits u.input t s cap a)
+in_front_of l limits i s cap [] (Some b) a tape behind (WasNot t) = looked_shown l limits (record i { ahead = [] }) t s cap b
+in_front_of l limits i s cap (item ∷ items) looked a tape behind (WasNot t) =
+    ahead_shown l limits (record i { ahead = item ∷ items }) t s cap looked item items
 
 -- the step that takes the item in front is what the call shows
 pub in_front : (l : Limits) (u : Unread PageEvent) (a : Answer) (tape behind : Tape) (s : State)
     → u.limits.bytes ≡ l.bytes → Given a (asks_to_take u) tape behind
     → in_front_taken l u.input.ahead (over_unread u tape s)
     ≡ shown_step l (taking a u).0 (over_unread u tape s) (over_unread (taking a u).1 behind s)
-in_front l u a tape behind s cap given = in_front_of l u.limits u.texts u.input s cap u.input.ahead u.looked a tape behind given
+in_front l u a tape behind s cap given = in_front_of l u.limits u.input s cap u.input.ahead u.looked a tape behind given
 
 -- a call leaves the limits
 limits-answer : (a : Answer) (u : Unread PageEvent) → (taking_answer a u).1.limits ≡ u.limits
@@ -146,14 +145,14 @@ limits-answer (Gives (OneByte b)) u = one_of (λ (call : Shown PageEvent × Unre
 limits-answer (Gives (OneNote message)) u = refl
 limits-answer (Ends ending) u = refl
 
-limits-taking_of : (ahead : List (Ahead PageEvent)) (a : Answer) (i : PageInput) (looked : Option ℕ) (limits : Limits) (texts : Texts)
-    → let u : Unread PageEvent = record { input = record i { ahead = ahead }; looked = looked; limits = limits; texts = texts } in (taking a u).1.limits ≡ limits
-limits-taking_of [] a i looked limits texts = limits-answer (answer_behind looked a) (record { input = record i { ahead = [] }; looked = looked; limits = limits; texts = texts })
-limits-taking_of (item ∷ items) a i looked limits texts =
+limits-taking_of : (ahead : List (Ahead PageEvent)) (a : Answer) (i : PageInput) (looked : Option ℕ) (limits : Limits)
+    → let u : Unread PageEvent = record { input = record i { ahead = ahead }; looked = looked; limits = limits } in (taking a u).1.limits ≡ limits
+limits-taking_of [] a i looked limits = limits-answer (answer_behind looked a) (record { input = record i { ahead = [] }; looked = looked; limits = limits })
+limits-taking_of (item ∷ items) a i looked limits =
     one_of (λ (call : Shown PageEvent × Unread PageEvent). call.1.limits ≡ limits) (nat_lt limits.bytes (i.charge + cost item)) _ _ refl refl
 
 pub limits-taking : (a : Answer) (u : Unread PageEvent) → (taking a u).1.limits ≡ u.limits
-limits-taking a u = limits-taking_of u.input.ahead a u.input u.looked u.limits u.texts
+limits-taking a u = limits-taking_of u.input.ahead a u.input u.looked u.limits
 
 -- a call shows how the source's items end
 abbrev pub IsEnding : Shown PageEvent → Type 0
@@ -174,25 +173,25 @@ no_ending_ahead (DoAhead event) is = is
 abbrev LeavesState : State → Tape → State → Shown PageEvent × Unread PageEvent → Type 0
 LeavesState from tape s call = IsEnding call.0 → over_unread call.1 tape s ≡ from
 
-ending_of : (i : PageInput) (limits : Limits) (texts : Texts) (s : State) (ahead : List (Ahead PageEvent)) (looked : Option ℕ) (a : Answer) (tape behind : Tape)
-    → let u : Unread PageEvent = record { input = record i { ahead = ahead }; looked = looked; limits = limits; texts = texts } in
+ending_of : (i : PageInput) (limits : Limits) (s : State) (ahead : List (Ahead PageEvent)) (looked : Option ℕ) (a : Answer) (tape behind : Tape)
+    → let u : Unread PageEvent = record { input = record i { ahead = ahead }; looked = looked; limits = limits } in
     Given a (asks_to_take u) tape behind → LeavesState (over_unread u tape s) behind s (taking a u)
-ending_of i limits texts s [] None (Gives (OneByte b)) tape behind given =
+ending_of i limits s [] None (Gives (OneByte b)) tape behind given =
     one_of (LeavesState (record s { tape = tape; input = record i { ahead = [] } }) behind s) (nat_lt limits.bytes (i.charge + 1)) _ _ (λ is. absurd is) (λ is. absurd is)
-ending_of i limits texts s [] None (Gives (OneNote message)) tape behind given = λ is. absurd is
-ending_of i limits texts s [] None (Ends ending) tape behind (WasAsked t ends) =
+ending_of i limits s [] None (Gives (OneNote message)) tape behind given = λ is. absurd is
+ending_of i limits s [] None (Ends ending) tape behind (WasAsked t ends) =
     λ is. ap (λ (left : Tape). record s { tape = left; input = record i { ahead = [] } }) (ended-behind_front ending t ends)
-ending_of i limits texts s [] (Some b) a tape behind given =
+ending_of i limits s [] (Some b) a tape behind given =
     let from : State = record s { tape = looked_then (Some b) tape; input = record i { ahead = [] } } in
     one_of (LeavesState from behind s) (nat_lt limits.bytes (i.charge + 1)) _ _ (λ is. absurd is) (λ is. absurd is)
-ending_of i limits texts s (item ∷ items) looked a tape behind given =
+ending_of i limits s (item ∷ items) looked a tape behind given =
     let from : State = record s { tape = looked_then looked tape; input = record i { ahead = item ∷ items } } in
     one_of (LeavesState from behind s) (nat_lt limits.bytes (i.charge + cost item)) _ _ (λ is. absurd is) (λ is. absurd (no_ending_ahead item is))
 
 -- where the source's items end, the call changes nothing of the state
 pub over_unread-ending : (u : Unread PageEvent) (a : Answer) (tape behind : Tape) (s : State) → Given a (asks_to_take u) tape behind
     → IsEnding (taking a u).0 → over_unread (taking a u).1 behind s ≡ over_unread u tape s
-over_unread-ending u a tape behind s given is = ending_of u.input u.limits u.texts s u.input.ahead u.looked a tape behind given is
+over_unread-ending u a tape behind s given is = ending_of u.input u.limits s u.input.ahead u.looked a tape behind given is
 
 -- what a step does that sees this in front, a byte or nothing, from one state, where this one is it behind the look
 abbrev pub front_step : Limits → Option ℕ → State → State → State
@@ -228,43 +227,43 @@ abbrev IsSighted : Limits → State → Tape → State → State → Sighted × 
 IsSighted l from tape s done call = done ≡ sighted_step l call.0 from (over_unread call.1 tape s)
 
 -- an answer of the source that was looked at
-answer_sighted : (l limits : Limits) (texts : Texts) (i : PageInput) (a : Answer) (tape : Tape) (s : State) → front tape ≡ a
-    → let u : Unread PageEvent = record { input = i; looked = None; limits = limits; texts = texts } in
+answer_sighted : (l limits : Limits) (i : PageInput) (a : Answer) (tape : Tape) (s : State) → front tape ≡ a
+    → let u : Unread PageEvent = record { input = i; looked = None; limits = limits } in
     let from : State = over_unread u tape s in
     IsSighted l from (behind_front tape) s (awaited_of_source l a from) (looking_at a u)
-answer_sighted l limits texts i (Gives (OneByte b)) tape s gives =
+answer_sighted l limits i (Gives (OneByte b)) tape s gives =
     let from : Tape → State = λ t. record s { tape = t; input = i } in
     subst (λ (t : Tape). awaited_of_source l (Gives (OneByte b)) (from tape) ≡ sighted_step l (SeesByte b) (from tape) (from t))
     (sym (looked-behind_front b tape gives)) refl
-answer_sighted l limits texts i (Gives (OneNote message)) tape s gives = refl
-answer_sighted l limits texts i (Ends Ended) tape s gives =
+answer_sighted l limits i (Gives (OneNote message)) tape s gives = refl
+answer_sighted l limits i (Ends Ended) tape s gives =
     let from : Tape → State = λ t. record s { tape = t; input = i } in
     subst (λ (t : Tape). front_seen l None (from tape) ≡ front_step l None (from tape) (from t)) (sym (ended-behind_front Ended tape gives)) refl
-answer_sighted l limits texts i (Ends Failed) tape s gives = refl
-answer_sighted l limits texts i (Ends (Stopped limit)) tape s gives = refl
+answer_sighted l limits i (Ends Failed) tape s gives = refl
+answer_sighted l limits i (Ends (Stopped limit)) tape s gives = refl
 
 -- by what is seen ahead of the source
-seen_of : (l limits : Limits) (texts : Texts) (i : PageInput) (s : State) (sight : Option Sighted) → IsSeenAhead sight
+seen_of : (l limits : Limits) (i : PageInput) (s : State) (sight : Option Sighted) → IsSeenAhead sight
     → (looked : Option ℕ) (a : Answer) (tape behind : Tape)
-    → let u : Unread PageEvent = record { input = i; looked = looked; limits = limits; texts = texts } in
+    → let u : Unread PageEvent = record { input = i; looked = looked; limits = limits } in
     let call : Sighted × Unread PageEvent = looking_past sight a u in
     Given a (is_none sight && is_none looked) tape behind
     → IsSighted l (over_unread u tape s) behind s (awaited l sight (over_unread u tape s)) call
-seen_of l limits texts i s None is None a tape behind (WasAsked t gives) =
-    let u : Unread PageEvent = record { input = i; looked = None; limits = limits; texts = texts } in
+seen_of l limits i s None is None a tape behind (WasAsked t gives) =
+    let u : Unread PageEvent = record { input = i; looked = None; limits = limits } in
     let from : State = over_unread u t s in
-    subst (λ (b : Answer). IsSighted l from (behind_front t) s (awaited_of_source l b from) (looking_at a u)) (sym gives) (answer_sighted l limits texts i a t s gives)
-seen_of l limits texts i s None is (Some b) a tape behind (WasNot t) = refl
-seen_of l limits texts i s (Some (SeesByte b)) is looked a tape behind (WasNot t) = refl
-seen_of l limits texts i s (Some SeesNothing) is looked a tape behind (WasNot t) = refl
-seen_of l limits texts i s (Some (SeesNote message)) is looked a tape behind given = absurd is
-seen_of l limits texts i s (Some (SeesEnding ending)) is looked a tape behind given = absurd is
+    subst (λ (b : Answer). IsSighted l from (behind_front t) s (awaited_of_source l b from) (looking_at a u)) (sym gives) (answer_sighted l limits i a t s gives)
+seen_of l limits i s None is (Some b) a tape behind (WasNot t) = refl
+seen_of l limits i s (Some (SeesByte b)) is looked a tape behind (WasNot t) = refl
+seen_of l limits i s (Some SeesNothing) is looked a tape behind (WasNot t) = refl
+seen_of l limits i s (Some (SeesNote message)) is looked a tape behind given = absurd is
+seen_of l limits i s (Some (SeesEnding ending)) is looked a tape behind given = absurd is
 
 -- the step in which what is half read waits is what the look shows
 pub seen : (l : Limits) (u : Unread PageEvent) (a : Answer) (tape behind : Tape) (s : State) → Given a (asks_to_look u) tape behind
     → awaited l (seen_ahead u.input.ahead) (over_unread u tape s)
     ≡ sighted_step l (looking a u).0 (over_unread u tape s) (over_unread (looking a u).1 behind s)
-seen l u a tape behind s given = seen_of l u.limits u.texts u.input s (seen_ahead u.input.ahead) (seen-ahead u.input.ahead) u.looked a tape behind given
+seen l u a tape behind s given = seen_of l u.limits u.input s (seen_ahead u.input.ahead) (seen-ahead u.input.ahead) u.looked a tape behind given
 
 -- a look leaves the input and the limits
 pub record Looks (u left : Unread PageEvent) : Type 0 where
@@ -292,24 +291,24 @@ IsNoNote (SeesNote message) = ⊥
 IsNoNote (SeesEnding ending) = Unit {0}
 
 -- by what is seen ahead of the source
-unmoved_of : (limits : Limits) (texts : Texts) (i : PageInput) (s : State) (sight : Option Sighted)
+unmoved_of : (limits : Limits) (i : PageInput) (s : State) (sight : Option Sighted)
     → (looked : Option ℕ) (a : Answer) (tape behind : Tape)
-    → let u : Unread PageEvent = record { input = i; looked = looked; limits = limits; texts = texts } in
+    → let u : Unread PageEvent = record { input = i; looked = looked; limits = limits } in
     let call : Sighted × Unread PageEvent = looking_past sight a u in
     Given a (is_none sight && is_none looked) tape behind → IsNoNote call.0 → over_unread call.1 behind s ≡ over_unread u tape s
-unmoved_of limits texts i s None None (Gives (OneByte b)) tape behind (WasAsked t gives) quiet =
+unmoved_of limits i s None None (Gives (OneByte b)) tape behind (WasAsked t gives) quiet =
     ap (λ (t : Tape). record s { tape = t; input = i }) (looked-behind_front b t gives)
-unmoved_of limits texts i s None None (Gives (OneNote message)) tape behind (WasAsked t gives) quiet = absurd quiet
-unmoved_of limits texts i s None None (Ends ending) tape behind (WasAsked t gives) quiet =
+unmoved_of limits i s None None (Gives (OneNote message)) tape behind (WasAsked t gives) quiet = absurd quiet
+unmoved_of limits i s None None (Ends ending) tape behind (WasAsked t gives) quiet =
     ap (λ (t : Tape). record s { tape = t; input = i }) (ended-behind_front ending t gives)
-unmoved_of limits texts i s None (Some b) a tape behind (WasNot t) quiet = refl
-unmoved_of limits texts i s (Some sight) looked a tape behind (WasNot t) quiet = refl
+unmoved_of limits i s None (Some b) a tape behind (WasNot t) quiet = refl
+unmoved_of limits i s (Some sight) looked a tape behind (WasNot t) quiet = refl
 
 -- a look changes nothing of the state, unless it shows a message of the source's
 pub over_unread-looking : (u : Unread PageEvent) (a : Answer) (tape behind : Tape) (s : State) → Given a (asks_to_look u) tape behind
     → IsNoNote (looking a u).0 → over_unread (looking a u).1 behind s ≡ over_unread u tape s
 over_unread-looking u a tape behind s given quiet =
-    unmoved_of u.limits u.texts u.input s (seen_ahead u.input.ahead) u.looked a tape behind given quiet
+    unmoved_of u.limits u.input s (seen_ahead u.input.ahead) u.looked a tape behind given quiet
 
 -- the items of a source's answer, if it was asked
 abbrev pub items_asked : Bool → Answer → List Item

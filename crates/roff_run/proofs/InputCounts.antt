@@ -1,16 +1,17 @@
 -- What the calls of the unread input leave of the counts that limits are on.
-use Rattle.std.proofs.Common.{◌≡◌, ℕ, ◌+◌, ◌≤◌, Bool, true, false, List, [], ◌∷◌, length, Option, Some, None, refl, sym, subst, ap, ◌∙◌, arith}
+use Rattle.std.proofs.Common.{◌≡◌, ℕ, ◌+◌, ◌-◌, ◌≤◌, Bool, true, false, List, [], ◌∷◌, length, Option, Some, None, refl, sym, subst, ap, ◌∙◌, arith}
 use Rattle.std.specs.Prelude.{nat_lt, if◌then◌else◌}
 use Rattle.std.proofs.lemmas.Bool.{le-ltb, ltb-false}
 use Rattle.roff_num.specs.declared.limit.Limit.{Limit}
-use Rattle.roff_num.specs.declared.limit.Limit.TheVariants.{Stack, Depth, Conditions, Names}
+use Rattle.roff_num.specs.declared.limit.Limit.TheVariants.{Stack, Depth, Conditions, Names, Store, Diversions}
 use Rattle.roff_num.specs.declared.limits.Limits.{Limits}
 use Rattle.roff_scan.specs.Arguments.{held, settled, no_arguments}
 use Rattle.roff_scan.specs.Half.{texts_held}
-use Rattle.roff_scan.specs.Input.{Ahead, ByteAhead, FreeAhead, EndAhead, DoAhead, counting, item_taken, pushed, depth, results, bytes_ahead, ends_ahead}
+use Rattle.roff_scan.specs.Input.{Ahead, ByteAhead, FreeAhead, EndAhead, DoAhead, counting, item_taken, pushed, depth, results, stored, bytes_ahead, ends_ahead}
 use Rattle.roff_scan.specs.Tape.{Answer, Gives, Ends, OneByte, OneNote}
 use Rattle.roff_scan.specs.Unread.{Unread, Shown, taking, taking_answer, answer_behind, input_refusal}
-use Rattle.roff_store.specs.Texts.{Texts}
+use Rattle.roff_store.specs.Named.{Named}
+use Rattle.roff_store.specs.Texts.{Entry}
 use Rattle.roff_scan.proofs.KeptArguments.{held-only_kept, held-settled}
 use Rattle.roff_run.specs.Reading.{PageInput, interrupted, settling}
 use Rattle.roff_run.specs.Registers.{AllRegisters}
@@ -24,24 +25,27 @@ pub one_of : {A : Type 0} (P : A → Type 0) (c : Bool) (x y : A) → P x → P 
 one_of P true x y first second = first
 one_of P false x y first second = second
 
--- what one input has ahead, in its arguments and of results counts for no more than what another has
+-- what one input has ahead, in its arguments and of results counts for no more than what another has, with the same texts
 pub record NoMore (now before : PageInput) : Type 0 where
   pub bytes : pushed now ≤ pushed before
   pub texts : depth now ≤ depth before
   pub results : results now ≤ results before
+  pub names : now.names ≡ before.names
+  pub open_texts : now.open_texts ≡ before.open_texts
 
 -- by the items ahead alone
-by_ahead : (now before : PageInput) → now.arguments ≡ before.arguments → now.half ≡ before.half → now.kept ≡ before.kept → bytes_ahead now.ahead ≤ bytes_ahead before.ahead
+by_ahead : (now before : PageInput) → now.arguments ≡ before.arguments → now.half ≡ before.half → now.kept ≡ before.kept → now.names ≡ before.names
+    → now.open_texts ≡ before.open_texts → bytes_ahead now.ahead ≤ bytes_ahead before.ahead
     → ends_ahead now.ahead ≤ ends_ahead before.ahead → NoMore now before
-by_ahead now before same same_half same_kept bytes texts =
+by_ahead now before same same_half same_kept names open_texts bytes texts =
     let held_same : held now.arguments ≡ held before.arguments = ap held same in
     let half_same : texts_held now.half ≡ texts_held before.half = ap texts_held same_half in
     let results_same : length now.kept ≡ length before.kept = ap (λ (kept : List Bool). length kept) same_kept in
-    record { bytes = omega arith; texts = texts; results = omega arith }
+    record { bytes = omega arith; texts = texts; results = omega arith; names = names; open_texts = open_texts }
 
 -- what changes nothing there
 NoMore-same : (i : PageInput) → NoMore i i
-NoMore-same i = record { bytes = omega arith; texts = omega arith; results = omega arith }
+NoMore-same i = record { bytes = omega arith; texts = omega arith; results = omega arith; names = refl; open_texts = refl }
 
 -- behind an item
 bytes_behind : (item : Ahead PageEvent) (items : List (Ahead PageEvent)) → bytes_ahead items ≤ bytes_ahead (item ∷ items)
@@ -57,7 +61,7 @@ ends_behind EndAhead items = omega arith
 ends_behind (DoAhead event) items = omega arith
 
 pub NoMore-item_taken : (item : Ahead PageEvent) (items : List (Ahead PageEvent)) (i : PageInput) → i.ahead ≡ item ∷ items → NoMore (item_taken item items i) i
-NoMore-item_taken item items i ahead = by_ahead (item_taken item items i) i refl refl refl
+NoMore-item_taken item items i ahead = by_ahead (item_taken item items i) i refl refl refl refl refl
     (subst (λ (all : List (Ahead PageEvent)). bytes_ahead items ≤ bytes_ahead all) (sym ahead) (bytes_behind item items))
     (subst (λ (all : List (Ahead PageEvent)). ends_ahead items ≤ ends_ahead all) (sym ahead) (ends_behind item items))
 
@@ -66,27 +70,27 @@ abbrev LeavesNoMore : PageInput → Shown PageEvent × Unread PageEvent → Type
 LeavesNoMore i call = NoMore call.1.input i
 
 NoMore-answer : (a : Answer) (u : Unread PageEvent) → LeavesNoMore u.input (taking_answer a u)
-NoMore-answer (Gives (OneByte b)) u = one_of (LeavesNoMore u.input) _ _ _ (NoMore-same u.input) (by_ahead (counting b u.input) u.input refl refl refl (omega arith) (omega arith))
+NoMore-answer (Gives (OneByte b)) u = one_of (LeavesNoMore u.input) _ _ _ (NoMore-same u.input) (by_ahead (counting b u.input) u.input refl refl refl refl refl (omega arith) (omega arith))
 NoMore-answer (Gives (OneNote message)) u = NoMore-same u.input
 NoMore-answer (Ends ending) u = NoMore-same u.input
 
-NoMore-taking_of : (ahead : List (Ahead PageEvent)) (a : Answer) (i : PageInput) (looked : Option ℕ) (limits : Limits) (texts : Texts)
-    → let u : Unread PageEvent = record { input = record i { ahead = ahead }; looked = looked; limits = limits; texts = texts } in LeavesNoMore u.input (taking a u)
-NoMore-taking_of [] a i looked limits texts = NoMore-answer (answer_behind looked a) (record { input = record i { ahead = [] }; looked = looked; limits = limits; texts = texts })
-NoMore-taking_of (item ∷ items) a i looked limits texts =
+NoMore-taking_of : (ahead : List (Ahead PageEvent)) (a : Answer) (i : PageInput) (looked : Option ℕ) (limits : Limits)
+    → let u : Unread PageEvent = record { input = record i { ahead = ahead }; looked = looked; limits = limits } in LeavesNoMore u.input (taking a u)
+NoMore-taking_of [] a i looked limits = NoMore-answer (answer_behind looked a) (record { input = record i { ahead = [] }; looked = looked; limits = limits })
+NoMore-taking_of (item ∷ items) a i looked limits =
     let before : PageInput = record i { ahead = item ∷ items } in
     one_of (LeavesNoMore before) _ _ _ (NoMore-same before) (NoMore-item_taken item items before refl)
 
 -- the call that takes the item in front
 pub NoMore-taking : (a : Answer) (u : Unread PageEvent) → NoMore (taking a u).1.input u.input
-NoMore-taking a u = NoMore-taking_of u.input.ahead a u.input u.looked u.limits u.texts
+NoMore-taking a u = NoMore-taking_of u.input.ahead a u.input u.looked u.limits
 
 -- where no quote follows, as many bytes are held
 pub pushed-settling : (i : PageInput) → pushed (settling i) ≡ pushed i
 pushed-settling i = ap (λ n. bytes_ahead i.ahead + n + texts_held i.half) (held-only_kept (settled i.arguments) ∙ held-settled i.arguments)
 
 pub NoMore-settling : (i : PageInput) → NoMore (settling i) i
-NoMore-settling i = record { bytes = omega (arith, pushed-settling i); texts = omega arith; results = omega arith }
+NoMore-settling i = record { bytes = omega (arith, pushed-settling i); texts = omega arith; results = omega arith; names = refl; open_texts = refl }
 
 pub NoMore-interrupted : (reading : Reading) (i : PageInput) → NoMore (interrupted reading i) i
 NoMore-interrupted (InArguments breaks request) i = NoMore-settling i
@@ -94,7 +98,7 @@ NoMore-interrupted (_) i = NoMore-same i
 
 -- where the arguments are released
 pub NoMore-released : (i : PageInput) → NoMore (record i { arguments = no_arguments }) i
-NoMore-released i = record { bytes = omega arith; texts = omega arith; results = omega arith }
+NoMore-released i = record { bytes = omega arith; texts = omega arith; results = omega arith; names = refl; open_texts = refl }
 
 -- a limit that a count isn't above is above none that is no more
 not_above : (limit before now : ℕ) → now ≤ before → nat_lt limit before ≡ false → nat_lt limit now ≡ false
@@ -109,16 +113,40 @@ first_not : {A : Type 0} (x : A) (rest : Option A) (c : Bool) → c ≡ false �
 first_not x rest true passes none = cc
 first_not x rest false passes none = none
 
+-- the limits behind that on the depth
+abbrev texts_refusal : Limits → Named Entry → List (List ℕ) → PageInput → Option Limit → Option Limit
+texts_refusal l names open_texts i rest =
+    if nat_lt l.store (stored (record i { names = names; open_texts = open_texts })) then Some Store
+    else if nat_lt l.names (length names) then Some Names
+    else if nat_lt l.diversions (length open_texts - 1) then Some Diversions
+    else rest
+
+abbrev results_refusal : Limits → ℕ → Option Limit
+results_refusal l count = if nat_lt l.conditions count then Some Conditions else None
+
+-- of the same texts, and no more results
+texts_then : (l : Limits) (names : Named Entry) (open_texts : List (List ℕ)) (i j : PageInput) (before now : Option Limit) → (before ≡ None → now ≡ None)
+    → texts_refusal l names open_texts i before ≡ None → texts_refusal l names open_texts j now ≡ None
+texts_then l names open_texts i j before now passes none =
+    let bytes = neither Store (if nat_lt l.names (length names) then Some Names else if nat_lt l.diversions (length open_texts - 1) then Some Diversions else before)
+    (nat_lt l.store (stored (record i { names = names; open_texts = open_texts }))) none in
+    let few = neither Names (if nat_lt l.diversions (length open_texts - 1) then Some Diversions else before) (nat_lt l.names (length names)) bytes.1 in
+    let making = neither Diversions before (nat_lt l.diversions (length open_texts - 1)) few.1 in
+    first_not Store _ _ bytes.0 (first_not Names _ _ few.0 (first_not Diversions now _ making.0 (passes making.1)))
+
 -- where the counts are no more, no limit refuses what none refused
 pub input_refusal-no_more : (l : Limits) (now before : PageInput) → NoMore now before → input_refusal l before ≡ None → input_refusal l now ≡ None
 input_refusal-no_more l now before less none =
-    let kept_back : Option Limit = if nat_lt l.conditions (results before) then Some Conditions else None in
-    let stack = neither Stack (if nat_lt l.depth (depth before) then Some Depth else kept_back) (nat_lt l.stack (pushed before)) none in
-    let texts = neither Depth kept_back (nat_lt l.depth (depth before)) stack.1 in
-    let kept = neither Conditions None (nat_lt l.conditions (results before)) texts.1 in
+    let behind : Option Limit = texts_refusal l before.names before.open_texts before (results_refusal l (results before)) in
+    let stack = neither Stack (if nat_lt l.depth (depth before) then Some Depth else behind) (nat_lt l.stack (pushed before)) none in
+    let texts = neither Depth behind (nat_lt l.depth (depth before)) stack.1 in
+    let still : results_refusal l (results before) ≡ None → results_refusal l (results now) ≡ None = λ passes.
+    first_not Conditions None _ (not_above l.conditions (results before) (results now) less.results (neither Conditions None (nat_lt l.conditions (results before)) passes).0) refl in
     first_not Stack _ _ (not_above l.stack (pushed before) (pushed now) less.bytes stack.0)
     (first_not Depth _ _ (not_above l.depth (depth before) (depth now) less.texts texts.0)
-    (first_not Conditions None _ (not_above l.conditions (results before) (results now) less.results kept.0) refl))
+    (subst (λ (names : Named Entry). texts_refusal l names now.open_texts now (results_refusal l (results now)) ≡ None) (sym less.names)
+    (subst (λ (open_texts : List (List ℕ)). texts_refusal l before.names open_texts now (results_refusal l (results now)) ≡ None) (sym less.open_texts)
+    (texts_then l before.names before.open_texts before now _ _ still texts.1))))
 
 -- where the names are within their limit, the others decide
 pub first_passed-few_names : (l : Limits) (rs : AllRegisters) (i : PageInput) → nat_lt l.names (length rs.named) ≡ false

@@ -1,5 +1,5 @@
 -- Steps at bytes in front, and at those of an escape.
-use Rattle.std.proofs.Common.{◌≡◌, ℕ, ◌+◌, ◌<◌, ◌≤◌, Bool, true, false, List, [], ◌∷◌, ◌++◌, length, Option, Some, None, refl, ap, sym, ◌∙◌, arith}
+use Rattle.std.proofs.Common.{◌≡◌, ℕ, ◌+◌, ◌-◌, ◌<◌, ◌≤◌, Bool, true, false, List, [], ◌∷◌, ◌++◌, length, Option, Some, None, refl, ap, sym, ◌∙◌, arith}
 use Rattle.std.specs.Prelude.{nat_lt, not, ◌||◌, map, IsTrue, if◌then◌else◌, ◌==◌}
 use Rattle.std.proofs.lemmas.Bool.{le-ltb}
 use Rattle.std.proofs.lemmas.List.{append-nil}
@@ -12,7 +12,7 @@ use Rattle.roff_scan.specs.Arguments.{Arguments, settled, only_kept, held}
 use Rattle.roff_scan.specs.Bytes.{newline, backslash, is_dropped}
 use Rattle.roff_scan.specs.Conditions.{ends_condition, is_decided}
 use Rattle.roff_scan.specs.Halves.{Reads, byte_read, decides_now, newline_stays, seen_stays}
-use Rattle.roff_scan.specs.Input.{Ahead, ByteAhead, EndAhead, cost, counting, item_taken, pushed, depth, results}
+use Rattle.roff_scan.specs.Input.{Ahead, ByteAhead, EndAhead, cost, counting, item_taken, pushed, depth, results, stored}
 use Rattle.roff_scan.specs.Tape.{Tape, Answer, Gives, OneByte, front, items_then}
 use Rattle.roff_scan.specs.Unread.{seen_ahead}
 use Rattle.roff_scan.specs.Half.{Half, Backslash, Comment, Name, Size, Delimited, Width, Condition, texts_held}
@@ -250,6 +250,9 @@ pub record Fits (l : Limits) (registers : AllRegisters) (i : PageInput) : Type 0
   names : length registers.named ≤ l.names
   stack : pushed i ≤ l.stack
   depth : depth i ≤ l.depth
+  store : stored i ≤ l.store
+  texts : length i.names ≤ l.names
+  making : length i.open_texts ≤ l.diversions + 1
   conditions : results i ≤ l.conditions
 
 -- a step that leads within them is made
@@ -259,7 +262,10 @@ made-Fits l from done fits =
     let stack : nat_lt l.stack (pushed done.input) ≡ false = le-ltb _ _ fits.stack in
     let depth : nat_lt l.depth (depth done.input) ≡ false = le-ltb _ _ fits.depth in
     let conditions : nat_lt l.conditions (results done.input) ≡ false = le-ltb _ _ fits.conditions in
-    let allowed : first_passed l (grown done) ≡ None = rw (names, stack, depth, conditions) refl in
+    let store : nat_lt l.store (stored done.input) ≡ false = le-ltb _ _ fits.store in
+    let texts : nat_lt l.names (length done.input.names) ≡ false = le-ltb _ _ fits.texts in
+    let making : nat_lt l.diversions (length done.input.open_texts - 1) ≡ false = le-ltb _ _ (omega (arith, fits.making)) in
+    let allowed : first_passed l (grown done) ≡ None = rw (names, stack, depth, store, texts, making, conditions) refl in
     ap (λ (r : Option Limit). unless_refused l r from done) allowed
 
 -- this is read on, and nothing is meant
@@ -299,9 +305,9 @@ Means s reading is_text from a charge line found behind t =
 Fits-behind : (l : Limits) (registers : AllRegisters) (s : State) (from : Origin) (b : ℕ) (bytes : List ℕ) (a there : Arguments) (half other : List Half) (charge more line next : ℕ)
     → held there ≡ held a → texts_held other ≡ texts_held half → Fits l registers (input_of s from (b ∷ bytes) a half charge line) → Fits l registers (input_of s from bytes there other more next)
 Fits-behind l registers s (FromAhead rest) b bytes a there half other charge more line next same held_same fits =
-    record { names = fits.names; stack = omega (arith, fits.stack); depth = fits.depth; conditions = fits.conditions }
+    record { names = fits.names; stack = omega (arith, fits.stack); depth = fits.depth; store = fits.store; texts = fits.texts; making = fits.making; conditions = fits.conditions }
 Fits-behind l registers s (FromSource tape) b bytes a there half other charge more line next same held_same fits =
-    record { names = fits.names; stack = omega (arith, fits.stack); depth = fits.depth; conditions = fits.conditions }
+    record { names = fits.names; stack = omega (arith, fits.stack); depth = fits.depth; store = fits.store; texts = fits.texts; making = fits.making; conditions = fits.conditions }
 
 -- the steps at them
 after-finds : (l : Limits) (s : State) (reading : Reading) (is_text : Bool) (from : Origin) (a : Arguments) (line : ℕ)
@@ -396,7 +402,8 @@ interrupted-arguments _ _ i (OnCondition keeps) = refl
 
 -- a state within the limits is within those that a step looks at
 pub Fits-IsWithin : (l : Limits) (s : State) → IsWithin l s → Fits l s.registers s.input
-Fits-IsWithin l s within = record { names = within.names; stack = within.stack; depth = within.depth; conditions = within.conditions }
+Fits-IsWithin l s within =
+    record { names = within.names; stack = within.stack; depth = within.depth; store = within.store; texts = within.texts; making = within.making; conditions = within.conditions }
 
 -- where escapes are read, text is or arguments or conditions are
 pub ReadsEscapes-reads_escapes : (reading : Reading) → reads_escapes reading ≡ true → (is_text : Bool) × ReadsEscapes reading is_text

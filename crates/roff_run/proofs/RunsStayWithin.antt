@@ -23,6 +23,9 @@ IsWithin-same l s t input registers history is = record {
   bytes = rw input is.bytes;
   stack = rw input is.stack;
   depth = rw input is.depth;
+  store = rw input is.store;
+  texts = rw input is.texts;
+  making = rw input is.making;
   conditions = rw input is.conditions;
   names = rw registers is.names;
   line = rw history is.line;
@@ -54,14 +57,25 @@ line_within l h (Space lines) is allowed = is
 -- an event is performed, or the run ends at it
 IsWithin-event : (l : Limits) (e : PageEvent) (rest : List PageEvent) (s t : State) → PerformedOrStopped l e rest s t → IsWithin l s → IsWithin l t
 IsWithin-event l e rest s t (Performed allowed) is =
-    record { bytes = is.bytes; stack = is.stack; depth = is.depth; conditions = is.conditions; names = is.names; line = line_within l s.history e is.line allowed }
+    record { bytes = is.bytes; stack = is.stack; depth = is.depth; store = is.store; texts = is.texts; making = is.making; conditions = is.conditions; names = is.names; line = line_within l s.history e is.line allowed }
 IsWithin-event l e rest s t (StoppedAt limit) is = IsWithin-same l s t refl refl refl is
 
 -- a step that is made, and takes no more than the limit says
 IsWithin-made : (l : Limits) (s t : State) → t.input.charge ≤ l.bytes → t.history ≡ s.history → IsMade l t → IsWithin l s → IsWithin l t
 IsWithin-made l s t charge history is_made is =
     let others : AllWithin l (grown t) = counts_within l (grown t) is_made in
-    record { bytes = charge; stack = others.1.0; depth = others.1.1.0; conditions = others.1.1.1.0; names = others.0; line = rw history is.line }
+    let texts = others.1.1.1 in
+    record {
+      bytes = charge;
+      stack = others.1.0;
+      depth = others.1.1.0;
+      store = texts.0;
+      texts = texts.1.0;
+      making = omega (arith, texts.1.1.0);
+      conditions = texts.1.1.1.0;
+      names = others.0;
+      line = rw history is.line;
+    }
 
 -- what was read, or how the run ended
 IsWithin-read : (l : Limits) (s t : State) → ReadsOn l s t → IsWithin l s → IsWithin l t
@@ -101,4 +115,4 @@ IsWithin-after l (suc n) s is = IsWithin-after l n (step l s) (IsWithin-step l s
 
 -- no run passes a limit
 pub no_limit_is_passed : NoLimitIsPassed
-no_limit_is_passed l tape n = IsWithin-after l n (initial tape) (record { bytes = omega arith; stack = omega arith; depth = omega arith; conditions = omega arith; names = omega arith; line = omega arith })
+no_limit_is_passed l tape n = IsWithin-after l n (initial tape) (record { bytes = omega arith; stack = omega arith; depth = omega arith; store = omega arith; texts = omega arith; making = omega arith; conditions = omega arith; names = omega arith; line = omega arith })

@@ -23,7 +23,7 @@ use Rattle.roff_store.specs.declared.register.Register.{Register}
 use Rattle.roff_run.specs.Output.{PageHistory, text_of}
 use Rattle.roff_run.specs.Reader.State.{ReaderState}
 use Rattle.roff_run.specs.Reader.Taken.{IsReady, PageUnread, Takes, TakesAs, Took}
-use Rattle.roff_run.specs.Reading.{PageInput, Taking, arguments_found, end_taking, first_taking, going_on, half_ended, interpolating, interrupted, kept_taking, line_begun, meaning_events, no_unit_found, settling, taking}
+use Rattle.roff_run.specs.Reading.{PageInput, Taking, arguments_found, end_taking, escape_taking, first_escape, first_taking, fresh_line, going_on, half_ended, interpolating, interrupted, kept_taking, line_begun, meaning_events, no_unit_found, settling, taking}
 use Rattle.roff_run.specs.Registers.{AllRegisters, Known, changed_by_all, is_page, is_read_only, known_behind, step_changes, step_messages, stepped_page, text_of_register}
 use Rattle.roff_run.specs.Registers.Capped.{Capped}
 use Rattle.roff_run.specs.Registers.Coded.{known_of}
@@ -57,7 +57,7 @@ Takes-elsewhere t old new before behind i (Err limit) passed = passed
 
 -- where no more is held of texts that are half read
 NoMore-with_half : (half : List Half) (i : PageInput) → texts_held half ≤ texts_held i.half → NoMore (with_half half i) i
-NoMore-with_half half i fewer = record { bytes = omega (arith, fewer); texts = omega arith; results = omega arith }
+NoMore-with_half half i fewer = record { bytes = omega (arith, fewer); texts = omega arith; results = omega arith; names = refl; open_texts = refl }
 
 -- what something reads, with what is half read then
 pub TakesAs-read : (t : Known → PageInput → Read → Taking) (r : Reads) (env : Env) (old new : ReaderState) (before mid behind : PageUnread)
@@ -317,6 +317,22 @@ first_taking-any i (InArguments breaks request) b in_branch in_brace = refl
 first_taking-any i (Deciding keeps) b in_branch in_brace = refl
 first_taking-any i (Skipping opened closed behind) b in_branch in_brace = refl
 first_taking-any i Dropped b in_branch in_brace = refl
+
+-- and so it is with an escape
+pub first_escape-any : (i : PageInput) (at : Reading) (b : ℕ) → (at ≡ Branch → (b == 123) ≡ false) → (at ≡ Braced → (b == newline) ≡ false)
+    → escape_taking i fresh_line b ≡ first_escape i at b
+first_escape-any i LineStart b in_branch in_brace = refl
+first_escape-any i Branch b in_branch in_brace =
+    ap (λ (c : Bool). if c then going_on i Braced else escape_taking i fresh_line b) (sym (in_branch refl))
+first_escape-any i Braced b in_branch in_brace =
+    ap (λ (c : Bool). if c then going_on i LineStart else escape_taking i fresh_line b) (sym (in_brace refl))
+first_escape-any i (InText line) b in_branch in_brace = refl
+first_escape-any i (Control breaks) b in_branch in_brace = refl
+first_escape-any i (Name breaks first) b in_branch in_brace = refl
+first_escape-any i (InArguments breaks request) b in_branch in_brace = refl
+first_escape-any i (Deciding keeps) b in_branch in_brace = refl
+first_escape-any i (Skipping opened closed behind) b in_branch in_brace = refl
+first_escape-any i Dropped b in_branch in_brace = refl
 
 -- by whether a byte is dropped
 pub taking-of : (k : Known) (r : Reading) (i : PageInput) (b : ℕ) (c : Bool) → c ≡ is_dropped b

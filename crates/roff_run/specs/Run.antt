@@ -1,15 +1,15 @@
 -- The run: a machine of small steps over the source's tape.
-use Rattle.std.specs.Prelude.{◌≡◌, ℕ, zero, suc, ◌+◌, Bool, true, false, List, [], ◌∷◌, ◌++◌, length, nat_lt, Option, Some, None, if◌then◌else◌}
+use Rattle.std.specs.Prelude.{◌≡◌, ℕ, zero, suc, ◌+◌, ◌-◌, Bool, true, false, List, [], ◌∷◌, ◌++◌, length, nat_lt, Option, Some, None, if◌then◌else◌}
 use Rattle.roff_lines.specs.Events.{settings_after}
 use Rattle.roff_lines.specs.LastLine.{last_width}
 use Rattle.roff_lines.specs.Lines.{pending_length}
 use Rattle.roff_lines.specs.declared.event.Event.TheVariants.{WordEnd, Break}
 use Rattle.roff_num.specs.LimitValues.{value_of}
 use Rattle.roff_num.specs.declared.limit.Limit.{Limit}
-use Rattle.roff_num.specs.declared.limit.Limit.TheVariants.{Bytes, Names, Stack, Depth, Line, Conditions}
+use Rattle.roff_num.specs.declared.limit.Limit.TheVariants.{Bytes, Names, Stack, Depth, Line, Conditions, Store, Diversions}
 use Rattle.roff_num.specs.declared.limits.Limits.{Limits}
 use Rattle.roff_scan.specs.Halves.{decides_now, newline_stays, seen_stays}
-use Rattle.roff_scan.specs.Input.{Ahead, ByteAhead, FreeAhead, EndAhead, DoAhead, initial_input, pushed, depth, results, cost, item_taken, counting}
+use Rattle.roff_scan.specs.Input.{Ahead, ByteAhead, FreeAhead, EndAhead, DoAhead, initial_input, pushed, depth, results, stored, cost, item_taken, counting}
 use Rattle.roff_scan.specs.Tape.{Tape, Answer, OneByte, OneNote, Ended, Failed, Stopped, Gives, Ends, front, behind_front}
 use Rattle.roff_scan.specs.Unread.{Sighted, SeesByte, SeesNothing, SeesNote, SeesEnding, seen_ahead}
 use Rattle.roff_scan.specs.Half.{Half}
@@ -122,9 +122,13 @@ unless_refused l (Some limit) s done = stopped_by l limit s
 abbrev pub performing : Limits → PageEvent → List PageEvent → State → State
 performing l e rest s = unless_refused l (refusal l s.history e) s (record s { to_do = rest; history = e ∷ s.history })
 
--- what a step may make grow, as it is behind the step, in the order in which it is looked at
+-- What a step may make grow, as it is behind the step, in the order in which it is looked at. One text may be made beside
+-- the diversions: that of a string or a macro.
 abbrev pub counts_in : AllRegisters → PageInput → List (Limit × ℕ)
-counts_in rs i = (Names, length rs.named) ∷ (Stack, pushed i) ∷ (Depth, depth i) ∷ (Conditions, results i) ∷ []
+counts_in rs i =
+    (Names, length rs.named) ∷ (Stack, pushed i) ∷ (Depth, depth i)
+    ∷ (Store, stored i) ∷ (Names, length i.names) ∷ (Diversions, length i.open_texts - 1)
+    ∷ (Conditions, results i) ∷ []
 
 -- the same of a state
 abbrev pub grown : State → List (Limit × ℕ)

@@ -1,10 +1,10 @@
 -- What stands ahead, with bodies in the place of their bytes.
-use Rattle.std.proofs.Common.{false, ◌≡◌, ◌<◌, ◌≤◌, ◌+◌, ℕ, List, [], ◌∷◌, ◌++◌, length, map, refl, sym, ap, ◌∙◌, arith}
+use Rattle.std.proofs.Common.{false, ◌≡◌, ◌<◌, ◌≤◌, ◌+◌, ℕ, List, [], ◌∷◌, ◌++◌, length, map, refl, ap, ◌∙◌, arith}
 use Rattle.std.specs.Prelude.{sum_by, All, Option, Some, None}
 use Rattle.std.proofs.lemmas.List.Sums.{sum_by-cons}
 use Rattle.roff_scan.specs.Input.{Ahead, ByteAhead, FreeAhead, EndAhead, DoAhead, bytes_ahead, ends_ahead, events_ahead, frees_ahead, is_none_ahead}
 use Rattle.roff_scan.specs.Frames.Bodies.{leases_in, with_bodies}
-use Rattle.roff_scan.specs.Frames.Kept.{AreEnded, Gives, is_end_next}
+use Rattle.roff_scan.specs.Frames.Kept.{AreEnded, Gives}
 use Rattle.roff_scan.specs.declared.frames.Frame.{Frame}
 use Rattle.roff_scan.specs.declared.frames.Frame.TheVariants.{Event, Body}
 use Rattle.roff_scan.proofs.Counts.{bytes_ahead-bytes, ends_ahead-bytes, events_ahead-bytes, frees_ahead-bytes}

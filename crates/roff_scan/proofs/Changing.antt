@@ -1,21 +1,26 @@
 -- Which changes of the input a limit refuses.
-use Rattle.std.proofs.Common.{true, false, ap, ◌≡◌, ◌<◌, ◌≤◌, ◌+◌, ◌-◌, ℕ, List, ◌∷◌, Ok, Err, length, refl, arith}
-use Rattle.std.specs.Prelude.{nat_lt}
+use Rattle.std.proofs.Common.{true, false, ap, None, ◌≡◌, ◌<◌, ◌≤◌, ◌+◌, ◌-◌, ℕ, List, ◌∷◌, Ok, Err, length, refl, arith}
+use Rattle.std.specs.Prelude.{nat_lt, Bool, Option, Some, if◌then◌else◌}
 use Rattle.std.proofs.lemmas.Bool.Decides.{nat_tests}
-use Rattle.roff_num.specs.declared.limit.Limit.TheVariants.{Stack, Depth}
+use Rattle.roff_num.specs.declared.limit.Limit.{Limit}
+use Rattle.roff_num.specs.declared.limit.Limit.TheVariants.{Stack, Depth, Store, Names}
 use Rattle.roff_scan.specs.Arguments.{Arguments, held}
 use Rattle.roff_scan.specs.Half.{Half, texts_held}
-use Rattle.roff_scan.specs.Input.{Input, EndAhead, pushed, depth, results, pushing, freeing, with_arguments, with_half, bytes_ahead}
-use Rattle.roff_scan.specs.Unread.{Unread, IsWithin, changing}
+use Rattle.roff_scan.specs.Input.{Input, EndAhead, pushed, depth, results, pushing, freeing, with_arguments, with_half, bytes_ahead, stored}
+use Rattle.roff_scan.specs.Unread.{Unread, IsWithin, changing, unless_passed}
 use Rattle.roff_scan.proofs.KeptArguments.{held-only_kept}
 use Rattle.roff_scan.proofs.Counts.{bytes_ahead-bytes, ends_ahead-bytes, bytes_ahead-frees, ends_ahead-frees}
 
 -- a test that fails, and one that holds
-not_above : (limit count : ℕ) → count ≤ limit → nat_lt limit count ≡ false
+pub not_above : (limit count : ℕ) → count ≤ limit → nat_lt limit count ≡ false
 not_above limit count within = grind (arith, nat_tests)
 
-is_above : (limit count : ℕ) → limit < count → nat_lt limit count ≡ true
+pub is_above : (limit count : ℕ) → limit < count → nat_lt limit count ≡ true
 is_above limit count above = grind (arith, nat_tests)
+
+-- the limit on texts that refuses an input, by whether it has too many bytes of them, and too many names
+abbrev pub texts_refusal : Bool → Bool → Option Limit
+texts_refusal bytes names = if bytes then Some Store else if names then Some Names else None
 
 module _ {E : Type 0} where
   -- a pushed text counts by its bytes, and once in the depth
@@ -33,10 +38,26 @@ module _ {E : Type 0} (u : Unread E) (i : Input E) where
   pub changing_past_depth : pushed i ≤ u.limits.stack → u.limits.depth < depth i → changing i u ≡ (Err Depth, u)
   changing_past_depth within above = rw (not_above u.limits.stack (pushed i) within, is_above u.limits.depth (depth i) above) refl
 
+  -- then come those on the texts, of which the bytes and the names may be above theirs
+  pub changing_texts : pushed i ≤ u.limits.stack → depth i ≤ u.limits.depth → length i.open_texts ≤ u.limits.diversions + 1 → results i ≤ u.limits.conditions
+      → changing i u ≡ unless_passed (texts_refusal (nat_lt u.limits.store (stored i)) (nat_lt u.limits.names (length i.names))) i u
+  changing_texts within inside making few =
+      rw (
+        not_above u.limits.stack (pushed i) within,
+        not_above u.limits.depth (depth i) inside,
+        not_above u.limits.diversions (length i.open_texts - 1) (omega (arith, making)),
+        not_above u.limits.conditions (results i) few,
+      ) refl
+
   pub changing_within : pushed i ≤ u.limits.stack → depth i ≤ u.limits.depth → results i ≤ u.limits.conditions
+      → stored i ≤ u.limits.store → length i.names ≤ u.limits.names → length i.open_texts ≤ u.limits.diversions + 1
       → changing i u ≡ (Ok tt, record u { input = i })
-  changing_within within inside few =
-      rw (not_above u.limits.stack (pushed i) within, not_above u.limits.depth (depth i) inside, not_above u.limits.conditions (results i) few) refl
+  changing_within within inside few bytes names making =
+      rw (
+        changing_texts within inside making few,
+        not_above u.limits.store (stored i) bytes,
+        not_above u.limits.names (length i.names) names,
+      ) refl
 
 module _ {E : Type 0} (u : Unread E) (text : List ℕ) (bytes : ℕ) (counted : bytes ≡ pushed u.input) where
   -- a text that doesn't fit is refused
@@ -58,11 +79,11 @@ module _ {E : Type 0} (u : Unread E) (text : List ℕ) (bytes : ℕ) (counted : 
       depth_within = rw (depth-pushing text u.input) (omega (arith, inside))
 
       pub push_within : changing (pushing text u.input) u ≡ (Ok tt, record u { input = pushing text u.input })
-      push_within = changing_within u (pushing text u.input) stack_within depth_within within.results
+      push_within = changing_within u (pushing text u.input) stack_within depth_within within.results within.stored within.names within.making
 
       pub IsWithin-pushing : IsWithin (record u { input = pushing text u.input })
       IsWithin-pushing =
-          record { charge = within.charge; newlines = within.newlines; pushed = stack_within; depth = depth_within; results = within.results }
+          record { charge = within.charge; newlines = within.newlines; pushed = stack_within; depth = depth_within; results = within.results; stored = within.stored; names = within.names; making = within.making }
 
 -- bytes in front again count nowhere
 pub IsWithin-freeing : {E : Type 0} (u : Unread E) (bytes : List ℕ) → IsWithin u → IsWithin (record u { input = freeing bytes u.input })
@@ -72,6 +93,9 @@ IsWithin-freeing u bytes within = record {
   pushed = rw (bytes_ahead-frees bytes u.input.ahead) within.pushed;
   depth = rw (ends_ahead-frees bytes u.input.ahead) within.depth;
   results = within.results;
+  stored = within.stored;
+  names = within.names;
+  making = within.making;
 }
 
 module _ {E : Type 0} (u : Unread E) (a : Arguments) where
@@ -88,6 +112,9 @@ module _ {E : Type 0} (u : Unread E) (a : Arguments) where
     pushed = rw pushed-with_arguments fits;
     depth = within.depth;
     results = within.results;
+    stored = within.stored;
+    names = within.names;
+    making = within.making;
   }
 
   -- arguments with no more bytes
@@ -105,7 +132,7 @@ module _ {E : Type 0} (u : Unread E) (a : Arguments) where
 
       -- and those that fit are held
       pub hold_within : changing (with_arguments a u.input) u ≡ (Ok tt, record u { input = with_arguments a u.input })
-      hold_within = changing_within u (with_arguments a u.input) (rw pushed-with_arguments held_within) within.depth within.results
+      hold_within = changing_within u (with_arguments a u.input) (rw pushed-with_arguments held_within) within.depth within.results within.stored within.names within.making
 
       pub IsWithin-holding : IsWithin (record u { input = with_arguments a u.input })
       IsWithin-holding = IsWithin-with_arguments within held_within
@@ -114,4 +141,4 @@ module _ {E : Type 0} (u : Unread E) (a : Arguments) where
 pub IsWithin-with_half :
     {E : Type 0} (u : Unread E) (half : List Half) → IsWithin u → texts_held half ≤ texts_held u.input.half → IsWithin (record u { input = with_half half u.input })
 IsWithin-with_half u half within fewer =
-    record { charge = within.charge; newlines = within.newlines; pushed = omega (arith, within.pushed, fewer); depth = within.depth; results = within.results }
+    record { charge = within.charge; newlines = within.newlines; pushed = omega (arith, within.pushed, fewer); depth = within.depth; results = within.results; stored = within.stored; names = within.names; making = within.making }

@@ -13,6 +13,7 @@ pub mod ArgumentBlock
 pub mod QuotedArguments
 pub mod Asking
 pub mod Changing
+pub mod Calling
 pub mod Counts
 pub mod Pushing
 pub mod Standing

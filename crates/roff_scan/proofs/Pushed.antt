@@ -1,23 +1,23 @@
 -- A body is leased, and put in front with its end.
-use Rattle.std.proofs.Common.{◌≡◌, ◌≢◌, ◌<◌, ◌≤◌, ◌+◌, ◌*◌, ℕ, zero, suc, Bool, true, false, cond, List, [], ◌∷◌, ◌++◌, length, map, get_or, refl, sym, ap, ◌∙◌, subst, arith, All, Some, None, is_some, IsSome}
+use Rattle.std.proofs.Common.{◌≡◌, ◌≢◌, ◌<◌, ◌≤◌, ◌+◌, ◌*◌, ℕ, zero, suc, Bool, true, false, cond, List, [], ◌∷◌, ◌++◌, length, map, get_or, refl, sym, ap, ◌∙◌, subst, arith, All, Some, None, is_some}
 use Rattle.std.specs.Prelude.{Option, AllPairs, set, sum_by, ◌==◌, if◌then◌else◌}
 use Rattle.std.proofs.lemmas.Bool.Decides.{nat_tests}
 use Rattle.std.proofs.lemmas.List.{get_or_append_left, get_or_push, get_or-set_same, get_or-set_other}
 use Rattle.std.proofs.lemmas.List.Sums.{sum_by-cons, sum_by-set, sum_by_push}
-use Rattle.roff_scan.specs.Input.{Ahead, ByteAhead, FreeAhead, EndAhead, DoAhead, bytes_ahead, ends_ahead, events_ahead}
+use Rattle.roff_scan.specs.Input.{Ahead, ByteAhead, EndAhead, DoAhead, bytes_ahead, ends_ahead, events_ahead}
 use Rattle.roff_scan.specs.Frames.Bodies.{leases_in, with_bodies}
-use Rattle.roff_scan.specs.Frames.Kept.{AreEnded, Framed, Gives, IsSound, kept_by}
+use Rattle.roff_scan.specs.Frames.Kept.{Framed, Gives, IsSound, kept_by}
 use Rattle.roff_scan.specs.Slots.Held.{Held}
 use Rattle.roff_scan.specs.declared.frames.Frame.{Frame}
-use Rattle.roff_scan.specs.declared.frames.Frame.TheVariants.{Event, Body}
+use Rattle.roff_scan.specs.declared.frames.Frame.TheVariants.{Body}
 use Rattle.roff_scan.specs.declared.frames.Frames.TheInside.{Inside}
-use Rattle.roff_scan.proofs.Bodies.{bodies-few, bytes-with_bodies, ends-with_bodies, events-with_bodies, frees-with_bodies}
+use Rattle.roff_scan.proofs.Bodies.{bodies-few, bytes-with_bodies, ends-with_bodies, events-with_bodies}
 use Rattle.roff_scan.proofs.Counts.{bytes_ahead-bytes, ends_ahead-bytes, events_ahead-bytes, frees_ahead-bytes}
 use Rattle.roff_scan.proofs.Leased.{with_bodies-same}
 use Rattle.roff_store.proofs.LyingSums.{sum_by-same}
 use Rattle.roff_store.specs.declared.text.LeaseId.{LeaseId}
 use Rattle.roff_store.specs.Texts.{IsFree, Texts, body_of, kept, lease_bytes, lease_of, live, rest_of}
-use Rattle.roff_store.specs.TextCalls.{Lease, after, with_lease}
+use Rattle.roff_store.specs.TextCalls.{Lease, after}
 
 module _ {X : Type 0} (leases : List (Option X)) (id : ℕ) (known : id ≤ length leases) (free : get_or leases id None ≡ None)
     (lease : Option X) where

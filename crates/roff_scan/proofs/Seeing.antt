@@ -1,8 +1,8 @@
 -- What is seen ahead, with bodies in the place of their bytes.
-use Rattle.std.proofs.Common.{get_or, ◌≡◌, ◌<◌, ◌≤◌, ℕ, List, [], ◌∷◌, ◌++◌, length, map, refl, arith, All, Some, None, ap, ◌∙◌, sym, subst}
-use Rattle.std.specs.Prelude.{Option, take, option_map}
+use Rattle.std.proofs.Common.{get_or, ◌≡◌, ◌<◌, ℕ, List, [], ◌∷◌, ◌++◌, length, map, refl, arith, All, Some, None, ap, ◌∙◌, sym, subst}
+use Rattle.std.specs.Prelude.{Option, take}
 use Rattle.roff_scan.specs.Input.{Ahead, ByteAhead, FreeAhead, EndAhead, DoAhead, first_but_ends}
-use Rattle.roff_scan.specs.Unread.{Sighted, SeesByte, SeesNothing, seen_ahead}
+use Rattle.roff_scan.specs.Unread.{Sighted, SeesByte, seen_ahead}
 use Rattle.roff_scan.specs.Frames.Bodies.{items_of, leases_in, with_bodies}
 use Rattle.roff_scan.specs.Frames.Kept.{Framed, Gives, IsSound, kept_by}
 use Rattle.roff_scan.specs.declared.frames.Frame.{Frame}

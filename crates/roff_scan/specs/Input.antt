@@ -1,12 +1,16 @@
 -- The input: what stands in front of the source, what is half read, and what is counted (manual, section 7).
 --
--- Pushed texts, each with its end, and events put back stand ahead of the source's items in one list.
+-- Pushed texts, each with its end, and events put back stand ahead of the source's items in one list. Beside it the input
+-- has what names stand for, whose bodies are pushed, and the texts that are being made of it.
 use Rattle.std.specs.Prelude.{ℕ, ◌+◌, ◌*◌, Bool, true, false, List, [], ◌∷◌, ◌++◌, drop, length, map, Option, Some, None, if◌then◌else◌, ◌==◌}
 use Rattle.roff_scan.specs.Arguments.{Arguments, no_arguments, only_kept, held}
 use Rattle.roff_scan.specs.Bytes.{newline}
 use Rattle.roff_scan.specs.Half.{Half, Condition, texts_held, text_held}
 use Rattle.roff_scan.specs.declared.half.ConditionPart.TheVariants.{Choice}
 use Rattle.roff_scan.specs.declared.half.CopyUnit.{CopyUnit}
+use Rattle.roff_store.specs.Named.{Named}
+use Rattle.roff_store.specs.TextCalls.{Call, Enter, PushOpen, DropOpen, made}
+use Rattle.roff_store.specs.Texts.{Entry, Texts, body_of, newest, used}
 
 -- an item ahead of the source
 pub data Ahead (E : Type 0) : Type 0 where
@@ -35,10 +39,24 @@ pub record Input (E : Type 0) : Type 0 where
   pub newlines : ℕ
   -- the line of the source on which the last byte taken of it stands, 1 if none was
   pub line : ℕ
+  -- what names stand for: strings, macros and requests
+  pub names : Named Entry
+  -- the texts in the making, the oldest first
+  pub open_texts : List (List ℕ)
 
 -- before the first item
 abbrev pub initial_input : {E : Type 0} → Input E
-initial_input = record { ahead = []; arguments = no_arguments; half = []; kept = []; charge = 0; newlines = 0; line = 1 }
+initial_input = record {
+  ahead = [];
+  arguments = no_arguments;
+  half = [];
+  kept = [];
+  charge = 0;
+  newlines = 0;
+  line = 1;
+  names = [];
+  open_texts = [];
+}
 
 -- whether nothing stands ahead
 abbrev pub is_none_ahead : {E : Type 0} → List (Ahead E) → Bool
@@ -182,3 +200,48 @@ kept_last i = elim i.kept [ [] ↦ None | so ∷ others ↦ Some so ]
 -- it is kept no more
 abbrev pub without_last : {E : Type 0} → Input E → Input E
 without_last i = record i { kept = drop 1 i.kept }
+
+-- the texts of an input, as a store without limits has them
+abbrev pub texts_of : {E : Type 0} → Input E → Texts
+texts_of i = record {
+  names = record { entries = i.names; cap = 0 };
+  open_texts = i.open_texts;
+  leases = [];
+  cap_bytes = 0;
+  cap_kept = 0;
+  cap_open = 0;
+  cap_leases = 0;
+}
+
+-- the input with the texts of a store
+abbrev pub with_texts : {E : Type 0} → Texts → Input E → Input E
+with_texts t i = record i { names = t.names.entries; open_texts = t.open_texts }
+
+-- the input behind a call on names or texts in the making, if no limit refuses it
+abbrev pub calling : {E : Type 0} → Call → Input E → Input E
+calling call i = with_texts (made call (texts_of i)) i
+
+-- what counts in the limit on the store: the bytes of bodies and of texts in the making
+abbrev pub stored : {E : Type 0} → Input E → ℕ
+stored i = used (texts_of i)
+
+-- the body of a name; a name that has none reads as an empty one
+abbrev pub body_named : {E : Type 0} → List ℕ → Input E → List ℕ
+body_named name i = body_of name (texts_of i)
+
+-- the input behind a call on the text in the making with this number, if there is one
+abbrev pub calling_on : {E : Type 0} → (ℕ → Call) → Option ℕ → Input E → Input E
+calling_on call None i = i
+calling_on call (Some id) i = calling (call id) i
+
+-- bytes are put behind the newest text in the making
+abbrev pub adding : {E : Type 0} → List ℕ → Input E → Input E
+adding bytes i = calling_on (λ id. PushOpen id bytes) (newest i.open_texts) i
+
+-- it ends: it is put behind the body of a name, or is the name's body from now on
+abbrev pub entering : {E : Type 0} → List ℕ → Bool → Input E → Input E
+entering name append i = calling_on (λ id. Enter id name append) (newest i.open_texts) i
+
+-- it is dropped
+abbrev pub dropping : {E : Type 0} → Input E → Input E
+dropping i = calling_on (λ id. DropOpen id) (newest i.open_texts) i

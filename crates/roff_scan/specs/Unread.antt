@@ -4,13 +4,13 @@
 -- stands behind what is ahead, and before what the source still gives.
 pub mod Calls
 pub mod Kept
-use Rattle.std.specs.Prelude.{ℕ, ◌+◌, ◌-◌, ◌≤◌, ◌&&◌, is_none, min, Bool, true, false, List, [], ◌∷◌, length, take, take_while, ◌==◌, nat_lt, Option, Some, None, if◌then◌else◌, Result, Ok, Err}
+use Rattle.std.specs.Prelude.{ℕ, ◌+◌, ◌-◌, ◌≤◌, ◌&&◌, is_none, Bool, true, false, List, [], ◌∷◌, length, take, take_while, ◌==◌, nat_lt, Option, Some, None, if◌then◌else◌, Result, Ok, Err}
 use Rattle.roff_num.specs.declared.limit.Limit.{Limit}
-use Rattle.roff_num.specs.declared.limit.Limit.TheVariants.{Bytes, Stack, Depth, Conditions}
+use Rattle.roff_num.specs.declared.limit.Limit.TheVariants.{Bytes, Stack, Depth, Diversions, Conditions, Store, Names}
 use Rattle.roff_num.specs.declared.limits.Limits.{Limits}
 use Rattle.roff_scan.specs.Bytes.{is_passed}
 use Rattle.roff_scan.specs.Halves.{Reads}
-use Rattle.roff_scan.specs.Input.{with_half, Input, initial_input, is_none_ahead, Ahead, ByteAhead, FreeAhead, EndAhead, DoAhead, cost, counting, item_taken, pushed, depth, results}
+use Rattle.roff_scan.specs.Input.{with_half, Input, initial_input, is_none_ahead, Ahead, ByteAhead, FreeAhead, EndAhead, DoAhead, cost, counting, item_taken, pushed, depth, results, stored}
 use Rattle.roff_store.specs.Texts.{Texts}
 use Rattle.roff_scan.specs.Tape.{Tape, Answer, Answers, Gives, Ends, OneByte, OneNote, Ending, Ended, Failed, Stopped, items_then}
 use Rattle.roff_scan.specs.declared.half.Read.{Read}
@@ -24,8 +24,6 @@ pub record Unread (E : Type 0) : Type 0 where
   pub input : Input E
   -- the byte of the source that was looked at
   pub looked : Option ℕ
-  -- strings, macros and diversions by name, and texts in the making
-  pub texts : Texts
   pub limits : Limits
 
 -- no count is above its limit
@@ -35,6 +33,9 @@ pub record IsWithin {E : Type 0} (u : Unread E) : Type 0 where
   pub pushed : pushed u.input ≤ u.limits.stack
   pub depth : depth u.input ≤ u.limits.depth
   pub results : results u.input ≤ u.limits.conditions
+  pub stored : stored u.input ≤ u.limits.store
+  pub names : length u.input.names ≤ u.limits.names
+  pub making : length u.input.open_texts ≤ u.limits.diversions + 1
 
 -- no name stands for anything
 abbrev pub no_texts : Limits → Texts
@@ -44,13 +45,17 @@ no_texts l = record {
   leases = [];
   cap_bytes = l.store;
   cap_kept = l.stack;
-  cap_open = min (l.diversions + 1) 4294967295;
+  cap_open = l.diversions + 1;
   cap_leases = l.depth;
 }
 
+-- the texts of an input, as a store within these limits has them
+abbrev pub texts_within : {E : Type 0} → Limits → Input E → Texts
+texts_within l i = record (no_texts l) { names = record { entries = i.names; cap = l.names }; open_texts = i.open_texts }
+
 -- before anything is read
 abbrev pub initial_unread : {E : Type 0} → Limits → Unread E
-initial_unread limits = record { input = initial_input; looked = None; texts = no_texts limits; limits = limits }
+initial_unread limits = record { input = initial_input; looked = None; limits = limits }
 
 -- whether the source's next byte is the next one: nothing is ahead, nothing half read, and nothing looked at
 abbrev pub is_bare : {E : Type 0} → Unread E → Bool
@@ -188,11 +193,14 @@ looking a u = looking_past (seen_ahead u.input.ahead) a u
 abbrev pub asks_to_look : {E : Type 0} → Unread E → Bool
 asks_to_look u = is_none (seen_ahead u.input.ahead) && is_none u.looked
 
--- the first limit that a count of this input is above
+-- the first limit that a count of this input is above; a text that is made beside the diversions counts as none of them
 abbrev pub input_refusal : {E : Type 0} → Limits → Input E → Option Limit
 input_refusal l i =
     if nat_lt l.stack (pushed i) then Some Stack
     else if nat_lt l.depth (depth i) then Some Depth
+    else if nat_lt l.store (stored i) then Some Store
+    else if nat_lt l.names (length i.names) then Some Names
+    else if nat_lt l.diversions (length i.open_texts - 1) then Some Diversions
     else if nat_lt l.conditions (results i) then Some Conditions
     else None
 

@@ -1,9 +1,9 @@
 //! Frames: what stands ahead of the source. Bodies of strings and macros are read where they lie.
 
-ghost use Rattle.std.specs.Prelude.{false, true, ◌≡◌, ◌+◌, ◌<◌, ◌≤◌, ◌^◌, [], ◌∷◌, ◌++◌, map, length, option_map, IfOk};
+ghost use Rattle.std.specs.Prelude.{IsTrue, false, true, ◌≡◌, ◌↔◌, ◌+◌, ◌<◌, ◌≤◌, ◌^◌, [], ◌∷◌, ◌++◌, map, length, option_map, IfOk};
 ghost use Rattle.roff_scan.specs.Input.{is_none_ahead, front_cost, ByteAhead, FreeAhead, EndAhead, DoAhead, bytes_ahead, ends_ahead, events_ahead, frees_ahead, most_events, most_frees};
 ghost use Rattle.roff_store.specs.Named.{entry_of};
-ghost use Rattle.roff_store.specs.Texts.{body_of, entry_given, kind_given, kind_of};
+ghost use Rattle.roff_store.specs.Texts.{body_of, entry_given, kind_given, kind_of, newest};
 
 use crate::slots::{Front, Slots};
 use crate::unread::{Item, Sight};
@@ -41,9 +41,9 @@ impl<E> Model for Frames<E> {
 }
 
 impl<E: Copy> Frames<E> {
-    ghost use Rattle.roff_scan.specs.Unread.{no_texts, shown, sighted, seen_ahead};
+    ghost use Rattle.roff_scan.specs.Unread.{shown, sighted, seen_ahead, no_texts};
     ghost use Rattle.roff_scan.specs.Frames.Calls.{TakesFront};
-    ghost use Rattle.roff_store.specs.TextCalls.{Append, DropOpen, Enter, Open, PushOpen, Remove, Rename, Set, after, answered};
+    ghost use Rattle.roff_store.specs.TextCalls.{DropOpen, Enter, Open, PushOpen, Remove, Rename, Set, after, answered};
 
     /// Nothing stands ahead, and no name stands for anything.
     pub(crate) fn new(alloc: Global, limits: &Limits) -> Result<Self, AllocError>
@@ -54,13 +54,16 @@ impl<E: Copy> Frames<E> {
           most_texts = limits.now.depth;
         }) }
     {
+        let Some(cap_open) = limits.diversions.checked_add(1) else {
+            return Err(AllocError);
+        };
         Ok(Frames {
             slots: Slots::new(alloc, limits.stack, limits.depth)?,
             texts: TextStore::new(
                 alloc,
                 limits.store,
                 limits.names,
-                limits.diversions.saturating_add(1),
+                cap_open,
                 limits.depth,
                 limits.stack,
             )?,
@@ -232,20 +235,6 @@ impl<E: Copy> Frames<E> {
         self.texts.set(name, entry)
     }
 
-    /// Puts bytes behind the body of a name. A request is replaced, and a name that stands for
-    /// nothing gets the bytes as its body.
-    ///
-    /// # Errors
-    ///
-    /// As for [`set`](Frames::set).
-    pub(crate) fn append(&mut self, name: &Name, text: &[u8]) -> Result<(), Limit>
-        ensures answer { result ≡ answered (Append name.now text.now) self.old.texts }
-        ensures texts { self.new
-            ≡ record self.old { texts = after (Append name.now text.now) self.old.texts } }
-    {
-        self.texts.append(name, text)
-    }
-
     /// Removes a name.
     pub(crate) fn remove(&mut self, name: &Name)
         ensures { self.new ≡ record self.old { texts = after (Remove name.now) self.old.texts } }
@@ -260,6 +249,20 @@ impl<E: Copy> Frames<E> {
             ≡ record self.old { texts = after (Rename from.now to.now) self.old.texts } }
     {
         self.texts.rename(from, to);
+    }
+
+    /// The number of the newest text in the making, if there is one.
+    pub(crate) fn newest(&self) -> Option<OpenId>
+        ensures { option_map (λ id. id.0) result ≡ newest self.now.texts.open_texts }
+    {
+        self.texts.newest()
+    }
+
+    /// Whether a text may be begun.
+    pub(crate) fn can_open(&self) -> bool
+        ensures { IsTrue result ↔ (length self.now.texts.open_texts < self.now.texts.cap_open) }
+    {
+        self.texts.can_open()
     }
 
     /// Begins a text.

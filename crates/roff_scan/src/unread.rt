@@ -3,11 +3,11 @@
 ghost use Rattle.roff_scan.specs.Arguments.{with_unit, settled, finished};
 ghost use Rattle.roff_scan.specs.ArgumentList.{listed};
 ghost use Rattle.roff_store.specs.Named.{entry_of};
-ghost use Rattle.roff_store.specs.Texts.{body_of, entry_given, kind_given, kind_of};
+ghost use Rattle.roff_store.specs.Texts.{entry_given, kind_given, kind_of};
 ghost use Rattle.roff_scan.specs.Halves.{byte_read, decides_now, reading_ended, newline_stays, seen_stays};
 ghost use Rattle.std.specs.Prelude.{reverse, true, false, not, ◌≡◌, ◌==◌, ◌+◌, ◌<◌, ◌≤◌, length, None, option_map, IfOk, IfSome};
 ghost use Rattle.roff_scan.specs.Tape.{Answer, OneByte, OneNote, Gives, Failed, Rises};
-ghost use Rattle.roff_scan.specs.Input.{is_none_ahead, counting, choosing, keeping, kept_last, without_last, events_ahead, frees_ahead, most_events, most_frees, holding_text, pushed, depth, pushing, putting_back, freeing, with_arguments, without_arguments};
+ghost use Rattle.roff_scan.specs.Input.{is_none_ahead, counting, choosing, keeping, kept_last, without_last, events_ahead, frees_ahead, most_events, most_frees, holding_text, pushed, depth, pushing, putting_back, freeing, with_arguments, without_arguments, adding, body_named, calling, dropping, entering};
 
 use crate::arguments::{ArgumentList, ArgumentTexts};
 use crate::bytes::{newlines_among, passed_len};
@@ -16,7 +16,7 @@ use crate::half::{CopyUnit, Read};
 use crate::halves::Halves;
 use crate::source::{ByteSource, Note, Taken};
 use roff_num::{Limit, Limits, Name};
-use roff_store::{Entry, Kind, OpenId};
+use roff_store::{Entry, Kind};
 use std::alloc::{AllocError, Global};
 use std::marker::Model;
 
@@ -91,7 +91,7 @@ impl<E> Model for Unread<E> {
 impl<E: Copy> Unread<E> {
     ghost use Rattle.roff_scan.specs.Unread.{initial_unread, is_bare, IsWithin, Shown, shown, ShowsByte, ShowsNote, ShowsEnding, sighted, SeesNote, SeesEnding, taking, taking_answer, changing, reading};
     ghost use Rattle.roff_scan.specs.Unread.Calls.{Takes, Looks, PassesOver};
-    ghost use Rattle.roff_store.specs.TextCalls.{Append, DropOpen, Enter, Open, PushOpen, Remove, Rename, Set, after, answered};
+    ghost use Rattle.roff_store.specs.TextCalls.{Open, Remove, Rename, Set};
 
     /// The input before anything is read.
     pub fn new(alloc: Global, limits: Limits) -> Result<Self, AllocError>
@@ -362,7 +362,7 @@ impl<E: Copy> Unread<E> {
     /// As for [`push`](Unread::push).
     pub fn push_body(&mut self, name: &Name) -> Result<(), Limit>
         ensures change { (result, self.new)
-            ≡ changing (pushing (body_of name.now self.old.texts) self.old.input) self.old }
+            ≡ changing (pushing (body_named name.now self.old.input) self.old.input) self.old }
         ensures within { IsWithin self.new }
     {
         if self.frames.body_len(name) > self.limits.stack as usize - self.pushed() {
@@ -546,7 +546,7 @@ impl<E: Copy> Unread<E> {
     /// What a name stands for: a request, or a body with so many bytes.
     pub fn get(&self, name: &Name) -> Option<Kind>
         ensures { option_map kind_given result
-            ≡ option_map kind_of (entry_of name.now self.now.texts.names.entries) }
+            ≡ option_map kind_of (entry_of name.now self.now.input.names) }
     {
         self.frames.get(name)
     }
@@ -556,36 +556,19 @@ impl<E: Copy> Unread<E> {
     /// # Errors
     ///
     /// [`Limit::Store`] if there would be too many bytes, else [`Limit::Names`] if the name is new
-    /// and the table is full; nothing changes then.
+    /// and there are as many as may be.
     pub fn set(&mut self, name: &Name, entry: Entry<'_>) -> Result<(), Limit>
-        ensures answer { result ≡ answered (Set name.now (entry_given entry.entry)) self.old.texts }
-        ensures texts { self.new ≡ record self.old {
-          texts = after (Set name.now (entry_given entry.entry)) self.old.texts;
-        } }
+        ensures change { (result, self.new)
+            ≡ changing (calling (Set name.now (entry_given entry.entry)) self.old.input) self.old }
         ensures within { IsWithin self.new }
     {
         self.frames.set(name, entry)
     }
 
-    /// Puts bytes behind the body of a name. A request is replaced, and a name that stands for
-    /// nothing gets the bytes as its body.
-    ///
-    /// # Errors
-    ///
-    /// As for [`set`](Unread::set).
-    pub fn append(&mut self, name: &Name, text: &[u8]) -> Result<(), Limit>
-        ensures answer { result ≡ answered (Append name.now text.now) self.old.texts }
-        ensures texts { self.new
-            ≡ record self.old { texts = after (Append name.now text.now) self.old.texts } }
-        ensures within { IsWithin self.new }
-    {
-        self.frames.append(name, text)
-    }
-
     /// Removes a name.
     pub fn remove(&mut self, name: &Name)
-        ensures texts { self.new
-            ≡ record self.old { texts = after (Remove name.now) self.old.texts } }
+        ensures change { self.new
+            ≡ record self.old { input = calling (Remove name.now) self.old.input } }
         ensures within { IsWithin self.new }
     {
         self.frames.remove(name);
@@ -594,61 +577,68 @@ impl<E: Copy> Unread<E> {
     /// Lets one name stand for what another one stood for, which then stands for nothing. Nothing
     /// changes where that one stands for nothing, or is the same name.
     pub fn rename(&mut self, from: &Name, to: &Name)
-        ensures texts { self.new
-            ≡ record self.old { texts = after (Rename from.now to.now) self.old.texts } }
+        ensures change { self.new
+            ≡ record self.old { input = calling (Rename from.now to.now) self.old.input } }
         ensures within { IsWithin self.new }
     {
         self.frames.rename(from, to);
     }
 
     /// Begins a text.
-    pub fn open(&mut self) -> OpenId
-        requires { length self.old.texts.open_texts < self.old.texts.cap_open }
-        ensures number { result.0 ≡ length self.old.texts.open_texts }
-        ensures texts { self.new ≡ record self.old { texts = after Open self.old.texts } }
-        ensures within { IsWithin self.new }
-    {
-        self.frames.open()
-    }
-
-    /// Puts bytes behind a text in the making.
     ///
     /// # Errors
     ///
-    /// [`Limit::Store`] if there would be too many bytes; nothing changes then.
-    pub fn push_open(&mut self, id: OpenId, text: &[u8]) -> Result<(), Limit>
-        requires { id.0 < length self.old.texts.open_texts }
-        ensures answer { result ≡ answered (PushOpen id.0 text.now) self.old.texts }
-        ensures texts { self.new
-            ≡ record self.old { texts = after (PushOpen id.0 text.now) self.old.texts } }
+    /// [`Limit::Diversions`] if as many are in the making as may be.
+    pub fn begin_text(&mut self) -> Result<(), Limit>
+        ensures change { (result, self.new) ≡ changing (calling Open self.old.input) self.old }
         ensures within { IsWithin self.new }
     {
-        self.frames.push_open(id, text)
+        if !self.frames.can_open() {
+            return Err(Limit::Diversions);
+        }
+        self.frames.open();
+        Ok(())
     }
 
-    /// Ends a text in the making: it is put behind the body of a name, or is its body from now on.
-    /// The number of each newer one goes down by one.
+    /// Puts bytes behind the newest text in the making, if there is one.
     ///
     /// # Errors
     ///
-    /// [`Limit::Names`] if the name is new and the table is full; nothing changes then.
-    pub fn enter(&mut self, id: OpenId, name: &Name, append: bool) -> Result<(), Limit>
-        requires { id.0 < length self.old.texts.open_texts }
-        ensures answer { result ≡ answered (Enter id.0 name.now append) self.old.texts }
-        ensures texts { self.new
-            ≡ record self.old { texts = after (Enter id.0 name.now append) self.old.texts } }
+    /// [`Limit::Store`] if there would be too many bytes.
+    pub fn add(&mut self, text: &[u8]) -> Result<(), Limit>
+        ensures change { (result, self.new) ≡ changing (adding text.now self.old.input) self.old }
         ensures within { IsWithin self.new }
     {
-        self.frames.enter(id, name, append)
+        match self.frames.newest() {
+            Some(id) => self.frames.push_open(id, text),
+            None => Ok(()),
+        }
     }
 
-    /// Drops a text in the making. The number of each newer one goes down by one.
-    pub fn drop_open(&mut self, id: OpenId)
-        requires { id.0 < length self.old.texts.open_texts }
-        ensures texts { self.new
-            ≡ record self.old { texts = after (DropOpen id.0) self.old.texts } }
+    /// Ends the newest text in the making, if there is one: it is put behind the body of a name, or
+    /// is its body from now on.
+    ///
+    /// # Errors
+    ///
+    /// [`Limit::Names`] if the name is new and there are as many as may be.
+    pub fn enter(&mut self, name: &Name, append: bool) -> Result<(), Limit>
+        ensures change { (result, self.new)
+            ≡ changing (entering name.now append self.old.input) self.old }
         ensures within { IsWithin self.new }
     {
-        self.frames.drop_open(id);
+        match self.frames.newest() {
+            Some(id) => self.frames.enter(id, name, append),
+            None => Ok(()),
+        }
+    }
+
+    /// Drops the newest text in the making, if there is one.
+    pub fn drop_text(&mut self)
+        ensures change { self.new ≡ record self.old { input = dropping self.old.input } }
+        ensures within { IsWithin self.new }
+    {
+        if let Some(id) = self.frames.newest() {
+            self.frames.drop_open(id);
+        }
     }
 }

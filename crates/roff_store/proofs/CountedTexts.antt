@@ -53,7 +53,7 @@ bytes-without name es once =
     let sum = sum-without (λ (e : Entry). length (bytes_of e)) name es once in
     omega (arith, sum, bytes-any (entry_of name es))
 
-bytes-with : (name : List ℕ) (entry : Entry) (es : Named Entry) → EachOnce es
+pub bytes-with : (name : List ℕ) (entry : Entry) (es : Named Entry) → EachOnce es
     → bytes_in (with_entry name entry es) + length (body_if_any (entry_of name es)) ≡ bytes_in es + length (bytes_of entry)
 bytes-with name entry es once =
     let sum = sum-with (λ (e : Entry). length (bytes_of e)) name entry es once in
@@ -61,7 +61,7 @@ bytes-with name entry es once =
     omega arith
 
 -- the bytes of texts in the making without one of them
-sum-dropped : (texts : List (List ℕ)) (id : ℕ) → sum_by length (remove texts id) + length (get_or texts id []) ≡ sum_by length texts
+pub sum-dropped : (texts : List (List ℕ)) (id : ℕ) → sum_by length (remove texts id) + length (get_or texts id []) ≡ sum_by length texts
 sum-dropped [] zero = refl
 sum-dropped [] (suc id) = refl
 sum-dropped (text ∷ texts) zero = omega (arith, sum_by-cons (λ (x : List ℕ). length x) text texts)
@@ -75,7 +75,7 @@ sum-dropped (text ∷ texts) (suc id) =
     )
 
 -- what a text is put behind is no longer than the body
-before-few : (append : Bool) (name : List ℕ) (t : Texts) → length (text_before append name t) ≤ length (body_of name t)
+pub before-few : (append : Bool) (name : List ℕ) (t : Texts) → length (text_before append name t) ≤ length (body_of name t)
 before-few true name t = omega arith
 before-few false name t = omega arith
 
@@ -245,7 +245,7 @@ limits-unless (Ok done) before now same = same
 limits-unless (Err limit) before now same =
     record { names = refl; bytes = refl; kept = refl; open_texts = refl; leases = refl }
 
-limits-made : (call : Call) (t : Texts) → AreSameLimits t (made call t)
+pub limits-made : (call : Call) (t : Texts) → AreSameLimits t (made call t)
 limits-made (Set name entry) t = record { names = refl; bytes = refl; kept = refl; open_texts = refl; leases = refl }
 limits-made (Append name bytes) t = record { names = refl; bytes = refl; kept = refl; open_texts = refl; leases = refl }
 limits-made (Remove name) t = record { names = refl; bytes = refl; kept = refl; open_texts = refl; leases = refl }

@@ -7,6 +7,7 @@ pub mod Tables
 pub mod Calls
 pub mod TextCalls
 pub mod CountedTexts
+pub mod TextRefusals
 pub mod Free
 pub mod Leaving
 pub mod Sharing

@@ -111,3 +111,8 @@ next_byte (Some (byte ∷ bytes)) = Some byte
 pub record IsFree (id : ℕ) (t : Texts) : Type 0 where
   pub known : id ≤ length t.leases
   pub free : lease_of id t ≡ None
+
+-- of some texts in the making, the number of the newest, if there is one
+abbrev pub newest : List (List ℕ) → Option ℕ
+newest [] = None
+newest (text ∷ texts) = Some (length texts)

@@ -20,7 +20,7 @@ pub enum Kind {
 
 /// A text in the making, by its number: the oldest is 0.
 #[derive(Clone, Copy, Debug, PartialEq, Eq)]
-pub struct OpenId(pub u32);
+pub struct OpenId(pub usize);
 
 /// A lease on a body, by its number.
 #[derive(Clone, Copy, Debug, PartialEq, Eq)]

@@ -62,7 +62,7 @@ impl Model for TextStore {
 }
 
 impl TextStore {
-    ghost use Rattle.roff_store.specs.Texts.{IsFree, body_of, entry_given, has_body, kept, kind_given, kind_of, lease_bytes, lease_of, live, next_byte, rest_of, used};
+    ghost use Rattle.roff_store.specs.Texts.{IsFree, body_of, entry_given, has_body, kept, kind_given, kind_of, lease_bytes, lease_of, live, newest, next_byte, rest_of, used};
     ghost use Rattle.roff_store.specs.TextCalls.{Append, DropOpen, Enter, Lease as Leases, Open, PushOpen, Release, Remove, Rename, Set, Take, after, answered};
 
     /// A store without names, for so many bytes of bodies and texts in the making, so many names,
@@ -230,11 +230,21 @@ impl TextStore {
         self.open.len() < self.cap_open as usize
     }
 
+    /// The number of the newest text in the making, if there is one.
+    pub fn newest(&self) -> Option<OpenId>
+        ensures { option_map (λ id. id.0) result ≡ newest self.now.open_texts }
+    {
+        match self.open.len() {
+            0 => None,
+            count => Some(OpenId(count - 1)),
+        }
+    }
+
     /// Whether a number is that of a text in the making.
     pub fn is_open(&self, id: OpenId) -> bool
         ensures { IsTrue result ↔ (id.0 < length self.now.open_texts) }
     {
-        (id.0 as usize) < self.open.len()
+        id.0 < self.open.len()
     }
 
     /// Begins a text.
@@ -243,7 +253,7 @@ impl TextStore {
         ensures number { result.0 ≡ length self.old.open_texts }
         ensures texts { self.new ≡ after Open self.old }
     {
-        let id = self.open.len() as u32;
+        let id = self.open.len();
         self.open.push(Strand::empty()).unwrap();
         OpenId(id)
     }
@@ -261,8 +271,8 @@ impl TextStore {
         if self.cap_bytes as usize - self.used < text.len() {
             return Err(Limit::Store);
         }
-        let longer = self.chunks.extend(self.open[id.0 as usize], text);
-        self.open[id.0 as usize] = longer;
+        let longer = self.chunks.extend(self.open[id.0], text);
+        self.open[id.0] = longer;
         self.used += text.len();
         Ok(())
     }
@@ -282,7 +292,7 @@ impl TextStore {
             return Err(Limit::Names);
         }
         let old = self.names.get(name);
-        let text = self.open.remove(id.0 as usize);
+        let text = self.open.remove(id.0);
         match text_before(old, append) {
             Some(before) => {
                 let body = self.chunks.append(before, text);
@@ -301,7 +311,7 @@ impl TextStore {
         requires { id.0 < length self.old.open_texts }
         ensures { self.new ≡ after (DropOpen id.0) self.old }
     {
-        let text = self.open.remove(id.0 as usize);
+        let text = self.open.remove(id.0);
         self.used -= text.rest;
         self.chunks.release(text);
     }

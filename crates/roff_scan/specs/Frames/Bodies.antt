@@ -1,5 +1,5 @@
 -- How bodies that are read where they lie stand for their bytes.
-use Rattle.std.specs.Prelude.{ℕ, ◌+◌, List, [], ◌∷◌, ◌++◌, map}
+use Rattle.std.specs.Prelude.{ℕ, List, [], ◌∷◌, ◌++◌, map}
 use Rattle.roff_scan.specs.Input.{Ahead, ByteAhead, FreeAhead, EndAhead, DoAhead}
 use Rattle.roff_scan.specs.declared.frames.Frame.{Frame}
 use Rattle.roff_scan.specs.declared.frames.Frame.TheVariants.{Event, Body}

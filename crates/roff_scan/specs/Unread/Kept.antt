@@ -1,7 +1,8 @@
 -- What the unread input keeps.
 use Rattle.std.specs.Prelude.{◌≡◌, ◌≤◌, ◌<◌, ◌^◌, reverse, vec_capacity}
-use Rattle.roff_scan.specs.Unread.{Unread, IsWithin}
+use Rattle.roff_scan.specs.Unread.{Unread, IsWithin, texts_within}
 use Rattle.roff_scan.specs.declared.unread.Unread.TheInside.{Inside}
+use Rattle.roff_store.specs.Named.{EachOnce}
 
 -- what the fields keep
 abbrev pub kept_by : {E : Type 0} → Inside E → Unread E
@@ -14,9 +15,10 @@ kept_by a = record {
     charge = a.charge;
     newlines = a.newlines;
     line = a.line;
+    names = a.frames.texts.names.entries;
+    open_texts = a.frames.texts.open_texts;
   };
   looked = a.looked;
-  texts = a.frames.texts;
   limits = a.limits;
 }
 
@@ -24,6 +26,8 @@ kept_by a = record {
 pub record IsSound {E : Type 0} (a : Inside E) : Type 0 where
   pub bytes : a.frames.most_bytes ≡ a.limits.stack
   pub texts : a.frames.most_texts ≡ a.limits.depth
+  pub store : a.frames.texts ≡ texts_within a.limits (kept_by a).input
+  pub once : EachOnce a.frames.texts.names.entries
   pub arguments : a.arguments.room ≡ a.limits.stack
   pub held : a.half.room ≡ a.limits.stack
   pub small : a.limits.stack < 2 ^ 32

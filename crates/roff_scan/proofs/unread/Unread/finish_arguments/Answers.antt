@@ -13,6 +13,8 @@ invariant_of-self g c =
       arguments = rw c.finish.ensures.value c.self.invariant.arguments;
       held = c.self.invariant.held;
       small = c.self.invariant.small;
+      store = c.self.invariant.store;
+      once = c.self.invariant.once;
       results = c.self.invariant.results;
       within = rw c.finish.ensures.value (IsWithin-same_held (kept_by c.self.inside) (finished old) c.self.invariant.within (held-finished old));
     }

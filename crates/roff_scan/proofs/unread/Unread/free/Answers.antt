@@ -9,6 +9,8 @@ invariant_of-self g c = record {
   arguments = c.self.invariant.arguments;
   held = c.self.invariant.held;
   small = c.self.invariant.small;
+  store = rw c.free.ensures c.self.invariant.store;
+  once = rw c.free.ensures c.self.invariant.once;
   results = c.self.invariant.results;
   within = rw c.free.ensures (IsWithin-freeing (kept_by c.self.inside) c.args.bytes.now c.self.invariant.within);
 }

@@ -24,6 +24,8 @@ invariant_of-self g c =
       arguments = rw c.take.ensures.value c.self.invariant.arguments;
       held = c.self.invariant.held;
       small = c.self.invariant.small;
+      store = c.self.invariant.store;
+      once = c.self.invariant.once;
       results = c.self.invariant.results;
       within = rw c.take.ensures.value (IsWithin-holding kept (with_unit kept.input.arguments c.args.unit) c.pushed.result c.bytes_more.result counted c.bytes_more.ensures.value c.self.invariant.within c.if-bytes_more-self.false);
     }

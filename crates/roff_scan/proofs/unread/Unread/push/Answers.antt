@@ -28,6 +28,8 @@ invariant_of-self g c =
       arguments = c.self.invariant.arguments;
       held = c.self.invariant.held;
       small = c.self.invariant.small;
+      store = rw c.push.ensures c.self.invariant.store;
+      once = rw c.push.ensures c.self.invariant.once;
       results = c.self.invariant.results;
       within = rw c.push.ensures (IsWithin-pushing kept c.args.text.now c.pushed.result counted c.self.invariant.within c.if-text-self.false shallow);
     }

@@ -1,14 +1,13 @@
 use Rattle.std.proofs.Common.{◌≤◌, ◌<◌, ◌-◌, length, sym}
-use Rattle.roff_scan.specs.Input.{depth}
+use Rattle.roff_scan.specs.Input.{body_named, depth}
 use Rattle.roff_scan.specs.Unread.Kept.{kept_by}
 use Rattle.roff_scan.proofs.Changing.{push_past_stack, push_past_depth, push_within, IsWithin-pushing}
 use Rattle.roff_scan.proofs.unread.Unread.push_body.Goals as goal
-use Rattle.roff_store.specs.Texts.{body_of}
 
 pub returns-then-body_len-self-clause-change : goal.returns-then-body_len-self-clause-change
 returns-then-body_len-self-clause-change g c =
     let kept = kept_by c.self.inside in
-    let body = body_of c.args.name.now kept.texts in
+    let body = body_named c.args.name.now kept.input in
     let counted = rw (← c.self.view_is) at c.pushed.ensures in
     let long : kept.limits.stack - c.pushed.result < length body = rw (← c.body_len.ensures) c.if-body_len-self.true in
     rw (← c.self.view_is) (sym (push_past_stack kept body c.pushed.result counted long))
@@ -16,7 +15,7 @@ returns-then-body_len-self-clause-change g c =
 pub returns-then-is_deep-clause-change : goal.returns-then-is_deep-clause-change
 returns-then-is_deep-clause-change g c =
     let kept = kept_by c.self.inside in
-    let body = body_of c.args.name.now kept.texts in
+    let body = body_named c.args.name.now kept.input in
     let counted = rw (← c.self.view_is) at c.pushed.ensures in
     let short : length body ≤ kept.limits.stack - c.pushed.result = rw (← c.body_len.ensures) c.if-body_len-self.false in
     let deep : kept.limits.depth ≤ depth kept.input = rw (← c.self.view_is) at (c.is_deep.ensures.deep c.if-is_deep.true) in
@@ -25,7 +24,7 @@ returns-then-is_deep-clause-change g c =
 pub invariant_of-self : goal.invariant_of-self
 invariant_of-self g c =
     let kept = kept_by c.self.inside in
-    let body = body_of c.args.name.now kept.texts in
+    let body = body_named c.args.name.now kept.input in
     let counted = rw (← c.self.view_is) at c.pushed.ensures in
     let short : length body ≤ kept.limits.stack - c.pushed.result = rw (← c.body_len.ensures) c.if-body_len-self.false in
     let shallow : depth kept.input < kept.limits.depth = rw (← c.self.view_is) at (c.is_deep.ensures.shallow c.if-is_deep.false) in
@@ -35,6 +34,8 @@ invariant_of-self g c =
       arguments = c.self.invariant.arguments;
       held = c.self.invariant.held;
       small = c.self.invariant.small;
+      store = rw c.push_body.ensures c.self.invariant.store;
+      once = rw c.push_body.ensures c.self.invariant.once;
       results = c.self.invariant.results;
       within = rw c.push_body.ensures (IsWithin-pushing kept body c.pushed.result counted c.self.invariant.within short shallow);
     }
@@ -42,7 +43,7 @@ invariant_of-self g c =
 pub returns-clause-change : goal.returns-clause-change
 returns-clause-change g c =
     let kept = kept_by c.self.inside in
-    let body = body_of c.args.name.now kept.texts in
+    let body = body_named c.args.name.now kept.input in
     let counted = rw (← c.self.view_is) at c.pushed.ensures in
     let short : length body ≤ kept.limits.stack - c.pushed.result = rw (← c.body_len.ensures) c.if-body_len-self.false in
     let shallow : depth kept.input < kept.limits.depth = rw (← c.self.view_is) at (c.is_deep.ensures.shallow c.if-is_deep.false) in

@@ -14,6 +14,8 @@ invariant_of-self g c =
       arguments = c.self.invariant.arguments;
       held = rw left c.self.invariant.held;
       small = c.self.invariant.small;
+      store = c.self.invariant.store;
+      once = c.self.invariant.once;
       results = c.self.invariant.results;
       within = rw left (IsWithin-with_half (kept_by c.self.inside) (byte_read c.args.is_text c.self.inside.half.half c.args.byte).1 c.self.invariant.within (texts_held-byte_read c.args.is_text c.args.byte c.self.inside.half.half));
     }
