@@ -12,6 +12,7 @@ use Rattle.roff_scan.specs.Input.{DoAhead, depth, results, stored}
 use Rattle.roff_scan.specs.Tape.{Tape}
 use Rattle.roff_scan.specs.Unread.{looked_then}
 use Rattle.roff_scan.specs.Half.{Half}
+use Rattle.roff_scan.specs.declared.half.Surroundings.TheVariants.{Text as AboveText, Arguments as AboveArguments}
 use Rattle.roff_engine.specs.declared.formatter.Formatter.{Formatter}
 use Rattle.roff_engine.specs.declared.halt.Halt.{Halt}
 use Rattle.roff_engine.specs.declared.halt.Halt.TheVariants.{Limit as Limited, Refused, Output, Messages}
@@ -254,16 +255,16 @@ Acts-as does other line old new now behind r same acts = record {
 
 -- the line stays where a half read item ends with nothing half read
 line-nothing_ended : (k : Known) (reading : Reading) (i : PageInput) → i.half ≡ [] → (half_ended k reading i).input.line ≡ i.line
-line-nothing_ended k LineStart i none = subst (λ (half : List Half). (beginning_read k i LineStart (reading_ended true half)).input.line ≡ i.line) (sym none) refl
-line-nothing_ended k Branch i none = subst (λ (half : List Half). (beginning_read k i Branch (reading_ended true half)).input.line ≡ i.line) (sym none) refl
-line-nothing_ended k Braced i none = subst (λ (half : List Half). (beginning_read k i Braced (reading_ended true half)).input.line ≡ i.line) (sym none) refl
-line-nothing_ended k (InText line) i none = subst (λ (half : List Half). (text_read k i line (reading_ended true half)).input.line ≡ i.line) (sym none) refl
+line-nothing_ended k LineStart i none = subst (λ (half : List Half). (beginning_read k i LineStart (reading_ended AboveText half)).input.line ≡ i.line) (sym none) refl
+line-nothing_ended k Branch i none = subst (λ (half : List Half). (beginning_read k i Branch (reading_ended AboveText half)).input.line ≡ i.line) (sym none) refl
+line-nothing_ended k Braced i none = subst (λ (half : List Half). (beginning_read k i Braced (reading_ended AboveText half)).input.line ≡ i.line) (sym none) refl
+line-nothing_ended k (InText line) i none = subst (λ (half : List Half). (text_read k i line (reading_ended AboveText half)).input.line ≡ i.line) (sym none) refl
 line-nothing_ended k (Control breaks) i none = refl
 line-nothing_ended k (Name breaks byte) i none = refl
 line-nothing_ended k (InArguments breaks request) i none =
-    subst (λ (half : List Half). (arguments_read_on k i breaks request (reading_ended false half)).input.line ≡ i.line) (sym none) refl
+    subst (λ (half : List Half). (arguments_read_on k i breaks request (reading_ended AboveArguments half)).input.line ≡ i.line) (sym none) refl
 line-nothing_ended k (Deciding keeping) i none =
-    subst (λ (half : List Half). (condition_read k i keeping (reading_ended false half)).input.line ≡ i.line) (sym none) refl
+    subst (λ (half : List Half). (condition_read k i keeping (reading_ended AboveArguments half)).input.line ≡ i.line) (sym none) refl
 line-nothing_ended k (Skipping opened closed behind) i none = refl
 line-nothing_ended k Dropped i none = refl
 

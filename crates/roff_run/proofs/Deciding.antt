@@ -20,6 +20,7 @@ use Rattle.roff_scan.specs.declared.half.CopyUnit.TheVariants.{Byte, Kept}
 use Rattle.roff_scan.specs.declared.half.Decision.{Decision}
 use Rattle.roff_scan.specs.declared.half.Read.{Read}
 use Rattle.roff_scan.specs.declared.half.Read.TheVariants.{GoesOn, Unit as OneUnit, Holds, Escape, Asks, Motion, Measures, Tells, Decides}
+use Rattle.roff_scan.specs.declared.half.Surroundings.TheVariants.{Text as AboveText}
 use Rattle.roff_run.specs.Reader.State.{ReaderState}
 use Rattle.roff_run.specs.Reader.Taken.{PageUnread, Takes, TakesAs, Took}
 use Rattle.roff_run.specs.Reading.{PageInput, Taking, beginning_found, character_printed, condition_found, decided, escape_meant, first_escape, first_taking, fresh_line, is_so, kept_if, line_begun, no_unit_found, skipping_taking}
@@ -107,7 +108,7 @@ Keeps-skipping_taking so b =
 Keeps-decided : (so : Bool) (k : Known) (freed : Option ℕ) → Keeps so (λ i. decided k i so freed)
 Keeps-decided so k None i = refl
 Keeps-decided true k (Some b) i =
-    let read = byte_read true i.half b in Keeps-beginning_found true k read.0 (record i { half = read.1 })
+    let read = byte_read AboveText i.half b in Keeps-beginning_found true k read.0 (record i { half = read.1 })
 Keeps-decided false k (Some b) i = Keeps-skipping_taking false b i
 
 -- one result more is above the limit on results where fewer are, and no other count grows by it

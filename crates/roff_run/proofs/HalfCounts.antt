@@ -283,22 +283,22 @@ Leaves-byte_of_width rest (Some d) width is_deep b =
     (Leaves-if _ is_deep _ _ (omega arith) (omega arith)))
 
 -- a byte begins one ending at most
-pub endings-byte_read : (is_text : Bool) (half : List Half) (b : ℕ) → Leaves (endings_of half + 1) (byte_read is_text half b)
-endings-byte_read is_text [] b = Leaves-if _ (b == backslash) _ _ (omega arith) (omega arith)
-endings-byte_read is_text (Backslash ∷ rest) b =
-    let read : Leaves (endings_of rest + 1) (escape_read (surroundings is_text rest) rest b (escape_of b)) =
-    Leaves-escape_read (surroundings is_text rest) rest b (escape_of b) in omega (arith, read)
-endings-byte_read is_text (Comment ∷ rest) b = omega arith
-endings-byte_read is_text (Name purpose part ∷ rest) b =
+pub endings-byte_read : (base : Surroundings) (half : List Half) (b : ℕ) → Leaves (endings_of half + 1) (byte_read base half b)
+endings-byte_read base [] b = Leaves-if _ (b == backslash) _ _ (omega arith) (omega arith)
+endings-byte_read base (Backslash ∷ rest) b =
+    let read : Leaves (endings_of rest + 1) (escape_read (surroundings base rest) rest b (escape_of b)) =
+    Leaves-escape_read (surroundings base rest) rest b (escape_of b) in omega (arith, read)
+endings-byte_read base (Comment ∷ rest) b = omega arith
+endings-byte_read base (Name purpose part ∷ rest) b =
     Leaves-if _ (b == backslash) _ _ (omega arith)
     (let taken : Leaves (endings_of rest + 1) (unit_of_name rest purpose part (Byte b)) = Leaves-unit_of_name rest purpose part (Byte b) in omega (arith, taken))
-endings-byte_read is_text (Size part ∷ rest) b =
+endings-byte_read base (Size part ∷ rest) b =
     let taken : Leaves (endings_of rest + 1) (size_read rest part b) = Leaves-size_read rest part b in omega (arith, taken)
-endings-byte_read is_text (Delimited purpose d text ∷ rest) b =
+endings-byte_read base (Delimited purpose d text ∷ rest) b =
     let taken : Leaves (endings_of rest + 2) (byte_of_text rest purpose d text b) = Leaves-byte_of_text rest purpose d text b in omega (arith, taken)
-endings-byte_read is_text (Width d width is_deep ∷ rest) b =
+endings-byte_read base (Width d width is_deep ∷ rest) b =
     let taken : Leaves (endings_of rest + 2) (byte_of_width rest d width is_deep b) = Leaves-byte_of_width rest d width is_deep b in omega (arith, taken)
-endings-byte_read is_text (Condition part text ∷ rest) b = Leaves-byte_of_condition rest part text b
+endings-byte_read base (Condition part text ∷ rest) b = Leaves-byte_of_condition rest part text b
 
 -- a name that ends goes
 Leaves-name_ended : (rest : List Half) (purpose : NameUse) (part : NamePart) → Leaves (endings_of rest) (name_ended rest purpose part)
@@ -311,14 +311,14 @@ falls : (r : Reads) (first : Half) (rest : List Half) → Leaves (endings_of res
 falls r first rest leaves = omega (arith, leaves, some_ending first rest)
 
 -- the reading on top ends
-pub endings-reading_ended : (is_text : Bool) (first : Half) (rest : List Half) → Falls (endings_of (first ∷ rest)) (reading_ended is_text (first ∷ rest))
-endings-reading_ended is_text Backslash rest =
+pub endings-reading_ended : (base : Surroundings) (first : Half) (rest : List Half) → Falls (endings_of (first ∷ rest)) (reading_ended base (first ∷ rest))
+endings-reading_ended base Backslash rest =
     falls _ Backslash rest
-    (Leaves-if _ (reads_text (surroundings is_text rest)) _ _ (Leaves-escape_given rest start_of_text) (Leaves-unit_taken rest (Byte backslash)))
-endings-reading_ended is_text Comment rest =
-    falls _ Comment rest (Leaves-if _ (reads_text (surroundings is_text rest)) _ _ (Leaves-escape_given rest quote) (omega arith))
-endings-reading_ended is_text (Name purpose part) rest = falls _ (Name purpose part) rest (Leaves-name_ended rest purpose part)
-endings-reading_ended is_text (Size part) rest = falls _ (Size part) rest (Leaves-escape_given rest 115)
-endings-reading_ended is_text (Delimited purpose d text) rest = falls _ (Delimited purpose d text) rest (Leaves-text_given rest purpose text)
-endings-reading_ended is_text (Width d width is_deep) rest = omega arith
-endings-reading_ended is_text (Condition part text) rest = Falls-condition_ended rest part text
+    (Leaves-if _ (reads_text (surroundings base rest)) _ _ (Leaves-escape_given rest start_of_text) (Leaves-unit_taken rest (Byte backslash)))
+endings-reading_ended base Comment rest =
+    falls _ Comment rest (Leaves-if _ (reads_text (surroundings base rest)) _ _ (Leaves-escape_given rest quote) (omega arith))
+endings-reading_ended base (Name purpose part) rest = falls _ (Name purpose part) rest (Leaves-name_ended rest purpose part)
+endings-reading_ended base (Size part) rest = falls _ (Size part) rest (Leaves-escape_given rest 115)
+endings-reading_ended base (Delimited purpose d text) rest = falls _ (Delimited purpose d text) rest (Leaves-text_given rest purpose text)
+endings-reading_ended base (Width d width is_deep) rest = omega arith
+endings-reading_ended base (Condition part text) rest = Falls-condition_ended rest part text

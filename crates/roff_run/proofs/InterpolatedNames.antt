@@ -18,6 +18,7 @@ use Rattle.roff_scan.specs.declared.half.ConditionPart.{ConditionPart}
 use Rattle.roff_scan.specs.declared.half.ConditionPart.TheVariants.{Choice, Expression, Compared, Decided}
 use Rattle.roff_scan.specs.declared.half.NamePart.TheVariants.{Nothing, Opened, First}
 use Rattle.roff_scan.specs.declared.half.Read.TheVariants.{GoesOn, Asks}
+use Rattle.roff_scan.specs.declared.half.Surroundings.{Surroundings}
 use Rattle.roff_store.specs.declared.register.Direction.{Direction}
 use Rattle.roff_store.specs.declared.register.Direction.TheVariants.{Up, Down}
 use Rattle.roff_run.specs.declared.reading.Reading.{Reading}
@@ -48,25 +49,25 @@ false-not true is = absurd (cc)
 false-not false is = refl
 
 -- a backslash begins an escape in a condition that reads them
-byte_read-condition : (is_text : Bool) (part : ConditionPart) (text : List ℕ) (rest : List Half) → reads_in_condition part ≡ true
-    → byte_read is_text (Condition part text ∷ rest) backslash ≡ (GoesOn, Backslash ∷ Condition part text ∷ rest)
-byte_read-condition is_text (Choice negated) text rest reads = refl
-byte_read-condition is_text (Expression negated) text rest reads = refl
-byte_read-condition is_text (Compared negated d first) text rest reads =
+byte_read-condition : (base : Surroundings) (part : ConditionPart) (text : List ℕ) (rest : List Half) → reads_in_condition part ≡ true
+    → byte_read base (Condition part text ∷ rest) backslash ≡ (GoesOn, Backslash ∷ Condition part text ∷ rest)
+byte_read-condition base (Choice negated) text rest reads = refl
+byte_read-condition base (Expression negated) text rest reads = refl
+byte_read-condition base (Compared negated d first) text rest reads =
     ap (λ (c : Bool). if c then delimiter_met rest negated d first text else (GoesOn, Backslash ∷ Condition (Compared negated d first) text ∷ rest))
     (false-not (backslash == d) reads)
-byte_read-condition is_text (Decided decision freed) text rest reads = absurd (cc)
+byte_read-condition base (Decided decision freed) text rest reads = absurd (cc)
 
 -- and within names
-byte_read-backslash : (is_text : Bool) (names : List Half) → reads_above names ≡ true → byte_read is_text names backslash ≡ (GoesOn, Backslash ∷ names)
-byte_read-backslash is_text [] are = refl
-byte_read-backslash is_text (Backslash ∷ rest) are = absurd (cc)
-byte_read-backslash is_text (Comment ∷ rest) are = absurd (cc)
-byte_read-backslash is_text (Size part ∷ rest) are = absurd (cc)
-byte_read-backslash is_text (Delimited purpose delimiter text ∷ rest) are = absurd (cc)
-byte_read-backslash is_text (Width delimiter width is_deep ∷ rest) are = absurd (cc)
-byte_read-backslash is_text (Name asks part ∷ rest) are = refl
-byte_read-backslash is_text (Condition part text ∷ rest) are = byte_read-condition is_text part text rest are
+byte_read-backslash : (base : Surroundings) (names : List Half) → reads_above names ≡ true → byte_read base names backslash ≡ (GoesOn, Backslash ∷ names)
+byte_read-backslash base [] are = refl
+byte_read-backslash base (Backslash ∷ rest) are = absurd (cc)
+byte_read-backslash base (Comment ∷ rest) are = absurd (cc)
+byte_read-backslash base (Size part ∷ rest) are = absurd (cc)
+byte_read-backslash base (Delimited purpose delimiter text ∷ rest) are = absurd (cc)
+byte_read-backslash base (Width delimiter width is_deep ∷ rest) are = absurd (cc)
+byte_read-backslash base (Name asks part ∷ rest) are = refl
+byte_read-backslash base (Condition part text ∷ rest) are = byte_read-condition base part text rest are
 
 -- and ends nothing there
 goes_on-condition : (part : ConditionPart) → reads_in_condition part ≡ true → ends_condition part (Some backslash) ≡ false
@@ -91,8 +92,8 @@ goes_on-escape true b read = read
 goes_on-escape false b read = refl
 
 -- bytes of which the last asks for a text, and the others for nothing
-abbrev AsksAtLast : Bool → NameUse → List ℕ → List Half → List Half → List ℕ → Type 0
-AsksAtLast is_text asks name behind half bytes = FindsAtLast is_text (Asks asks (Some name)) behind half bytes
+abbrev AsksAtLast : Surroundings → NameUse → List ℕ → List Half → List Half → List ℕ → Type 0
+AsksAtLast base asks name behind half bytes = FindsAtLast base (Asks asks (Some name)) behind half bytes
 
 -- the first unit of a name, where it is none of the special bytes
 name_begun-plain : (backslash opening plus minus : Bool) (a b c d e : Reads) → (backslash || (opening || (plus || (minus || false)))) ≡ false
@@ -110,27 +111,27 @@ name_begun-stepped false true others a b c none = absurd (cc)
 name_begun-stepped false false others a b c none = refl
 
 -- a name of one byte
-byte_read-short : (is_text : Bool) (asks : Option Direction) (x : ℕ) (names : List Half) → reads_above names ≡ true → is_special x ≡ false
-    → byte_read is_text (Name (Register asks) Nothing ∷ names) x ≡ (Asks (Register asks) (Some (x ∷ [])), names)
-byte_read-short is_text None x names are plain =
+byte_read-short : (base : Surroundings) (asks : Option Direction) (x : ℕ) (names : List Half) → reads_above names ≡ true → is_special x ≡ false
+    → byte_read base (Name (Register asks) Nothing ∷ names) x ≡ (Asks (Register asks) (Some (x ∷ [])), names)
+byte_read-short base None x names are plain =
     name_begun-plain (x == backslash) (x == 40) (x == 43) (x == 45) _ _ _ _ _ plain ∙ name_given-names names (Register None) (Some (x ∷ [])) are
-byte_read-short is_text (Some direction) x names are plain =
+byte_read-short base (Some direction) x names are plain =
     name_begun-stepped (x == backslash) (x == 40) (list_any (λ c. x == c) (43 ∷ 45 ∷ [])) _ _ _ plain
     ∙ name_given-names names (Register (Some direction)) (Some (x ∷ [])) are
 
 -- a string's
-byte_read-string : (is_text : Bool) (x : ℕ) (names : List Half) → reads_above names ≡ true → (x == backslash) ≡ false → (x == 40) ≡ false
-    → byte_read is_text (Name OfText Nothing ∷ names) x ≡ (Asks OfText (Some (x ∷ [])), names)
-byte_read-string is_text x names are plain no_opening =
+byte_read-string : (base : Surroundings) (x : ℕ) (names : List Half) → reads_above names ≡ true → (x == backslash) ≡ false → (x == 40) ≡ false
+    → byte_read base (Name OfText Nothing ∷ names) x ≡ (Asks OfText (Some (x ∷ [])), names)
+byte_read-string base x names are plain no_opening =
     let whole : Reads = name_given names OfText (Some (x ∷ [])) in
     ap (λ (c : Bool). if c then (GoesOn, Backslash ∷ Name OfText Nothing ∷ names) else if x == 40 then (GoesOn, Name OfText Opened ∷ names) else whole) plain
     ∙ ap (λ (c : Bool). if c then (GoesOn, Name OfText Opened ∷ names) else whole) no_opening
     ∙ name_given-names names OfText (Some (x ∷ [])) are
 
 -- and an argument's
-byte_read-argument : (is_text : Bool) (x : ℕ) (names : List Half) → reads_above names ≡ true → (x == backslash) ≡ false
-    → byte_read is_text (Name Argument Nothing ∷ names) x ≡ (Asks Argument (Some (x ∷ [])), names)
-byte_read-argument is_text x names are plain =
+byte_read-argument : (base : Surroundings) (x : ℕ) (names : List Half) → reads_above names ≡ true → (x == backslash) ≡ false
+    → byte_read base (Name Argument Nothing ∷ names) x ≡ (Asks Argument (Some (x ∷ [])), names)
+byte_read-argument base x names are plain =
     ap (λ (c : Bool). if c then (GoesOn, Backslash ∷ Name Argument Nothing ∷ names) else name_given names Argument (Some (x ∷ []))) plain
     ∙ name_given-names names Argument (Some (x ∷ [])) are
 
@@ -141,45 +142,45 @@ begun-names names asks few =
     ap (λ (full : Bool). (GoesOn, (if full then names else Name asks Nothing ∷ names))) (lt-leb most_names (names_in names) few)
 
 -- `n`
-byte_read-n : (is_text : Bool) (names : List Half) → names_in names < most_names
-    → byte_read is_text (Backslash ∷ names) 110 ≡ (GoesOn, Name (Register None) Nothing ∷ names)
-byte_read-n is_text names few = begun-names names (Register None) few
+byte_read-n : (base : Surroundings) (names : List Half) → names_in names < most_names
+    → byte_read base (Backslash ∷ names) 110 ≡ (GoesOn, Name (Register None) Nothing ∷ names)
+byte_read-n base names few = begun-names names (Register None) few
 
 -- the bytes behind the backslash: `n`, the sign of the step, and the name
-asks-signed : (is_text : Bool) (asks : Option Direction) (name bytes : List ℕ) (names : List Half) → names_in names < most_names
-    → AsksAtLast is_text (Register asks) name names (Name (Register asks) Nothing ∷ names) bytes
-    → AsksAtLast is_text (Register asks) name names (Backslash ∷ names) (110 ∷ sign asks ++ bytes)
-asks-signed is_text None name bytes names few last =
-    Behind _ _ 110 bytes refl (goes_on-escape (takes_backslash_alone names) 110 refl) (byte_read-n is_text names few) refl last
-asks-signed is_text (Some Up) name bytes names few last =
-    Behind _ _ 110 (43 ∷ bytes) refl (goes_on-escape (takes_backslash_alone names) 110 refl) (byte_read-n is_text names few) refl
+asks-signed : (base : Surroundings) (asks : Option Direction) (name bytes : List ℕ) (names : List Half) → names_in names < most_names
+    → AsksAtLast base (Register asks) name names (Name (Register asks) Nothing ∷ names) bytes
+    → AsksAtLast base (Register asks) name names (Backslash ∷ names) (110 ∷ sign asks ++ bytes)
+asks-signed base None name bytes names few last =
+    Behind _ _ 110 bytes refl (goes_on-escape (takes_backslash_alone names) 110 refl) (byte_read-n base names few) refl last
+asks-signed base (Some Up) name bytes names few last =
+    Behind _ _ 110 (43 ∷ bytes) refl (goes_on-escape (takes_backslash_alone names) 110 refl) (byte_read-n base names few) refl
     (Behind _ _ 43 bytes refl refl refl refl last)
-asks-signed is_text (Some Down) name bytes names few last =
-    Behind _ _ 110 (45 ∷ bytes) refl (goes_on-escape (takes_backslash_alone names) 110 refl) (byte_read-n is_text names few) refl
+asks-signed base (Some Down) name bytes names few last =
+    Behind _ _ 110 (45 ∷ bytes) refl (goes_on-escape (takes_backslash_alone names) 110 refl) (byte_read-n base names few) refl
     (Behind _ _ 45 bytes refl refl refl refl last)
 
 -- a string's: `*`, and the name
-asks-string : (is_text : Bool) (name bytes : List ℕ) (names : List Half) → names_in names < most_names
-    → AsksAtLast is_text OfText name names (Name OfText Nothing ∷ names) bytes
-    → AsksAtLast is_text OfText name names (Backslash ∷ names) (42 ∷ bytes)
-asks-string is_text name bytes names few last =
+asks-string : (base : Surroundings) (name bytes : List ℕ) (names : List Half) → names_in names < most_names
+    → AsksAtLast base OfText name names (Name OfText Nothing ∷ names) bytes
+    → AsksAtLast base OfText name names (Backslash ∷ names) (42 ∷ bytes)
+asks-string base name bytes names few last =
     Behind _ _ 42 bytes refl (goes_on-escape (takes_backslash_alone names) 42 refl) (begun-names names OfText few) refl last
 
 -- an argument's: `$`, and the name
-asks-argument : (is_text : Bool) (name bytes : List ℕ) (names : List Half) → names_in names < most_names
-    → AsksAtLast is_text Argument name names (Name Argument Nothing ∷ names) bytes
-    → AsksAtLast is_text Argument name names (Backslash ∷ names) (36 ∷ bytes)
-asks-argument is_text name bytes names few last =
+asks-argument : (base : Surroundings) (name bytes : List ℕ) (names : List Half) → names_in names < most_names
+    → AsksAtLast base Argument name names (Name Argument Nothing ∷ names) bytes
+    → AsksAtLast base Argument name names (Backslash ∷ names) (36 ∷ bytes)
+asks-argument base name bytes names few last =
     Behind _ _ 36 bytes refl (goes_on-escape (takes_backslash_alone names) 36 refl) (begun-names names Argument few) refl last
 
 -- two bytes behind a parenthesis
-asks-opened : (is_text : Bool) (asks : NameUse) (x y : ℕ) (names : List Half) → reads_above names ≡ true → StandsForItself x → StandsForItself y
-    → AsksAtLast is_text asks (x ∷ y ∷ []) names (Name asks Opened ∷ names) (x ∷ y ∷ [])
-asks-opened is_text asks x y names are first second =
+asks-opened : (base : Surroundings) (asks : NameUse) (x y : ℕ) (names : List Half) → reads_above names ≡ true → StandsForItself x → StandsForItself y
+    → AsksAtLast base asks (x ∷ y ∷ []) names (Name asks Opened ∷ names) (x ∷ y ∷ [])
+asks-opened base asks x y names are first second =
     let begun : List Half = Name asks (First x) ∷ names in
-    let of_first : byte_read is_text (Name asks Opened ∷ names) x ≡ (GoesOn, begun) =
+    let of_first : byte_read base (Name asks Opened ∷ names) x ≡ (GoesOn, begun) =
     ap (λ (c : Bool). if c then (GoesOn, Backslash ∷ Name asks Opened ∷ names) else (GoesOn, begun)) (not-first (x == backslash) (is_dropped x || x == newline) first) in
-    let of_second : byte_read is_text begun y ≡ (Asks asks (Some (x ∷ y ∷ [])), names) =
+    let of_second : byte_read base begun y ≡ (Asks asks (Some (x ∷ y ∷ [])), names) =
     ap (λ (c : Bool). if c then (GoesOn, Backslash ∷ begun) else name_given names asks (Some (x ∷ y ∷ [])))
     (not-first (y == backslash) (is_dropped y || y == newline) second)
     ∙ name_given-names names asks (Some (x ∷ y ∷ [])) are in
@@ -187,10 +188,10 @@ asks-opened is_text asks x y names are first second =
     (AtLast _ y (IsRead-itself y second) (is_no_newline y second) of_second)
 
 -- a register's parenthesis
-byte_read-opening : (is_text : Bool) (asks : Option Direction) (names : List Half)
-    → byte_read is_text (Name (Register asks) Nothing ∷ names) 40 ≡ (GoesOn, Name (Register asks) Opened ∷ names)
-byte_read-opening is_text None names = refl
-byte_read-opening is_text (Some direction) names = refl
+byte_read-opening : (base : Surroundings) (asks : Option Direction) (names : List Half)
+    → byte_read base (Name (Register asks) Nothing ∷ names) 40 ≡ (GoesOn, Name (Register asks) Opened ∷ names)
+byte_read-opening base None names = refl
+byte_read-opening base (Some direction) names = refl
 
 -- what is read as a text: a register, a string or an argument
 data Interpolates : NameUse → Type 0 where
@@ -206,8 +207,8 @@ name_taking-Interpolates k i reading line _ name AString = refl
 name_taking-Interpolates k i reading line _ name AnArgument = refl
 
 -- such a text is asked for
-read_in-asks : (k : Known) (reading : Reading) (is_text : Bool) (i : PageInput) (half : List Half) (asks : NameUse) (name : Option (List ℕ))
-    → Interpolates asks → ReadsEscapes reading is_text
+read_in-asks : (k : Known) (reading : Reading) (base : Surroundings) (i : PageInput) (half : List Half) (asks : NameUse) (name : Option (List ℕ))
+    → Interpolates asks → ReadsEscapes reading base
     → read_in k reading i (Asks asks name, half) ≡ asking k (settled_input reading half i) reading asks name
 read_in-asks k _ _ i half asks name of AtBeginning = name_taking-Interpolates k (record i { half = half }) LineStart fresh_line asks name of
 read_in-asks k _ _ i half asks name of AtBranch = name_taking-Interpolates k (record i { half = half }) Branch fresh_line asks name of
@@ -217,11 +218,11 @@ read_in-asks k _ _ i half asks name of (OnArguments breaks request) = refl
 read_in-asks k _ _ i half asks name of (OnCondition keeps) = refl
 
 -- a byte that asks for it
-taking-asks : (k : Known) (reading : Reading) (is_text : Bool) (i : PageInput) (b : ℕ) (half : List Half) (asks : NameUse) (name : Option (List ℕ))
-    → Interpolates asks → ReadsEscapes reading is_text → IsRead b → byte_read is_text i.half b ≡ (Asks asks name, half)
+taking-asks : (k : Known) (reading : Reading) (base : Surroundings) (i : PageInput) (b : ℕ) (half : List Half) (asks : NameUse) (name : Option (List ℕ))
+    → Interpolates asks → ReadsEscapes reading base → IsRead b → byte_read base i.half b ≡ (Asks asks name, half)
     → taking k reading i b ≡ asking k (settled_input reading half i) reading asks name
-taking-asks k reading is_text i b half asks name of on read reads =
-    taking-reads k reading is_text i b on read ∙ ap (read_in k reading i) reads ∙ read_in-asks k reading is_text i half asks name of on
+taking-asks k reading base i b half asks name of on read reads =
+    taking-reads k reading base i b on read ∙ ap (read_in k reading i) reads ∙ read_in-asks k reading base i half asks name of on
 
 -- a text was asked for in a run
 abbrev asked : State → Reading → Origin → Arguments → List Half → ℕ → ℕ → NameUse → List ℕ → State
@@ -243,13 +244,13 @@ taken_as-asking s reading from a before half charge line _ name AnArgument =
     ap (λ (m : List ℕ). record (asked s reading from a half charge line Argument name) { messages = m }) (append-nil s.messages)
 
 -- a byte that asks for a text
-means-asks : (s : State) (reading : Reading) (is_text : Bool) (from : Origin) (a : Arguments) (charge line : ℕ) (asks : NameUse) (name : List ℕ)
-    (behind : List Half) → Interpolates asks → ReadsEscapes reading is_text → settled_for reading a ≡ a
-    → Means s reading is_text from a charge line (Asks asks (Some name)) behind (asked s reading from a behind charge line asks name)
-means-asks s reading is_text from a charge line asks name behind of on same half b read reads =
+means-asks : (s : State) (reading : Reading) (base : Surroundings) (from : Origin) (a : Arguments) (charge line : ℕ) (asks : NameUse) (name : List ℕ)
+    (behind : List Half) → Interpolates asks → ReadsEscapes reading base → settled_for reading a ≡ a
+    → Means s reading base from a charge line (Asks asks (Some name)) behind (asked s reading from a behind charge line asks name)
+means-asks s reading base from a charge line asks name behind of on same half b read reads =
     let before : State = going s reading from [] a half charge line in
     let i : PageInput = input_of s from [] a behind charge line in
-    ap (λ (taking : Taking). taken_as taking before) (taking-asks (known s) reading is_text before.input b behind asks (Some name) of on read reads)
+    ap (λ (taking : Taking). taken_as taking before) (taking-asks (known s) reading base before.input b behind asks (Some name) of on read reads)
     ∙ ap (λ (there : Arguments). taken_as (asking (known s) (record i { arguments = there }) reading asks (Some name)) before) same
     ∙ taken_as-asking s reading from a half behind charge line asks name of
 
@@ -258,34 +259,34 @@ abbrev read_from : Origin → NameUse → List ℕ → ℕ → State → State
 read_from from asks name taken s = with_text_ahead asks name taken (ahead_at from []) (stepped asks name (source_behind from s))
 
 -- before it no quote follows the quote before
-with_text_ahead-arguments : (asks : NameUse) (name : List ℕ) (taken : ℕ) (rest : List (Ahead PageEvent)) (s : State) (is_text : Bool) → ReadsEscapes s.reading is_text
+with_text_ahead-arguments : (asks : NameUse) (name : List ℕ) (taken : ℕ) (rest : List (Ahead PageEvent)) (s : State) (base : Surroundings) → ReadsEscapes s.reading base
     → with_text_ahead asks name taken rest s
     ≡ record s { input = pushing (text_named (known s) asks name) (record s.input { ahead = rest; arguments = settled_for s.reading s.input.arguments; charge = s.input.charge + taken }) }
-with_text_ahead-arguments asks name taken rest s is_text on =
+with_text_ahead-arguments asks name taken rest s base on =
     ap (λ (i : PageInput). record s { input = pushing (text_named (known s) asks name) (record i { ahead = rest; charge = s.input.charge + taken }) })
-    (interrupted-arguments s.reading is_text s.input on)
+    (interrupted-arguments s.reading base s.input on)
 
 -- so it is the text that was asked for
-read_from-asked : (s : State) (reading : Reading) (is_text : Bool) (from : Origin) (bytes : List ℕ) (a : Arguments) (half : List Half) (charge taken line : ℕ)
-    (asks : NameUse) (name : List ℕ) → Interpolates asks → ReadsEscapes reading is_text
+read_from-asked : (s : State) (reading : Reading) (base : Surroundings) (from : Origin) (bytes : List ℕ) (a : Arguments) (half : List Half) (charge taken line : ℕ)
+    (asks : NameUse) (name : List ℕ) → Interpolates asks → ReadsEscapes reading base
     → read_from from asks name taken (going s reading from bytes a half charge line)
     ≡ asked s reading from (settled_for reading a) half (charge + taken) (line_behind from s line) asks name
-read_from-asked s reading is_text (FromAhead rest) bytes a half charge taken line _ name (ARegister None) on =
-    with_text_ahead-arguments (Register None) name taken rest (going s reading (FromAhead rest) bytes a half charge line) is_text on
-read_from-asked s reading is_text (FromAhead rest) bytes a half charge taken line _ name (ARegister (Some direction)) on =
-    with_text_ahead-arguments (Register (Some direction)) name taken rest (stepped (Register (Some direction)) name (going s reading (FromAhead rest) bytes a half charge line)) is_text on
-read_from-asked s reading is_text (FromAhead rest) bytes a half charge taken line _ name AString on =
-    with_text_ahead-arguments OfText name taken rest (going s reading (FromAhead rest) bytes a half charge line) is_text on
-read_from-asked s reading is_text (FromAhead rest) bytes a half charge taken line _ name AnArgument on =
-    with_text_ahead-arguments Argument name taken rest (going s reading (FromAhead rest) bytes a half charge line) is_text on
-read_from-asked s reading is_text (FromSource tape) bytes a half charge taken line _ name (ARegister None) on =
-    with_text_ahead-arguments (Register None) name taken [] (going s reading (FromSource tape) [] a half charge (s.input.newlines + 1)) is_text on
-read_from-asked s reading is_text (FromSource tape) bytes a half charge taken line _ name (ARegister (Some direction)) on =
-    with_text_ahead-arguments (Register (Some direction)) name taken [] (stepped (Register (Some direction)) name (going s reading (FromSource tape) [] a half charge (s.input.newlines + 1))) is_text on
-read_from-asked s reading is_text (FromSource tape) bytes a half charge taken line _ name AString on =
-    with_text_ahead-arguments OfText name taken [] (going s reading (FromSource tape) [] a half charge (s.input.newlines + 1)) is_text on
-read_from-asked s reading is_text (FromSource tape) bytes a half charge taken line _ name AnArgument on =
-    with_text_ahead-arguments Argument name taken [] (going s reading (FromSource tape) [] a half charge (s.input.newlines + 1)) is_text on
+read_from-asked s reading base (FromAhead rest) bytes a half charge taken line _ name (ARegister None) on =
+    with_text_ahead-arguments (Register None) name taken rest (going s reading (FromAhead rest) bytes a half charge line) base on
+read_from-asked s reading base (FromAhead rest) bytes a half charge taken line _ name (ARegister (Some direction)) on =
+    with_text_ahead-arguments (Register (Some direction)) name taken rest (stepped (Register (Some direction)) name (going s reading (FromAhead rest) bytes a half charge line)) base on
+read_from-asked s reading base (FromAhead rest) bytes a half charge taken line _ name AString on =
+    with_text_ahead-arguments OfText name taken rest (going s reading (FromAhead rest) bytes a half charge line) base on
+read_from-asked s reading base (FromAhead rest) bytes a half charge taken line _ name AnArgument on =
+    with_text_ahead-arguments Argument name taken rest (going s reading (FromAhead rest) bytes a half charge line) base on
+read_from-asked s reading base (FromSource tape) bytes a half charge taken line _ name (ARegister None) on =
+    with_text_ahead-arguments (Register None) name taken [] (going s reading (FromSource tape) [] a half charge (s.input.newlines + 1)) base on
+read_from-asked s reading base (FromSource tape) bytes a half charge taken line _ name (ARegister (Some direction)) on =
+    with_text_ahead-arguments (Register (Some direction)) name taken [] (stepped (Register (Some direction)) name (going s reading (FromSource tape) [] a half charge (s.input.newlines + 1))) base on
+read_from-asked s reading base (FromSource tape) bytes a half charge taken line _ name AString on =
+    with_text_ahead-arguments OfText name taken [] (going s reading (FromSource tape) [] a half charge (s.input.newlines + 1)) base on
+read_from-asked s reading base (FromSource tape) bytes a half charge taken line _ name AnArgument on =
+    with_text_ahead-arguments Argument name taken [] (going s reading (FromSource tape) [] a half charge (s.input.newlines + 1)) base on
 
 -- its charge
 charge-asked : (s : State) (reading : Reading) (from : Origin) (a : Arguments) (half : List Half) (charge line : ℕ) (asks : NameUse) (name : List ℕ)
@@ -296,38 +297,38 @@ charge-asked s reading from a half charge line _ name AString = refl
 charge-asked s reading from a half charge line _ name AnArgument = refl
 
 -- an escape is read as its text, where a run takes items
-escape-going : (l : Limits) (s : State) (reading : Reading) (is_text : Bool) (from : Origin) (a : Arguments)
+escape-going : (l : Limits) (s : State) (reading : Reading) (base : Surroundings) (from : Origin) (a : Arguments)
     (asks : NameUse) (name : List ℕ) (names : List Half) (bytes : List ℕ) (charge line : ℕ)
-    → Interpolates asks → ReadsEscapes reading is_text → reads_above names ≡ true → AsksAtLast is_text asks name names (Backslash ∷ names) bytes
+    → Interpolates asks → ReadsEscapes reading base → reads_above names ≡ true → AsksAtLast base asks name names (Backslash ∷ names) bytes
     → let first : State = going s reading from (backslash ∷ bytes) a names charge line in
     let read : State = read_from from asks name (length (backslash ∷ bytes)) first in
     IsWithin l first → IsWithin l read → after l (length (backslash ∷ bytes)) first ≡ read
-escape-going l s reading is_text from a asks name names bytes charge line of on are last within within_read =
+escape-going l s reading base from a asks name names bytes charge line of on are last within within_read =
     let first : State = going s reading from (backslash ∷ bytes) a names charge line in
     let read : State = read_from from asks name (length (backslash ∷ bytes)) first in
     let total : ℕ = charge + length (backslash ∷ bytes) in
     let t : State = asked s reading from (settled_for reading a) names total (line_behind from s line) asks name in
-    let is : read ≡ t = read_from-asked s reading is_text from (backslash ∷ bytes) a names charge (length (backslash ∷ bytes)) line asks name of on in
+    let is : read ≡ t = read_from-asked s reading base from (backslash ∷ bytes) a names charge (length (backslash ∷ bytes)) line asks name of on in
     let within_t : IsWithin l t = subst (IsWithin l) is within_read in
     let charged : t.input.charge ≡ total = charge-asked s reading from (settled_for reading a) names total (line_behind from s line) asks name of in
-    after-escape l s reading is_text from a (Asks asks (Some name)) names names bytes charge line t on (goes_on-names names are) (byte_read-backslash is_text names are)
+    after-escape l s reading base from a (Asks asks (Some name)) names names bytes charge line t on (goes_on-names names are) (byte_read-backslash base names are)
     last (omega (arith, within_t.bytes, charged)) (Fits-IsWithin l first within)
-    (means-asks s reading is_text from (settled_for reading a) total (line_behind from s line) asks name names of on (settled_for-settled_for reading is_text a on))
+    (means-asks s reading base from (settled_for reading a) total (line_behind from s line) asks name names of on (settled_for-settled_for reading base a on))
     (Fits-IsWithin l t within_t)
     ∙ sym is
 
 -- and in any state of such a run
-escape-reads : (l : Limits) (s : State) (is_text : Bool) (from : Origin) (asks : NameUse) (name bytes : List ℕ)
-    → Interpolates asks → TakesItems s → ReadsEscapes s.reading is_text → reads_above s.input.half ≡ true → AsksAtLast is_text asks name s.input.half (Backslash ∷ s.input.half) bytes
+escape-reads : (l : Limits) (s : State) (base : Surroundings) (from : Origin) (asks : NameUse) (name bytes : List ℕ)
+    → Interpolates asks → TakesItems s → ReadsEscapes s.reading base → reads_above s.input.half ≡ true → AsksAtLast base asks name s.input.half (Backslash ∷ s.input.half) bytes
     → s.input.ahead ≡ ahead_at from (backslash ∷ bytes) → s.tape ≡ tape_at from (backslash ∷ bytes) s.tape
     → let read : State = read_from from asks name (length (backslash ∷ bytes)) s in
     IsWithin l s → IsWithin l read → after l (length (backslash ∷ bytes)) s ≡ read
-escape-reads l s is_text from asks name bytes of takes on are last ahead tape =
+escape-reads l s base from asks name bytes of takes on are last ahead tape =
     let Goal : State → Type 0 = λ t.
     IsWithin l t → IsWithin l (read_from from asks name (length (backslash ∷ bytes)) t)
     → after l (length (backslash ∷ bytes)) t ≡ read_from from asks name (length (backslash ∷ bytes)) t in
     subst Goal (is-going s from (backslash ∷ bytes) takes ahead tape)
-    (escape-going l s s.reading is_text from s.input.arguments asks name s.input.half bytes s.input.charge s.input.line of on are last)
+    (escape-going l s s.reading base from s.input.arguments asks name s.input.half bytes s.input.charge s.input.line of on are last)
 
 -- each escape
 escapes_read_from : (l : Limits) (s : State) (from : Origin) (asks : NameUse) (name escape : List ℕ)

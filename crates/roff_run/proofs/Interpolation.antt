@@ -20,6 +20,8 @@ use Rattle.roff_scan.specs.declared.half.ConditionPart.{ConditionPart}
 use Rattle.roff_scan.specs.declared.half.ConditionPart.TheVariants.{Choice, Expression, Compared, Decided}
 use Rattle.roff_scan.specs.declared.half.Read.{Read}
 use Rattle.roff_scan.specs.declared.half.Read.TheVariants.{GoesOn}
+use Rattle.roff_scan.specs.declared.half.Surroundings.{Surroundings}
+use Rattle.roff_scan.specs.declared.half.Surroundings.TheVariants.{Text as AboveText, Arguments as AboveArguments}
 use Rattle.roff_run.specs.declared.reading.Reading.{Reading}
 use Rattle.roff_run.specs.declared.reading.Reading.TheVariants.{LineStart, Branch, Braced, Text as InText, Control, Name as NameOf, Arguments as InArguments, Deciding, Skipping, Dropped}
 use Rattle.roff_run.specs.declared.reading.TextLine.{TextLine}
@@ -187,14 +189,14 @@ not-second true second neither = absurd (cc)
 not-second false true neither = absurd (cc)
 not-second false false neither = refl
 
--- a reading that reads escapes, and whether it is that of text
-pub data ReadsEscapes : Reading → Bool → Type 0 where
-  AtBeginning : ReadsEscapes LineStart true
-  AtBranch : ReadsEscapes Branch true
-  AtBraced : ReadsEscapes Braced true
-  OnText : (line : TextLine) → ReadsEscapes (InText line) true
-  OnArguments : (breaks : Bool) (request : Request) → ReadsEscapes (InArguments breaks request) false
-  OnCondition : (keeps : Bool) → ReadsEscapes (Deciding keeps) false
+-- a reading that reads escapes, and what they stand above
+pub data ReadsEscapes : Reading → Surroundings → Type 0 where
+  AtBeginning : ReadsEscapes LineStart AboveText
+  AtBranch : ReadsEscapes Branch AboveText
+  AtBraced : ReadsEscapes Braced AboveText
+  OnText : (line : TextLine) → ReadsEscapes (InText line) AboveText
+  OnArguments : (breaks : Bool) (request : Request) → ReadsEscapes (InArguments breaks request) AboveArguments
+  OnCondition : (keeps : Bool) → ReadsEscapes (Deciding keeps) AboveArguments
 
 -- what something reads there, with what is half read then
 abbrev pub read_in : Known → Reading → PageInput → Reads → Taking
@@ -204,8 +206,8 @@ read_in k (Deciding keeps) i r = condition_read k i keeps r
 read_in k reading i r = beginning_read k i reading r
 
 -- a byte that isn't dropped
-kept_taking-reads : (k : Known) (reading : Reading) (is_text : Bool) (i : PageInput) (b : ℕ) → ReadsEscapes reading is_text
-    → kept_taking k reading i b ≡ read_in k reading i (byte_read is_text i.half b)
+kept_taking-reads : (k : Known) (reading : Reading) (base : Surroundings) (i : PageInput) (b : ℕ) → ReadsEscapes reading base
+    → kept_taking k reading i b ≡ read_in k reading i (byte_read base i.half b)
 kept_taking-reads k _ _ i b AtBeginning = refl
 kept_taking-reads k _ _ i b AtBranch = refl
 kept_taking-reads k _ _ i b AtBraced = refl
@@ -214,11 +216,11 @@ kept_taking-reads k _ _ i b (OnArguments breaks request) = refl
 kept_taking-reads k _ _ i b (OnCondition keeps) = refl
 
 -- a byte that is read
-pub taking-reads : (k : Known) (reading : Reading) (is_text : Bool) (i : PageInput) (b : ℕ) → ReadsEscapes reading is_text → IsRead b
-    → taking k reading i b ≡ read_in k reading i (byte_read is_text i.half b)
-taking-reads k reading is_text i b on read =
+pub taking-reads : (k : Known) (reading : Reading) (base : Surroundings) (i : PageInput) (b : ℕ) → ReadsEscapes reading base → IsRead b
+    → taking k reading i b ≡ read_in k reading i (byte_read base i.half b)
+taking-reads k reading base i b on read =
     ap (λ (d : Bool). if d then going_on (interrupted reading i) reading else kept_taking k reading i b) (not-first (is_dropped b) (b == newline) read)
-    ∙ kept_taking-reads k reading is_text i b on
+    ∙ kept_taking-reads k reading base i b on
 
 -- the arguments of a line where no quote follows the quote before
 abbrev pub settled_for : Reading → Arguments → Arguments
@@ -230,7 +232,7 @@ abbrev pub settled_input : Reading → List Half → PageInput → PageInput
 settled_input reading half i = record i { half = half; arguments = settled_for reading i.arguments }
 
 -- nothing is found
-read_in-nothing : (k : Known) (reading : Reading) (is_text : Bool) (i : PageInput) (half : List Half) → ReadsEscapes reading is_text
+read_in-nothing : (k : Known) (reading : Reading) (base : Surroundings) (i : PageInput) (half : List Half) → ReadsEscapes reading base
     → read_in k reading i (GoesOn, half) ≡ going_on (settled_input reading half i) reading
 read_in-nothing k _ _ i half AtBeginning = refl
 read_in-nothing k _ _ i half AtBranch = refl
@@ -240,10 +242,10 @@ read_in-nothing k _ _ i half (OnArguments breaks request) = refl
 read_in-nothing k _ _ i half (OnCondition keeps) = refl
 
 -- a byte that finds nothing
-taking-nothing : (k : Known) (reading : Reading) (is_text : Bool) (i : PageInput) (b : ℕ) (half : List Half) → ReadsEscapes reading is_text
-    → IsRead b → byte_read is_text i.half b ≡ (GoesOn, half) → taking k reading i b ≡ going_on (settled_input reading half i) reading
-taking-nothing k reading is_text i b half on read reads =
-    taking-reads k reading is_text i b on read ∙ ap (read_in k reading i) reads ∙ read_in-nothing k reading is_text i half on
+taking-nothing : (k : Known) (reading : Reading) (base : Surroundings) (i : PageInput) (b : ℕ) (half : List Half) → ReadsEscapes reading base
+    → IsRead b → byte_read base i.half b ≡ (GoesOn, half) → taking k reading i b ≡ going_on (settled_input reading half i) reading
+taking-nothing k reading base i b half on read reads =
+    taking-reads k reading base i b on read ∙ ap (read_in k reading i) reads ∙ read_in-nothing k reading base i half on
 
 -- what is within the limits on names, on the stack, on the depth and on conditions
 pub record Fits (l : Limits) (registers : AllRegisters) (i : PageInput) : Type 0 where
@@ -290,16 +292,16 @@ step-byte l s reading (FromSource tape) b bytes a half charge line t read goes w
     ∙ ap (made l before) is ∙ made-Fits l before t fits
 
 -- bytes of which the last finds this and the others find nothing; none of them ends what is half read
-pub data FindsAtLast (is_text : Bool) (found : Read) (behind : List Half) : List Half → List ℕ → Type 0 where
-  AtLast : (half : List Half) (b : ℕ) → IsRead b → seen_stays half (Some b) ≡ false → byte_read is_text half b ≡ (found, behind)
-      → FindsAtLast is_text found behind half (b ∷ [])
-  Behind : (half other : List Half) (b : ℕ) (bytes : List ℕ) → IsRead b → seen_stays half (Some b) ≡ false → byte_read is_text half b ≡ (GoesOn, other)
-      → texts_held other ≡ texts_held half → FindsAtLast is_text found behind other bytes → FindsAtLast is_text found behind half (b ∷ bytes)
+pub data FindsAtLast (base : Surroundings) (found : Read) (behind : List Half) : List Half → List ℕ → Type 0 where
+  AtLast : (half : List Half) (b : ℕ) → IsRead b → seen_stays half (Some b) ≡ false → byte_read base half b ≡ (found, behind)
+      → FindsAtLast base found behind half (b ∷ [])
+  Behind : (half other : List Half) (b : ℕ) (bytes : List ℕ) → IsRead b → seen_stays half (Some b) ≡ false → byte_read base half b ≡ (GoesOn, other)
+      → texts_held other ≡ texts_held half → FindsAtLast base found behind other bytes → FindsAtLast base found behind half (b ∷ bytes)
 
 -- a byte that finds this leads to that state
-abbrev pub Means : State → Reading → Bool → Origin → Arguments → ℕ → ℕ → Read → List Half → State → Type 0
-Means s reading is_text from a charge line found behind t =
-    (half : List Half) (b : ℕ) → IsRead b → byte_read is_text half b ≡ (found, behind) → byte_taken b (going s reading from [] a half charge line) ≡ t
+abbrev pub Means : State → Reading → Surroundings → Origin → Arguments → ℕ → ℕ → Read → List Half → State → Type 0
+Means s reading base from a charge line found behind t =
+    (half : List Half) (b : ℕ) → IsRead b → byte_read base half b ≡ (found, behind) → byte_taken b (going s reading from [] a half charge line) ≡ t
 
 -- behind a byte
 Fits-behind : (l : Limits) (registers : AllRegisters) (s : State) (from : Origin) (b : ℕ) (bytes : List ℕ) (a there : Arguments) (half other : List Half) (charge more line next : ℕ)
@@ -310,32 +312,32 @@ Fits-behind l registers s (FromSource tape) b bytes a there half other charge mo
     record { names = fits.names; stack = omega (arith, fits.stack); depth = fits.depth; store = fits.store; texts = fits.texts; making = fits.making; conditions = fits.conditions }
 
 -- the steps at them
-after-finds : (l : Limits) (s : State) (reading : Reading) (is_text : Bool) (from : Origin) (a : Arguments) (line : ℕ)
+after-finds : (l : Limits) (s : State) (reading : Reading) (base : Surroundings) (from : Origin) (a : Arguments) (line : ℕ)
     (found : Read) (behind half : List Half) (bytes : List ℕ) (charge total : ℕ) (t : State)
-    → ReadsEscapes reading is_text → settled_for reading a ≡ a → line_behind from s line ≡ line → FindsAtLast is_text found behind half bytes
+    → ReadsEscapes reading base → settled_for reading a ≡ a → line_behind from s line ≡ line → FindsAtLast base found behind half bytes
     → charge + length bytes ≡ total → total ≤ l.bytes → Fits l s.registers (input_of s from bytes a half charge line)
-    → Means s reading is_text from a total line found behind t → Fits l t.registers t.input
+    → Means s reading base from a total line found behind t → Fits l t.registers t.input
     → after l (length bytes) (going s reading from bytes a half charge line) ≡ t
-after-finds l s reading is_text from a line found behind _ _ charge total t on same stays (AtLast half b read goes_on reads) sum within fits means fits_behind =
+after-finds l s reading base from a line found behind _ _ charge total t on same stays (AtLast half b read goes_on reads) sum within fits means fits_behind =
     let one : charge + 1 ≡ total = sum in
     let is : byte_taken b (going s reading from [] a half (charge + 1) line) ≡ t =
     ap (λ (c : ℕ). byte_taken b (going s reading from [] a half c line)) one ∙ means half b read reads in
     step-byte l s reading from b [] a half charge line t read goes_on (omega arith)
     (ap (λ (n : ℕ). byte_taken b (going s reading from [] a half (charge + 1) n)) stays ∙ is) fits_behind
-after-finds l s reading is_text from a line found behind _ _ charge total t on same stays (Behind half other b others read goes_on reads as_many last) sum within fits means fits_behind =
+after-finds l s reading base from a line found behind _ _ charge total t on same stays (Behind half other b others read goes_on reads as_many last) sum within fits means fits_behind =
     let next : State = going s reading from others a other (charge + 1) line in
     let before : State = going s reading from others a half (charge + 1) line in
     let is : byte_taken b before ≡ next =
-    ap (λ (taking : Taking). taken_as taking before) (taking-nothing (known s) reading is_text before.input b other on read reads)
+    ap (λ (taking : Taking). taken_as taking before) (taking-nothing (known s) reading base before.input b other on read reads)
     ∙ ap (λ (there : Arguments). taken_as (going_on (record next.input { arguments = there }) reading) before) same
     ∙ taken_as-going_on next.input reading before in
     let fits_there : Fits l s.registers next.input = Fits-behind l s.registers s from b others a a half other charge (charge + 1) line line refl as_many fits in
     ap (after l (length others)) (step-byte l s reading from b others a half charge line next read goes_on (omega arith)
     (ap (λ (n : ℕ). byte_taken b (going s reading from others a half (charge + 1) n)) stays ∙ is) fits_there)
-    ∙ after-finds l s reading is_text from a line found behind other others (charge + 1) total t on same stays last (omega arith) within fits_there means fits_behind
+    ∙ after-finds l s reading base from a line found behind other others (charge + 1) total t on same stays last (omega arith) within fits_there means fits_behind
 
 -- arguments where no quote follows the quote before stay so
-pub settled_for-settled_for : (reading : Reading) (is_text : Bool) (a : Arguments) → ReadsEscapes reading is_text
+pub settled_for-settled_for : (reading : Reading) (base : Surroundings) (a : Arguments) → ReadsEscapes reading base
     → settled_for reading (settled_for reading a) ≡ settled_for reading a
 settled_for-settled_for _ _ a AtBeginning = refl
 settled_for-settled_for _ _ a AtBranch = refl
@@ -345,7 +347,7 @@ settled_for-settled_for _ _ a (OnArguments breaks request) = settled-only_kept a
 settled_for-settled_for _ _ a (OnCondition keeps) = refl
 
 -- and hold as many bytes
-held-settled_for : (reading : Reading) (is_text : Bool) (a : Arguments) → ReadsEscapes reading is_text → held (settled_for reading a) ≡ held a
+held-settled_for : (reading : Reading) (base : Surroundings) (a : Arguments) → ReadsEscapes reading base → held (settled_for reading a) ≡ held a
 held-settled_for _ _ a AtBeginning = refl
 held-settled_for _ _ a AtBranch = refl
 held-settled_for _ _ a AtBraced = refl
@@ -354,27 +356,27 @@ held-settled_for _ _ a (OnArguments breaks request) = held-only_kept-settled a
 held-settled_for _ _ a (OnCondition keeps) = refl
 
 -- the steps at an escape, where a backslash begins one
-pub after-escape : (l : Limits) (s : State) (reading : Reading) (is_text : Bool) (from : Origin) (a : Arguments)
+pub after-escape : (l : Limits) (s : State) (reading : Reading) (base : Surroundings) (from : Origin) (a : Arguments)
     (found : Read) (half behind : List Half) (bytes : List ℕ) (charge line : ℕ) (t : State)
-    → ReadsEscapes reading is_text → seen_stays half (Some backslash) ≡ false → byte_read is_text half backslash ≡ (GoesOn, Backslash ∷ half)
-    → FindsAtLast is_text found behind (Backslash ∷ half) bytes
+    → ReadsEscapes reading base → seen_stays half (Some backslash) ≡ false → byte_read base half backslash ≡ (GoesOn, Backslash ∷ half)
+    → FindsAtLast base found behind (Backslash ∷ half) bytes
     → charge + length (backslash ∷ bytes) ≤ l.bytes → Fits l s.registers (input_of s from (backslash ∷ bytes) a half charge line)
-    → Means s reading is_text from (settled_for reading a) (charge + length (backslash ∷ bytes)) (line_behind from s line) found behind t
+    → Means s reading base from (settled_for reading a) (charge + length (backslash ∷ bytes)) (line_behind from s line) found behind t
     → Fits l t.registers t.input → after l (length (backslash ∷ bytes)) (going s reading from (backslash ∷ bytes) a half charge line) ≡ t
-after-escape l s reading is_text from a found half behind bytes charge line t on goes_on opens last within fits means fits_behind =
+after-escape l s reading base from a found half behind bytes charge line t on goes_on opens last within fits means fits_behind =
     let there : Arguments = settled_for reading a in
     let next : ℕ = line_behind from s line in
     let taken : State = going s reading from bytes a half (charge + 1) next in
     let begun : State = going s reading from bytes there (Backslash ∷ half) (charge + 1) next in
     let is : byte_taken backslash taken ≡ begun =
-    ap (λ (taking : Taking). taken_as taking taken) (taking-nothing (known s) reading is_text taken.input backslash (Backslash ∷ half) on refl opens)
+    ap (λ (taking : Taking). taken_as taking taken) (taking-nothing (known s) reading base taken.input backslash (Backslash ∷ half) on refl opens)
     ∙ taken_as-going_on begun.input reading taken in
     let fits_there : Fits l s.registers begun.input =
     Fits-behind l s.registers s from backslash bytes a there half (Backslash ∷ half) charge (charge + 1) line next
-    (held-settled_for reading is_text a on) refl fits in
+    (held-settled_for reading base a on) refl fits in
     ap (after l (length bytes)) (step-byte l s reading from backslash bytes a half charge line begun refl goes_on (omega arith) is fits_there)
-    ∙ after-finds l s reading is_text from there next found behind (Backslash ∷ half) bytes (charge + 1) (charge + length (backslash ∷ bytes)) t
-    on (settled_for-settled_for reading is_text a on) (line_behind-again from s line)
+    ∙ after-finds l s reading base from there next found behind (Backslash ∷ half) bytes (charge + 1) (charge + length (backslash ∷ bytes)) t
+    on (settled_for-settled_for reading base a on) (line_behind-again from s line)
     last (omega arith) within fits_there means fits_behind
 
 -- a byte that stands for itself is read
@@ -391,7 +393,7 @@ source_behind (FromAhead rest) s = s
 source_behind (FromSource tape) s = with_source_behind tape s
 
 -- what isn't a byte of the line changes the arguments alone
-pub interrupted-arguments : (reading : Reading) (is_text : Bool) (i : PageInput) → ReadsEscapes reading is_text
+pub interrupted-arguments : (reading : Reading) (base : Surroundings) (i : PageInput) → ReadsEscapes reading base
     → interrupted reading i ≡ record i { arguments = settled_for reading i.arguments }
 interrupted-arguments _ _ i AtBeginning = refl
 interrupted-arguments _ _ i AtBranch = refl
@@ -406,13 +408,13 @@ Fits-IsWithin l s within =
     record { names = within.names; stack = within.stack; depth = within.depth; store = within.store; texts = within.texts; making = within.making; conditions = within.conditions }
 
 -- where escapes are read, text is or arguments or conditions are
-pub ReadsEscapes-reads_escapes : (reading : Reading) → reads_escapes reading ≡ true → (is_text : Bool) × ReadsEscapes reading is_text
-ReadsEscapes-reads_escapes LineStart is = (true, AtBeginning)
-ReadsEscapes-reads_escapes Branch is = (true, AtBranch)
-ReadsEscapes-reads_escapes Braced is = (true, AtBraced)
-ReadsEscapes-reads_escapes (InText line) is = (true, OnText line)
-ReadsEscapes-reads_escapes (InArguments breaks request) is = (false, OnArguments breaks request)
-ReadsEscapes-reads_escapes (Deciding keeps) is = (false, OnCondition keeps)
+pub ReadsEscapes-reads_escapes : (reading : Reading) → reads_escapes reading ≡ true → (base : Surroundings) × ReadsEscapes reading base
+ReadsEscapes-reads_escapes LineStart is = (AboveText, AtBeginning)
+ReadsEscapes-reads_escapes Branch is = (AboveText, AtBranch)
+ReadsEscapes-reads_escapes Braced is = (AboveText, AtBraced)
+ReadsEscapes-reads_escapes (InText line) is = (AboveText, OnText line)
+ReadsEscapes-reads_escapes (InArguments breaks request) is = (AboveArguments, OnArguments breaks request)
+ReadsEscapes-reads_escapes (Deciding keeps) is = (AboveArguments, OnCondition keeps)
 ReadsEscapes-reads_escapes (Control breaks) is = absurd (cc)
 ReadsEscapes-reads_escapes (NameOf breaks first) is = absurd (cc)
 ReadsEscapes-reads_escapes (Skipping opened closed behind) is = absurd (cc)

@@ -24,6 +24,8 @@ use Rattle.roff_scan.specs.Half.{Half, Backslash, Comment, Name as NameHalf, Siz
 use Rattle.roff_scan.specs.declared.half.Decision.{Decision}
 use Rattle.roff_scan.specs.declared.half.Read.{Read}
 use Rattle.roff_scan.specs.declared.half.Read.TheVariants.{GoesOn, Unit as GivesUnit, Holds, Escape, Asks, Motion, Measures, Tells, Decides}
+use Rattle.roff_scan.specs.declared.half.Surroundings.{Surroundings}
+use Rattle.roff_scan.specs.declared.half.Surroundings.TheVariants.{Text as AboveText, Arguments as AboveArguments}
 use Rattle.roff_store.specs.declared.register.Direction.{Direction}
 use Rattle.roff_run.specs.declared.reading.Reading.{Reading}
 use Rattle.roff_run.specs.declared.reading.Reading.TheVariants.{LineStart, Branch, Braced, Text as InText, Control, Name, Arguments as InArguments, Deciding, Skipping, Dropped}
@@ -322,9 +324,9 @@ Keeps-arguments_found most k i j breaks request (Decides decision freed) keeps =
 Keeps-branch_taking : (less most : ℕ) (k : Known) (i j : PageInput) (old : Reading) (so : Bool) (b : ℕ) → Keeps less i j old → less + 1 ≤ most
     → KeepsBy most i (branch_taking k j so b)
 Keeps-branch_taking less most k i j old true b keeps one_more =
-    let read : Leaves (endings_of j.half + 1) (byte_read true j.half b) = endings-byte_read true j.half b in
-    Keeps-beginning_found most k i (record j { half = (byte_read true j.half b).1 }) Branch (byte_read true j.half b).0
-    (Keeps-with_half less most i j old Branch (byte_read true j.half b).1 keeps (omega (arith, keeps.half, read, one_more)))
+    let read : Leaves (endings_of j.half + 1) (byte_read AboveText j.half b) = endings-byte_read AboveText j.half b in
+    Keeps-beginning_found most k i (record j { half = (byte_read AboveText j.half b).1 }) Branch (byte_read AboveText j.half b).0
+    (Keeps-with_half less most i j old Branch (byte_read AboveText j.half b).1 keeps (omega (arith, keeps.half, read, one_more)))
 Keeps-branch_taking less most k i j old false b keeps one_more =
     Keeps-stays most i j LineStart _ (Keeps-with_half less most i j old LineStart j.half keeps (omega (arith, keeps.half, one_more))) (Stays-skipping_taking j 0 0 false b)
 
@@ -379,11 +381,11 @@ OneMore-stays : (i : PageInput) (old : Reading) (t : Taking) → Stays i t → O
 OneMore-stays i old t stays = Keeps-stays _ i i old t (KeepsOneMore-same i old) stays
 
 -- what something reads, with this half read then
-Keeps-read : (is_text : Bool) (i : PageInput) (old reading : Reading) (b : ℕ) → begun reading ≡ 0
-    → KeepsOneMore i old (record i { half = (byte_read is_text i.half b).1 }) reading
-Keeps-read is_text i old reading b unnamed =
-    let read : Leaves (endings_of i.half + 1) (byte_read is_text i.half b) = endings-byte_read is_text i.half b in
-    Keeps-with_half _ _ i i old reading (byte_read is_text i.half b).1 (KeepsOneMore-same i old) (omega (arith, read, unnamed))
+Keeps-read : (base : Surroundings) (i : PageInput) (old reading : Reading) (b : ℕ) → begun reading ≡ 0
+    → KeepsOneMore i old (record i { half = (byte_read base i.half b).1 }) reading
+Keeps-read base i old reading b unnamed =
+    let read : Leaves (endings_of i.half + 1) (byte_read base i.half b) = endings-byte_read base i.half b in
+    Keeps-with_half _ _ i i old reading (byte_read base i.half b).1 (KeepsOneMore-same i old) (omega (arith, read, unnamed))
 
 -- a list in which nothing passes has nothing to find
 find-none : {A : Type 0} (passes : A → Bool) (xs : List A) → AllByRecursion (λ x. passes x ≡ false) xs → find passes xs ≡ None
@@ -418,10 +420,10 @@ Keeps-name_whole_taking i breaks first name =
 
 -- a byte that isn't dropped
 Keeps-kept_taking : (k : Known) (reading : Reading) (i : PageInput) (b : ℕ) → OneMore i reading (kept_taking k reading i b)
-Keeps-kept_taking k LineStart i b = Keeps-beginning_found _ k i _ LineStart (byte_read true i.half b).0 (Keeps-read true i LineStart LineStart b refl)
-Keeps-kept_taking k Branch i b = Keeps-beginning_found _ k i _ Branch (byte_read true i.half b).0 (Keeps-read true i Branch Branch b refl)
-Keeps-kept_taking k Braced i b = Keeps-beginning_found _ k i _ Braced (byte_read true i.half b).0 (Keeps-read true i Braced Braced b refl)
-Keeps-kept_taking k (InText line) i b = Keeps-text_found _ k i _ line (byte_read true i.half b).0 (Keeps-read true i (InText line) (InText line) b refl)
+Keeps-kept_taking k LineStart i b = Keeps-beginning_found _ k i _ LineStart (byte_read AboveText i.half b).0 (Keeps-read AboveText i LineStart LineStart b refl)
+Keeps-kept_taking k Branch i b = Keeps-beginning_found _ k i _ Branch (byte_read AboveText i.half b).0 (Keeps-read AboveText i Branch Branch b refl)
+Keeps-kept_taking k Braced i b = Keeps-beginning_found _ k i _ Braced (byte_read AboveText i.half b).0 (Keeps-read AboveText i Braced Braced b refl)
+Keeps-kept_taking k (InText line) i b = Keeps-text_found _ k i _ line (byte_read AboveText i.half b).0 (Keeps-read AboveText i (InText line) (InText line) b refl)
 Keeps-kept_taking k (Control breaks) i b =
     Keeps-if _ i (b == blank || b == tab) _ _ (KeepsOneMore-same i (Control breaks))
     (Keeps-if _ i (ends_name b) _ _ (OneMore-stays i (Control breaks) _ (Stays-dropped_taking i b))
@@ -429,11 +431,11 @@ Keeps-kept_taking k (Control breaks) i b =
 Keeps-kept_taking k (Name breaks first) i b =
     Keeps-if _ i (ends_name b) _ _ (Keeps-name_ended_taking k i breaks first b) (Keeps-name_whole_taking i breaks first (first ∷ b ∷ []))
 Keeps-kept_taking k (InArguments breaks request) i b =
-    Keeps-arguments_found _ k i _ breaks request (byte_read false i.half b).0 (Keeps-read false i (InArguments breaks request) (InArguments breaks request) b refl)
+    Keeps-arguments_found _ k i _ breaks request (byte_read AboveArguments i.half b).0 (Keeps-read AboveArguments i (InArguments breaks request) (InArguments breaks request) b refl)
 Keeps-kept_taking k (Deciding keeping) i b =
-    let read : Leaves (endings_of i.half + 1) (byte_read false i.half b) = endings-byte_read false i.half b in
-    Keeps-condition_found (endings_of (byte_read false i.half b).1) _ k i (record i { half = (byte_read false i.half b).1 }) keeping (byte_read false i.half b).0
-    (Keeps-with_half _ _ i i (Deciding keeping) (Deciding keeping) (byte_read false i.half b).1 (KeepsOneMore-same i (Deciding keeping)) (omega arith)) (omega (arith, read))
+    let read : Leaves (endings_of i.half + 1) (byte_read AboveArguments i.half b) = endings-byte_read AboveArguments i.half b in
+    Keeps-condition_found (endings_of (byte_read AboveArguments i.half b).1) _ k i (record i { half = (byte_read AboveArguments i.half b).1 }) keeping (byte_read AboveArguments i.half b).0
+    (Keeps-with_half _ _ i i (Deciding keeping) (Deciding keeping) (byte_read AboveArguments i.half b).1 (KeepsOneMore-same i (Deciding keeping)) (omega arith)) (omega (arith, read))
 Keeps-kept_taking k (Skipping opened closed behind) i b = OneMore-stays i (Skipping opened closed behind) _ (Stays-skipping_taking i opened closed behind b)
 Keeps-kept_taking k Dropped i b = OneMore-stays i Dropped _ (Stays-dropped_taking i b)
 
@@ -463,35 +465,35 @@ abbrev OneFewer : PageInput → Reading → Taking → Type 0
 OneFewer i old t = KeepsOneFewer i old t.input t.reading
 
 -- so it is where this is half read
-falls_ended : (is_text : Bool) (half : List Half) (first : Half) (others : List Half) → half ≡ first ∷ others → Falls (endings_of half) (reading_ended is_text half)
-falls_ended is_text half first others is =
-    subst (λ (h : List Half). Falls (endings_of h) (reading_ended is_text h)) (sym is) (endings-reading_ended is_text first others)
+falls_ended : (base : Surroundings) (half : List Half) (first : Half) (others : List Half) → half ≡ first ∷ others → Falls (endings_of half) (reading_ended base half)
+falls_ended base half first others is =
+    subst (λ (h : List Half). Falls (endings_of h) (reading_ended base h)) (sym is) (endings-reading_ended base first others)
 
-Keeps-ended : (is_text : Bool) (i : PageInput) (reading : Reading) (first : Half) (others : List Half) → i.half ≡ first ∷ others
-    → KeepsOneFewer i reading (record i { half = (reading_ended is_text i.half).1 }) reading
-Keeps-ended is_text i reading first others is =
-    let fewer : Falls (endings_of i.half) (reading_ended is_text i.half) = falls_ended is_text i.half first others is in
+Keeps-ended : (base : Surroundings) (i : PageInput) (reading : Reading) (first : Half) (others : List Half) → i.half ≡ first ∷ others
+    → KeepsOneFewer i reading (record i { half = (reading_ended base i.half).1 }) reading
+Keeps-ended base i reading first others is =
+    let fewer : Falls (endings_of i.half) (reading_ended base i.half) = falls_ended base i.half first others is in
     record { charge = refl; newlines = refl; line = refl; free = refl; half = omega (arith, fewer) }
 
 -- what is half read ends
 pub Keeps-half_ended : (k : Known) (reading : Reading) (i : PageInput) (first : Half) (others : List Half) → i.half ≡ first ∷ others
     → OneFewer i reading (half_ended k reading i)
 Keeps-half_ended k LineStart i first others is =
-    Keeps-beginning_found _ k i _ LineStart (reading_ended true i.half).0 (Keeps-ended true i LineStart first others is)
-Keeps-half_ended k Branch i first others is = Keeps-beginning_found _ k i _ Branch (reading_ended true i.half).0 (Keeps-ended true i Branch first others is)
-Keeps-half_ended k Braced i first others is = Keeps-beginning_found _ k i _ Braced (reading_ended true i.half).0 (Keeps-ended true i Braced first others is)
+    Keeps-beginning_found _ k i _ LineStart (reading_ended AboveText i.half).0 (Keeps-ended AboveText i LineStart first others is)
+Keeps-half_ended k Branch i first others is = Keeps-beginning_found _ k i _ Branch (reading_ended AboveText i.half).0 (Keeps-ended AboveText i Branch first others is)
+Keeps-half_ended k Braced i first others is = Keeps-beginning_found _ k i _ Braced (reading_ended AboveText i.half).0 (Keeps-ended AboveText i Braced first others is)
 Keeps-half_ended k (InText line) i first others is =
-    Keeps-text_found _ k i _ line (reading_ended true i.half).0 (Keeps-ended true i (InText line) first others is)
-Keeps-half_ended k (Control breaks) i first others is = Keeps-ended true i (Control breaks) first others is
-Keeps-half_ended k (Name breaks byte) i first others is = Keeps-ended true i (Name breaks byte) first others is
+    Keeps-text_found _ k i _ line (reading_ended AboveText i.half).0 (Keeps-ended AboveText i (InText line) first others is)
+Keeps-half_ended k (Control breaks) i first others is = Keeps-ended AboveText i (Control breaks) first others is
+Keeps-half_ended k (Name breaks byte) i first others is = Keeps-ended AboveText i (Name breaks byte) first others is
 Keeps-half_ended k (InArguments breaks request) i first others is =
-    Keeps-arguments_found _ k i _ breaks request (reading_ended false i.half).0 (Keeps-ended false i (InArguments breaks request) first others is)
+    Keeps-arguments_found _ k i _ breaks request (reading_ended AboveArguments i.half).0 (Keeps-ended AboveArguments i (InArguments breaks request) first others is)
 Keeps-half_ended k (Deciding keeping) i first others is =
-    let fewer : Falls (endings_of i.half) (reading_ended false i.half) = falls_ended false i.half first others is in
-    Keeps-condition_found (endings_of (reading_ended false i.half).1) _ k i (record i { half = (reading_ended false i.half).1 }) keeping (reading_ended false i.half).0
-    (Keeps-with_half _ _ i i (Deciding keeping) (Deciding keeping) (reading_ended false i.half).1 (KeepsOneMore-same i (Deciding keeping)) (omega arith)) (omega (arith, fewer))
-Keeps-half_ended k (Skipping opened closed behind) i first others is = Keeps-ended true i (Skipping opened closed behind) first others is
-Keeps-half_ended k Dropped i first others is = Keeps-ended true i Dropped first others is
+    let fewer : Falls (endings_of i.half) (reading_ended AboveArguments i.half) = falls_ended AboveArguments i.half first others is in
+    Keeps-condition_found (endings_of (reading_ended AboveArguments i.half).1) _ k i (record i { half = (reading_ended AboveArguments i.half).1 }) keeping (reading_ended AboveArguments i.half).0
+    (Keeps-with_half _ _ i i (Deciding keeping) (Deciding keeping) (reading_ended AboveArguments i.half).1 (KeepsOneMore-same i (Deciding keeping)) (omega arith)) (omega (arith, fewer))
+Keeps-half_ended k (Skipping opened closed behind) i first others is = Keeps-ended AboveText i (Skipping opened closed behind) first others is
+Keeps-half_ended k Dropped i first others is = Keeps-ended AboveText i Dropped first others is
 
 -- the end of the input
 pub Keeps-end_taking : (k : Known) (reading : Reading) (i : PageInput) → OneMore i reading (end_taking k reading i)

@@ -13,6 +13,7 @@ use Rattle.roff_scan.specs.Halves.{byte_read}
 use Rattle.roff_scan.specs.declared.half.CopyUnit.TheVariants.{Byte}
 use Rattle.roff_scan.specs.Half.{Half, Backslash}
 use Rattle.roff_scan.specs.declared.half.Read.TheVariants.{GoesOn, Unit as GivesUnit}
+use Rattle.roff_scan.specs.declared.half.Surroundings.TheVariants.{Arguments as AboveArguments}
 use Rattle.roff_run.proofs.Interpolation.{IsRead, not-first, not-second, IsRead-itself}
 use Rattle.roff_run.specs.declared.reading.Reading.{Reading}
 use Rattle.roff_run.specs.InterpolationLaws.{StandsForItself}
@@ -34,7 +35,7 @@ taking-argument k breaks request i a b itself =
     let reading : Reading = InArguments breaks request in
     let held : PageInput = with_kept i a in
     let read : IsRead b = IsRead-itself b itself in
-    let unit : byte_read false [] b ≡ (GivesUnit (Byte b), []) =
+    let unit : byte_read AboveArguments [] b ≡ (GivesUnit (Byte b), []) =
     ap (λ (c : Bool). if c then (GoesOn, Backslash ∷ []) else (GivesUnit (Byte b), [])) (not-first (b == backslash) (is_dropped b || b == newline) itself) in
     ap (λ (c : Bool). if c then going_on (settling held) reading else kept_taking k reading held b) (not-first (is_dropped b) (b == newline) read)
     ∙ ap (arguments_read_on k held breaks request) unit

@@ -15,6 +15,7 @@ use Rattle.roff_scan.specs.Unread.{changing, input_refusal, reading, unless_pass
 use Rattle.roff_scan.specs.declared.half.CopyUnit.{CopyUnit}
 use Rattle.roff_scan.specs.declared.half.Read.{Read}
 use Rattle.roff_scan.specs.declared.half.Read.TheVariants.{GoesOn, Unit as OneUnit, Holds, Escape, Asks, Motion, Measures, Tells, Decides}
+use Rattle.roff_scan.specs.declared.half.Surroundings.TheVariants.{Text as AboveText}
 use Rattle.roff_store.proofs.Entries.{length-with_entry}
 use Rattle.roff_store.specs.Named.{with_entry, entry_of}
 use Rattle.roff_store.specs.Registers.{Registers, register_of, with_step, next_value}
@@ -368,7 +369,7 @@ arguments_found-no_unit k i breaks request (Decides decision freed) no_unit no_e
 -- where nothing of what is half read is kept when it ends
 pub half_ended-dropped : (k : Known) (r : Reading) (i : PageInput) → (r ≡ LineStart → ⊥) → (r ≡ Branch → ⊥) → (r ≡ Braced → ⊥) → ((line : TextLine) → r ≡ InText line → ⊥)
     → ((breaks : Bool) (request : Request) → r ≡ InArguments breaks request → ⊥) → ((keeps : Bool) → r ≡ Deciding keeps → ⊥)
-    → going_on (with_half (reading_ended true i.half).1 i) r ≡ half_ended k r i
+    → going_on (with_half (reading_ended AboveText i.half).1 i) r ≡ half_ended k r i
 half_ended-dropped k LineStart i begun no_branch no_brace no_text no_arguments no_condition = absurd (begun refl)
 half_ended-dropped k Branch i begun no_branch no_brace no_text no_arguments no_condition = absurd (no_branch refl)
 half_ended-dropped k Braced i begun no_branch no_brace no_text no_arguments no_condition = absurd (no_brace refl)

@@ -16,12 +16,14 @@ use Rattle.roff_num.specs.declared.limits.Limits.{Limits}
 use Rattle.roff_scan.specs.Arguments.{Arguments}
 use Rattle.roff_scan.specs.Bytes.{newline, backslash, is_dropped}
 use Rattle.roff_scan.specs.Half.{Half, Backslash, Width}
-use Rattle.roff_scan.specs.Halves.{Reads, byte_read, decides_now, newline_stays, reading_ended, seen_stays}
+use Rattle.roff_scan.specs.Halves.{Reads, byte_read, decides_now, newline_stays, reading_ended, reads_widths, seen_stays}
 use Rattle.roff_scan.specs.Input.{pushing, Ahead}
 use Rattle.roff_scan.specs.Measures.{byte_columns, most_width, wider}
 use Rattle.roff_scan.specs.Tape.{Answer}
 use Rattle.roff_scan.specs.Unread.{seen_ahead}
 use Rattle.roff_scan.specs.declared.half.Read.TheVariants.{GoesOn, Measures}
+use Rattle.roff_scan.specs.declared.half.Surroundings.{Surroundings}
+use Rattle.roff_scan.specs.declared.half.Surroundings.TheVariants.{Text as AboveText, Arguments as AboveArguments, Copy as AboveCopy}
 use Rattle.roff_run.proofs.Interpolation.{Fits-IsWithin, FindsAtLast, AtLast, Behind, FromAhead, FromSource, IsRead, IsRead-itself, Means, Origin, ReadsEscapes, AtBeginning, AtBranch, AtBraced, OnText, OnArguments, OnCondition, ReadsEscapes-reads_escapes, after-escape, ahead_at, going, input_of, interrupted-arguments, is-going, is_no_newline, line_behind, not-first, not-second, read_in, settled_for, settled_for-settled_for, settled_input, source_behind, step-byte, tape_at, taken_as-going_on, taking-reads, made-Fits, step-TakesItems}
 use Rattle.roff_run.specs.InterpolationLaws.{TakesItems, StandsForItself, reads_escapes}
 use Rattle.roff_run.specs.Laws.{IsWithin}
@@ -34,7 +36,7 @@ use Rattle.roff_run.specs.WidthLaws.{MayDelimit, IsPlain, text_units, width_esca
 use Rattle.roff_run.specs.declared.reading.Reading.{Reading}
 
 -- a width was measured where escapes are read
-read_in-measures : (k : Known) (reading : Reading) (is_text : Bool) (i : PageInput) (half : List Half) (width : ℕ) → ReadsEscapes reading is_text
+read_in-measures : (k : Known) (reading : Reading) (base : Surroundings) (i : PageInput) (half : List Half) (width : ℕ) → ReadsEscapes reading base
     → read_in k reading i (Measures width, half) ≡ measuring (settled_input reading half i) reading width
 read_in-measures k _ _ i half width AtBeginning = refl
 read_in-measures k _ _ i half width AtBranch = refl
@@ -44,10 +46,10 @@ read_in-measures k _ _ i half width (OnArguments breaks request) = refl
 read_in-measures k _ _ i half width (OnCondition keeps) = refl
 
 -- a byte that ends a text that is measured
-taking-measures : (k : Known) (reading : Reading) (is_text : Bool) (i : PageInput) (b width : ℕ) (half : List Half) → ReadsEscapes reading is_text
-    → IsRead b → byte_read is_text i.half b ≡ (Measures width, half) → taking k reading i b ≡ measuring (settled_input reading half i) reading width
-taking-measures k reading is_text i b width half on read reads =
-    taking-reads k reading is_text i b on read ∙ ap (read_in k reading i) reads ∙ read_in-measures k reading is_text i half width on
+taking-measures : (k : Known) (reading : Reading) (base : Surroundings) (i : PageInput) (b width : ℕ) (half : List Half) → ReadsEscapes reading base
+    → IsRead b → byte_read base i.half b ≡ (Measures width, half) → taking k reading i b ≡ measuring (settled_input reading half i) reading width
+taking-measures k reading base i b width half on read reads =
+    taking-reads k reading base i b on read ∙ ap (read_in k reading i) reads ∙ read_in-measures k reading base i half width on
 
 -- a width was measured in such a run
 abbrev measured : State → Reading → Origin → Arguments → List Half → ℕ → ℕ → ℕ → State
@@ -56,13 +58,13 @@ measured s reading from a half charge line width =
     record t { input = pushing (decimal width) t.input }
 
 -- a byte that finds it
-means-measures : (s : State) (reading : Reading) (is_text : Bool) (from : Origin) (a : Arguments) (charge line width : ℕ) (behind : List Half)
-    → ReadsEscapes reading is_text
-    → Means s reading is_text from a charge line (Measures width) behind (measured s reading from (settled_for reading a) behind charge line width)
-means-measures s reading is_text from a charge line width behind on half b read reads =
+means-measures : (s : State) (reading : Reading) (base : Surroundings) (from : Origin) (a : Arguments) (charge line width : ℕ) (behind : List Half)
+    → ReadsEscapes reading base
+    → Means s reading base from a charge line (Measures width) behind (measured s reading from (settled_for reading a) behind charge line width)
+means-measures s reading base from a charge line width behind on half b read reads =
     let before : State = going s reading from [] a half charge line in
     let i : PageInput = input_of s from [] (settled_for reading a) behind charge line in
-    ap (λ (taking : Taking). taken_as taking before) (taking-measures (known s) reading is_text before.input b width behind on read reads)
+    ap (λ (taking : Taking). taken_as taking before) (taking-measures (known s) reading base before.input b width behind on read reads)
     ∙ taken_as-going_on (pushing (decimal width) i) reading before
 
 -- its digits ahead of what is behind the bytes
@@ -70,47 +72,47 @@ abbrev width_from : Origin → ℕ → List Half → ℕ → State → State
 width_from from width half taken s = with_width_ahead width half taken (ahead_at from []) (source_behind from s)
 
 -- before them no quote follows the quote before
-with_width_ahead-arguments : (width : ℕ) (half : List Half) (taken : ℕ) (rest : List (Ahead PageEvent)) (s : State) (is_text : Bool) → ReadsEscapes s.reading is_text
+with_width_ahead-arguments : (width : ℕ) (half : List Half) (taken : ℕ) (rest : List (Ahead PageEvent)) (s : State) (base : Surroundings) → ReadsEscapes s.reading base
     → with_width_ahead width half taken rest s
     ≡ record s { input = pushing (decimal width) (record (settled_input s.reading half s.input) { ahead = rest; charge = s.input.charge + taken }) }
-with_width_ahead-arguments width half taken rest s is_text on =
+with_width_ahead-arguments width half taken rest s base on =
     ap (λ (i : PageInput). record s { input = pushing (decimal width) (record i { ahead = rest; half = half; charge = s.input.charge + taken }) })
-    (interrupted-arguments s.reading is_text s.input on)
+    (interrupted-arguments s.reading base s.input on)
 
 -- so it is the width that was measured
-width_from-measured : (s : State) (reading : Reading) (is_text : Bool) (from : Origin) (bytes : List ℕ) (a : Arguments) (half behind : List Half)
-    (charge taken line width : ℕ) → ReadsEscapes reading is_text
+width_from-measured : (s : State) (reading : Reading) (base : Surroundings) (from : Origin) (bytes : List ℕ) (a : Arguments) (half behind : List Half)
+    (charge taken line width : ℕ) → ReadsEscapes reading base
     → width_from from width behind taken (going s reading from bytes a half charge line)
     ≡ measured s reading from (settled_for reading a) behind (charge + taken) (line_behind from s line) width
-width_from-measured s reading is_text (FromAhead rest) bytes a half behind charge taken line width on =
-    with_width_ahead-arguments width behind taken rest (going s reading (FromAhead rest) bytes a half charge line) is_text on
-width_from-measured s reading is_text (FromSource tape) bytes a half behind charge taken line width on =
-    with_width_ahead-arguments width behind taken [] (going s reading (FromSource tape) [] a half charge (s.input.newlines + 1)) is_text on
+width_from-measured s reading base (FromAhead rest) bytes a half behind charge taken line width on =
+    with_width_ahead-arguments width behind taken rest (going s reading (FromAhead rest) bytes a half charge line) base on
+width_from-measured s reading base (FromSource tape) bytes a half behind charge taken line width on =
+    with_width_ahead-arguments width behind taken [] (going s reading (FromSource tape) [] a half charge (s.input.newlines + 1)) base on
 
 -- a byte is itself
 itself : (b : ℕ) → (b == b) ≡ true
 itself b = grind (arith, nat_tests)
 
 -- the delimiter ends the text
-byte_read-delimiter : (is_text : Bool) (d width : ℕ) (is_deep : Bool) (half : List Half)
-    → byte_read is_text (Width (Some d) width is_deep ∷ half) d ≡ (Measures width, half)
-byte_read-delimiter is_text d width is_deep half = rw (itself d) refl
+byte_read-delimiter : (base : Surroundings) (d width : ℕ) (is_deep : Bool) (half : List Half)
+    → byte_read base (Width (Some d) width is_deep ∷ half) d ≡ (Measures width, half)
+byte_read-delimiter base d width is_deep half = rw (itself d) refl
 
 -- the step at it
-step-delimiter : (l : Limits) (s : State) (reading : Reading) (is_text : Bool) (from : Origin) (a : Arguments) (d width : ℕ) (is_deep : Bool)
-    (half : List Half) (charge line : ℕ) → ReadsEscapes reading is_text → MayDelimit d
+step-delimiter : (l : Limits) (s : State) (reading : Reading) (base : Surroundings) (from : Origin) (a : Arguments) (d width : ℕ) (is_deep : Bool)
+    (half : List Half) (charge line : ℕ) → ReadsEscapes reading base → MayDelimit d
     → let first : State = going s reading from (d ∷ []) a (Width (Some d) width is_deep ∷ half) charge line in
     let read : State = width_from from width half 1 first in
     IsWithin l first → IsWithin l read → step l first ≡ read
-step-delimiter l s reading is_text from a d width is_deep half charge line on may within within_read =
+step-delimiter l s reading base from a d width is_deep half charge line on may within within_read =
     let text : List Half = Width (Some d) width is_deep ∷ half in
     let next : ℕ = line_behind from s line in
     let t : State = measured s reading from (settled_for reading a) half (charge + 1) next width in
     let is : width_from from width half 1 (going s reading from (d ∷ []) a text charge line) ≡ t =
-    width_from-measured s reading is_text from (d ∷ []) a text half charge 1 line width on in
+    width_from-measured s reading base from (d ∷ []) a text half charge 1 line width on in
     let within_t : IsWithin l t = subst (IsWithin l) is within_read in
     step-byte l s reading from d [] a text charge line t may (not-second (is_dropped d) (d == newline) may) within_t.bytes
-    (means-measures s reading is_text from a (charge + 1) next width half on text d may (byte_read-delimiter is_text d width is_deep half))
+    (means-measures s reading base from a (charge + 1) next width half on text d may (byte_read-delimiter base d width is_deep half))
     (Fits-IsWithin l t within_t)
     ∙ sym is
 
@@ -137,8 +139,8 @@ widths_of_the_source_read_as_digits l s d width is_deep half tape may takes read
     delimiter-reads l s (FromSource tape) d width is_deep half may takes reads measures none stands
 
 -- what is half read ends
-half_ended-reads : (k : Known) (reading : Reading) (is_text : Bool) (i : PageInput) → ReadsEscapes reading is_text
-    → half_ended k reading i ≡ read_in k reading i (reading_ended is_text i.half)
+half_ended-reads : (k : Known) (reading : Reading) (base : Surroundings) (i : PageInput) → ReadsEscapes reading base
+    → half_ended k reading i ≡ read_in k reading i (reading_ended base i.half)
 half_ended-reads k _ _ i AtBeginning = refl
 half_ended-reads k _ _ i AtBranch = refl
 half_ended-reads k _ _ i AtBraced = refl
@@ -147,13 +149,13 @@ half_ended-reads k _ _ i (OnArguments breaks request) = refl
 half_ended-reads k _ _ i (OnCondition keeps) = refl
 
 -- the end of a text that is measured
-half_ended-measures : (k : Known) (reading : Reading) (is_text : Bool) (i : PageInput) (delimiter : Option ℕ) (width : ℕ) (is_deep : Bool) (half : List Half)
-    → ReadsEscapes reading is_text → i.half ≡ Width delimiter width is_deep ∷ half
+half_ended-measures : (k : Known) (reading : Reading) (base : Surroundings) (i : PageInput) (delimiter : Option ℕ) (width : ℕ) (is_deep : Bool) (half : List Half)
+    → ReadsEscapes reading base → i.half ≡ Width delimiter width is_deep ∷ half
     → half_ended k reading i ≡ measuring (settled_input reading half i) reading width
-half_ended-measures k reading is_text i delimiter width is_deep half on measures =
-    half_ended-reads k reading is_text i on
-    ∙ ap (λ (h : List Half). read_in k reading i (reading_ended is_text h)) measures
-    ∙ read_in-measures k reading is_text i half width on
+half_ended-measures k reading base i delimiter width is_deep half on measures =
+    half_ended-reads k reading base i on
+    ∙ ap (λ (h : List Half). read_in k reading i (reading_ended base h)) measures
+    ∙ read_in-measures k reading base i half width on
 
 -- where it ends so, its end is the step
 reading_on-ends : (l : Limits) (s : State) (delimiter : Option ℕ) (width : ℕ) (is_deep : Bool) (half : List Half) → EndsText s
@@ -208,56 +210,66 @@ grown_by-nothing : (text : List ℕ) → grown_by 0 text ≡ text_units text
 grown_by-nothing text = grown_by-is 0 text (omega arith) ∙ ap (λ (n : ℕ). min n most_width) (omega arith)
 
 -- a plain byte of such a text
-byte_read-measured : (is_text : Bool) (d width b : ℕ) → ((b == d) ≡ false) × StandsForItself b
-    → byte_read is_text (Width (Some d) width false ∷ []) b ≡ (GoesOn, Width (Some d) (wider width (byte_columns b)) false ∷ [])
-byte_read-measured is_text d width b plain =
+byte_read-measured : (base : Surroundings) (d width b : ℕ) → ((b == d) ≡ false) × StandsForItself b
+    → byte_read base (Width (Some d) width false ∷ []) b ≡ (GoesOn, Width (Some d) (wider width (byte_columns b)) false ∷ [])
+byte_read-measured base d width b plain =
     let next : Reads = (GoesOn, Width (Some d) (wider width (byte_columns b)) false ∷ []) in
     let escape : Reads = (GoesOn, Backslash ∷ Width (Some d) width false ∷ []) in
     ap (λ (c : Bool). if c then (Measures width, []) else if b == backslash then escape else next) plain.0
     ∙ ap (λ (c : Bool). if c then escape else next) (not-first (b == backslash) (is_dropped b || b == newline) plain.1)
 
 -- its bytes and its delimiter
-finds-text : (is_text : Bool) (d width : ℕ) (text : List ℕ) → MayDelimit d → IsPlain d text
-    → FindsAtLast is_text (Measures (grown_by width text)) [] (Width (Some d) width false ∷ []) (text ++ d ∷ [])
-finds-text is_text d width [] may plain = AtLast _ d may (not-second (is_dropped d) (d == newline) may) (byte_read-delimiter is_text d width false [])
-finds-text is_text d width (b ∷ text) may plain =
+finds-text : (base : Surroundings) (d width : ℕ) (text : List ℕ) → MayDelimit d → IsPlain d text
+    → FindsAtLast base (Measures (grown_by width text)) [] (Width (Some d) width false ∷ []) (text ++ d ∷ [])
+finds-text base d width [] may plain = AtLast _ d may (not-second (is_dropped d) (d == newline) may) (byte_read-delimiter base d width false [])
+finds-text base d width (b ∷ text) may plain =
     let first = All-head (λ b. ((b == d) ≡ false) × StandsForItself b) b text plain in
-    Behind _ _ b (text ++ d ∷ []) (IsRead-itself b first.1) (is_no_newline b first.1) (byte_read-measured is_text d width b first) refl
-    (finds-text is_text d (wider width (byte_columns b)) text may (All-tail (λ b. ((b == d) ≡ false) × StandsForItself b) b text plain))
+    Behind _ _ b (text ++ d ∷ []) (IsRead-itself b first.1) (is_no_newline b first.1) (byte_read-measured base d width b first) refl
+    (finds-text base d (wider width (byte_columns b)) text may (All-tail (λ b. ((b == d) ≡ false) × StandsForItself b) b text plain))
+
+-- above a text line and above arguments widths are read
+reads_widths-above : (reading : Reading) (base : Surroundings) → ReadsEscapes reading base → reads_widths base ≡ true
+reads_widths-above _ _ AtBeginning = refl
+reads_widths-above _ _ AtBranch = refl
+reads_widths-above _ _ AtBraced = refl
+reads_widths-above _ _ (OnText line) = refl
+reads_widths-above _ _ (OnArguments breaks request) = refl
+reads_widths-above _ _ (OnCondition keeps) = refl
 
 -- `w`
-byte_read-w : (is_text : Bool) → byte_read is_text (Backslash ∷ []) 119 ≡ (GoesOn, Width None 0 false ∷ [])
-byte_read-w true = refl
-byte_read-w false = refl
+byte_read-w : (base : Surroundings) → reads_widths base ≡ true → byte_read base (Backslash ∷ []) 119 ≡ (GoesOn, Width None 0 false ∷ [])
+byte_read-w AboveText reads = refl
+byte_read-w AboveArguments reads = refl
+byte_read-w AboveCopy reads = absurd (cc)
 
 -- the bytes behind the backslash
-finds-escape : (is_text : Bool) (d : ℕ) (text : List ℕ) → MayDelimit d → IsPlain d text
-    → FindsAtLast is_text (Measures (text_units text)) [] (Backslash ∷ []) (119 ∷ d ∷ text ++ d ∷ [])
-finds-escape is_text d text may plain =
-    subst (λ (width : ℕ). FindsAtLast is_text (Measures width) [] (Backslash ∷ []) (119 ∷ d ∷ text ++ d ∷ [])) (grown_by-nothing text)
-    (Behind _ _ 119 (d ∷ text ++ d ∷ []) refl refl (byte_read-w is_text) refl
-    (Behind (Width None 0 false ∷ []) (Width (Some d) 0 false ∷ []) d (text ++ d ∷ []) may (not-second (is_dropped d) (d == newline) may) refl refl (finds-text is_text d 0 text may plain)))
+finds-escape : (base : Surroundings) (d : ℕ) (text : List ℕ) → reads_widths base ≡ true → MayDelimit d → IsPlain d text
+    → FindsAtLast base (Measures (text_units text)) [] (Backslash ∷ []) (119 ∷ d ∷ text ++ d ∷ [])
+finds-escape base d text reads may plain =
+    subst (λ (width : ℕ). FindsAtLast base (Measures width) [] (Backslash ∷ []) (119 ∷ d ∷ text ++ d ∷ [])) (grown_by-nothing text)
+    (Behind _ _ 119 (d ∷ text ++ d ∷ []) refl refl (byte_read-w base reads) refl
+    (Behind (Width None 0 false ∷ []) (Width (Some d) 0 false ∷ []) d (text ++ d ∷ []) may (not-second (is_dropped d) (d == newline) may) refl refl (finds-text base d 0 text may plain)))
 
 -- the steps at the escape
-after-width : (l : Limits) (s : State) (reading : Reading) (is_text : Bool) (from : Origin) (a : Arguments) (d : ℕ) (text : List ℕ) (charge line : ℕ)
-    → ReadsEscapes reading is_text → MayDelimit d → IsPlain d text
+after-width : (l : Limits) (s : State) (reading : Reading) (base : Surroundings) (from : Origin) (a : Arguments) (d : ℕ) (text : List ℕ) (charge line : ℕ)
+    → ReadsEscapes reading base → MayDelimit d → IsPlain d text
     → let first : State = going s reading from (width_escape d text) a [] charge line in
     let read : State = width_from from (text_units text) [] (length (width_escape d text)) first in
     IsWithin l first → IsWithin l read → after l (length (width_escape d text)) first ≡ read
-after-width l s reading is_text from a d text charge line on may plain within within_read =
+after-width l s reading base from a d text charge line on may plain within within_read =
     let escape : List ℕ = width_escape d text in
     let total : ℕ = charge + length escape in
     let next : ℕ = line_behind from s line in
     let there : Arguments = settled_for reading a in
     let t : State = measured s reading from there [] total next (text_units text) in
     let is : width_from from (text_units text) [] (length escape) (going s reading from escape a [] charge line) ≡ t =
-    width_from-measured s reading is_text from escape a [] [] charge (length escape) line (text_units text) on in
+    width_from-measured s reading base from escape a [] [] charge (length escape) line (text_units text) on in
     let within_t : IsWithin l t = subst (IsWithin l) is within_read in
-    let means : Means s reading is_text from there total next (Measures (text_units text)) [] t =
-    subst (λ (b : Arguments). Means s reading is_text from there total next (Measures (text_units text)) [] (measured s reading from b [] total next (text_units text)))
-    (settled_for-settled_for reading is_text a on) (means-measures s reading is_text from there total next (text_units text) [] on) in
-    after-escape l s reading is_text from a (Measures (text_units text)) [] [] (119 ∷ d ∷ text ++ d ∷ []) charge line t on refl refl
-    (finds-escape is_text d text may plain) within_t.bytes
+    let means : Means s reading base from there total next (Measures (text_units text)) [] t =
+    subst (λ (b : Arguments). Means s reading base from there total next (Measures (text_units text)) [] (measured s reading from b [] total next (text_units text)))
+    (settled_for-settled_for reading base a on) (means-measures s reading base from there total next (text_units text) [] on) in
+    after-escape l s reading base from a (Measures (text_units text)) [] [] (119 ∷ d ∷ text ++ d ∷ []) charge line t on refl refl
+    (finds-escape base d text (reads_widths-above reading base on) may plain) within_t.bytes
     (Fits-IsWithin l (going s reading from escape a [] charge line) within) means (Fits-IsWithin l t within_t)
     ∙ sym is
 

@@ -21,6 +21,7 @@ use Rattle.roff_scan.specs.declared.half.Decision.TheVariants.{Is, OnPages}
 use Rattle.roff_scan.specs.declared.half.Read.{Read}
 use Rattle.roff_scan.specs.declared.half.Read.TheVariants.{GoesOn, Unit, Holds, Escape, Asks, Motion, Measures, Tells, Decides}
 use Rattle.roff_scan.specs.declared.half.Remark.{Remark}
+use Rattle.roff_scan.specs.declared.half.Surroundings.TheVariants.{Text as AboveText, Arguments as AboveArguments}
 use Rattle.roff_store.specs.declared.register.Direction.{Direction}
 use Rattle.roff_run.specs.Messages.{character_name, remark_message, remark_messages}
 use Rattle.roff_run.specs.declared.message.Message.{Message}
@@ -323,7 +324,7 @@ branch_of false = Skipping 0 0 false
 
 -- its first byte
 abbrev pub branch_taking : Known → PageInput → Bool → ℕ → Taking
-branch_taking k i true b = beginning_read k i Branch (byte_read true i.half b)
+branch_taking k i true b = beginning_read k i Branch (byte_read AboveText i.half b)
 branch_taking k i false b = skipping_taking i 0 0 false b
 
 -- whether a condition is so that asks this
@@ -364,8 +365,8 @@ ends_name b = b == blank || (b == tab || (b == newline || b == backslash))
 
 -- the first byte behind a request's name, by how its line is read
 abbrev pub line_taking : Known → PageInput → Bool → Request → LineReading → ℕ → Taking
-line_taking k i breaks request ByArguments b = arguments_read_on k i breaks request (byte_read false i.half b)
-line_taking k i breaks request (ByCondition keeps) b = condition_read k i keeps (byte_read false (choosing i).half b)
+line_taking k i breaks request ByArguments b = arguments_read_on k i breaks request (byte_read AboveArguments i.half b)
+line_taking k i breaks request (ByCondition keeps) b = condition_read k i keeps (byte_read AboveArguments (choosing i).half b)
 line_taking k i breaks request ByElse b = branch_taking k (without_last i) (reads_else (kept_last i)) b
 
 -- a byte behind a name that it doesn't belong to: the line of an unknown name is dropped
@@ -391,10 +392,10 @@ name_whole_taking i breaks name = elim (request_named name) [
 
 -- a byte that isn't dropped
 abbrev pub kept_taking : Known → Reading → PageInput → ℕ → Taking
-kept_taking k LineStart i b = beginning_read k i LineStart (byte_read true i.half b)
-kept_taking k Branch i b = beginning_read k i Branch (byte_read true i.half b)
-kept_taking k Braced i b = beginning_read k i Braced (byte_read true i.half b)
-kept_taking k (InText line) i b = text_read k i line (byte_read true i.half b)
+kept_taking k LineStart i b = beginning_read k i LineStart (byte_read AboveText i.half b)
+kept_taking k Branch i b = beginning_read k i Branch (byte_read AboveText i.half b)
+kept_taking k Braced i b = beginning_read k i Braced (byte_read AboveText i.half b)
+kept_taking k (InText line) i b = text_read k i line (byte_read AboveText i.half b)
 kept_taking k (Control breaks) i b =
     if b == blank || b == tab then going_on i (Control breaks)
     else if ends_name b then dropped_taking i b
@@ -402,8 +403,8 @@ kept_taking k (Control breaks) i b =
 kept_taking k (Name breaks first) i b =
     if ends_name b then name_ended_taking k i breaks (first ∷ []) b
     else name_whole_taking i breaks (first ∷ b ∷ [])
-kept_taking k (InArguments breaks request) i b = arguments_read_on k i breaks request (byte_read false i.half b)
-kept_taking k (Deciding keeps) i b = condition_read k i keeps (byte_read false i.half b)
+kept_taking k (InArguments breaks request) i b = arguments_read_on k i breaks request (byte_read AboveArguments i.half b)
+kept_taking k (Deciding keeps) i b = condition_read k i keeps (byte_read AboveArguments i.half b)
 kept_taking k (Skipping opened closed behind) i b = skipping_taking i opened closed behind b
 kept_taking k Dropped i b = dropped_taking i b
 
@@ -422,13 +423,13 @@ Passes reading b = (k : Known) (i : PageInput) → taking k reading i b ≡ goin
 
 -- what is half read ends before what stays, or at the input's end
 abbrev pub half_ended : Known → Reading → PageInput → Taking
-half_ended k LineStart i = beginning_read k i LineStart (reading_ended true i.half)
-half_ended k Branch i = beginning_read k i Branch (reading_ended true i.half)
-half_ended k Braced i = beginning_read k i Braced (reading_ended true i.half)
-half_ended k (InText line) i = text_read k i line (reading_ended true i.half)
-half_ended k (InArguments breaks request) i = arguments_read_on k i breaks request (reading_ended false i.half)
-half_ended k (Deciding keeps) i = condition_read k i keeps (reading_ended false i.half)
-half_ended k reading i = going_on (record i { half = (reading_ended true i.half).1 }) reading
+half_ended k LineStart i = beginning_read k i LineStart (reading_ended AboveText i.half)
+half_ended k Branch i = beginning_read k i Branch (reading_ended AboveText i.half)
+half_ended k Braced i = beginning_read k i Braced (reading_ended AboveText i.half)
+half_ended k (InText line) i = text_read k i line (reading_ended AboveText i.half)
+half_ended k (InArguments breaks request) i = arguments_read_on k i breaks request (reading_ended AboveArguments i.half)
+half_ended k (Deciding keeps) i = condition_read k i keeps (reading_ended AboveArguments i.half)
+half_ended k reading i = going_on (record i { half = (reading_ended AboveText i.half).1 }) reading
 
 -- the end of the input: an unfinished line ends as by a newline
 abbrev pub end_taking : Known → Reading → PageInput → Taking

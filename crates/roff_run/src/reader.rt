@@ -18,7 +18,9 @@ use crate::request::{
 use itoa::Buffer;
 use roff_lines::Env;
 use roff_num::{Limit, Name, Num};
-use roff_scan::{ArgumentList, CopyUnit, Decision, NameUse, Read, Remark, Unread, is_dropped};
+use roff_scan::{
+    ArgumentList, CopyUnit, Decision, NameUse, Read, Remark, Surroundings, Unread, is_dropped,
+};
 use roff_store::Direction;
 use std::alloc::{AllocError, Global};
 use std::marker::Model;
@@ -137,29 +139,29 @@ impl Reader {
     {
         match self.reading {
             Reading::LineStart => {
-                let found = unread.read_byte(true, byte);
+                let found = unread.read_byte(Surroundings::Text, byte);
                 self.begin_line(Reading::LineStart, found, env, unread)
             }
             Reading::Branch => {
-                let found = unread.read_byte(true, byte);
+                let found = unread.read_byte(Surroundings::Text, byte);
                 self.begin_line(Reading::Branch, found, env, unread)
             }
             Reading::Braced => {
-                let found = unread.read_byte(true, byte);
+                let found = unread.read_byte(Surroundings::Text, byte);
                 self.begin_line(Reading::Braced, found, env, unread)
             }
             Reading::Text(line) => {
-                let found = unread.read_byte(true, byte);
+                let found = unread.read_byte(Surroundings::Text, byte);
                 self.read_text(line, found, env, unread)
             }
             Reading::Control { breaks } => Ok(self.read_on(Reading::behind_control(breaks, byte))),
             Reading::Name { breaks, first } => Ok(self.end_name(breaks, first, byte, unread)),
             Reading::Arguments { breaks, request } => {
-                let found = unread.read_byte(false, byte);
+                let found = unread.read_byte(Surroundings::Arguments, byte);
                 self.read_arguments(breaks, request, found, env, unread)
             }
             Reading::Deciding { keeps } => {
-                let found = unread.read_byte(false, byte);
+                let found = unread.read_byte(Surroundings::Arguments, byte);
                 self.read_condition(keeps, found, env, unread)
             }
             Reading::Skipping {
@@ -182,31 +184,31 @@ impl Reader {
     {
         match self.reading {
             Reading::LineStart => {
-                let found = unread.end_reading(true);
+                let found = unread.end_reading(Surroundings::Text);
                 self.begin_line(Reading::LineStart, found, env, unread)
             }
             Reading::Branch => {
-                let found = unread.end_reading(true);
+                let found = unread.end_reading(Surroundings::Text);
                 self.begin_line(Reading::Branch, found, env, unread)
             }
             Reading::Braced => {
-                let found = unread.end_reading(true);
+                let found = unread.end_reading(Surroundings::Text);
                 self.begin_line(Reading::Braced, found, env, unread)
             }
             Reading::Text(line) => {
-                let found = unread.end_reading(true);
+                let found = unread.end_reading(Surroundings::Text);
                 self.read_text(line, found, env, unread)
             }
             Reading::Arguments { breaks, request } => {
-                let found = unread.end_reading(false);
+                let found = unread.end_reading(Surroundings::Arguments);
                 self.read_arguments(breaks, request, found, env, unread)
             }
             Reading::Deciding { keeps } => {
-                let found = unread.end_reading(false);
+                let found = unread.end_reading(Surroundings::Arguments);
                 self.read_condition(keeps, found, env, unread)
             }
             _ => {
-                let _ = unread.end_reading(true);
+                let _ = unread.end_reading(Surroundings::Text);
                 Ok(Meaning::nothing())
             }
         }
@@ -476,7 +478,7 @@ impl Reader {
         match freed {
             None => Ok(self.read_on(branch)),
             Some(byte) if so => {
-                let found = unread.read_byte(true, byte);
+                let found = unread.read_byte(Surroundings::Text, byte);
                 self.begin_line(branch, found, env, unread)
             }
             Some(byte) => Ok(self.read_on(Reading::behind_skipped(0, 0, false, byte))),

@@ -5,11 +5,11 @@ use Rattle.std.specs.List.{list_all, list_any}
 use Rattle.std.proofs.lemmas.Bool.{eqb-true}
 use Rattle.std.proofs.lemmas.Grind.{flat_map-append}
 use Rattle.std.proofs.lemmas.List.{map-append}
-use Rattle.roff_scan.specs.Bytes.{tab, newline, dot, backslash}
+use Rattle.roff_scan.specs.Bytes.{start_of_text, tab, newline, dot, backslash}
 use Rattle.roff_scan.specs.Escapes.{escape_in, escape_of, escapes, is_copied}
 use Rattle.roff_scan.specs.Half.{Half, Backslash, unit_bytes}
 use Rattle.roff_scan.specs.HalfLaws.{FindsBytes, begins_reading, copied, copied_escape, doubled, found_before, half_behind, is_only_copied, reads_through, reads_to_end}
-use Rattle.roff_scan.specs.Halves.{Reads, copied_escape as copies_escape, escape_read, escape_taken, name_beginning, reading_ended, unit_taken}
+use Rattle.roff_scan.specs.Halves.{Reads, copied_escape as copies_escape, escape_given, escape_read, escape_taken, name_beginning, reading_ended, reads_text, unit_taken}
 use Rattle.roff_scan.specs.declared.escapes.Escape.{Escape as Kind}
 use Rattle.roff_scan.specs.declared.escapes.Escape.TheVariants.{Prints, Blank, NoWidth, Nothing as GivesNothing, Brace, LeftOut as IsLeftOut, Comment as BeginsComment, Size as BeginsSize, Name as BeginsName, Text as BeginsText, Width as BeginsWidth}
 use Rattle.roff_scan.specs.declared.escapes.Row.{Row}
@@ -17,7 +17,7 @@ use Rattle.roff_scan.specs.declared.half.CopyUnit.{CopyUnit}
 use Rattle.roff_scan.specs.declared.half.CopyUnit.TheVariants.{Byte, Kept}
 use Rattle.roff_scan.specs.declared.half.Read.{Read}
 use Rattle.roff_scan.specs.declared.half.Read.TheVariants.{GoesOn, Unit as GivesUnit}
-use Rattle.roff_scan.specs.declared.half.Surroundings.TheVariants.{Arguments as InArguments}
+use Rattle.roff_scan.specs.declared.half.Surroundings.{Surroundings}
 use Rattle.roff_scan.proofs.NamesRead.{read_on}
 
 -- a byte that is no backslash is copied
@@ -51,26 +51,32 @@ byte_given is b = if is then (GoesOn, Backslash ∷ []) else (GivesUnit (Byte b)
 abbrev units_of : List ℕ → List Read
 units_of text = map (λ b. GivesUnit (Byte b)) text
 
+-- what is copied where text isn't read
+copied_unless : (base : Surroundings) (r : Reads) (b : ℕ) → reads_text base ≡ false → (if reads_text base then r else copies_escape [] b) ≡ copies_escape [] b
+copied_unless base r b copies = ap (λ (c : Bool). if c then r else copies_escape [] b) copies
+
 read-doubled_byte :
-    (is : Bool) (b : ℕ) (text : List ℕ) → (b == backslash) ≡ is → reads_through false [] (doubled text) ≡ (units_of text, [])
-    → reads_through false [] (doubled_byte is b ++ doubled text) ≡ (GivesUnit (Byte b) ∷ units_of text, [])
-read-doubled_byte true b text is same =
-    ap (λ (r : List Read × List Half). (GivesUnit (Byte backslash) ∷ r.0, r.1)) same
+    (base : Surroundings) (is : Bool) (b : ℕ) (text : List ℕ) → reads_text base ≡ false → (b == backslash) ≡ is
+    → reads_through base [] (doubled text) ≡ (units_of text, [])
+    → reads_through base [] (doubled_byte is b ++ doubled text) ≡ (GivesUnit (Byte b) ∷ units_of text, [])
+read-doubled_byte base true b text copies is same =
+    ap (read_on base (doubled text)) (copied_unless base _ backslash copies)
+    ∙ ap (λ (r : List Read × List Half). (GivesUnit (Byte backslash) ∷ r.0, r.1)) same
     ∙ ap (λ (c : ℕ). (GivesUnit (Byte c) ∷ units_of text, [])) (sym (eqb-true b backslash is))
-read-doubled_byte false b text plain same =
-    ap (λ (is : Bool). read_on false (doubled text) (byte_given is b)) plain
+read-doubled_byte base false b text copies plain same =
+    ap (λ (is : Bool). read_on base (doubled text) (byte_given is b)) plain
     ∙ ap (λ (r : List Read × List Half). (GivesUnit (Byte b) ∷ r.0, r.1)) same
 
 -- so it is read
-pub read-doubled : (text : List ℕ) → reads_through false [] (doubled text) ≡ (units_of text, [])
-read-doubled [] = refl
-read-doubled (b ∷ text) = read-doubled_byte (b == backslash) b text refl (read-doubled text)
+pub read-doubled : (base : Surroundings) (text : List ℕ) → reads_text base ≡ false → reads_through base [] (doubled text) ≡ (units_of text, [])
+read-doubled base [] copies = refl
+read-doubled base (b ∷ text) copies = read-doubled_byte base (b == backslash) b text copies refl (read-doubled base text copies)
 
 -- whether copy mode changes an escape: `\` and a newline, `\\`, `\.` and `\t`
 abbrev is_changed : ℕ → Bool
 is_changed b = list_any (λ c. b == c) (newline ∷ backslash ∷ dot ∷ 116 ∷ [])
 
--- whether an escape is copied above arguments: neither a comment nor measured, and a name only if it is kept
+-- whether an escape is copied where text isn't read: neither a comment nor measured, and a name only if it is kept
 abbrev is_plain : ℕ → Kind → Bool
 is_plain b BeginsComment = false
 is_plain b BeginsWidth = false
@@ -124,25 +130,27 @@ kept_behind : (a b c d : Bool) (byte : ℕ) → (a ≡ false) × (b ≡ false) �
 kept_behind a b c d byte none = rw (none.0, none.1, none.2, none.3) refl
 
 -- an escape that is copied
-read-plain : (b : ℕ) (kind : Kind) → is_plain b kind ≡ true → escape_read InArguments [] b kind ≡ copies_escape [] b
-read-plain b BeginsComment plain = cc
-read-plain b BeginsWidth plain = cc
-read-plain b (BeginsName purpose) plain =
+read-plain : (base : Surroundings) (b : ℕ) (kind : Kind) → reads_text base ≡ false → is_plain b kind ≡ true → escape_read base [] b kind ≡ copies_escape [] b
+read-plain base b BeginsComment copies plain = cc
+read-plain base b BeginsWidth copies plain = cc
+read-plain base b (BeginsName purpose) copies plain =
     let both = both_hold (not (is_copied purpose)) (not (is_changed b)) plain in
-    ap (λ (c : Bool). if c || false then name_beginning [] purpose else unit_taken [] (Kept b)) (not-true (is_copied purpose) both.0)
+    ap (λ (c : Bool). if is_copied purpose || c then name_beginning [] purpose else unit_taken [] (Kept b)) copies
+    ∙ ap (λ (c : Bool). if c || false then name_beginning [] purpose else unit_taken [] (Kept b)) (not-true (is_copied purpose) both.0)
     ∙ kept_behind (b == newline) (b == backslash) (b == dot) (b == 116) b (none_of_four (b == newline) (b == backslash) (b == dot) (b == 116) both.1)
-read-plain b (Prints byte) plain = refl
-read-plain b Blank plain = refl
-read-plain b NoWidth plain = refl
-read-plain b GivesNothing plain = refl
-read-plain b Brace plain = refl
-read-plain b IsLeftOut plain = refl
-read-plain b BeginsSize plain = refl
-read-plain b (BeginsText purpose) plain = refl
+read-plain base b (Prints byte) copies plain = copied_unless base _ b copies
+read-plain base b Blank copies plain = copied_unless base _ b copies
+read-plain base b NoWidth copies plain = copied_unless base _ b copies
+read-plain base b GivesNothing copies plain = copied_unless base _ b copies
+read-plain base b Brace copies plain = copied_unless base _ b copies
+read-plain base b IsLeftOut copies plain = copied_unless base _ b copies
+read-plain base b BeginsSize copies plain = copied_unless base _ b copies
+read-plain base b (BeginsText purpose) copies plain = copied_unless base _ b copies
 
-taken-plain : (b : ℕ) (begins : Bool) → begins ≡ false → (begins || is_plain b (escape_of b)) ≡ true → escape_taken false [] b ≡ copies_escape [] b
-taken-plain b true none plain = cc
-taken-plain b false none plain = read-plain b (escape_of b) plain
+taken-plain : (base : Surroundings) (b : ℕ) (begins : Bool) → reads_text base ≡ false → begins ≡ false → (begins || is_plain b (escape_of b)) ≡ true
+    → escape_taken base [] b ≡ copies_escape [] b
+taken-plain base b true copies none plain = cc
+taken-plain base b false copies none plain = read-plain base b (escape_of b) copies plain
 
 -- what a byte gives are units with these bytes
 record Copies (r : Reads) (bytes : List ℕ) : Type 0 where
@@ -169,17 +177,18 @@ Copies-escape b =
     (either (b == 116) _ _ _ _ (Copies-unit (Byte tab)) (Copies-unit (Kept b)))))
 
 -- what was found up to the end
-abbrev ended : List Read × List Half → List Read
-ended read = read.0 ++ found_before (reading_ended false read.1).0 []
+abbrev ended : Surroundings → List Read × List Half → List Read
+ended base read = read.0 ++ found_before (reading_ended base read.1).0 []
 
 -- units behind units
-FindsBytes-behind : (r : Reads) (bytes text behind : List ℕ) → Copies r bytes → FindsBytes (reads_to_end false text) behind → FindsBytes (ended (read_on false text r)) (bytes ++ behind)
-FindsBytes-behind r bytes text behind copies rest = record {
+FindsBytes-behind : (base : Surroundings) (r : Reads) (bytes text behind : List ℕ) → Copies r bytes → FindsBytes (reads_to_end base text) behind
+    → FindsBytes (ended base (read_on base text r)) (bytes ++ behind)
+FindsBytes-behind base r bytes text behind copies rest = record {
   units = copies.units ++ rest.units;
   only =
-      ap (λ (half : List Half). ended (found_before r.0 (reads_through false half text).0, (reads_through false half text).1)) copies.none
-      ∙ ap (λ (found : List Read). found ++ found_before (reading_ended false (reads_through false [] text).1).0 []) (copies.found (reads_through false [] text).0)
-      ∙ append_assoc (map GivesUnit copies.units) (reads_through false [] text).0 _
+      ap (λ (half : List Half). ended base (found_before r.0 (reads_through base half text).0, (reads_through base half text).1)) copies.none
+      ∙ ap (λ (found : List Read). found ++ found_before (reading_ended base (reads_through base [] text).1).0 []) (copies.found (reads_through base [] text).0)
+      ∙ append_assoc (map GivesUnit copies.units) (reads_through base [] text).0 _
       ∙ ap (λ (found : List Read). map GivesUnit copies.units ++ found) rest.only
       ∙ sym (map-append GivesUnit copies.units rest.units);
   joined =
@@ -189,26 +198,32 @@ FindsBytes-behind r bytes text behind copies rest = record {
 }
 
 -- the last byte
-FindsBytes-last : (is : Bool) (b : ℕ) → (b == backslash) ≡ is → FindsBytes (ended (read_on false [] (byte_given is b))) (b ∷ [])
-FindsBytes-last true b is = record { units = Byte backslash ∷ []; only = refl; joined = ap (λ (c : ℕ). c ∷ []) (sym (eqb-true b backslash is)) }
-FindsBytes-last false b plain = record { units = Byte b ∷ []; only = refl; joined = refl }
+FindsBytes-last : (base : Surroundings) (is : Bool) (b : ℕ) → reads_text base ≡ false → (b == backslash) ≡ is
+    → FindsBytes (ended base (read_on base [] (byte_given is b))) (b ∷ [])
+FindsBytes-last base true b copies is = record {
+  units = Byte backslash ∷ [];
+  only = ap (λ (c : Bool). found_before (if c then escape_given [] start_of_text else unit_taken [] (Byte backslash)).0 []) copies;
+  joined = ap (λ (c : ℕ). c ∷ []) (sym (eqb-true b backslash is));
+}
+FindsBytes-last base false b copies plain = record { units = Byte b ∷ []; only = refl; joined = refl }
 
 -- a byte with another behind it
 FindsBytes-two :
-    (is : Bool) (b c : ℕ) (text : List ℕ) → (if is then not (begins_reading c) && is_only_copied text else is_only_copied (c ∷ text)) ≡ true
-    → (is_only_copied text ≡ true → FindsBytes (reads_to_end false text) (copied text))
-    → (is_only_copied (c ∷ text) ≡ true → FindsBytes (reads_to_end false (c ∷ text)) (copied (c ∷ text)))
-    → FindsBytes (ended (read_on false (c ∷ text) (byte_given is b))) (if is then copied_escape c ++ copied text else b ∷ copied (c ∷ text))
-FindsBytes-two true b c text only behind behind_plain =
+    (base : Surroundings) (is : Bool) (b c : ℕ) (text : List ℕ) → reads_text base ≡ false → (if is then not (begins_reading c) && is_only_copied text else is_only_copied (c ∷ text)) ≡ true
+    → (is_only_copied text ≡ true → FindsBytes (reads_to_end base text) (copied text))
+    → (is_only_copied (c ∷ text) ≡ true → FindsBytes (reads_to_end base (c ∷ text)) (copied (c ∷ text)))
+    → FindsBytes (ended base (read_on base (c ∷ text) (byte_given is b))) (if is then copied_escape c ++ copied text else b ∷ copied (c ∷ text))
+FindsBytes-two base true b c text copies only behind behind_plain =
     let both = both_hold (not (begins_reading c)) (is_only_copied text) only in
     let plain : begins_reading c ≡ false = not-true (begins_reading c) both.0 in
-    subst (λ (r : Reads). FindsBytes (ended (read_on false text r)) (copied_escape c ++ copied text)) (sym (taken-plain c (begins_reading c) plain (among-rows c escapes each-row)))
-    (FindsBytes-behind (copies_escape [] c) (copied_escape c) text (copied text) (Copies-escape c) (behind both.1))
-FindsBytes-two false b c text only behind behind_plain =
-    FindsBytes-behind (GivesUnit (Byte b), []) (b ∷ []) (c ∷ text) (copied (c ∷ text)) (Copies-unit (Byte b)) (behind_plain only)
+    subst (λ (r : Reads). FindsBytes (ended base (read_on base text r)) (copied_escape c ++ copied text)) (sym (taken-plain base c (begins_reading c) copies plain (among-rows c escapes each-row)))
+    (FindsBytes-behind base (copies_escape [] c) (copied_escape c) text (copied text) (Copies-escape c) (behind both.1))
+FindsBytes-two base false b c text copies only behind behind_plain =
+    FindsBytes-behind base (GivesUnit (Byte b), []) (b ∷ []) (c ∷ text) (copied (c ∷ text)) (Copies-unit (Byte b)) (behind_plain only)
 
 -- a text is found as it is copied
-pub FindsBytes-copied : (text : List ℕ) → is_only_copied text ≡ true → FindsBytes (reads_to_end false text) (copied text)
-FindsBytes-copied [] only = record { units = []; only = refl; joined = refl }
-FindsBytes-copied (b ∷ []) only = FindsBytes-last (b == backslash) b refl
-FindsBytes-copied (b ∷ c ∷ text) only = FindsBytes-two (b == backslash) b c text only (FindsBytes-copied text) (FindsBytes-copied (c ∷ text))
+pub FindsBytes-copied : (base : Surroundings) (text : List ℕ) → reads_text base ≡ false → is_only_copied text ≡ true → FindsBytes (reads_to_end base text) (copied text)
+FindsBytes-copied base [] copies only = record { units = []; only = refl; joined = refl }
+FindsBytes-copied base (b ∷ []) copies only = FindsBytes-last base (b == backslash) b copies refl
+FindsBytes-copied base (b ∷ c ∷ text) copies only =
+    FindsBytes-two base (b == backslash) b c text copies only (FindsBytes-copied base text copies) (FindsBytes-copied base (c ∷ text) copies)

@@ -27,6 +27,8 @@ use Rattle.roff_scan.specs.declared.half.Read.{Read}
 use Rattle.roff_scan.specs.declared.half.Read.TheVariants.{GoesOn, Unit as GivesUnit, Holds, Escape, Asks, Motion, Measures, Tells, Decides}
 use Rattle.roff_scan.specs.declared.half.SizePart.{SizePart}
 use Rattle.roff_scan.specs.declared.half.SizePart.TheVariants.{Nothing as NoSize, Sign, Digit}
+use Rattle.roff_scan.specs.declared.half.Surroundings.{Surroundings}
+use Rattle.roff_scan.specs.declared.half.Surroundings.TheVariants.{Text as InText}
 use Rattle.roff_scan.specs.declared.measures.Measured.{Measured}
 use Rattle.roff_scan.proofs.NestedHalves.{IsNested-rest, IsNested-text_held, open-rest}
 
@@ -207,28 +209,26 @@ IsNested-name_beginning :
 IsNested-name_beginning purpose true rest full is_free nested = nested
 IsNested-name_beginning purpose false rest room is_free nested = above (Name purpose (part_at_first purpose)) rest is_free (rw room refl) nested
 
--- what is read above arguments is read above a text line too
-reads_text-above : (is_text : Bool) (rest : List Half) → reads_text (surroundings is_text rest) ≡ true → reads_text (surroundings true rest) ≡ true
-reads_text-above true rest reads = reads
-reads_text-above false [] reads = cc
-reads_text-above false (Backslash ∷ rest) reads = reads
-reads_text-above false (Comment ∷ rest) reads = reads
-reads_text-above false (Name purpose part ∷ rest) reads = reads
-reads_text-above false (Size part ∷ rest) reads = reads
-reads_text-above false (Delimited purpose d text ∷ rest) reads = reads
-reads_text-above false (Width d width is_deep ∷ rest) reads = reads
-reads_text-above false (Condition part text ∷ rest) reads = reads
+-- what is read above anything is read above a text line too
+reads_text-above : (base : Surroundings) (rest : List Half) → reads_text (surroundings base rest) ≡ true → reads_text (surroundings InText rest) ≡ true
+reads_text-above base [] reads = refl
+reads_text-above base (Backslash ∷ rest) reads = reads
+reads_text-above base (Comment ∷ rest) reads = reads
+reads_text-above base (Name purpose part ∷ rest) reads = reads
+reads_text-above base (Size part ∷ rest) reads = reads
+reads_text-above base (Delimited purpose d text ∷ rest) reads = reads
+reads_text-above base (Width d width is_deep ∷ rest) reads = reads
+reads_text-above base (Condition part text ∷ rest) reads = reads
 
-reads_widths-above : (is_text : Bool) (rest : List Half) → reads_widths (surroundings is_text rest) ≡ true → reads_widths (surroundings true rest) ≡ true
-reads_widths-above true rest reads = reads
-reads_widths-above false [] reads = refl
-reads_widths-above false (Backslash ∷ rest) reads = reads
-reads_widths-above false (Comment ∷ rest) reads = reads
-reads_widths-above false (Name purpose part ∷ rest) reads = reads
-reads_widths-above false (Size part ∷ rest) reads = reads
-reads_widths-above false (Delimited purpose d text ∷ rest) reads = reads
-reads_widths-above false (Width d width is_deep ∷ rest) reads = reads
-reads_widths-above false (Condition part text ∷ rest) reads = reads
+reads_widths-above : (base : Surroundings) (rest : List Half) → reads_widths (surroundings base rest) ≡ true → reads_widths (surroundings InText rest) ≡ true
+reads_widths-above base [] reads = refl
+reads_widths-above base (Backslash ∷ rest) reads = reads
+reads_widths-above base (Comment ∷ rest) reads = reads
+reads_widths-above base (Name purpose part ∷ rest) reads = reads
+reads_widths-above base (Size part ∷ rest) reads = reads
+reads_widths-above base (Delimited purpose d text ∷ rest) reads = reads
+reads_widths-above base (Width d width is_deep ∷ rest) reads = reads
+reads_widths-above base (Condition part text ∷ rest) reads = reads
 
 -- a text that is measured begins, a deep one or not
 deep_or_not : (reads is_deep : Bool) → reads ≡ true → (reads && (if is_deep then is_deep else not is_deep)) ≡ true
@@ -237,26 +237,26 @@ deep_or_not true false is = refl
 deep_or_not false is_deep is = cc
 
 -- the byte behind a backslash, by what it means
-module _ (is_text : Bool) (b : ℕ) (rest : List Half) (is_free : is_open rest ≡ true) (nested : IsNested rest) where
+module _ (base : Surroundings) (b : ℕ) (rest : List Half) (is_free : is_open rest ≡ true) (nested : IsNested rest) where
   -- an escape that begins nothing
-  plain : IsNested (if reads_text (surroundings is_text rest) then escape_given rest b else copied_escape rest b).1
-  plain = either (reads_text (surroundings is_text rest)) _ _ (λ reads. IsNested-escape_given b rest nested) (λ copies. IsNested-copied_escape b rest nested)
+  plain : IsNested (if reads_text (surroundings base rest) then escape_given rest b else copied_escape rest b).1
+  plain = either (reads_text (surroundings base rest)) _ _ (λ reads. IsNested-escape_given b rest nested) (λ copies. IsNested-copied_escape b rest nested)
 
-  IsNested-escape_read : (kind : Kind) → IsNested (escape_read (surroundings is_text rest) rest b kind).1
+  IsNested-escape_read : (kind : Kind) → IsNested (escape_read (surroundings base rest) rest b kind).1
   IsNested-escape_read BeginsComment = above Comment rest is_free refl nested
   IsNested-escape_read BeginsSize =
-      either (reads_text (surroundings is_text rest)) _ _ (λ reads. above (Size NoSize) rest is_free (reads_text-above is_text rest reads) nested)
+      either (reads_text (surroundings base rest)) _ _ (λ reads. above (Size NoSize) rest is_free (reads_text-above base rest reads) nested)
       (λ copies. IsNested-copied_escape b rest nested)
   IsNested-escape_read (BeginsName purpose) =
-      either (is_copied purpose || reads_text (surroundings is_text rest)) _ _ (λ reads. IsNested-name_beginning purpose _ rest refl is_free nested)
+      either (is_copied purpose || reads_text (surroundings base rest)) _ _ (λ reads. IsNested-name_beginning purpose _ rest refl is_free nested)
       (λ copies. IsNested-unit_taken (Kept b) rest nested)
   IsNested-escape_read (BeginsText purpose) =
-      either (reads_text (surroundings is_text rest)) _ _ (λ reads. above (Delimited purpose None []) rest is_free (reads_text-above is_text rest reads) nested)
+      either (reads_text (surroundings base rest)) _ _ (λ reads. above (Delimited purpose None []) rest is_free (reads_text-above base rest reads) nested)
       (λ copies. IsNested-copied_escape b rest nested)
   IsNested-escape_read BeginsWidth =
       let is_deep = nat_le most_widths (widths_in rest) in
-      either (reads_widths (surroundings is_text rest)) _ _
-      (λ reads. above (Width None 0 is_deep) rest is_free (deep_or_not (reads_widths (surroundings true rest)) is_deep (reads_widths-above is_text rest reads)) nested)
+      either (reads_widths (surroundings base rest)) _ _
+      (λ reads. above (Width None 0 is_deep) rest is_free (deep_or_not (reads_widths (surroundings InText rest)) is_deep (reads_widths-above base rest reads)) nested)
       (λ copies. IsNested-copied_escape b rest nested)
   IsNested-escape_read (Prints byte) = plain
   IsNested-escape_read Blank = plain
@@ -292,17 +292,17 @@ IsNested-byte_of_width (Some d) width is_deep b rest nested =
     either (b == backslash) _ _ (λ escape. nested) λ other. either is_deep _ _ (λ deep. nested) (λ grows. nested)
 
 -- a byte
-pub IsNested-byte_read : (is_text : Bool) (b : ℕ) (half : List Half) → IsNested half → IsNested (byte_read is_text half b).1
-IsNested-byte_read is_text b [] nested = either (b == backslash) _ _ (λ escape. nested) (λ unit. nested)
-IsNested-byte_read is_text b (Backslash ∷ rest) nested =
-    IsNested-escape_read is_text b rest (open-rest Backslash rest nested) (IsNested-rest Backslash rest nested) (escape_of b)
-IsNested-byte_read is_text b (Comment ∷ rest) nested = nested
-IsNested-byte_read is_text b (Name purpose part ∷ rest) nested =
+pub IsNested-byte_read : (base : Surroundings) (b : ℕ) (half : List Half) → IsNested half → IsNested (byte_read base half b).1
+IsNested-byte_read base b [] nested = either (b == backslash) _ _ (λ escape. nested) (λ unit. nested)
+IsNested-byte_read base b (Backslash ∷ rest) nested =
+    IsNested-escape_read base b rest (open-rest Backslash rest nested) (IsNested-rest Backslash rest nested) (escape_of b)
+IsNested-byte_read base b (Comment ∷ rest) nested = nested
+IsNested-byte_read base b (Name purpose part ∷ rest) nested =
     either (b == backslash) _ _ (λ escape. nested) (λ unit. IsNested-unit_of_name purpose part (Byte b) rest nested)
-IsNested-byte_read is_text b (Size part ∷ rest) nested = IsNested-size_read part b rest nested
-IsNested-byte_read is_text b (Delimited purpose d text ∷ rest) nested = IsNested-byte_of_text purpose d text b rest nested
-IsNested-byte_read is_text b (Width d width is_deep ∷ rest) nested = IsNested-byte_of_width d width is_deep b rest nested
-IsNested-byte_read is_text b (Condition part text ∷ rest) nested = IsNested-byte_of_condition part text b rest nested
+IsNested-byte_read base b (Size part ∷ rest) nested = IsNested-size_read part b rest nested
+IsNested-byte_read base b (Delimited purpose d text ∷ rest) nested = IsNested-byte_of_text purpose d text b rest nested
+IsNested-byte_read base b (Width d width is_deep ∷ rest) nested = IsNested-byte_of_width d width is_deep b rest nested
+IsNested-byte_read base b (Condition part text ∷ rest) nested = IsNested-byte_of_condition part text b rest nested
 
 -- a name that ends before what stays
 IsNested-name_ended : (purpose : NameUse) (part : NamePart) (rest : List Half) → IsNested rest → IsNested (name_ended rest purpose part).1
@@ -311,19 +311,19 @@ IsNested-name_ended purpose Opened rest nested = IsNested-name_given purpose _ r
 IsNested-name_ended purpose (First a) rest nested = IsNested-name_given purpose _ rest nested
 
 -- an end
-pub IsNested-reading_ended : (is_text : Bool) (half : List Half) → IsNested half → IsNested (reading_ended is_text half).1
-IsNested-reading_ended is_text [] nested = nested
-IsNested-reading_ended is_text (Backslash ∷ rest) nested =
+pub IsNested-reading_ended : (base : Surroundings) (half : List Half) → IsNested half → IsNested (reading_ended base half).1
+IsNested-reading_ended base [] nested = nested
+IsNested-reading_ended base (Backslash ∷ rest) nested =
     let below = IsNested-rest Backslash rest nested in
-    either (reads_text (surroundings is_text rest)) _ _ (λ reads. IsNested-escape_given start_of_text rest below) (λ copies. IsNested-unit_taken (Byte backslash) rest below)
-IsNested-reading_ended is_text (Comment ∷ rest) nested =
+    either (reads_text (surroundings base rest)) _ _ (λ reads. IsNested-escape_given start_of_text rest below) (λ copies. IsNested-unit_taken (Byte backslash) rest below)
+IsNested-reading_ended base (Comment ∷ rest) nested =
     let below = IsNested-rest Comment rest nested in
-    either (reads_text (surroundings is_text rest)) _ _ (λ reads. IsNested-escape_given quote rest below) (λ copies. below)
-IsNested-reading_ended is_text (Name purpose part ∷ rest) nested = IsNested-name_ended purpose part rest (IsNested-rest (Name purpose part) rest nested)
-IsNested-reading_ended is_text (Size part ∷ rest) nested = IsNested-escape_given 115 rest (IsNested-rest (Size part) rest nested)
-IsNested-reading_ended is_text (Delimited purpose d text ∷ rest) nested = IsNested-text_given purpose text rest (IsNested-rest (Delimited purpose d text) rest nested)
-IsNested-reading_ended is_text (Width d width is_deep ∷ rest) nested = IsNested-rest (Width d width is_deep) rest nested
-IsNested-reading_ended is_text (Condition part text ∷ rest) nested = IsNested-condition_ended part text rest nested
+    either (reads_text (surroundings base rest)) _ _ (λ reads. IsNested-escape_given quote rest below) (λ copies. below)
+IsNested-reading_ended base (Name purpose part ∷ rest) nested = IsNested-name_ended purpose part rest (IsNested-rest (Name purpose part) rest nested)
+IsNested-reading_ended base (Size part ∷ rest) nested = IsNested-escape_given 115 rest (IsNested-rest (Size part) rest nested)
+IsNested-reading_ended base (Delimited purpose d text ∷ rest) nested = IsNested-text_given purpose text rest (IsNested-rest (Delimited purpose d text) rest nested)
+IsNested-reading_ended base (Width d width is_deep ∷ rest) nested = IsNested-rest (Width d width is_deep) rest nested
+IsNested-reading_ended base (Condition part text ∷ rest) nested = IsNested-condition_ended part text rest nested
 
 -- what is half read behind it
 IsNested-half_behind : (read : Read) (half : List Half) → IsNested half → IsNested (half_behind read half)
@@ -338,8 +338,8 @@ IsNested-half_behind (Tells remark) half nested = nested
 IsNested-half_behind (Decides decision freed) half nested = nested
 
 -- bytes
-pub IsNested-reads_through : (is_text : Bool) (half : List Half) (bytes : List ℕ) → IsNested half → IsNested (reads_through is_text half bytes).1
-IsNested-reads_through is_text half [] nested = nested
-IsNested-reads_through is_text half (b ∷ bytes) nested =
-    let read = byte_read is_text half b in
-    IsNested-reads_through is_text (half_behind read.0 read.1) bytes (IsNested-half_behind read.0 read.1 (IsNested-byte_read is_text b half nested))
+pub IsNested-reads_through : (base : Surroundings) (half : List Half) (bytes : List ℕ) → IsNested half → IsNested (reads_through base half bytes).1
+IsNested-reads_through base half [] nested = nested
+IsNested-reads_through base half (b ∷ bytes) nested =
+    let read = byte_read base half b in
+    IsNested-reads_through base (half_behind read.0 read.1) bytes (IsNested-half_behind read.0 read.1 (IsNested-byte_read base b half nested))

@@ -214,16 +214,16 @@ held-byte_of_text purpose (Some d) text b rest =
     (either-within (b == backslash) _ _ _ (omega arith) (omega (arith, held-unit_of_text purpose (Some d) text (Byte b) rest)))
 
 -- a byte makes no text longer
-pub texts_held-byte_read : (is_text : Bool) (b : ℕ) (half : List Half) → texts_held (byte_read is_text half b).1 ≤ texts_held half
-texts_held-byte_read is_text b [] = either-within (b == backslash) _ _ _ (omega arith) (omega arith)
-texts_held-byte_read is_text b (Backslash ∷ rest) = omega (arith, held-escape_read (surroundings is_text rest) b (escape_of b) rest)
-texts_held-byte_read is_text b (Comment ∷ rest) = omega arith
-texts_held-byte_read is_text b (Name purpose part ∷ rest) =
+pub texts_held-byte_read : (base : Surroundings) (b : ℕ) (half : List Half) → texts_held (byte_read base half b).1 ≤ texts_held half
+texts_held-byte_read base b [] = either-within (b == backslash) _ _ _ (omega arith) (omega arith)
+texts_held-byte_read base b (Backslash ∷ rest) = omega (arith, held-escape_read (surroundings base rest) b (escape_of b) rest)
+texts_held-byte_read base b (Comment ∷ rest) = omega arith
+texts_held-byte_read base b (Name purpose part ∷ rest) =
     either-within (b == backslash) _ _ _ (omega arith) (omega (arith, held-unit_of_name purpose part (Byte b) rest))
-texts_held-byte_read is_text b (Size part ∷ rest) = omega (arith, held-size_read part b rest)
-texts_held-byte_read is_text b (Delimited purpose d text ∷ rest) = held-byte_of_text purpose d text b rest
-texts_held-byte_read is_text b (Width d width is_deep ∷ rest) = omega (arith, held-byte_of_width d width is_deep b rest)
-texts_held-byte_read is_text b (Condition part text ∷ rest) = omega (arith, held-byte_of_condition part text b rest)
+texts_held-byte_read base b (Size part ∷ rest) = omega (arith, held-size_read part b rest)
+texts_held-byte_read base b (Delimited purpose d text ∷ rest) = held-byte_of_text purpose d text b rest
+texts_held-byte_read base b (Width d width is_deep ∷ rest) = omega (arith, held-byte_of_width d width is_deep b rest)
+texts_held-byte_read base b (Condition part text ∷ rest) = omega (arith, held-byte_of_condition part text b rest)
 
 -- a name that ends before what stays
 held-name_ended : (purpose : NameUse) (part : NamePart) (rest : List Half) → texts_held (name_ended rest purpose part).1 ≡ texts_held rest
@@ -239,14 +239,14 @@ held-condition_ended (Compared negated d first) text rest = omega arith
 held-condition_ended (Decided decision freed) text rest = omega arith
 
 -- nor does an end
-pub texts_held-reading_ended : (is_text : Bool) (half : List Half) → texts_held (reading_ended is_text half).1 ≤ texts_held half
-texts_held-reading_ended is_text [] = omega arith
-texts_held-reading_ended is_text (Backslash ∷ rest) =
-    either-within (reads_text (surroundings is_text rest)) _ _ _ (omega (arith, held-escape_given start_of_text rest)) (omega (arith, held-unit_taken (Byte backslash) rest))
-texts_held-reading_ended is_text (Comment ∷ rest) =
-    either-within (reads_text (surroundings is_text rest)) _ _ _ (omega (arith, held-escape_given quote rest)) (omega arith)
-texts_held-reading_ended is_text (Name purpose part ∷ rest) = omega (arith, held-name_ended purpose part rest)
-texts_held-reading_ended is_text (Size part ∷ rest) = omega (arith, held-escape_given 115 rest)
-texts_held-reading_ended is_text (Delimited purpose d text ∷ rest) = omega (arith, held-text_given purpose text rest)
-texts_held-reading_ended is_text (Width d width is_deep ∷ rest) = omega arith
-texts_held-reading_ended is_text (Condition part text ∷ rest) = held-condition_ended part text rest
+pub texts_held-reading_ended : (base : Surroundings) (half : List Half) → texts_held (reading_ended base half).1 ≤ texts_held half
+texts_held-reading_ended base [] = omega arith
+texts_held-reading_ended base (Backslash ∷ rest) =
+    either-within (reads_text (surroundings base rest)) _ _ _ (omega (arith, held-escape_given start_of_text rest)) (omega (arith, held-unit_taken (Byte backslash) rest))
+texts_held-reading_ended base (Comment ∷ rest) =
+    either-within (reads_text (surroundings base rest)) _ _ _ (omega (arith, held-escape_given quote rest)) (omega arith)
+texts_held-reading_ended base (Name purpose part ∷ rest) = omega (arith, held-name_ended purpose part rest)
+texts_held-reading_ended base (Size part ∷ rest) = omega (arith, held-escape_given 115 rest)
+texts_held-reading_ended base (Delimited purpose d text ∷ rest) = omega (arith, held-text_given purpose text rest)
+texts_held-reading_ended base (Width d width is_deep ∷ rest) = omega arith
+texts_held-reading_ended base (Condition part text ∷ rest) = held-condition_ended part text rest

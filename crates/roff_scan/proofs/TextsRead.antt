@@ -8,7 +8,7 @@ use Rattle.roff_scan.specs.Bytes.{newline, backslash}
 use Rattle.roff_scan.specs.Escapes.{escape_of}
 use Rattle.roff_scan.specs.Half.{Half, Backslash, Delimited, Width}
 use Rattle.roff_scan.specs.HalfLaws.{columns_in, is_between, reads_through, text_escape}
-use Rattle.roff_scan.specs.Halves.{Reads, byte_measured, escape_read, text_given, unit_of_text}
+use Rattle.roff_scan.specs.Halves.{Reads, byte_measured, escape_read, reads_widths, text_given, unit_of_text}
 use Rattle.roff_scan.specs.Measures.{byte_columns, most_width, motion_of, wider}
 use Rattle.roff_scan.specs.declared.escapes.Escape.{Escape as Kind}
 use Rattle.roff_scan.specs.declared.escapes.Escape.TheVariants.{Text as BeginsText}
@@ -16,7 +16,8 @@ use Rattle.roff_scan.specs.declared.escapes.TextUse.TheVariants.{Motion as OfMot
 use Rattle.roff_scan.specs.declared.half.CopyUnit.TheVariants.{Byte}
 use Rattle.roff_scan.specs.declared.half.Read.{Read}
 use Rattle.roff_scan.specs.declared.half.Read.TheVariants.{GoesOn, Escape, Measures, Motion}
-use Rattle.roff_scan.specs.declared.half.Surroundings.TheVariants.{Text as InText}
+use Rattle.roff_scan.specs.declared.half.Surroundings.{Surroundings}
+use Rattle.roff_scan.specs.declared.half.Surroundings.TheVariants.{Text as InText, Arguments as InArguments, Copy as InCopy}
 use Rattle.roff_scan.proofs.NamesRead.{read_on}
 
 -- a byte that may stand between delimiters, and those behind it
@@ -34,30 +35,32 @@ inner_byte delimits escapes x y z other plain = rw (other, plain) refl
 wider-twice : (width a b both : ℕ) → both ≡ a + b → min (min (width + 24 * a) most_width + 24 * b) most_width ≡ min (width + 24 * both) most_width
 wider-twice width a b both is = omega (arith, is)
 
-module _ (is_text : Bool) (d : ℕ) where
+module _ (base : Surroundings) (d : ℕ) where
   -- a text that is measured
   width_within :
       (text : List ℕ) (width : ℕ) → is_between d text ≡ true → width ≤ most_width
-      → reads_through is_text (Width (Some d) width false ∷ []) (text ++ d ∷ []) ≡ (Measures (min (width + 24 * columns_in text) most_width) ∷ [], [])
+      → reads_through base (Width (Some d) width false ∷ []) (text ++ d ∷ []) ≡ (Measures (min (width + 24 * columns_in text) most_width) ∷ [], [])
   width_within [] width between small =
-      ap (λ (c : Bool). read_on is_text [] (if c then (Measures width, []) else if d == backslash then (GoesOn, Backslash ∷ Width (Some d) width false ∷ []) else byte_measured [] (Some d) width false d)) (eq-eqb d d refl)
+      ap (λ (c : Bool). read_on base [] (if c then (Measures width, []) else if d == backslash then (GoesOn, Backslash ∷ Width (Some d) width false ∷ []) else byte_measured [] (Some d) width false d)) (eq-eqb d d refl)
       ∙ ap (λ (w : ℕ). (Measures w ∷ [], [])) (omega (arith, small))
   width_within (b ∷ text) width between small =
       let parts = between_parts (b == d) (b == backslash) (b == newline) (is_between d text) between in
-      ap (read_on is_text (text ++ d ∷ [])) (inner_byte (b == d) (b == backslash) _ _ _ parts.0 parts.1)
+      ap (read_on base (text ++ d ∷ [])) (inner_byte (b == d) (b == backslash) _ _ _ parts.0 parts.1)
       ∙ width_within text (wider width (byte_columns b)) parts.2 (omega arith)
       ∙ ap (λ (w : ℕ). (Measures w ∷ [], [])) (wider-twice width (byte_columns b) (columns_in text) (columns_in (b ∷ text)) (sum_by-cons byte_columns b text))
 
 -- its escape
-width_begun : (is_text : Bool) (d : ℕ) (text : List ℕ) → reads_through is_text [] (text_escape 119 d text) ≡ reads_through is_text (Width (Some d) 0 false ∷ []) (text ++ d ∷ [])
-width_begun true d text = refl
-width_begun false d text = refl
+width_begun : (base : Surroundings) (d : ℕ) (text : List ℕ) → reads_widths base ≡ true
+    → reads_through base [] (text_escape 119 d text) ≡ reads_through base (Width (Some d) 0 false ∷ []) (text ++ d ∷ [])
+width_begun InText d text reads = refl
+width_begun InArguments d text reads = refl
+width_begun InCopy d text reads = cc
 
 pub width_read :
-    (is_text : Bool) (d : ℕ) (text : List ℕ) → is_between d text ≡ true
-    → reads_through is_text [] (text_escape 119 d text) ≡ (Measures (min (24 * columns_in text) most_width) ∷ [], [])
-width_read is_text d text between =
-    width_begun is_text d text ∙ width_within is_text d text 0 between (omega arith)
+    (base : Surroundings) (d : ℕ) (text : List ℕ) → reads_widths base ≡ true → is_between d text ≡ true
+    → reads_through base [] (text_escape 119 d text) ≡ (Measures (min (24 * columns_in text) most_width) ∷ [], [])
+width_read base d text reads between =
+    width_begun base d text reads ∙ width_within base d text 0 between (omega arith)
     ∙ ap (λ (w : ℕ). (Measures (min w most_width) ∷ [], [])) (omega arith)
 
 -- what a motion's text finds
@@ -66,30 +69,30 @@ moved text = (Motion (motion_of text).columns (motion_of text).remark ∷ [], []
 
 -- the text of a motion is held
 motion_within : (d : ℕ) (text so_far : List ℕ) → is_between d text ≡ true
-    → reads_through true (Delimited OfMotion (Some d) so_far ∷ []) (text ++ d ∷ []) ≡ moved (so_far ++ text)
+    → reads_through InText (Delimited OfMotion (Some d) so_far ∷ []) (text ++ d ∷ []) ≡ moved (so_far ++ text)
 motion_within d [] so_far between =
-    ap (λ (c : Bool). read_on true [] (if c then text_given [] OfMotion so_far else if d == backslash then (GoesOn, Backslash ∷ Delimited OfMotion (Some d) so_far ∷ []) else unit_of_text [] OfMotion (Some d) so_far (Byte d))) (eq-eqb d d refl)
+    ap (λ (c : Bool). read_on InText [] (if c then text_given [] OfMotion so_far else if d == backslash then (GoesOn, Backslash ∷ Delimited OfMotion (Some d) so_far ∷ []) else unit_of_text [] OfMotion (Some d) so_far (Byte d))) (eq-eqb d d refl)
     ∙ ap moved (sym (append-nil so_far))
 motion_within d (b ∷ text) so_far between =
     let parts = between_parts (b == d) (b == backslash) (b == newline) (is_between d text) between in
-    ap (read_on true (text ++ d ∷ [])) (inner_byte (b == d) (b == backslash) _ _ _ parts.0 parts.1)
+    ap (read_on InText (text ++ d ∷ [])) (inner_byte (b == d) (b == backslash) _ _ _ parts.0 parts.1)
     ∙ motion_within d text (so_far ++ b ∷ []) parts.2
     ∙ ap moved (append_assoc so_far (b ∷ []) text)
 
-pub motion_read : (d : ℕ) (text : List ℕ) → is_between d text ≡ true → reads_through true [] (text_escape 104 d text) ≡ moved text
+pub motion_read : (d : ℕ) (text : List ℕ) → is_between d text ≡ true → reads_through InText [] (text_escape 104 d text) ≡ moved text
 motion_read d text between = motion_within d text [] between
 
 -- a text that is left out is dropped
 left_out_within : (kind d : ℕ) (text : List ℕ) → is_between d text ≡ true
-    → reads_through true (Delimited (LeftOutText kind) (Some d) [] ∷ []) (text ++ d ∷ []) ≡ (Escape kind ∷ [], [])
+    → reads_through InText (Delimited (LeftOutText kind) (Some d) [] ∷ []) (text ++ d ∷ []) ≡ (Escape kind ∷ [], [])
 left_out_within kind d [] between =
-    ap (λ (c : Bool). read_on true [] (if c then text_given [] (LeftOutText kind) [] else if d == backslash then (GoesOn, Backslash ∷ Delimited (LeftOutText kind) (Some d) [] ∷ []) else unit_of_text [] (LeftOutText kind) (Some d) [] (Byte d))) (eq-eqb d d refl)
+    ap (λ (c : Bool). read_on InText [] (if c then text_given [] (LeftOutText kind) [] else if d == backslash then (GoesOn, Backslash ∷ Delimited (LeftOutText kind) (Some d) [] ∷ []) else unit_of_text [] (LeftOutText kind) (Some d) [] (Byte d))) (eq-eqb d d refl)
 left_out_within kind d (b ∷ text) between =
     let parts = between_parts (b == d) (b == backslash) (b == newline) (is_between d text) between in
-    ap (read_on true (text ++ d ∷ [])) (inner_byte (b == d) (b == backslash) _ _ _ parts.0 parts.1)
+    ap (read_on InText (text ++ d ∷ [])) (inner_byte (b == d) (b == backslash) _ _ _ parts.0 parts.1)
     ∙ left_out_within kind d text parts.2
 
 pub left_out_read : (b kind d : ℕ) (text : List ℕ) → escape_of b ≡ BeginsText (LeftOutText kind) → is_between d text ≡ true
-    → reads_through true [] (text_escape b d text) ≡ (Escape kind ∷ [], [])
+    → reads_through InText [] (text_escape b d text) ≡ (Escape kind ∷ [], [])
 left_out_read b kind d text is between =
-    ap (λ (kind : Kind). read_on true (d ∷ text ++ d ∷ []) (escape_read InText [] b kind)) is ∙ left_out_within kind d text between
+    ap (λ (kind : Kind). read_on InText (d ∷ text ++ d ∷ []) (escape_read InText [] b kind)) is ∙ left_out_within kind d text between

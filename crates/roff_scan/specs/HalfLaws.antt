@@ -11,6 +11,8 @@ use Rattle.roff_scan.specs.declared.half.CopyUnit.{CopyUnit}
 use Rattle.roff_scan.specs.declared.half.Decision.{Decision}
 use Rattle.roff_scan.specs.declared.half.Read.{Read}
 use Rattle.roff_scan.specs.declared.half.Read.TheVariants.{GoesOn, Unit as GivesUnit, Holds, Escape, Asks, Motion, Measures, Tells, Decides}
+use Rattle.roff_scan.specs.declared.half.Surroundings.{Surroundings}
+use Rattle.roff_scan.specs.declared.half.Surroundings.TheVariants.{Arguments as InArguments}
 use Rattle.roff_store.specs.declared.register.Direction.{Direction}
 use Rattle.roff_store.specs.declared.register.Direction.TheVariants.{Up, Down}
 
@@ -31,12 +33,13 @@ abbrev pub half_behind : Read → List Half → List Half
 half_behind (Holds unit) half = text_held unit half
 half_behind (_) half = half
 
--- bytes read one by one: what they find, in order, and what is half read behind them
-abbrev pub reads_through : Bool → List Half → List ℕ → List Read × List Half
-reads_through is_text half [] = ([], half)
-reads_through is_text half (b ∷ bytes) =
-    let read = byte_read is_text half b in
-    let others = reads_through is_text (half_behind read.0 read.1) bytes in
+-- bytes read one by one, above a text line, above arguments, or in copy mode: what they find, in order, and what is half read
+-- behind them
+abbrev pub reads_through : Surroundings → List Half → List ℕ → List Read × List Half
+reads_through base half [] = ([], half)
+reads_through base half (b ∷ bytes) =
+    let read = byte_read base half b in
+    let others = reads_through base (half_behind read.0 read.1) bytes in
     (found_before read.0 others.0, others.1)
 
 -- the sign of a step
@@ -75,10 +78,10 @@ openings zero = []
 openings (suc k) = register_escape (40 ∷ openings k)
 
 -- what bytes find where nothing is half read, up to their end
-abbrev pub reads_to_end : Bool → List ℕ → List Read
-reads_to_end is_text bytes =
-    let read = reads_through is_text [] bytes in
-    read.0 ++ found_before (reading_ended is_text read.1).0 []
+abbrev pub reads_to_end : Surroundings → List ℕ → List Read
+reads_to_end base bytes =
+    let read = reads_through base [] bytes in
+    read.0 ++ found_before (reading_ended base read.1).0 []
 
 -- units were found, and their bytes are these
 pub record FindsBytes (found : List Read) (bytes : List ℕ) : Type 0 where
@@ -138,7 +141,7 @@ delimits_texts b = not (is_among (codes " !oetn\\\n") b || begins_expression b)
 
 -- what the bytes of a condition give, and what is half read behind them
 abbrev pub asked : List ℕ → List Read × List Half
-asked bytes = reads_through false (Condition (Choice false) [] ∷ []) bytes
+asked bytes = reads_through InArguments (Condition (Choice false) [] ∷ []) bytes
 
 -- a condition is read, of which this is held, and decides so next
 abbrev pub decided : Decision → List ℕ → List Read × List Half

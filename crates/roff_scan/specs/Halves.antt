@@ -37,14 +37,15 @@ most_names = 8
 abbrev pub most_widths : ℕ
 most_widths = 8
 
--- how a backslash is read above these: within names and texts too deep to be measured in copy mode, within texts between
--- delimiters and conditions as in arguments, and within measured ones as in text
-abbrev pub surroundings : Bool → List Half → Surroundings
-surroundings is_text [] = if is_text then InText else InArguments
-surroundings is_text (Delimited purpose d text ∷ rest) = InArguments
-surroundings is_text (Width d width is_deep ∷ rest) = if is_deep then InCopy else InText
-surroundings is_text (Condition part text ∷ rest) = InArguments
-surroundings is_text (half ∷ rest) = InCopy
+-- how a backslash is read above these, which stand above a text line, above arguments, or in copy mode: within names and
+-- texts too deep to be measured in copy mode, within texts between delimiters and conditions as in arguments, and within
+-- measured ones as in text
+abbrev pub surroundings : Surroundings → List Half → Surroundings
+surroundings base [] = base
+surroundings base (Delimited purpose d text ∷ rest) = InArguments
+surroundings base (Width d width is_deep ∷ rest) = if is_deep then InCopy else InText
+surroundings base (Condition part text ∷ rest) = InArguments
+surroundings base (half ∷ rest) = InCopy
 
 -- whether every escape is read there
 abbrev pub reads_text : Surroundings → Bool
@@ -189,9 +190,9 @@ escape_read around rest b (BeginsText purpose) =
 escape_read around rest b BeginsWidth = if reads_widths around then width_beginning rest else copied_escape rest b
 escape_read around rest b (_) = if reads_text around then escape_given rest b else copied_escape rest b
 
--- the byte behind a backslash; above a text line, or above arguments
-abbrev pub escape_taken : Bool → List Half → ℕ → Reads
-escape_taken is_text rest b = escape_read (surroundings is_text rest) rest b (escape_of b)
+-- the byte behind a backslash; above a text line, above arguments, or in copy mode
+abbrev pub escape_taken : Surroundings → List Half → ℕ → Reads
+escape_taken base rest b = escape_read (surroundings base rest) rest b (escape_of b)
 
 -- a byte of a text between delimiters: the first delimits it, whatever it is, and the same ends it
 abbrev pub byte_of_text : List Half → TextUse → Option ℕ → List ℕ → ℕ → Reads
@@ -214,17 +215,17 @@ byte_of_width rest (Some d) width is_deep b =
     else if b == backslash then (GoesOn, Backslash ∷ Width (Some d) width is_deep ∷ rest)
     else byte_measured rest (Some d) width is_deep b
 
--- a byte that isn't dropped, where this is half read; above a text line, or above arguments
-abbrev pub byte_read : Bool → List Half → ℕ → Reads
-byte_read is_text [] b = if b == backslash then (GoesOn, Backslash ∷ []) else (GivesUnit (Byte b), [])
-byte_read is_text (Backslash ∷ rest) b = escape_taken is_text rest b
-byte_read is_text (Comment ∷ rest) b = (GoesOn, Comment ∷ rest)
-byte_read is_text (Name purpose part ∷ rest) b =
+-- a byte that isn't dropped, where this is half read; above a text line, above arguments, or in copy mode
+abbrev pub byte_read : Surroundings → List Half → ℕ → Reads
+byte_read base [] b = if b == backslash then (GoesOn, Backslash ∷ []) else (GivesUnit (Byte b), [])
+byte_read base (Backslash ∷ rest) b = escape_taken base rest b
+byte_read base (Comment ∷ rest) b = (GoesOn, Comment ∷ rest)
+byte_read base (Name purpose part ∷ rest) b =
     if b == backslash then (GoesOn, Backslash ∷ Name purpose part ∷ rest) else unit_of_name rest purpose part (Byte b)
-byte_read is_text (Size part ∷ rest) b = size_read rest part b
-byte_read is_text (Delimited purpose d text ∷ rest) b = byte_of_text rest purpose d text b
-byte_read is_text (Width d width is_deep ∷ rest) b = byte_of_width rest d width is_deep b
-byte_read is_text (Condition part text ∷ rest) b = byte_of_condition rest part text b
+byte_read base (Size part ∷ rest) b = size_read rest part b
+byte_read base (Delimited purpose d text ∷ rest) b = byte_of_text rest purpose d text b
+byte_read base (Width d width is_deep ∷ rest) b = byte_of_width rest d width is_deep b
+byte_read base (Condition part text ∷ rest) b = byte_of_condition rest part text b
 
 -- a name that ends before a newline or the input's end: without a byte it is none
 abbrev pub name_ended : List Half → NameUse → NamePart → Reads
@@ -234,17 +235,17 @@ name_ended rest purpose (First a) = name_whole rest purpose (a ∷ [])
 
 -- The reading on top ends before what stays. A backslash of copy mode is a byte, and one of the text an escape
 -- that gives nothing, as before STX. A comment of the text is an escape. Texts end as at their delimiter.
-abbrev pub reading_ended : Bool → List Half → Reads
-reading_ended is_text [] = (GoesOn, [])
-reading_ended is_text (Backslash ∷ rest) =
-    if reads_text (surroundings is_text rest) then escape_given rest start_of_text else unit_taken rest (Byte backslash)
-reading_ended is_text (Comment ∷ rest) =
-    if reads_text (surroundings is_text rest) then escape_given rest quote else (GoesOn, rest)
-reading_ended is_text (Name purpose part ∷ rest) = name_ended rest purpose part
-reading_ended is_text (Size part ∷ rest) = size_over rest
-reading_ended is_text (Delimited purpose d text ∷ rest) = text_given rest purpose text
-reading_ended is_text (Width d width is_deep ∷ rest) = (Measures width, rest)
-reading_ended is_text (Condition part text ∷ rest) = condition_ended rest part text
+abbrev pub reading_ended : Surroundings → List Half → Reads
+reading_ended base [] = (GoesOn, [])
+reading_ended base (Backslash ∷ rest) =
+    if reads_text (surroundings base rest) then escape_given rest start_of_text else unit_taken rest (Byte backslash)
+reading_ended base (Comment ∷ rest) =
+    if reads_text (surroundings base rest) then escape_given rest quote else (GoesOn, rest)
+reading_ended base (Name purpose part ∷ rest) = name_ended rest purpose part
+reading_ended base (Size part ∷ rest) = size_over rest
+reading_ended base (Delimited purpose d text ∷ rest) = text_given rest purpose text
+reading_ended base (Width d width is_deep ∷ rest) = (Measures width, rest)
+reading_ended base (Condition part text ∷ rest) = condition_ended rest part text
 
 -- whether the reading on top is a condition that decides, before anything is taken or seen
 abbrev pub decides_now : List Half → Bool

@@ -5,7 +5,7 @@ ghost use Rattle.roff_scan.specs.Bytes.{backslash, blank, quote};
 ghost use Rattle.roff_scan.specs.Escapes.{escape_of, is_copied};
 ghost use Rattle.roff_scan.specs.Half.{Half, Comment, Name};
 ghost use Rattle.roff_scan.specs.HalfLaws.{FindsBytes, argument_escape, asked, columns_in, copied, decided, delimits_texts, doubled, is_between, is_only_copied, is_special, long_escape, openings, reads_through, reads_to_end, register_escape, short_escape, string_escape, text_escape, two_texts};
-ghost use Rattle.roff_scan.specs.Halves.{most_names, reading_ended};
+ghost use Rattle.roff_scan.specs.Halves.{most_names, reading_ended, reads_text, reads_widths};
 ghost use Rattle.roff_scan.specs.Measures.{columns_of, most_width, motion_of, remarked};
 ghost use Rattle.roff_scan.specs.Nesting.{AreNames, IsNested};
 ghost use Rattle.roff_scan.specs.declared.escapes.Escape.TheVariants.{Name as BeginsName, Text as BeginsText};
@@ -17,53 +17,56 @@ ghost use Rattle.roff_scan.specs.declared.half.Decision.TheVariants.{Is, OnPages
 ghost use Rattle.roff_scan.specs.declared.half.NamePart.TheVariants.{Nothing, Opened};
 ghost use Rattle.roff_scan.specs.declared.half.Read.TheVariants.{Asks, Escape, Measures, Motion, Unit as GivesUnit};
 ghost use Rattle.roff_scan.specs.declared.half.Remark.TheVariants.{BackwardMotion, BadNumber};
+ghost use Rattle.roff_scan.specs.declared.half.Surroundings.{Surroundings};
+ghost use Rattle.roff_scan.specs.declared.half.Surroundings.TheVariants.{Text as InText};
 ghost use Rattle.roff_store.specs.declared.register.Direction.{Direction};
 
-/// The escapes of a register, read byte by byte in text or in copy mode, find its name and its
-/// step and nothing else: `\nx` and `\n(xx`, with a sign behind the `n` or without. So it is where
-/// nothing is half read, and also within names, if fewer than may be; they stay half read.
+/// The escapes of a register, read byte by byte in text, in arguments or in copy mode, find its
+/// name and its step and nothing else: `\nx` and `\n(xx`, with a sign behind the `n` or without. So
+/// it is where nothing is half read, and also within names, if fewer than may be; they stay half
+/// read.
 pub fn register_escapes()
-    ensures short { (is_text : Bool) (names : List Half) (step : Option Direction) (x : ℕ)
+    ensures short { (base : Surroundings) (names : List Half) (step : Option Direction) (x : ℕ)
         → AreNames names → length names < most_names → is_special x ≡ false
-        → reads_through is_text names (short_escape step x)
+        → reads_through base names (short_escape step x)
         ≡ (Asks (Register step) (Some (x ∷ [])) ∷ [], names) }
-    ensures long { (is_text : Bool) (names : List Half) (step : Option Direction) (x y : ℕ)
+    ensures long { (base : Surroundings) (names : List Half) (step : Option Direction) (x y : ℕ)
         → AreNames names → length names < most_names
         → (x == backslash) ≡ false → (y == backslash) ≡ false
-        → reads_through is_text names (long_escape step x y)
+        → reads_through base names (long_escape step x y)
         ≡ (Asks (Register step) (Some (x ∷ y ∷ [])) ∷ [], names) }
 {}
 
 /// So do those of a string, `\*x` and `\*(xx`, and of an argument, `\$x`.
 pub fn text_escapes()
-    ensures short { (is_text : Bool) (names : List Half) (x : ℕ)
+    ensures short { (base : Surroundings) (names : List Half) (x : ℕ)
         → AreNames names → length names < most_names
         → (x == backslash) ≡ false → (x == 40) ≡ false
-        → reads_through is_text names (string_escape (x ∷ []))
+        → reads_through base names (string_escape (x ∷ []))
         ≡ (Asks Text (Some (x ∷ [])) ∷ [], names) }
-    ensures long { (is_text : Bool) (names : List Half) (x y : ℕ)
+    ensures long { (base : Surroundings) (names : List Half) (x y : ℕ)
         → AreNames names → length names < most_names
         → (x == backslash) ≡ false → (y == backslash) ≡ false
-        → reads_through is_text names (string_escape (40 ∷ x ∷ y ∷ []))
+        → reads_through base names (string_escape (40 ∷ x ∷ y ∷ []))
         ≡ (Asks Text (Some (x ∷ y ∷ [])) ∷ [], names) }
-    ensures argument { (is_text : Bool) (names : List Half) (x : ℕ)
+    ensures argument { (base : Surroundings) (names : List Half) (x : ℕ)
         → AreNames names → length names < most_names → (x == backslash) ≡ false
-        → reads_through is_text names (argument_escape x)
+        → reads_through base names (argument_escape x)
         ≡ (Asks Argument (Some (x ∷ [])) ∷ [], names) }
 {}
 
 /// A character's escape in text finds its two bytes.
 pub fn character_escapes()
     ensures { (x y : ℕ) → (x == backslash) ≡ false → (y == backslash) ≡ false
-        → reads_through true [] (backslash ∷ 40 ∷ x ∷ y ∷ [])
+        → reads_through InText [] (backslash ∷ 40 ∷ x ∷ y ∷ [])
         ≡ (Asks Character (Some (x ∷ y ∷ [])) ∷ [], []) }
 {}
 
 /// A comment finds nothing, whatever stands in it, and is half read up to what ends it; in text, in
-/// copy mode and within names.
+/// arguments, in copy mode and within names.
 pub fn comments()
-    ensures { (is_text : Bool) (names : List Half) (bytes : List ℕ) → AreNames names
-        → reads_through is_text names (backslash ∷ quote ∷ bytes) ≡ ([], Comment ∷ names) }
+    ensures { (base : Surroundings) (names : List Half) (bytes : List ℕ) → AreNames names
+        → reads_through base names (backslash ∷ quote ∷ bytes) ≡ ([], Comment ∷ names) }
 {}
 
 /// Eight names are read within each other, and no ninth: where seven are half read an escape that
@@ -72,41 +75,45 @@ pub fn comments()
 /// where it may: no more names are half read, no backslash, comment or size but on top, and what is
 /// read only in text stands only there. So they are few.
 pub fn nesting()
-    ensures begun { (is_text : Bool) (names : List Half) (b : ℕ) (purpose : NameUse)
+    ensures begun { (base : Surroundings) (names : List Half) (b : ℕ) (purpose : NameUse)
         → AreNames names → length names < most_names
         → escape_of b ≡ BeginsName purpose → is_copied purpose ≡ true
-        → reads_through is_text names (backslash ∷ b ∷ []) ≡ ([], Name purpose Nothing ∷ names) }
-    ensures no_more { (is_text : Bool) (names : List Half) (b : ℕ) (purpose : NameUse)
+        → reads_through base names (backslash ∷ b ∷ []) ≡ ([], Name purpose Nothing ∷ names) }
+    ensures no_more { (base : Surroundings) (names : List Half) (b : ℕ) (purpose : NameUse)
         → AreNames names → length names ≡ most_names
         → escape_of b ≡ BeginsName purpose → is_copied purpose ≡ true
-        → reads_through is_text names (backslash ∷ b ∷ []) ≡ ([], names) }
-    ensures opened { (is_text : Bool) (k : ℕ) → k ≤ most_names
-        → reads_through is_text [] (openings k)
+        → reads_through base names (backslash ∷ b ∷ []) ≡ ([], names) }
+    ensures opened { (base : Surroundings) (k : ℕ) → k ≤ most_names
+        → reads_through base [] (openings k)
         ≡ ([], replicate k (Name (Register None) Opened)) }
-    ensures always { (is_text : Bool) (half : List Half) (bytes : List ℕ) → IsNested half
-        → IsNested (reads_through is_text half bytes).1 }
-    ensures ended { (is_text : Bool) (half : List Half) → IsNested half
-        → IsNested (reading_ended is_text half).1 }
+    ensures always { (base : Surroundings) (half : List Half) (bytes : List ℕ) → IsNested half
+        → IsNested (reads_through base half bytes).1 }
+    ensures ended { (base : Surroundings) (half : List Half) → IsNested half
+        → IsNested (reading_ended base half).1 }
     ensures few { (half : List Half) → IsNested half → length half ≤ 28 }
 {}
 
-/// Copy mode changes a text without interpolations and comments as `copied` says, and nothing of it
-/// is read otherwise. So a text with each of its backslashes written twice is copied to itself, byte
-/// by byte, and with each written four times it is there behind two copies.
+/// In copy mode and in arguments a text without interpolations and comments is changed as `copied`
+/// says, and nothing of it is read otherwise. So a text with each of its backslashes written twice
+/// is copied to itself, byte by byte, and with each written four times it is there behind two
+/// copies.
 pub fn copying()
-    ensures read { (text : List ℕ) → is_only_copied text ≡ true
-        → FindsBytes (reads_to_end false text) (copied text) }
+    ensures read { (base : Surroundings) (text : List ℕ)
+        → reads_text base ≡ false → is_only_copied text ≡ true
+        → FindsBytes (reads_to_end base text) (copied text) }
     ensures doubled { (text : List ℕ) → copied (doubled text) ≡ text }
     ensures again { (text : List ℕ) → copied (copied (doubled (doubled text))) ≡ text }
-    ensures doubled_read { (text : List ℕ) → reads_through false [] (doubled text)
+    ensures doubled_read { (base : Surroundings) (text : List ℕ) → reads_text base ≡ false
+        → reads_through base [] (doubled text)
         ≡ (map (λ b. GivesUnit (Byte b)) text, []) }
 {}
 
 /// `\w'text'` measures a text of glyphs: 24 basic units for each column, up to what a register may
 /// hold; in text and in arguments.
 pub fn widths()
-    ensures { (is_text : Bool) (delimiter : ℕ) (text : List ℕ) → is_between delimiter text ≡ true
-        → reads_through is_text [] (text_escape 119 delimiter text)
+    ensures { (base : Surroundings) (delimiter : ℕ) (text : List ℕ)
+        → reads_widths base ≡ true → is_between delimiter text ≡ true
+        → reads_through base [] (text_escape 119 delimiter text)
         ≡ (Measures (min (24 * columns_in text) most_width) ∷ [], []) }
 {}
 
@@ -114,7 +121,7 @@ pub fn widths()
 /// and so is one that isn't a number.
 pub fn motions()
     ensures read { (delimiter : ℕ) (text : List ℕ) → is_between delimiter text ≡ true
-        → reads_through true [] (text_escape 104 delimiter text)
+        → reads_through InText [] (text_escape 104 delimiter text)
         ≡ (Motion (motion_of text).columns (motion_of text).remark ∷ [], []) }
     ensures columns { motion_of (codes "7") ≡ columns_of 7 }
     ensures inches { motion_of (codes "1i-2") ≡ columns_of 8 }
@@ -128,7 +135,7 @@ pub fn motions()
 pub fn left_out_texts()
     ensures { (b kind delimiter : ℕ) (text : List ℕ)
         → escape_of b ≡ BeginsText (LeftOutText kind) → is_between delimiter text ≡ true
-        → reads_through true [] (text_escape b delimiter text) ≡ (Escape kind ∷ [], []) }
+        → reads_through InText [] (text_escape b delimiter text) ≡ (Escape kind ∷ [], []) }
 {}
 
 /// A condition of two texts is whether they are the same bytes, and behind a `!` whether they

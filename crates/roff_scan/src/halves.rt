@@ -162,9 +162,9 @@ impl Halves {
         }
     }
 
-    /// Reads a byte that isn't dropped; above a text line, or above arguments.
-    pub(crate) fn read_byte(&mut self, is_text: bool, byte: u8) -> Read
-        ensures { (result, self.new) ≡ leaving (byte_read is_text self.old.half byte) self.old }
+    /// Reads a byte that isn't dropped; above a text line, above arguments, or in copy mode.
+    pub(crate) fn read_byte(&mut self, base: Surroundings, byte: u8) -> Read
+        ensures { (result, self.new) ≡ leaving (byte_read base self.old.half byte) self.old }
     {
         match self.top() {
             None => {
@@ -177,7 +177,7 @@ impl Halves {
             }
             Some(HalfRead::Backslash) => {
                 self.pop();
-                self.read_escape(is_text, byte)
+                self.read_escape(base, byte)
             }
             Some(HalfRead::Comment) => Read::GoesOn,
             Some(HalfRead::Name(purpose, part)) => {
@@ -206,14 +206,14 @@ impl Halves {
     }
 
     /// Ends the reading on top, before what stays.
-    pub(crate) fn end_reading(&mut self, is_text: bool) -> Read
-        ensures { (result, self.new) ≡ leaving (reading_ended is_text self.old.half) self.old }
+    pub(crate) fn end_reading(&mut self, base: Surroundings) -> Read
+        ensures { (result, self.new) ≡ leaving (reading_ended base self.old.half) self.old }
     {
         match self.top() {
             None => Read::GoesOn,
             Some(HalfRead::Backslash) => {
                 self.pop();
-                if self.surroundings(is_text) == Surroundings::Text {
+                if self.surroundings(base) == Surroundings::Text {
                     self.give_escape(START_OF_TEXT)
                 } else {
                     self.read_unit(CopyUnit::Byte(b'\\'))
@@ -221,7 +221,7 @@ impl Halves {
             }
             Some(HalfRead::Comment) => {
                 self.pop();
-                if self.surroundings(is_text) == Surroundings::Text {
+                if self.surroundings(base) == Surroundings::Text {
                     self.give_escape(b'"')
                 } else {
                     Read::GoesOn
@@ -244,18 +244,13 @@ impl Halves {
         }
     }
 
-    /// How the byte behind a backslash above these is read; above a text line, or above arguments.
-    fn surroundings(&self, is_text: bool) -> Surroundings
-        ensures { result ≡ surroundings is_text self.now.half }
+    /// How the byte behind a backslash above these is read; above a text line, above arguments, or
+    /// in copy mode.
+    fn surroundings(&self, base: Surroundings) -> Surroundings
+        ensures { result ≡ surroundings base self.now.half }
     {
         match self.top() {
-            None => {
-                if is_text {
-                    Surroundings::Text
-                } else {
-                    Surroundings::Arguments
-                }
-            }
+            None => base,
             Some(HalfRead::Delimited(..)) => Surroundings::Arguments,
             Some(HalfRead::Condition(..)) => Surroundings::Arguments,
             Some(HalfRead::Width(_, _, false)) => Surroundings::Text,
@@ -264,11 +259,11 @@ impl Halves {
     }
 
     /// The byte behind a backslash, which is off already.
-    fn read_escape(&mut self, is_text: bool, byte: u8) -> Read
+    fn read_escape(&mut self, base: Surroundings, byte: u8) -> Read
         requires { IsNested (BackslashHalf ∷ self.old.half) }
-        ensures { (result, self.new) ≡ leaving (escape_taken is_text self.old.half byte) self.old }
+        ensures { (result, self.new) ≡ leaving (escape_taken base self.old.half byte) self.old }
     {
-        let around = self.surroundings(is_text);
+        let around = self.surroundings(base);
         let in_text = around == Surroundings::Text;
         match escape_of(byte) {
             Escape::Comment => self.begin(HalfRead::Comment),
@@ -341,7 +336,7 @@ impl Halves {
     /// A text that is measured begins, or one too deep for it.
     fn begin_width(&mut self) -> Read
         requires nested { IsNested (BackslashHalf ∷ self.old.half) }
-        requires around { reads_widths (surroundings true self.old.half) ≡ true }
+        requires around { reads_widths (surroundings Surroundings.Text self.old.half) ≡ true }
         ensures { (result, self.new) ≡ leaving (width_beginning self.old.half) self.old }
     {
         let is_deep = self.widths() >= MOST_WIDTHS;

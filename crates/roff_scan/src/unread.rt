@@ -12,7 +12,7 @@ ghost use Rattle.roff_scan.specs.Input.{is_none_ahead, counting, choosing, keepi
 use crate::arguments::{ArgumentList, ArgumentTexts};
 use crate::bytes::{newlines_among, passed_len};
 use crate::frames::Frames;
-use crate::half::{CopyUnit, Read};
+use crate::half::{CopyUnit, Read, Surroundings};
 use crate::halves::Halves;
 use crate::source::{ByteSource, Note, Taken};
 use roff_num::{Limit, Limits, Name};
@@ -422,22 +422,23 @@ impl<E: Copy> Unread<E> {
         self.half.seen_stays(seen)
     }
 
-    /// Reads a byte that was taken and isn't dropped; above a text line, or above arguments.
-    pub fn read_byte(&mut self, is_text: bool, byte: u8) -> Read
+    /// Reads a byte that was taken and isn't dropped; above a text line, above arguments, or in
+    /// copy mode.
+    pub fn read_byte(&mut self, base: Surroundings, byte: u8) -> Read
         ensures reading { (result, self.new)
-            ≡ reading (byte_read is_text self.old.input.half byte) self.old }
+            ≡ reading (byte_read base self.old.input.half byte) self.old }
         ensures within { IsWithin self.new }
     {
-        self.half.read_byte(is_text, byte)
+        self.half.read_byte(base, byte)
     }
 
     /// Ends the reading on top, before what stays.
-    pub fn end_reading(&mut self, is_text: bool) -> Read
+    pub fn end_reading(&mut self, base: Surroundings) -> Read
         ensures reading { (result, self.new)
-            ≡ reading (reading_ended is_text self.old.input.half) self.old }
+            ≡ reading (reading_ended base self.old.input.half) self.old }
         ensures within { IsWithin self.new }
     {
-        self.half.end_reading(is_text)
+        self.half.end_reading(base)
     }
 
     /// Holds one unit more of the text that is being read.

@@ -1,7 +1,8 @@
 //! What is taken of some inputs, in order, by the public calls.
 
 use crate::{
-    ByteSource, CopyUnit, Decision, Item, NameUse, Read, ReadSource, Remark, Sight, Unread,
+    ByteSource, CopyUnit, Decision, Item, NameUse, Read, ReadSource, Remark, Sight, Surroundings,
+    Unread,
 };
 use roff_num::{Limit, Limits};
 use std::test::Fail;
@@ -96,12 +97,12 @@ fn limits_refuse_what_passes_them(rt: HostRuntime) -> Result<(), Fail> {
 fn names_are_read_behind_backslashes(rt: HostRuntime) -> Result<(), Fail> {
     let mut unread: Unread<u8> = Unread::new(rt.alloc(), Limits::DEFAULT)?;
     for byte in b"\\n(x" {
-        assert!(rt; matches!(unread.read_byte(true, *byte), Read::GoesOn));
+        assert!(rt; matches!(unread.read_byte(Surroundings::Text, *byte), Read::GoesOn));
     }
     assert!(rt; unread.newline_stays() && !unread.is_bare());
     assert!(rt;
         matches!(
-            unread.end_reading(true),
+            unread.end_reading(Surroundings::Text),
             Read::Asks(NameUse::Register(None), Some(_))
         )
     );
@@ -113,11 +114,11 @@ fn names_are_read_behind_backslashes(rt: HostRuntime) -> Result<(), Fail> {
 fn a_size_takes_only_what_belongs_to_it(rt: HostRuntime) -> Result<(), Fail> {
     let mut unread: Unread<u8> = Unread::new(rt.alloc(), Limits::DEFAULT)?;
     for byte in b"\\s2" {
-        assert!(rt; matches!(unread.read_byte(true, *byte), Read::GoesOn));
+        assert!(rt; matches!(unread.read_byte(Surroundings::Text, *byte), Read::GoesOn));
     }
     assert!(rt; !unread.seen_stays(Some(b'9')));
     assert!(rt; unread.seen_stays(Some(b'x')) && unread.seen_stays(None));
-    assert!(rt; matches!(unread.end_reading(true), Read::Escape(b's')));
+    assert!(rt; matches!(unread.end_reading(Surroundings::Text), Read::Escape(b's')));
     assert!(rt; unread.is_bare());
     Ok(())
 }
@@ -130,15 +131,20 @@ fn a_motion_is_read_from_its_text(rt: HostRuntime) -> Result<(), Fail> {
     };
     let mut unread: Unread<u8> = Unread::new(rt.alloc(), limits)?;
     for byte in b"\\h'" {
-        assert!(rt; matches!(unread.read_byte(true, *byte), Read::GoesOn));
+        assert!(rt; matches!(unread.read_byte(Surroundings::Text, *byte), Read::GoesOn));
     }
     for byte in b"12" {
-        assert!(rt; matches!(unread.read_byte(true, *byte), Read::Holds(_)));
+        assert!(rt; matches!(unread.read_byte(Surroundings::Text, *byte), Read::Holds(_)));
         assert_eq!(rt; unread.hold_text(CopyUnit::Byte(*byte)), Ok(()));
     }
     assert_eq!(rt; unread.pushed(), 2);
     assert_eq!(rt; unread.hold_text(CopyUnit::Byte(b'3')), Err(Limit::Stack));
-    assert!(rt; matches!(unread.read_byte(true, b'\''), Read::Motion(12, None)));
+    assert!(rt;
+        matches!(
+            unread.read_byte(Surroundings::Text, b'\''),
+            Read::Motion(12, None)
+        )
+    );
     assert!(rt; unread.is_bare() && unread.pushed() == 0);
     Ok(())
 }
@@ -147,13 +153,13 @@ fn a_motion_is_read_from_its_text(rt: HostRuntime) -> Result<(), Fail> {
 fn a_motion_below_0_is_none(rt: HostRuntime) -> Result<(), Fail> {
     let mut unread: Unread<u8> = Unread::new(rt.alloc(), Limits::DEFAULT)?;
     for byte in b"\\h'" {
-        assert!(rt; matches!(unread.read_byte(true, *byte), Read::GoesOn));
+        assert!(rt; matches!(unread.read_byte(Surroundings::Text, *byte), Read::GoesOn));
     }
     assert_eq!(rt; unread.hold_text(CopyUnit::Byte(b'-')), Ok(()));
     assert_eq!(rt; unread.hold_text(CopyUnit::Byte(b'1')), Ok(()));
     assert!(rt;
         matches!(
-            unread.end_reading(true),
+            unread.end_reading(Surroundings::Text),
             Read::Motion(0, Some(Remark::BackwardMotion))
         )
     );
@@ -164,9 +170,19 @@ fn a_motion_below_0_is_none(rt: HostRuntime) -> Result<(), Fail> {
 fn a_text_is_measured_without_its_tabs(rt: HostRuntime) -> Result<(), Fail> {
     let mut unread: Unread<u8> = Unread::new(rt.alloc(), Limits::DEFAULT)?;
     for byte in b"\\w'a\tb\\(->" {
-        assert!(rt; matches!(unread.read_byte(false, *byte), Read::GoesOn));
+        assert!(rt;
+            matches!(
+                unread.read_byte(Surroundings::Arguments, *byte),
+                Read::GoesOn
+            )
+        );
     }
-    assert!(rt; matches!(unread.read_byte(false, b'\''), Read::Measures(96)));
+    assert!(rt;
+        matches!(
+            unread.read_byte(Surroundings::Arguments, b'\''),
+            Read::Measures(96)
+        )
+    );
     assert!(rt; unread.is_bare());
     Ok(())
 }
@@ -201,12 +217,17 @@ fn a_letter_of_a_condition_decides(rt: HostRuntime) -> Result<(), Fail> {
     unread.begin_condition();
     assert!(rt; unread.is_half_read() && !unread.decides_now());
     for byte in b" !o" {
-        assert!(rt; matches!(unread.read_byte(false, *byte), Read::GoesOn));
+        assert!(rt;
+            matches!(
+                unread.read_byte(Surroundings::Arguments, *byte),
+                Read::GoesOn
+            )
+        );
     }
     assert!(rt; unread.decides_now() && unread.newline_stays() && unread.seen_stays(None));
     assert!(rt;
         matches!(
-            unread.end_reading(false),
+            unread.end_reading(Surroundings::Arguments),
             Read::Decides(Decision::OnPages(false), None)
         )
     );
@@ -219,18 +240,28 @@ fn an_escape_that_makes_a_tab_ends_an_expression(rt: HostRuntime) -> Result<(), 
     let mut unread: Unread<u8> = Unread::new(rt.alloc(), Limits::DEFAULT)?;
     unread.begin_condition();
     for byte in b"3-2" {
-        assert!(rt; matches!(unread.read_byte(false, *byte), Read::Holds(_)));
+        assert!(rt;
+            matches!(
+                unread.read_byte(Surroundings::Arguments, *byte),
+                Read::Holds(_)
+            )
+        );
         assert_eq!(rt; unread.hold_text(CopyUnit::Byte(*byte)), Ok(()));
     }
     assert_eq!(rt; unread.pushed(), 3);
     assert!(rt; unread.seen_stays(Some(b' ')) && !unread.seen_stays(Some(b'\\')));
     for byte in b"\\t" {
-        assert!(rt; matches!(unread.read_byte(false, *byte), Read::GoesOn));
+        assert!(rt;
+            matches!(
+                unread.read_byte(Surroundings::Arguments, *byte),
+                Read::GoesOn
+            )
+        );
     }
     assert!(rt; unread.decides_now());
     assert!(rt;
         matches!(
-            unread.end_reading(false),
+            unread.end_reading(Surroundings::Arguments),
             Read::Decides(Decision::Is(true), Some(b'\t'))
         )
     );
@@ -246,17 +277,32 @@ fn two_texts_are_compared(rt: HostRuntime) -> Result<(), Fail> {
     };
     let mut unread: Unread<u8> = Unread::new(rt.alloc(), limits)?;
     unread.begin_condition();
-    assert!(rt; matches!(unread.read_byte(false, b'/'), Read::GoesOn));
+    assert!(rt;
+        matches!(
+            unread.read_byte(Surroundings::Arguments, b'/'),
+            Read::GoesOn
+        )
+    );
     for _ in 0..2 {
-        assert!(rt; matches!(unread.read_byte(false, b'a'), Read::Holds(_)));
+        assert!(rt;
+            matches!(
+                unread.read_byte(Surroundings::Arguments, b'a'),
+                Read::Holds(_)
+            )
+        );
         assert_eq!(rt; unread.hold_text(CopyUnit::Byte(b'a')), Ok(()));
         assert!(rt; !unread.decides_now());
-        assert!(rt; matches!(unread.read_byte(false, b'/'), Read::GoesOn));
+        assert!(rt;
+            matches!(
+                unread.read_byte(Surroundings::Arguments, b'/'),
+                Read::GoesOn
+            )
+        );
     }
     assert!(rt; unread.decides_now());
     assert!(rt;
         matches!(
-            unread.end_reading(false),
+            unread.end_reading(Surroundings::Arguments),
             Read::Decides(Decision::Is(true), None)
         )
     );
@@ -323,7 +369,7 @@ fn nothing_is_passed_over_behind_what_is_ahead(rt: HostRuntime) -> Result<(), Fa
     unread.put_back(7);
     unread.pass_over(&mut source, true);
     assert_eq!(rt; shown(unread.take(&mut source)), ('d', 7));
-    assert!(rt; matches!(unread.read_byte(true, b'\\'), Read::GoesOn));
+    assert!(rt; matches!(unread.read_byte(Surroundings::Text, b'\\'), Read::GoesOn));
     unread.pass_over(&mut source, true);
     assert_eq!(rt; (unread.charge(), unread.is_half_read()), (2, true));
     let mut unread: Unread<u8> = Unread::new(rt.alloc(), Limits::DEFAULT)?;

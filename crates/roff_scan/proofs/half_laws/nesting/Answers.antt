@@ -5,10 +5,10 @@ use Rattle.roff_scan.proofs.NestedHalves.{length-nested}
 use Rattle.roff_scan.proofs.half_laws.nesting.Goals as goal
 
 pub returns-clause-begun : goal.returns-clause-begun
-returns-clause-begun c = λ is_text names b purpose. begins is_text names b purpose []
+returns-clause-begun c = λ base names b purpose. begins base names b purpose []
 
 pub returns-clause-no_more : goal.returns-clause-no_more
-returns-clause-no_more c = λ is_text names b purpose. begins_no_more is_text names b purpose []
+returns-clause-no_more c = λ base names b purpose. begins_no_more base names b purpose []
 
 pub returns-clause-opened : goal.returns-clause-opened
 returns-clause-opened c = opened-names

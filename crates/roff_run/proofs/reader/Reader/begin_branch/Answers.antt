@@ -1,5 +1,6 @@
-use Rattle.std.proofs.Common.{◌≡◌, true, rules, subst}
+use Rattle.std.proofs.Common.{◌≡◌, rules, subst}
 use Rattle.roff_scan.specs.Halves.{byte_read}
+use Rattle.roff_scan.specs.declared.half.Surroundings.TheVariants.{Text as AboveText}
 use Rattle.roff_scan.proofs.TextsHeld.{texts_held-byte_read}
 use Rattle.roff_run.specs.Reader.Taken.{TakesAs}
 use Rattle.roff_run.specs.Reading.{beginning_found}
@@ -20,5 +21,5 @@ returns-in-Some c =
     let begun = subst (λ (r : Reading). TakesAs (λ k. beginning_found k read.new.self.input r read.result) env old done.new.self read.new.self done.new.unread done.result)
     at done.ensures in
     rw (c.in-Some.is, c.if-so.true)
-    (TakesAs-read (λ k i found. beginning_found k i Branch found) (byte_read true u.input.half b) env old done.new.self u read.new.self done.new.unread read.result
-    done.result read.ensures.reading (texts_held-byte_read true b u.input.half) begun)
+    (TakesAs-read (λ k i found. beginning_found k i Branch found) (byte_read AboveText u.input.half b) env old done.new.self u read.new.self done.new.unread read.result
+    done.result read.ensures.reading (texts_held-byte_read AboveText b u.input.half) begun)

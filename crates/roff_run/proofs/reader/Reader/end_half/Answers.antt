@@ -1,7 +1,8 @@
-use Rattle.std.proofs.Common.{◌≡◌, [], Ok, true, false, refl, rules, ap, ◌∙◌}
+use Rattle.std.proofs.Common.{◌≡◌, [], Ok, refl, rules, ap, ◌∙◌}
 use Rattle.roff_scan.specs.Halves.{reading_ended}
 use Rattle.roff_scan.proofs.TextsHeld.{texts_held-reading_ended}
 use Rattle.roff_scan.specs.Input.{with_half}
+use Rattle.roff_scan.specs.declared.half.Surroundings.TheVariants.{Text as AboveText, Arguments as AboveArguments}
 use Rattle.roff_run.specs.Reader.State.{ReaderState}
 use Rattle.roff_run.specs.Reading.{arguments_found, beginning_found, condition_found, going_on, half_ended, text_found}
 use Rattle.roff_run.specs.declared.reading.Reading.TheVariants.{Arguments as InArguments, Branch, Braced, Deciding, LineStart, Text as InText}
@@ -17,8 +18,8 @@ returns-in-LineStart c =
     let read = c.end_reading-found in
     let is : old.reading ≡ LineStart = search rules in
     TakesAs-where (λ k r. half_ended k r u.input) LineStart env old done.new.self u done.new.unread done.result is
-    (TakesAs-read (λ k i found. beginning_found k i LineStart found) (reading_ended true u.input.half) env old done.new.self u read.new.self done.new.unread
-    read.result done.result read.ensures.reading (texts_held-reading_ended true u.input.half) done.ensures)
+    (TakesAs-read (λ k i found. beginning_found k i LineStart found) (reading_ended AboveText u.input.half) env old done.new.self u read.new.self done.new.unread
+    read.result done.result read.ensures.reading (texts_held-reading_ended AboveText u.input.half) done.ensures)
 
 pub returns-in-Branch : goal.returns-in-Branch
 returns-in-Branch c =
@@ -29,8 +30,8 @@ returns-in-Branch c =
     let read = c.end_reading-found-in-Branch in
     let is : old.reading ≡ Branch = search rules in
     TakesAs-where (λ k r. half_ended k r u.input) Branch env old done.new.self u done.new.unread done.result is
-    (TakesAs-read (λ k i found. beginning_found k i Branch found) (reading_ended true u.input.half) env old done.new.self u read.new.self done.new.unread
-    read.result done.result read.ensures.reading (texts_held-reading_ended true u.input.half) done.ensures)
+    (TakesAs-read (λ k i found. beginning_found k i Branch found) (reading_ended AboveText u.input.half) env old done.new.self u read.new.self done.new.unread
+    read.result done.result read.ensures.reading (texts_held-reading_ended AboveText u.input.half) done.ensures)
 
 pub returns-in-Braced : goal.returns-in-Braced
 returns-in-Braced c =
@@ -41,8 +42,8 @@ returns-in-Braced c =
     let read = c.end_reading-found-in-Braced in
     let is : old.reading ≡ Braced = search rules in
     TakesAs-where (λ k r. half_ended k r u.input) Braced env old done.new.self u done.new.unread done.result is
-    (TakesAs-read (λ k i found. beginning_found k i Braced found) (reading_ended true u.input.half) env old done.new.self u read.new.self done.new.unread
-    read.result done.result read.ensures.reading (texts_held-reading_ended true u.input.half) done.ensures)
+    (TakesAs-read (λ k i found. beginning_found k i Braced found) (reading_ended AboveText u.input.half) env old done.new.self u read.new.self done.new.unread
+    read.result done.result read.ensures.reading (texts_held-reading_ended AboveText u.input.half) done.ensures)
 
 pub returns-in-Text : goal.returns-in-Text
 returns-in-Text c =
@@ -52,9 +53,9 @@ returns-in-Text c =
     let line = c.in-Text.line in
     let is : old.reading ≡ InText line = search rules in
     TakesAs-where (λ k r. half_ended k r u.input) (InText line) env old c.read_text.new.self u c.read_text.new.unread c.read_text.result is
-    (TakesAs-read (λ k i found. text_found k i line found) (reading_ended true u.input.half) env old c.read_text.new.self u
+    (TakesAs-read (λ k i found. text_found k i line found) (reading_ended AboveText u.input.half) env old c.read_text.new.self u
     c.end_reading-found-in-Text.new.self c.read_text.new.unread c.end_reading-found-in-Text.result c.read_text.result
-    c.end_reading-found-in-Text.ensures.reading (texts_held-reading_ended true u.input.half) c.read_text.ensures)
+    c.end_reading-found-in-Text.ensures.reading (texts_held-reading_ended AboveText u.input.half) c.read_text.ensures)
 
 pub returns-in-Arguments : goal.returns-in-Arguments
 returns-in-Arguments c =
@@ -65,9 +66,9 @@ returns-in-Arguments c =
     let request = c.in-Arguments.request in
     let is : old.reading ≡ InArguments breaks request = search rules in
     TakesAs-where (λ k r. half_ended k r u.input) (InArguments breaks request) env old c.read_arguments.new.self u c.read_arguments.new.unread c.read_arguments.result is
-    (TakesAs-read (λ k i found. arguments_found k i breaks request found) (reading_ended false u.input.half) env old c.read_arguments.new.self u
+    (TakesAs-read (λ k i found. arguments_found k i breaks request found) (reading_ended AboveArguments u.input.half) env old c.read_arguments.new.self u
     c.end_reading-found-in-Arguments.new.self c.read_arguments.new.unread c.end_reading-found-in-Arguments.result c.read_arguments.result
-    c.end_reading-found-in-Arguments.ensures.reading (texts_held-reading_ended false u.input.half) c.read_arguments.ensures)
+    c.end_reading-found-in-Arguments.ensures.reading (texts_held-reading_ended AboveArguments u.input.half) c.read_arguments.ensures)
 
 pub returns-in-Deciding : goal.returns-in-Deciding
 returns-in-Deciding c =
@@ -77,9 +78,9 @@ returns-in-Deciding c =
     let keeps = c.in-Deciding.keeps in
     let is : old.reading ≡ Deciding keeps = search rules in
     TakesAs-where (λ k r. half_ended k r u.input) (Deciding keeps) env old c.read_condition.new.self u c.read_condition.new.unread c.read_condition.result is
-    (TakesAs-read (λ k i found. condition_found k i keeps found) (reading_ended false u.input.half) env old c.read_condition.new.self u
+    (TakesAs-read (λ k i found. condition_found k i keeps found) (reading_ended AboveArguments u.input.half) env old c.read_condition.new.self u
     c.end_reading-found-in-Deciding.new.self c.read_condition.new.unread c.end_reading-found-in-Deciding.result c.read_condition.result
-    c.end_reading-found-in-Deciding.ensures.reading (texts_held-reading_ended false u.input.half) c.read_condition.ensures)
+    c.end_reading-found-in-Deciding.ensures.reading (texts_held-reading_ended AboveArguments u.input.half) c.read_condition.ensures)
 
 pub returns-in_default : goal.returns-in_default
 returns-in_default c =
@@ -87,7 +88,7 @@ returns-in_default c =
     let old = c.args.self.now in
     let u = c.args.unread.now in
     let mid = c.end_reading.new.self in
-    let read = reading_ended true u.input.half in
+    let read = reading_ended AboveText u.input.half in
     let m = c.nothing.result in
     let others = c.in_default in
     let same = ap (λ (s : ReaderState). s.reading) c.self.view_is in
@@ -96,5 +97,5 @@ returns-in_default c =
     (λ line is. others.not-Text line (same ∙ is)) (λ breaks request is. others.not-Arguments breaks request (same ∙ is))
     (λ keeps is. others.not-Deciding keeps (same ∙ is)))
     (TakesAs-read (λ k i found. going_on i old.reading) read env old old u mid mid c.end_reading.result (Ok m) c.end_reading.ensures.reading
-    (texts_held-reading_ended true u.input.half)
+    (texts_held-reading_ended AboveText u.input.half)
     (TakesAs-meant (λ k. going_on mid.input old.reading) old.reading [] env old old mid m (λ k. refl) refl c.nothing.ensures.message c.nothing.ensures.events))

@@ -1,5 +1,6 @@
-use Rattle.std.proofs.Common.{◌≡◌, [], Ok, true, false, rules}
+use Rattle.std.proofs.Common.{◌≡◌, [], Ok, rules}
 use Rattle.roff_scan.specs.Halves.{byte_read}
+use Rattle.roff_scan.specs.declared.half.Surroundings.TheVariants.{Text as AboveText, Arguments as AboveArguments}
 use Rattle.roff_scan.proofs.TextsHeld.{texts_held-byte_read}
 use Rattle.roff_run.specs.Reading.{arguments_found, beginning_found, condition_found, kept_taking, text_found}
 use Rattle.roff_run.specs.declared.reading.Reading.TheVariants.{Arguments as InArguments, Branch, Braced, Control, Deciding, Dropped, LineStart, Name, Skipping, Text as InText}
@@ -15,8 +16,8 @@ returns-in-LineStart c =
     let read = c.read_byte-found in
     let is : old.reading ≡ LineStart = search rules in
     TakesAs-where (λ k r. kept_taking k r u.input c.args.byte) LineStart env old done.new.self u done.new.unread done.result is
-    (TakesAs-read (λ k i found. beginning_found k i LineStart found) (byte_read true u.input.half c.args.byte) env old done.new.self u read.new.self done.new.unread
-    read.result done.result read.ensures.reading (texts_held-byte_read true c.args.byte u.input.half) done.ensures)
+    (TakesAs-read (λ k i found. beginning_found k i LineStart found) (byte_read AboveText u.input.half c.args.byte) env old done.new.self u read.new.self done.new.unread
+    read.result done.result read.ensures.reading (texts_held-byte_read AboveText c.args.byte u.input.half) done.ensures)
 
 pub returns-in-Branch : goal.returns-in-Branch
 returns-in-Branch c =
@@ -27,8 +28,8 @@ returns-in-Branch c =
     let read = c.read_byte-found-in-Branch in
     let is : old.reading ≡ Branch = search rules in
     TakesAs-where (λ k r. kept_taking k r u.input c.args.byte) Branch env old done.new.self u done.new.unread done.result is
-    (TakesAs-read (λ k i found. beginning_found k i Branch found) (byte_read true u.input.half c.args.byte) env old done.new.self u read.new.self done.new.unread
-    read.result done.result read.ensures.reading (texts_held-byte_read true c.args.byte u.input.half) done.ensures)
+    (TakesAs-read (λ k i found. beginning_found k i Branch found) (byte_read AboveText u.input.half c.args.byte) env old done.new.self u read.new.self done.new.unread
+    read.result done.result read.ensures.reading (texts_held-byte_read AboveText c.args.byte u.input.half) done.ensures)
 
 pub returns-in-Braced : goal.returns-in-Braced
 returns-in-Braced c =
@@ -39,8 +40,8 @@ returns-in-Braced c =
     let read = c.read_byte-found-in-Braced in
     let is : old.reading ≡ Braced = search rules in
     TakesAs-where (λ k r. kept_taking k r u.input c.args.byte) Braced env old done.new.self u done.new.unread done.result is
-    (TakesAs-read (λ k i found. beginning_found k i Braced found) (byte_read true u.input.half c.args.byte) env old done.new.self u read.new.self done.new.unread
-    read.result done.result read.ensures.reading (texts_held-byte_read true c.args.byte u.input.half) done.ensures)
+    (TakesAs-read (λ k i found. beginning_found k i Braced found) (byte_read AboveText u.input.half c.args.byte) env old done.new.self u read.new.self done.new.unread
+    read.result done.result read.ensures.reading (texts_held-byte_read AboveText c.args.byte u.input.half) done.ensures)
 
 pub returns-in-Text : goal.returns-in-Text
 returns-in-Text c =
@@ -50,9 +51,9 @@ returns-in-Text c =
     let line = c.in-Text.line in
     let is : old.reading ≡ InText line = search rules in
     TakesAs-where (λ k r. kept_taking k r u.input c.args.byte) (InText line) env old c.read_text.new.self u c.read_text.new.unread c.read_text.result is
-    (TakesAs-read (λ k i found. text_found k i line found) (byte_read true u.input.half c.args.byte) env old c.read_text.new.self u
+    (TakesAs-read (λ k i found. text_found k i line found) (byte_read AboveText u.input.half c.args.byte) env old c.read_text.new.self u
     c.read_byte-found-in-Text.new.self c.read_text.new.unread c.read_byte-found-in-Text.result c.read_text.result
-    c.read_byte-found-in-Text.ensures.reading (texts_held-byte_read true c.args.byte u.input.half) c.read_text.ensures)
+    c.read_byte-found-in-Text.ensures.reading (texts_held-byte_read AboveText c.args.byte u.input.half) c.read_text.ensures)
 
 pub returns-in-Control : goal.returns-in-Control
 returns-in-Control c =
@@ -74,9 +75,9 @@ returns-in-Arguments c =
     let request = c.in-Arguments.request in
     let is : old.reading ≡ InArguments breaks request = search rules in
     TakesAs-where (λ k r. kept_taking k r u.input c.args.byte) (InArguments breaks request) env old c.read_arguments.new.self u c.read_arguments.new.unread c.read_arguments.result is
-    (TakesAs-read (λ k i found. arguments_found k i breaks request found) (byte_read false u.input.half c.args.byte) env old c.read_arguments.new.self u
+    (TakesAs-read (λ k i found. arguments_found k i breaks request found) (byte_read AboveArguments u.input.half c.args.byte) env old c.read_arguments.new.self u
     c.read_byte-found-in-Arguments.new.self c.read_arguments.new.unread c.read_byte-found-in-Arguments.result c.read_arguments.result
-    c.read_byte-found-in-Arguments.ensures.reading (texts_held-byte_read false c.args.byte u.input.half) c.read_arguments.ensures)
+    c.read_byte-found-in-Arguments.ensures.reading (texts_held-byte_read AboveArguments c.args.byte u.input.half) c.read_arguments.ensures)
 
 pub returns-in-Name : goal.returns-in-Name
 returns-in-Name c =
@@ -94,9 +95,9 @@ returns-in-Deciding c =
     let keeps = c.in-Deciding.keeps in
     let is : old.reading ≡ Deciding keeps = search rules in
     TakesAs-where (λ k r. kept_taking k r u.input c.args.byte) (Deciding keeps) env old c.read_condition.new.self u c.read_condition.new.unread c.read_condition.result is
-    (TakesAs-read (λ k i found. condition_found k i keeps found) (byte_read false u.input.half c.args.byte) env old c.read_condition.new.self u
+    (TakesAs-read (λ k i found. condition_found k i keeps found) (byte_read AboveArguments u.input.half c.args.byte) env old c.read_condition.new.self u
     c.read_byte-found-in-Deciding.new.self c.read_condition.new.unread c.read_byte-found-in-Deciding.result c.read_condition.result
-    c.read_byte-found-in-Deciding.ensures.reading (texts_held-byte_read false c.args.byte u.input.half) c.read_condition.ensures)
+    c.read_byte-found-in-Deciding.ensures.reading (texts_held-byte_read AboveArguments c.args.byte u.input.half) c.read_condition.ensures)
 
 pub returns-in-Skipping : goal.returns-in-Skipping
 returns-in-Skipping c =

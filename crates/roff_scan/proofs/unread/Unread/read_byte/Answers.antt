@@ -17,7 +17,7 @@ invariant_of-self g c =
       store = c.self.invariant.store;
       once = c.self.invariant.once;
       results = c.self.invariant.results;
-      within = rw left (IsWithin-with_half (kept_by c.self.inside) (byte_read c.args.is_text c.self.inside.half.half c.args.byte).1 c.self.invariant.within (texts_held-byte_read c.args.is_text c.args.byte c.self.inside.half.half));
+      within = rw left (IsWithin-with_half (kept_by c.self.inside) (byte_read c.args.base c.self.inside.half.half c.args.byte).1 c.self.invariant.within (texts_held-byte_read c.args.base c.args.byte c.self.inside.half.half));
     }
 
 pub returns-clause-within : goal.returns-clause-within
