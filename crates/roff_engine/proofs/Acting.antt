@@ -12,7 +12,7 @@ use Rattle.roff_scan.specs.Input.{DoAhead, depth, results, stored}
 use Rattle.roff_scan.specs.Tape.{Tape}
 use Rattle.roff_scan.specs.Unread.{looked_then}
 use Rattle.roff_scan.specs.Half.{Half}
-use Rattle.roff_scan.specs.declared.half.Surroundings.TheVariants.{Text as AboveText, Arguments as AboveArguments}
+use Rattle.roff_scan.specs.declared.half.Surroundings.TheVariants.{Text as AboveText, Arguments as AboveArguments, Copy as AboveCopy}
 use Rattle.roff_engine.specs.declared.formatter.Formatter.{Formatter}
 use Rattle.roff_engine.specs.declared.halt.Halt.{Halt}
 use Rattle.roff_engine.specs.declared.halt.Halt.TheVariants.{Limit as Limited, Refused, Output, Messages}
@@ -24,12 +24,12 @@ use Rattle.roff_engine.specs.Sinks.{Sunk}
 use Rattle.roff_run.specs.Output.{PageHistory, text_of}
 use Rattle.roff_run.specs.Reader.State.{ReaderState}
 use Rattle.roff_run.specs.Reader.Taken.{Became, IsReady, PageUnread}
-use Rattle.roff_run.specs.Reading.{PageInput, Taking, arguments_read_on, beginning_read, condition_read, going_on, half_ended, interrupted, text_read}
+use Rattle.roff_run.specs.Reading.{PageInput, Taking, arguments_read_on, beginning_read, condition_read, going_on, half_ended, interrupted, settling, string_name_read, string_text_read, text_read}
 use Rattle.roff_run.specs.Registers.{AllRegisters, Known}
 use Rattle.roff_run.specs.Run.{State, initial, ahead_taken, counts_in, end_met, ending_as, half_ends, known_at, made, step, taken_as, unless_refused, first_passed, grown}
 use Rattle.roff_run.specs.declared.event.PageEvent.{PageEvent}
 use Rattle.roff_run.specs.declared.reading.Reading.{Reading}
-use Rattle.roff_run.specs.declared.reading.Reading.TheVariants.{LineStart, Branch, Braced, Text as InText, Control, Name, Arguments as InArguments, Deciding, Skipping, Dropped}
+use Rattle.roff_run.specs.declared.reading.Reading.TheVariants.{LineStart, Branch, Braced, Text as InText, Control, Name, Arguments as InArguments, Deciding, StringName, StringText, Skipping, Dropped}
 use Rattle.roff_run.specs.declared.status.Status.{Status}
 use Rattle.roff_run.specs.declared.status.Status.TheVariants.{Done}
 use Rattle.roff_run.proofs.InputCounts.{pushed-settling}
@@ -265,6 +265,10 @@ line-nothing_ended k (InArguments breaks request) i none =
     subst (λ (half : List Half). (arguments_read_on k i breaks request (reading_ended AboveArguments half)).input.line ≡ i.line) (sym none) refl
 line-nothing_ended k (Deciding keeping) i none =
     subst (λ (half : List Half). (condition_read k i keeping (reading_ended AboveArguments half)).input.line ≡ i.line) (sym none) refl
+line-nothing_ended k (StringName appends) i none =
+    subst (λ (half : List Half). (string_name_read k i appends (reading_ended AboveArguments half)).input.line ≡ i.line) (sym none) refl
+line-nothing_ended k (StringText name appends is_front) i none =
+    subst (λ (half : List Half). (string_text_read k i name appends is_front (reading_ended AboveCopy half)).input.line ≡ i.line) (sym none) refl
 line-nothing_ended k (Skipping opened closed behind) i none = refl
 line-nothing_ended k Dropped i none = refl
 
@@ -278,6 +282,13 @@ line-half_ended k reading i =
     by i.half refl
 
 -- nothing that is counted grows where no quote follows the quote before
+counts_in-settling : (rs : AllRegisters) (i : PageInput) → counts_in rs (settling i) ≡ counts_in rs i
+counts_in-settling rs i =
+    let others : List (Limit × ℕ) =
+    (Depth, depth i) ∷ (Diversions, length i.open_texts - 1) ∷ (Store, stored i) ∷ (Names, length i.names) ∷ (Conditions, results i) ∷ [] in
+    ap (λ bytes. (Names, length rs.named) ∷ (Stack, bytes) ∷ others) (pushed-settling i)
+
+-- nor where something that isn't a byte of the line has come
 counts_in-interrupted : (rs : AllRegisters) (reading : Reading) (i : PageInput) → counts_in rs (interrupted reading i) ≡ counts_in rs i
 counts_in-interrupted rs LineStart i = refl
 counts_in-interrupted rs Branch i = refl
@@ -285,11 +296,10 @@ counts_in-interrupted rs Braced i = refl
 counts_in-interrupted rs (InText line) i = refl
 counts_in-interrupted rs (Control breaks) i = refl
 counts_in-interrupted rs (Name breaks byte) i = refl
-counts_in-interrupted rs (InArguments breaks request) i =
-    let others : List (Limit × ℕ) =
-    (Depth, depth i) ∷ (Store, stored i) ∷ (Names, length i.names) ∷ (Diversions, length i.open_texts - 1) ∷ (Conditions, results i) ∷ [] in
-    ap (λ bytes. (Names, length rs.named) ∷ (Stack, bytes) ∷ others) (pushed-settling i)
+counts_in-interrupted rs (InArguments breaks request) i = counts_in-settling rs i
+counts_in-interrupted rs (StringName appends) i = counts_in-settling rs i
 counts_in-interrupted rs (Deciding keeping) i = refl
+counts_in-interrupted rs (StringText name appends is_front) i = refl
 counts_in-interrupted rs (Skipping opened closed behind) i = refl
 counts_in-interrupted rs Dropped i = refl
 

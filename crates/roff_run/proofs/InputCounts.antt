@@ -18,7 +18,7 @@ use Rattle.roff_run.specs.Registers.{AllRegisters}
 use Rattle.roff_run.specs.Requests.{PageEvent}
 use Rattle.roff_run.specs.Run.{first_passed, counts_in}
 use Rattle.roff_run.specs.declared.reading.Reading.{Reading}
-use Rattle.roff_run.specs.declared.reading.Reading.TheVariants.{Arguments as InArguments}
+use Rattle.roff_run.specs.declared.reading.Reading.TheVariants.{Arguments as InArguments, StringName}
 
 -- of either part of a test it holds
 pub one_of : {A : Type 0} (P : A → Type 0) (c : Bool) (x y : A) → P x → P y → P (if c then x else y)
@@ -94,6 +94,7 @@ NoMore-settling i = record { bytes = omega (arith, pushed-settling i); texts = o
 
 pub NoMore-interrupted : (reading : Reading) (i : PageInput) → NoMore (interrupted reading i) i
 NoMore-interrupted (InArguments breaks request) i = NoMore-settling i
+NoMore-interrupted (StringName appends) i = NoMore-settling i
 NoMore-interrupted (_) i = NoMore-same i
 
 -- where the arguments are released
@@ -101,7 +102,7 @@ pub NoMore-released : (i : PageInput) → NoMore (record i { arguments = no_argu
 NoMore-released i = record { bytes = omega arith; texts = omega arith; results = omega arith; names = refl; open_texts = refl }
 
 -- a limit that a count isn't above is above none that is no more
-not_above : (limit before now : ℕ) → now ≤ before → nat_lt limit before ≡ false → nat_lt limit now ≡ false
+pub not_above : (limit before now : ℕ) → now ≤ before → nat_lt limit before ≡ false → nat_lt limit now ≡ false
 not_above limit before now less passes = le-ltb limit now (omega (arith, ltb-false limit before passes))
 
 -- where none of two is refused
@@ -116,9 +117,9 @@ first_not x rest false passes none = none
 -- the limits behind that on the depth
 abbrev texts_refusal : Limits → Named Entry → List (List ℕ) → PageInput → Option Limit → Option Limit
 texts_refusal l names open_texts i rest =
-    if nat_lt l.store (stored (record i { names = names; open_texts = open_texts })) then Some Store
+    if nat_lt l.diversions (length open_texts - 1) then Some Diversions
+    else if nat_lt l.store (stored (record i { names = names; open_texts = open_texts })) then Some Store
     else if nat_lt l.names (length names) then Some Names
-    else if nat_lt l.diversions (length open_texts - 1) then Some Diversions
     else rest
 
 abbrev results_refusal : Limits → ℕ → Option Limit
@@ -128,11 +129,12 @@ results_refusal l count = if nat_lt l.conditions count then Some Conditions else
 texts_then : (l : Limits) (names : Named Entry) (open_texts : List (List ℕ)) (i j : PageInput) (before now : Option Limit) → (before ≡ None → now ≡ None)
     → texts_refusal l names open_texts i before ≡ None → texts_refusal l names open_texts j now ≡ None
 texts_then l names open_texts i j before now passes none =
-    let bytes = neither Store (if nat_lt l.names (length names) then Some Names else if nat_lt l.diversions (length open_texts - 1) then Some Diversions else before)
-    (nat_lt l.store (stored (record i { names = names; open_texts = open_texts }))) none in
-    let few = neither Names (if nat_lt l.diversions (length open_texts - 1) then Some Diversions else before) (nat_lt l.names (length names)) bytes.1 in
-    let making = neither Diversions before (nat_lt l.diversions (length open_texts - 1)) few.1 in
-    first_not Store _ _ bytes.0 (first_not Names _ _ few.0 (first_not Diversions now _ making.0 (passes making.1)))
+    let behind_bytes : Option Limit = if nat_lt l.names (length names) then Some Names else before in
+    let is_past : Bool = nat_lt l.store (stored (record i { names = names; open_texts = open_texts })) in
+    let making = neither Diversions (if is_past then Some Store else behind_bytes) (nat_lt l.diversions (length open_texts - 1)) none in
+    let bytes = neither Store behind_bytes is_past making.1 in
+    let few = neither Names before (nat_lt l.names (length names)) bytes.1 in
+    first_not Diversions _ _ making.0 (first_not Store _ _ bytes.0 (first_not Names now _ few.0 (passes few.1)))
 
 -- where the counts are no more, no limit refuses what none refused
 pub input_refusal-no_more : (l : Limits) (now before : PageInput) → NoMore now before → input_refusal l before ≡ None → input_refusal l now ≡ None

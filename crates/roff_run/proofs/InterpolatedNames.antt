@@ -22,9 +22,9 @@ use Rattle.roff_scan.specs.declared.half.Surroundings.{Surroundings}
 use Rattle.roff_store.specs.declared.register.Direction.{Direction}
 use Rattle.roff_store.specs.declared.register.Direction.TheVariants.{Up, Down}
 use Rattle.roff_run.specs.declared.reading.Reading.{Reading}
-use Rattle.roff_run.specs.declared.reading.Reading.TheVariants.{LineStart, Branch, Braced, Text as InText, Control, Name as NameOf, Arguments as InArguments, Deciding, Skipping, Dropped}
+use Rattle.roff_run.specs.declared.reading.Reading.TheVariants.{LineStart, Branch, Braced, Text as InText, Control, Name as NameOf, Arguments as InArguments, Deciding, StringName, StringText, Skipping, Dropped}
 use Rattle.roff_run.specs.declared.reading.TextLine.{TextLine}
-use Rattle.roff_run.proofs.Interpolation.{AtLast, Behind, FindsAtLast, Fits-IsWithin, FromAhead, FromSource, IsRead, IsRead-itself, Means, Origin, ReadsEscapes, AtBeginning, AtBranch, AtBraced, OnText, OnArguments, OnCondition, ReadsEscapes-reads_escapes, after-escape, ahead_at, going, input_of, interrupted-arguments, is-going, is_no_newline, line_behind, not-first, read_in, settled_for, settled_for-settled_for, settled_input, source_behind, tape_at, taking-reads}
+use Rattle.roff_run.proofs.Interpolation.{AtLast, Behind, FindsAtLast, Fits-IsWithin, FromAhead, FromSource, IsRead, IsRead-itself, Means, Origin, ReadsEscapes, AtBeginning, AtBranch, AtBraced, OnText, OnArguments, OnCondition, OnStringName, OnStringText, ReadsEscapes-reads_escapes, after-escape, ahead_at, going, input_of, interrupted-arguments, is-going, is_no_newline, line_behind, not-first, read_in, settled_for, settled_for-settled_for, settled_input, source_behind, tape_at, taking-reads}
 use Rattle.roff_run.specs.InterpolationLaws.{TakesItems, StandsForItself, IsEscapeOf, Short, Long, ShortString, LongString, OfArgument, reads_text, reads_escapes, reads_in_condition, reads_above, stepped, text_named, with_text_ahead, EscapesReadAsTexts, EscapesOfTheSourceReadAsTexts, EscapesOfTextReadAsTexts}
 use Rattle.roff_run.specs.Laws.{IsWithin}
 use Rattle.roff_run.specs.Reading.{PageInput, Taking, taking, interrupted, fresh_line, asking, name_taking}
@@ -216,6 +216,8 @@ read_in-asks k _ _ i half asks name of AtBraced = name_taking-Interpolates k (re
 read_in-asks k _ _ i half asks name of (OnText line) = name_taking-Interpolates k (record i { half = half }) (InText line) line asks name of
 read_in-asks k _ _ i half asks name of (OnArguments breaks request) = refl
 read_in-asks k _ _ i half asks name of (OnCondition keeps) = refl
+read_in-asks k _ _ i half asks name of (OnStringName appends) = refl
+read_in-asks k _ _ i half asks name of (OnStringText string appends is_front) = refl
 
 -- a byte that asks for it
 taking-asks : (k : Known) (reading : Reading) (base : Surroundings) (i : PageInput) (b : ℕ) (half : List Half) (asks : NameUse) (name : Option (List ℕ))
@@ -228,7 +230,7 @@ taking-asks k reading base i b half asks name of on read reads =
 abbrev asked : State → Reading → Origin → Arguments → List Half → ℕ → ℕ → NameUse → List ℕ → State
 asked s reading from a half charge line asks name =
     let t : State = stepped asks name (going s reading from [] a half charge line) in
-    record t { input = pushing (text_named (known t) asks name) t.input }
+    record t { input = pushing (text_named (known t) t.input asks name) t.input }
 
 -- what it means is done
 taken_as-asking : (s : State) (reading : Reading) (from : Origin) (a : Arguments) (before half : List Half) (charge line : ℕ) (asks : NameUse) (name : List ℕ)
@@ -261,9 +263,9 @@ read_from from asks name taken s = with_text_ahead asks name taken (ahead_at fro
 -- before it no quote follows the quote before
 with_text_ahead-arguments : (asks : NameUse) (name : List ℕ) (taken : ℕ) (rest : List (Ahead PageEvent)) (s : State) (base : Surroundings) → ReadsEscapes s.reading base
     → with_text_ahead asks name taken rest s
-    ≡ record s { input = pushing (text_named (known s) asks name) (record s.input { ahead = rest; arguments = settled_for s.reading s.input.arguments; charge = s.input.charge + taken }) }
+    ≡ record s { input = pushing (text_named (known s) s.input asks name) (record s.input { ahead = rest; arguments = settled_for s.reading s.input.arguments; charge = s.input.charge + taken }) }
 with_text_ahead-arguments asks name taken rest s base on =
-    ap (λ (i : PageInput). record s { input = pushing (text_named (known s) asks name) (record i { ahead = rest; charge = s.input.charge + taken }) })
+    ap (λ (i : PageInput). record s { input = pushing (text_named (known s) s.input asks name) (record i { ahead = rest; charge = s.input.charge + taken }) })
     (interrupted-arguments s.reading base s.input on)
 
 -- so it is the text that was asked for
@@ -382,6 +384,8 @@ interrupted-reads_text (InArguments breaks request) i is = absurd (cc)
 interrupted-reads_text (Control breaks) i is = absurd (cc)
 interrupted-reads_text (NameOf breaks first) i is = absurd (cc)
 interrupted-reads_text (Deciding keeps) i is = absurd (cc)
+interrupted-reads_text (StringName appends) i is = absurd (cc)
+interrupted-reads_text (StringText name appends is_front) i is = absurd (cc)
 interrupted-reads_text (Skipping opened closed behind) i is = absurd (cc)
 interrupted-reads_text Dropped i is = absurd (cc)
 
@@ -395,6 +399,8 @@ reads_escapes-reads_text (InArguments breaks request) is = refl
 reads_escapes-reads_text (Control breaks) is = absurd (cc)
 reads_escapes-reads_text (NameOf breaks first) is = absurd (cc)
 reads_escapes-reads_text (Deciding keeps) is = refl
+reads_escapes-reads_text (StringName appends) is = refl
+reads_escapes-reads_text (StringText name appends is_front) is = refl
 reads_escapes-reads_text (Skipping opened closed behind) is = absurd (cc)
 reads_escapes-reads_text Dropped is = absurd (cc)
 

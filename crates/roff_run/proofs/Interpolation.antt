@@ -21,15 +21,16 @@ use Rattle.roff_scan.specs.declared.half.ConditionPart.TheVariants.{Choice, Expr
 use Rattle.roff_scan.specs.declared.half.Read.{Read}
 use Rattle.roff_scan.specs.declared.half.Read.TheVariants.{GoesOn}
 use Rattle.roff_scan.specs.declared.half.Surroundings.{Surroundings}
-use Rattle.roff_scan.specs.declared.half.Surroundings.TheVariants.{Text as AboveText, Arguments as AboveArguments}
+use Rattle.roff_scan.specs.declared.half.Surroundings.TheVariants.{Text as AboveText, Arguments as AboveArguments, Copy as AboveCopy}
 use Rattle.roff_run.specs.declared.reading.Reading.{Reading}
-use Rattle.roff_run.specs.declared.reading.Reading.TheVariants.{LineStart, Branch, Braced, Text as InText, Control, Name as NameOf, Arguments as InArguments, Deciding, Skipping, Dropped}
+use Rattle.roff_run.specs.declared.reading.Reading.TheVariants.{LineStart, Branch, Braced, Text as InText, Control, Name as NameOf, Arguments as InArguments, Deciding, StringName, StringText, Skipping, Dropped}
+use Rattle.roff_run.specs.declared.reading.ShortName.{ShortName}
 use Rattle.roff_run.specs.declared.reading.TextLine.{TextLine}
 use Rattle.roff_run.specs.declared.request.Request.{Request}
 use Rattle.roff_run.specs.declared.status.Status.{Status}
 use Rattle.roff_run.specs.InterpolationLaws.{TakesItems, BytesAheadAreTaken, BytesOfTheSourceAreTaken, StandsForItself, reads_escapes, with_source_behind, cost_of_all, TextsCostTheirBytesAndOne}
 use Rattle.roff_run.specs.Laws.{IsWithin}
-use Rattle.roff_run.specs.Reading.{PageInput, Taking, going_on, taking, kept_taking, beginning_read, text_read, arguments_read_on, condition_read, interrupted}
+use Rattle.roff_run.specs.Reading.{PageInput, Taking, going_on, taking, kept_taking, beginning_read, text_read, arguments_read_on, condition_read, string_name_read, string_text_read, interrupted}
 use Rattle.roff_run.specs.Registers.{AllRegisters, Known}
 use Rattle.roff_run.specs.Requests.{PageEvent}
 use Rattle.roff_run.specs.Run.{State, known, made, byte_taken, front_seen, half_ends, awaited, awaited_of_source, answered, moved, in_front_taken, taking_ahead, taking_byte, taken_as, first_passed, grown, unless_refused, stopped_by, reading_on, step, after}
@@ -197,12 +198,16 @@ pub data ReadsEscapes : Reading → Surroundings → Type 0 where
   OnText : (line : TextLine) → ReadsEscapes (InText line) AboveText
   OnArguments : (breaks : Bool) (request : Request) → ReadsEscapes (InArguments breaks request) AboveArguments
   OnCondition : (keeps : Bool) → ReadsEscapes (Deciding keeps) AboveArguments
+  OnStringName : (appends : Bool) → ReadsEscapes (StringName appends) AboveArguments
+  OnStringText : (name : Option ShortName) (appends is_front : Bool) → ReadsEscapes (StringText name appends is_front) AboveCopy
 
 -- what something reads there, with what is half read then
 abbrev pub read_in : Known → Reading → PageInput → Reads → Taking
 read_in k (InText line) i r = text_read k i line r
 read_in k (InArguments breaks request) i r = arguments_read_on k i breaks request r
 read_in k (Deciding keeps) i r = condition_read k i keeps r
+read_in k (StringName appends) i r = string_name_read k i appends r
+read_in k (StringText name appends is_front) i r = string_text_read k i name appends is_front r
 read_in k reading i r = beginning_read k i reading r
 
 -- a byte that isn't dropped
@@ -214,6 +219,8 @@ kept_taking-reads k _ _ i b AtBraced = refl
 kept_taking-reads k _ _ i b (OnText line) = refl
 kept_taking-reads k _ _ i b (OnArguments breaks request) = refl
 kept_taking-reads k _ _ i b (OnCondition keeps) = refl
+kept_taking-reads k _ _ i b (OnStringName appends) = refl
+kept_taking-reads k _ _ i b (OnStringText string appends is_front) = refl
 
 -- a byte that is read
 pub taking-reads : (k : Known) (reading : Reading) (base : Surroundings) (i : PageInput) (b : ℕ) → ReadsEscapes reading base → IsRead b
@@ -225,6 +232,7 @@ taking-reads k reading base i b on read =
 -- the arguments of a line where no quote follows the quote before
 abbrev pub settled_for : Reading → Arguments → Arguments
 settled_for (InArguments breaks request) a = only_kept (settled a)
+settled_for (StringName appends) a = only_kept (settled a)
 settled_for (_) a = a
 
 -- the input where this is half read, and no quote follows
@@ -240,6 +248,8 @@ read_in-nothing k _ _ i half AtBraced = refl
 read_in-nothing k _ _ i half (OnText line) = refl
 read_in-nothing k _ _ i half (OnArguments breaks request) = refl
 read_in-nothing k _ _ i half (OnCondition keeps) = refl
+read_in-nothing k _ _ i half (OnStringName appends) = refl
+read_in-nothing k _ _ i half (OnStringText string appends is_front) = refl
 
 -- a byte that finds nothing
 taking-nothing : (k : Known) (reading : Reading) (base : Surroundings) (i : PageInput) (b : ℕ) (half : List Half) → ReadsEscapes reading base
@@ -345,6 +355,8 @@ settled_for-settled_for _ _ a AtBraced = refl
 settled_for-settled_for _ _ a (OnText line) = refl
 settled_for-settled_for _ _ a (OnArguments breaks request) = settled-only_kept a
 settled_for-settled_for _ _ a (OnCondition keeps) = refl
+settled_for-settled_for _ _ a (OnStringName appends) = settled-only_kept a
+settled_for-settled_for _ _ a (OnStringText string appends is_front) = refl
 
 -- and hold as many bytes
 held-settled_for : (reading : Reading) (base : Surroundings) (a : Arguments) → ReadsEscapes reading base → held (settled_for reading a) ≡ held a
@@ -354,6 +366,8 @@ held-settled_for _ _ a AtBraced = refl
 held-settled_for _ _ a (OnText line) = refl
 held-settled_for _ _ a (OnArguments breaks request) = held-only_kept-settled a
 held-settled_for _ _ a (OnCondition keeps) = refl
+held-settled_for _ _ a (OnStringName appends) = held-only_kept-settled a
+held-settled_for _ _ a (OnStringText string appends is_front) = refl
 
 -- the steps at an escape, where a backslash begins one
 pub after-escape : (l : Limits) (s : State) (reading : Reading) (base : Surroundings) (from : Origin) (a : Arguments)
@@ -401,6 +415,8 @@ interrupted-arguments _ _ i AtBraced = refl
 interrupted-arguments _ _ i (OnText line) = refl
 interrupted-arguments _ _ i (OnArguments breaks request) = refl
 interrupted-arguments _ _ i (OnCondition keeps) = refl
+interrupted-arguments _ _ i (OnStringName appends) = refl
+interrupted-arguments _ _ i (OnStringText string appends is_front) = refl
 
 -- a state within the limits is within those that a step looks at
 pub Fits-IsWithin : (l : Limits) (s : State) → IsWithin l s → Fits l s.registers s.input
@@ -415,6 +431,8 @@ ReadsEscapes-reads_escapes Braced is = (AboveText, AtBraced)
 ReadsEscapes-reads_escapes (InText line) is = (AboveText, OnText line)
 ReadsEscapes-reads_escapes (InArguments breaks request) is = (AboveArguments, OnArguments breaks request)
 ReadsEscapes-reads_escapes (Deciding keeps) is = (AboveArguments, OnCondition keeps)
+ReadsEscapes-reads_escapes (StringName appends) is = (AboveArguments, OnStringName appends)
+ReadsEscapes-reads_escapes (StringText name appends is_front) is = (AboveCopy, OnStringText name appends is_front)
 ReadsEscapes-reads_escapes (Control breaks) is = absurd (cc)
 ReadsEscapes-reads_escapes (NameOf breaks first) is = absurd (cc)
 ReadsEscapes-reads_escapes (Skipping opened closed behind) is = absurd (cc)

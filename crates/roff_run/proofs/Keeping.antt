@@ -2,12 +2,12 @@
 --
 -- Each function f of reading has its lemma here, with a line for each of its cases: Stays-f where it leaves the input,
 -- and else Keeps-f.
-use Rattle.std.proofs.Common.{◌≡◌, ℕ, ◌+◌, ◌-◌, ◌≤◌, Bool, true, false, List, [], ◌∷◌, ◌++◌, map, Option, Some, None, refl, sym, subst, ◌∙◌, arith}
+use Rattle.std.proofs.Common.{◌≡◌, ℕ, ◌+◌, ◌-◌, ◌≤◌, Bool, true, false, List, [], ◌∷◌, ◌++◌, map, Option, Some, None, refl, ap, sym, subst, ◌∙◌, arith}
 use Rattle.std.specs.Prelude.{◌&&◌, ◌||◌, decimal, find, nat_le, if◌then◌else◌, ◌==◌}
 use Rattle.std.specs.List.{AllByRecursion}
 use Rattle.std.proofs.Math.Bool.{and-false}
 use Rattle.roff_lines.specs.declared.glyph.Glyph.TheVariants.{Printed}
-use Rattle.roff_scan.specs.Bytes.{tab, newline, blank, apostrophe, dot, backslash, is_silent, is_dropped}
+use Rattle.roff_scan.specs.Bytes.{tab, newline, blank, apostrophe, quote, dot, backslash, is_silent, is_dropped}
 use Rattle.roff_scan.specs.Characters.{character}
 use Rattle.roff_scan.specs.Escapes.{escape_of}
 use Rattle.roff_scan.specs.Halves.{byte_read, reading_ended}
@@ -20,20 +20,25 @@ use Rattle.roff_scan.specs.declared.escapes.TextUse.TheVariants.{Motion as OfMot
 use Rattle.roff_scan.specs.declared.half.ConditionPart.TheVariants.{Choice, Expression, Decided, Compared}
 use Rattle.roff_scan.specs.declared.half.CopyUnit.{CopyUnit}
 use Rattle.roff_scan.specs.declared.half.CopyUnit.TheVariants.{Byte, Kept}
-use Rattle.roff_scan.specs.Half.{Half, Backslash, Comment, Name as NameHalf, Size, Delimited, Width, Condition, text_held}
+use Rattle.roff_scan.specs.Half.{Half, Backslash, Comment, Name as NameHalf, Size, Delimited, Width, Condition, text_held, unit_bytes}
 use Rattle.roff_scan.specs.declared.half.Decision.{Decision}
 use Rattle.roff_scan.specs.declared.half.Read.{Read}
 use Rattle.roff_scan.specs.declared.half.Read.TheVariants.{GoesOn, Unit as GivesUnit, Holds, Escape, Asks, Motion, Measures, Tells, Decides}
 use Rattle.roff_scan.specs.declared.half.Surroundings.{Surroundings}
-use Rattle.roff_scan.specs.declared.half.Surroundings.TheVariants.{Text as AboveText, Arguments as AboveArguments}
+use Rattle.roff_scan.specs.declared.half.Surroundings.TheVariants.{Text as AboveText, Arguments as AboveArguments, Copy as AboveCopy}
 use Rattle.roff_store.specs.declared.register.Direction.{Direction}
 use Rattle.roff_run.specs.declared.reading.Reading.{Reading}
-use Rattle.roff_run.specs.declared.reading.Reading.TheVariants.{LineStart, Branch, Braced, Text as InText, Control, Name, Arguments as InArguments, Deciding, Skipping, Dropped}
+use Rattle.roff_run.specs.declared.reading.Reading.TheVariants.{LineStart, Branch, Braced, Text as InText, Control, Name, Arguments as InArguments, Deciding, StringName, StringText, Skipping, Dropped}
+use Rattle.roff_run.specs.declared.reading.ShortName.{ShortName}
 use Rattle.roff_run.specs.declared.reading.TextLine.{TextLine}
 use Rattle.roff_run.specs.declared.request.LineReading.{LineReading}
-use Rattle.roff_run.specs.declared.request.LineReading.TheVariants.{ByArguments, ByCondition, ByElse}
+use Rattle.roff_run.specs.declared.request.LineReading.TheVariants.{ByArguments, ByCondition, ByElse, ByString}
 use Rattle.roff_run.specs.declared.request.Request.{Request}
-use Rattle.roff_run.specs.Reading.{PageInput, Taking, fresh_line, glyph_taking, blank_taking, text_taking, escape_meant, escape_taking, character_printed, character_taking, asking, measuring, name_taking, settling, line_begun, first_taking, first_escape, beginning_found, text_found, unit_found, no_unit_found, arguments_found, skipping_taking, branch_of, branch_taking, is_so, decided, kept_if, condition_found, reads_else, dropped_taking, ends_name, line_taking, name_ended_taking, behind_name, name_whole_taking, kept_taking, interrupted, taking, half_ended, end_taking, going_on}
+use Rattle.roff_run.specs.Reading.{PageInput, Taking, fresh_line, glyph_taking, blank_taking, text_taking, escape_meant, escape_taking, character_printed, character_taking, asking, measuring, name_taking, settling, line_begun, first_taking, first_escape, beginning_found, text_found, unit_found, no_unit_found, arguments_found, skipping_taking, branch_of, branch_taking, is_so, decided, kept_if, condition_found, reads_else, dropped_taking, ends_name, line_taking, name_ended_taking, behind_name, name_whole_taking, kept_taking, interrupted, taking, half_ended, end_taking, going_on, name_bytes, arguments_given, first_name, holding, name_read, string_begun, string_emptied, string_entered, string_grown, string_line_ended, string_name_behind, string_name_found, string_name_or_text, string_name_unit, string_text_found, string_unit}
+use Rattle.roff_scan.specs.Arguments.{no_arguments}
+use Rattle.roff_scan.specs.Input.{body_named, calling_on}
+use Rattle.roff_store.specs.TextCalls.{Call, PushOpen, Enter}
+use Rattle.roff_store.specs.Texts.{newest}
 use Rattle.roff_run.specs.Registers.{Known, known_behind, step_changes, text_of_register}
 use Rattle.roff_run.specs.Requests.{PageEvent, has_name, row_of, request_named, requests}
 use Rattle.roff_run.specs.TurnsToCome.{endings_of, free_ahead}
@@ -147,6 +152,8 @@ Stays-first_taking i (Name breaks first) b = Stays-line_begun i b
 Stays-first_taking i (InArguments breaks request) b = Stays-line_begun i b
 Stays-first_taking i (Deciding keeps) b = Stays-line_begun i b
 Stays-first_taking i (Skipping opened closed behind) b = Stays-line_begun i b
+Stays-first_taking i (StringName appends) b = Stays-line_begun i b
+Stays-first_taking i (StringText name appends is_front) b = Stays-line_begun i b
 Stays-first_taking i Dropped b = Stays-line_begun i b
 
 -- an escape there
@@ -160,6 +167,8 @@ Stays-first_escape i (Name breaks first) b = Stays-escape_taking i fresh_line b
 Stays-first_escape i (InArguments breaks request) b = Stays-escape_taking i fresh_line b
 Stays-first_escape i (Deciding keeps) b = Stays-escape_taking i fresh_line b
 Stays-first_escape i (Skipping opened closed behind) b = Stays-escape_taking i fresh_line b
+Stays-first_escape i (StringName appends) b = Stays-escape_taking i fresh_line b
+Stays-first_escape i (StringText name appends is_front) b = Stays-escape_taking i fresh_line b
 Stays-first_escape i Dropped b = Stays-escape_taking i fresh_line b
 
 -- a byte of a branch that is skipped
@@ -233,7 +242,8 @@ Keeps-asking : (most : ℕ) (k : Known) (i j : PageInput) (reading : Reading) (p
 Keeps-asking most k i j reading purpose None keeps = keeps
 Keeps-asking most k i j reading (Register step) (Some name) keeps =
     record { charge = keeps.charge; newlines = keeps.newlines; line = keeps.line; free = free_ahead-register k step name j.ahead ∙ keeps.free; half = keeps.half }
-Keeps-asking most k i j reading OfText (Some name) keeps = record { charge = keeps.charge; newlines = keeps.newlines; line = keeps.line; free = keeps.free; half = keeps.half }
+Keeps-asking most k i j reading OfText (Some name) keeps =
+    record { charge = keeps.charge; newlines = keeps.newlines; line = keeps.line; free = free_ahead-pushed (body_named name j) j.ahead ∙ keeps.free; half = keeps.half }
 Keeps-asking most k i j reading Argument (Some name) keeps = record { charge = keeps.charge; newlines = keeps.newlines; line = keeps.line; free = keeps.free; half = keeps.half }
 Keeps-asking most k i j reading Character (Some name) keeps = record { charge = keeps.charge; newlines = keeps.newlines; line = keeps.line; free = keeps.free; half = keeps.half }
 Keeps-asking most k i j reading Font (Some name) keeps = record { charge = keeps.charge; newlines = keeps.newlines; line = keeps.line; free = keeps.free; half = keeps.half }
@@ -319,6 +329,125 @@ Keeps-arguments_found most k i j breaks request (Motion columns remark) keeps = 
 Keeps-arguments_found most k i j breaks request (Measures width) keeps = Keeps-settled most k i j (InArguments breaks request) (Measures width) keeps
 Keeps-arguments_found most k i j breaks request (Tells remark) keeps = Keeps-settled most k i j (InArguments breaks request) (Tells remark) keeps
 Keeps-arguments_found most k i j breaks request (Decides decision freed) keeps = Keeps-settled most k i j (InArguments breaks request) (Decides decision freed) keeps
+
+-- an input that differs from another in its arguments and texts alone
+record Alike (j i : PageInput) : Type 0 where
+  charge : j.charge ≡ i.charge
+  newlines : j.newlines ≡ i.newlines
+  line : j.line ≡ i.line
+  ahead : j.ahead ≡ i.ahead
+  half : j.half ≡ i.half
+
+Alike-same : (i : PageInput) → Alike i i
+Alike-same i = record { charge = refl; newlines = refl; line = refl; ahead = refl; half = refl }
+
+-- where no name is read it keeps what was kept
+Keeps-alike : (most : ℕ) (i j : PageInput) (old : Reading) (n : PageInput) (reading : Reading) → Keeps most i j old → Alike n j → begun reading ≡ 0 → Keeps most i n reading
+Keeps-alike most i j old n reading keeps alike unnamed = record {
+  charge = alike.charge ∙ keeps.charge;
+  newlines = alike.newlines ∙ keeps.newlines;
+  line = alike.line ∙ keeps.line;
+  free = ap free_ahead alike.ahead ∙ keeps.free;
+  half = let same : endings_of n.half ≡ endings_of j.half = ap endings_of alike.half in omega (arith, keeps.half, same, unnamed);
+}
+
+-- so do calls on texts
+Alike-calling_on : (call : ℕ → Call) (id : Option ℕ) (i : PageInput) → Alike (calling_on call id i) i
+Alike-calling_on call None i = Alike-same i
+Alike-calling_on call (Some id) i = record { charge = refl; newlines = refl; line = refl; ahead = refl; half = refl }
+
+Alike-string_begun : (name : Option ShortName) (i : PageInput) → Alike (string_begun name i) i
+Alike-string_begun None i = record { charge = refl; newlines = refl; line = refl; ahead = refl; half = refl }
+Alike-string_begun (Some name) i = record { charge = refl; newlines = refl; line = refl; ahead = refl; half = refl }
+
+Alike-string_grown : (name : Option ShortName) (unit : CopyUnit) (i : PageInput) → Alike (string_grown name unit i) i
+Alike-string_grown None unit i = Alike-same i
+Alike-string_grown (Some name) unit i = Alike-calling_on (λ id. PushOpen id (unit_bytes unit)) (newest i.open_texts) i
+
+Alike-string_entered : (name : Option ShortName) (appends : Bool) (i : PageInput) → Alike (string_entered name appends i) i
+Alike-string_entered None appends i = Alike-same i
+Alike-string_entered (Some name) appends i = Alike-calling_on (λ id. Enter id (name_bytes name) appends) (newest i.open_texts) i
+
+Alike-if : (c : Bool) (i j n : PageInput) → Alike i n → Alike j n → Alike (if c then i else j) n
+Alike-if true i j n first second = first
+Alike-if false i j n first second = second
+
+Alike-string_emptied : (name : Option ShortName) (appends : Bool) (i : PageInput) → Alike (string_emptied name appends i) i
+Alike-string_emptied None appends i = Alike-same i
+Alike-string_emptied (Some name) appends i =
+    Alike-if _ i _ i (Alike-same i) (record { charge = refl; newlines = refl; line = refl; ahead = refl; half = refl })
+
+-- a unit of a string's text
+Keeps-string_unit : (most : ℕ) (i j : PageInput) (old : Reading) (name : Option ShortName) (appends is_front : Bool) (unit : CopyUnit) → Keeps most i j old
+    → KeepsBy most i (string_unit j name appends is_front unit)
+Keeps-string_unit most i j old name appends is_front (Byte b) keeps =
+    Keeps-if most i (b == newline) _ _ (Keeps-alike most i j old _ LineStart keeps (Alike-string_entered name appends j) refl)
+    (Keeps-if most i (is_front && b == blank) _ _ (Keeps-alike most i j old j _ keeps (Alike-same j) refl)
+    (Keeps-if most i (is_front && b == quote) _ _ (Keeps-alike most i j old j _ keeps (Alike-same j) refl)
+    (Keeps-alike most i j old _ _ keeps (Alike-string_grown name (Byte b) j) refl)))
+Keeps-string_unit most i j old name appends is_front (Kept b) keeps =
+    Keeps-alike most i j old _ _ keeps (Alike-string_grown name (Kept b) j) refl
+
+-- what comes of its name
+Keeps-string_line_ended : (most : ℕ) (i j : PageInput) (old : Reading) (appends : Bool) (name : Option (Option ShortName)) → Keeps most i j old
+    → KeepsBy most i (string_line_ended j appends name)
+Keeps-string_line_ended most i j old appends None keeps =
+    Keeps-alike most i j old _ LineStart keeps (record { charge = refl; newlines = refl; line = refl; ahead = refl; half = refl }) refl
+Keeps-string_line_ended most i j old appends (Some name) keeps =
+    let released : PageInput = record j { arguments = no_arguments } in
+    Keeps-alike most i released old _ LineStart
+    (record { charge = keeps.charge; newlines = keeps.newlines; line = keeps.line; free = keeps.free; half = keeps.half })
+    (Alike-string_emptied name appends released) refl
+
+Keeps-string_name_behind : (most : ℕ) (i j : PageInput) (old : Reading) (appends : Bool) (name : Option (Option ShortName)) → Keeps most i j old
+    → KeepsBy most i (string_name_behind j appends name)
+Keeps-string_name_behind most i j old appends None keeps = Keeps-alike most i j old j _ keeps (Alike-same j) refl
+Keeps-string_name_behind most i j old appends (Some name) keeps = Keeps-alike most i j old _ _ keeps (Alike-string_begun name j) refl
+
+Keeps-string_name_or_text : (most : ℕ) (i j : PageInput) (old : Reading) (appends : Bool) (unit : CopyUnit) (name : Option (Option ShortName)) → Keeps most i j old
+    → KeepsBy most i (string_name_or_text j appends unit name)
+Keeps-string_name_or_text most i j old appends unit None keeps =
+    Keeps-string_name_behind most i (holding unit j) old appends (name_read (holding unit j))
+    (record { charge = keeps.charge; newlines = keeps.newlines; line = keeps.line; free = keeps.free; half = keeps.half })
+Keeps-string_name_or_text most i j old appends unit (Some name) keeps =
+    Keeps-string_unit most i (string_begun name j) LineStart name appends true unit (Keeps-alike most i j old _ LineStart keeps (Alike-string_begun name j) refl)
+
+Keeps-string_name_unit : (most : ℕ) (i j : PageInput) (old : Reading) (appends : Bool) (unit : CopyUnit) → Keeps most i j old
+    → KeepsBy most i (string_name_unit j appends unit)
+Keeps-string_name_unit most i j old appends (Byte b) keeps =
+    Keeps-if most i (b == newline) _ _ (Keeps-string_line_ended most i j old appends (first_name (arguments_given j)) keeps)
+    (Keeps-if most i (b == quote) _ _ (Keeps-string_name_or_text most i j old appends (Byte b) (name_read j) keeps)
+    (Keeps-string_name_or_text most i (settling j) old appends (Byte b) (name_read (settling j))
+    (record { charge = keeps.charge; newlines = keeps.newlines; line = keeps.line; free = keeps.free; half = keeps.half })))
+Keeps-string_name_unit most i j old appends (Kept b) keeps =
+    Keeps-string_name_or_text most i (settling j) old appends (Kept b) (name_read (settling j))
+    (record { charge = keeps.charge; newlines = keeps.newlines; line = keeps.line; free = keeps.free; half = keeps.half })
+
+-- what was found of a string's name
+Keeps-string_name_found : (most : ℕ) (k : Known) (i j : PageInput) (appends : Bool) (found : Read) → Keeps most i j (StringName appends)
+    → KeepsBy most i (string_name_found k j appends found)
+Keeps-string_name_found most k i j appends (GivesUnit unit) keeps = Keeps-string_name_unit most i j _ appends unit keeps
+Keeps-string_name_found most k i j appends (Escape b) keeps = Keeps-string_name_unit most i j _ appends (Kept b) keeps
+Keeps-string_name_found most k i j appends GoesOn keeps = Keeps-settled most k i j (StringName appends) GoesOn keeps
+Keeps-string_name_found most k i j appends (Asks purpose text) keeps = Keeps-settled most k i j (StringName appends) (Asks purpose text) keeps
+Keeps-string_name_found most k i j appends (Holds unit) keeps = Keeps-settled most k i j (StringName appends) (Holds unit) keeps
+Keeps-string_name_found most k i j appends (Motion columns remark) keeps = Keeps-settled most k i j (StringName appends) (Motion columns remark) keeps
+Keeps-string_name_found most k i j appends (Measures width) keeps = Keeps-settled most k i j (StringName appends) (Measures width) keeps
+Keeps-string_name_found most k i j appends (Tells remark) keeps = Keeps-settled most k i j (StringName appends) (Tells remark) keeps
+Keeps-string_name_found most k i j appends (Decides decision freed) keeps = Keeps-settled most k i j (StringName appends) (Decides decision freed) keeps
+
+-- what was found of its text
+Keeps-string_text_found : (most : ℕ) (k : Known) (i j : PageInput) (name : Option ShortName) (appends is_front : Bool) (found : Read) → Keeps most i j (StringText name appends is_front)
+    → KeepsBy most i (string_text_found k j name appends is_front found)
+Keeps-string_text_found most k i j name appends is_front (GivesUnit unit) keeps = Keeps-string_unit most i j _ name appends is_front unit keeps
+Keeps-string_text_found most k i j name appends is_front (Escape b) keeps = Keeps-string_unit most i j _ name appends is_front (Kept b) keeps
+Keeps-string_text_found most k i j name appends is_front GoesOn keeps = Keeps-no_unit_found most k i j (StringText name appends is_front) GoesOn keeps
+Keeps-string_text_found most k i j name appends is_front (Asks purpose text) keeps = Keeps-no_unit_found most k i j (StringText name appends is_front) (Asks purpose text) keeps
+Keeps-string_text_found most k i j name appends is_front (Holds unit) keeps = Keeps-no_unit_found most k i j (StringText name appends is_front) (Holds unit) keeps
+Keeps-string_text_found most k i j name appends is_front (Motion columns remark) keeps = Keeps-no_unit_found most k i j (StringText name appends is_front) (Motion columns remark) keeps
+Keeps-string_text_found most k i j name appends is_front (Measures width) keeps = Keeps-no_unit_found most k i j (StringText name appends is_front) (Measures width) keeps
+Keeps-string_text_found most k i j name appends is_front (Tells remark) keeps = Keeps-no_unit_found most k i j (StringText name appends is_front) (Tells remark) keeps
+Keeps-string_text_found most k i j name appends is_front (Decides decision freed) keeps = Keeps-no_unit_found most k i j (StringText name appends is_front) (Decides decision freed) keeps
 
 -- the first byte of a branch
 Keeps-branch_taking : (less most : ℕ) (k : Known) (i j : PageInput) (old : Reading) (so : Bool) (b : ℕ) → Keeps less i j old → less + 1 ≤ most
@@ -407,6 +536,7 @@ Keeps-behind_name : (i : PageInput) (breaks : Bool) (first : ℕ) (request : Req
 Keeps-behind_name i breaks first request ByArguments = Keeps-unnamed _ i i (Name breaks first) _ (KeepsOneMore-same i (Name breaks first)) refl
 Keeps-behind_name i breaks first request (ByCondition keeping) =
     record { charge = refl; newlines = refl; line = refl; free = refl; half = omega arith }
+Keeps-behind_name i breaks first request (ByString appends) = Keeps-unnamed _ i i (Name breaks first) _ (KeepsOneMore-same i (Name breaks first)) refl
 Keeps-behind_name i breaks first request ByElse =
     record { charge = refl; newlines = refl; line = refl; free = refl; half = omega (arith, unnamed-branch_of (reads_else (kept_last i))) }
 
@@ -436,6 +566,11 @@ Keeps-kept_taking k (Deciding keeping) i b =
     let read : Leaves (endings_of i.half + 1) (byte_read AboveArguments i.half b) = endings-byte_read AboveArguments i.half b in
     Keeps-condition_found (endings_of (byte_read AboveArguments i.half b).1) _ k i (record i { half = (byte_read AboveArguments i.half b).1 }) keeping (byte_read AboveArguments i.half b).0
     (Keeps-with_half _ _ i i (Deciding keeping) (Deciding keeping) (byte_read AboveArguments i.half b).1 (KeepsOneMore-same i (Deciding keeping)) (omega arith)) (omega (arith, read))
+Keeps-kept_taking k (StringName appends) i b =
+    Keeps-string_name_found _ k i _ appends (byte_read AboveArguments i.half b).0 (Keeps-read AboveArguments i (StringName appends) (StringName appends) b refl)
+Keeps-kept_taking k (StringText name appends is_front) i b =
+    Keeps-string_text_found _ k i _ name appends is_front (byte_read AboveCopy i.half b).0
+    (Keeps-read AboveCopy i (StringText name appends is_front) (StringText name appends is_front) b refl)
 Keeps-kept_taking k (Skipping opened closed behind) i b = OneMore-stays i (Skipping opened closed behind) _ (Stays-skipping_taking i opened closed behind b)
 Keeps-kept_taking k Dropped i b = OneMore-stays i Dropped _ (Stays-dropped_taking i b)
 
@@ -449,6 +584,8 @@ Keeps-interrupted (Control breaks) i = KeepsOneMore-same i (Control breaks)
 Keeps-interrupted (Name breaks first) i = KeepsOneMore-same i (Name breaks first)
 Keeps-interrupted (InArguments breaks request) i = record { charge = refl; newlines = refl; line = refl; free = refl; half = omega arith }
 Keeps-interrupted (Deciding keeping) i = KeepsOneMore-same i (Deciding keeping)
+Keeps-interrupted (StringName appends) i = record { charge = refl; newlines = refl; line = refl; free = refl; half = omega arith }
+Keeps-interrupted (StringText name appends is_front) i = KeepsOneMore-same i (StringText name appends is_front)
 Keeps-interrupted (Skipping opened closed behind) i = KeepsOneMore-same i (Skipping opened closed behind)
 Keeps-interrupted Dropped i = KeepsOneMore-same i Dropped
 
@@ -492,6 +629,10 @@ Keeps-half_ended k (Deciding keeping) i first others is =
     let fewer : Falls (endings_of i.half) (reading_ended AboveArguments i.half) = falls_ended AboveArguments i.half first others is in
     Keeps-condition_found (endings_of (reading_ended AboveArguments i.half).1) _ k i (record i { half = (reading_ended AboveArguments i.half).1 }) keeping (reading_ended AboveArguments i.half).0
     (Keeps-with_half _ _ i i (Deciding keeping) (Deciding keeping) (reading_ended AboveArguments i.half).1 (KeepsOneMore-same i (Deciding keeping)) (omega arith)) (omega (arith, fewer))
+Keeps-half_ended k (StringName appends) i first others is =
+    Keeps-string_name_found _ k i _ appends (reading_ended AboveArguments i.half).0 (Keeps-ended AboveArguments i (StringName appends) first others is)
+Keeps-half_ended k (StringText name appends is_front) i first others is =
+    Keeps-string_text_found _ k i _ name appends is_front (reading_ended AboveCopy i.half).0 (Keeps-ended AboveCopy i (StringText name appends is_front) first others is)
 Keeps-half_ended k (Skipping opened closed behind) i first others is = Keeps-ended AboveText i (Skipping opened closed behind) first others is
 Keeps-half_ended k Dropped i first others is = Keeps-ended AboveText i Dropped first others is
 
@@ -505,5 +646,7 @@ Keeps-end_taking k (Control breaks) i = Keeps-kept_taking k (Control breaks) i n
 Keeps-end_taking k (Name breaks first) i = Keeps-kept_taking k (Name breaks first) i newline
 Keeps-end_taking k (InArguments breaks request) i = Keeps-kept_taking k (InArguments breaks request) i newline
 Keeps-end_taking k (Deciding keeping) i = Keeps-kept_taking k (Deciding keeping) i newline
+Keeps-end_taking k (StringName appends) i = Keeps-kept_taking k (StringName appends) i newline
+Keeps-end_taking k (StringText name appends is_front) i = Keeps-kept_taking k (StringText name appends is_front) i newline
 Keeps-end_taking k (Skipping opened closed behind) i = Keeps-kept_taking k (Skipping opened closed behind) i newline
 Keeps-end_taking k Dropped i = Keeps-kept_taking k Dropped i newline

@@ -3,6 +3,8 @@ pub mod Beginnings
 pub mod PerformedOrStopped
 pub mod Readings
 pub mod Keeping
+pub mod StringRefusals
+pub mod Strings
 pub mod StepsAppend
 pub mod StepsOnlyCut
 pub mod RunsOnlyCut

@@ -33,7 +33,8 @@ use Rattle.roff_run.specs.Run.{counts_in, first_passed, known_at}
 use Rattle.roff_run.specs.declared.message.Message.{Message}
 use Rattle.roff_run.specs.declared.reader.Meaning.{Meaning}
 use Rattle.roff_run.specs.declared.reading.Reading.{Reading}
-use Rattle.roff_run.specs.declared.reading.Reading.TheVariants.{LineStart, Branch, Braced, Text as InText, Control, Name, Arguments as InArguments, Deciding, Skipping, Dropped}
+use Rattle.roff_run.specs.declared.reading.Reading.TheVariants.{StringName, StringText, LineStart, Branch, Braced, Text as InText, Control, Name, Arguments as InArguments, Deciding, Skipping, Dropped}
+use Rattle.roff_run.specs.declared.reading.ShortName.{ShortName}
 use Rattle.roff_run.specs.declared.reading.TextLine.{TextLine}
 use Rattle.roff_run.specs.declared.reading.TextStep.{TextStep}
 use Rattle.roff_run.specs.declared.registers.Facts.{Facts}
@@ -42,7 +43,7 @@ use Rattle.roff_run.specs.TextLine.Stepping.{step_at}
 use Rattle.roff_run.proofs.InputCounts.{NoMore, NoMore-interrupted, NoMore-settling, first_passed-few_names, first_passed-no_more, one_of}
 
 -- what is taken where other units are half read, and something else was read of the line
-Takes-elsewhere : (t : Taking) (old : Capped) (new : ReaderState) (before behind : PageUnread) (i : PageInput) (result : Result Meaning Limit)
+pub Takes-elsewhere : (t : Taking) (old : Capped) (new : ReaderState) (before behind : PageUnread) (i : PageInput) (result : Result Meaning Limit)
     → Takes t old new (record before { input = i }) behind result → Takes t old new before behind result
 Takes-elsewhere t old new before behind i (Ok m) took = record {
   became = record {
@@ -317,6 +318,8 @@ first_taking-any i (Name breaks first) b in_branch in_brace = refl
 first_taking-any i (InArguments breaks request) b in_branch in_brace = refl
 first_taking-any i (Deciding keeps) b in_branch in_brace = refl
 first_taking-any i (Skipping opened closed behind) b in_branch in_brace = refl
+first_taking-any i (StringName appends) b in_branch in_brace = refl
+first_taking-any i (StringText name appends is_front) b in_branch in_brace = refl
 first_taking-any i Dropped b in_branch in_brace = refl
 
 -- and so it is with an escape
@@ -333,6 +336,8 @@ first_escape-any i (Name breaks first) b in_branch in_brace = refl
 first_escape-any i (InArguments breaks request) b in_branch in_brace = refl
 first_escape-any i (Deciding keeps) b in_branch in_brace = refl
 first_escape-any i (Skipping opened closed behind) b in_branch in_brace = refl
+first_escape-any i (StringName appends) b in_branch in_brace = refl
+first_escape-any i (StringText name appends is_front) b in_branch in_brace = refl
 first_escape-any i Dropped b in_branch in_brace = refl
 
 -- by whether a byte is dropped
@@ -351,6 +356,8 @@ end_taking-newline k (Name breaks first) i begun = refl
 end_taking-newline k (InArguments breaks request) i begun = refl
 end_taking-newline k (Deciding keeps) i begun = refl
 end_taking-newline k (Skipping opened closed behind) i begun = refl
+end_taking-newline k (StringName appends) i begun = refl
+end_taking-newline k (StringText name appends is_front) i begun = refl
 end_taking-newline k Dropped i begun = refl
 
 -- behind a request's name anything but a unit is no byte of an argument
@@ -369,14 +376,17 @@ arguments_found-no_unit k i breaks request (Decides decision freed) no_unit no_e
 -- where nothing of what is half read is kept when it ends
 pub half_ended-dropped : (k : Known) (r : Reading) (i : PageInput) → (r ≡ LineStart → ⊥) → (r ≡ Branch → ⊥) → (r ≡ Braced → ⊥) → ((line : TextLine) → r ≡ InText line → ⊥)
     → ((breaks : Bool) (request : Request) → r ≡ InArguments breaks request → ⊥) → ((keeps : Bool) → r ≡ Deciding keeps → ⊥)
+    → ((appends : Bool) → r ≡ StringName appends → ⊥) → ((name : Option ShortName) (appends is_front : Bool) → r ≡ StringText name appends is_front → ⊥)
     → going_on (with_half (reading_ended AboveText i.half).1 i) r ≡ half_ended k r i
-half_ended-dropped k LineStart i begun no_branch no_brace no_text no_arguments no_condition = absurd (begun refl)
-half_ended-dropped k Branch i begun no_branch no_brace no_text no_arguments no_condition = absurd (no_branch refl)
-half_ended-dropped k Braced i begun no_branch no_brace no_text no_arguments no_condition = absurd (no_brace refl)
-half_ended-dropped k (InText line) i begun no_branch no_brace no_text no_arguments no_condition = absurd (no_text line refl)
-half_ended-dropped k (Control breaks) i begun no_branch no_brace no_text no_arguments no_condition = refl
-half_ended-dropped k (Name breaks first) i begun no_branch no_brace no_text no_arguments no_condition = refl
-half_ended-dropped k (InArguments breaks request) i begun no_branch no_brace no_text no_arguments no_condition = absurd (no_arguments breaks request refl)
-half_ended-dropped k (Deciding keeps) i begun no_branch no_brace no_text no_arguments no_condition = absurd (no_condition keeps refl)
-half_ended-dropped k (Skipping opened closed behind) i begun no_branch no_brace no_text no_arguments no_condition = refl
-half_ended-dropped k Dropped i begun no_branch no_brace no_text no_arguments no_condition = refl
+half_ended-dropped k LineStart i begun no_branch no_brace no_text no_arguments no_condition no_name no_string = absurd (begun refl)
+half_ended-dropped k Branch i begun no_branch no_brace no_text no_arguments no_condition no_name no_string = absurd (no_branch refl)
+half_ended-dropped k Braced i begun no_branch no_brace no_text no_arguments no_condition no_name no_string = absurd (no_brace refl)
+half_ended-dropped k (InText line) i begun no_branch no_brace no_text no_arguments no_condition no_name no_string = absurd (no_text line refl)
+half_ended-dropped k (Control breaks) i begun no_branch no_brace no_text no_arguments no_condition no_name no_string = refl
+half_ended-dropped k (Name breaks first) i begun no_branch no_brace no_text no_arguments no_condition no_name no_string = refl
+half_ended-dropped k (InArguments breaks request) i begun no_branch no_brace no_text no_arguments no_condition no_name no_string = absurd (no_arguments breaks request refl)
+half_ended-dropped k (Deciding keeps) i begun no_branch no_brace no_text no_arguments no_condition no_name no_string = absurd (no_condition keeps refl)
+half_ended-dropped k (Skipping opened closed behind) i begun no_branch no_brace no_text no_arguments no_condition no_name no_string = refl
+half_ended-dropped k (StringName appends) i begun no_branch no_brace no_text no_arguments no_condition no_name no_string = absurd (no_name appends refl)
+half_ended-dropped k (StringText name appends is_front) i begun no_branch no_brace no_text no_arguments no_condition no_name no_string = absurd (no_string name appends is_front refl)
+half_ended-dropped k Dropped i begun no_branch no_brace no_text no_arguments no_condition no_name no_string = refl

@@ -12,7 +12,7 @@ use Rattle.roff_run.specs.Reading.{PageInput, half_ended, taking as byte_taking}
 use Rattle.roff_run.specs.Registers.{Known}
 use Rattle.roff_run.specs.Requests.{PageEvent}
 use Rattle.roff_run.specs.declared.reading.Reading.{Reading}
-use Rattle.roff_run.specs.declared.reading.Reading.TheVariants.{LineStart, Branch, Braced, Text as InText, Control, Name, Arguments as InArguments, Deciding, Skipping, Dropped}
+use Rattle.roff_run.specs.declared.reading.Reading.TheVariants.{StringName, StringText, LineStart, Branch, Braced, Text as InText, Control, Name, Arguments as InArguments, Deciding, Skipping, Dropped}
 use Rattle.roff_run.specs.TurnsToCome.{endings_of, turns_within, turns_to_come}
 use Rattle.roff_run.proofs.HalfCounts.{some_ending}
 use Rattle.roff_run.proofs.Keeping.{KeepsOneMore, begun, Keeps-taking, Keeps-half_ended}
@@ -70,6 +70,8 @@ begun-one (Name breaks first) = omega arith
 begun-one (InArguments breaks request) = omega arith
 begun-one (Deciding keeping) = omega arith
 begun-one (Skipping opened closed behind) = omega arith
+begun-one (StringName appends) = omega arith
+begun-one (StringText name appends is_front) = omega arith
 begun-one Dropped = omega arith
 
 -- so what keeps the input's counts, and leaves one ending more to come, leaves two turns more at most
@@ -97,6 +99,8 @@ begun-half_ended k (Name breaks first) i = omega arith
 begun-half_ended k (InArguments breaks request) i = omega arith
 begun-half_ended k (Deciding keeping) i = omega arith
 begun-half_ended k (Skipping opened closed behind) i = omega arith
+begun-half_ended k (StringName appends) i = omega arith
+begun-half_ended k (StringText name appends is_front) i = omega arith
 begun-half_ended k Dropped i = omega arith
 
 -- and a turn fewer is to come

@@ -24,7 +24,7 @@ use Rattle.roff_scan.specs.Unread.{seen_ahead}
 use Rattle.roff_scan.specs.declared.half.Read.TheVariants.{GoesOn, Measures}
 use Rattle.roff_scan.specs.declared.half.Surroundings.{Surroundings}
 use Rattle.roff_scan.specs.declared.half.Surroundings.TheVariants.{Text as AboveText, Arguments as AboveArguments, Copy as AboveCopy}
-use Rattle.roff_run.proofs.Interpolation.{Fits-IsWithin, FindsAtLast, AtLast, Behind, FromAhead, FromSource, IsRead, IsRead-itself, Means, Origin, ReadsEscapes, AtBeginning, AtBranch, AtBraced, OnText, OnArguments, OnCondition, ReadsEscapes-reads_escapes, after-escape, ahead_at, going, input_of, interrupted-arguments, is-going, is_no_newline, line_behind, not-first, not-second, read_in, settled_for, settled_for-settled_for, settled_input, source_behind, step-byte, tape_at, taken_as-going_on, taking-reads, made-Fits, step-TakesItems}
+use Rattle.roff_run.proofs.Interpolation.{Fits-IsWithin, FindsAtLast, AtLast, Behind, FromAhead, FromSource, IsRead, IsRead-itself, Means, Origin, ReadsEscapes, AtBeginning, AtBranch, AtBraced, OnText, OnArguments, OnCondition, OnStringName, OnStringText, ReadsEscapes-reads_escapes, after-escape, ahead_at, going, input_of, interrupted-arguments, is-going, is_no_newline, line_behind, not-first, not-second, read_in, settled_for, settled_for-settled_for, settled_input, source_behind, step-byte, tape_at, taken_as-going_on, taking-reads, made-Fits, step-TakesItems}
 use Rattle.roff_run.specs.InterpolationLaws.{TakesItems, StandsForItself, reads_escapes}
 use Rattle.roff_run.specs.Laws.{IsWithin}
 use Rattle.roff_run.specs.Output.{text_of}
@@ -32,8 +32,9 @@ use Rattle.roff_run.specs.Reading.{PageInput, Taking, measuring, taking, half_en
 use Rattle.roff_run.specs.Registers.{Known}
 use Rattle.roff_run.specs.Requests.{PageEvent}
 use Rattle.roff_run.specs.Run.{State, after, first_passed, known, step, taken_as, answered, awaited, awaited_of_source, ending_input, half_ends, in_front_taken, made, reading_on}
-use Rattle.roff_run.specs.WidthLaws.{MayDelimit, IsPlain, text_units, width_escape, with_width_ahead, WidthsReadAsDigits, WidthsOfTheSourceReadAsDigits, MeasuredTextsReadAsDigits, MeasuredTextsOfTheSourceReadAsDigits, MotionsAreAsLongAsTheirColumns, MotionsCountInTheLine, EndsText, NewlineAhead, NewlineOfTheSource, EndOfTheSource, WidthsEndWithTheirLine}
+use Rattle.roff_run.specs.WidthLaws.{MayDelimit, IsPlain, text_units, width_escape, measures_texts, with_width_ahead, WidthsReadAsDigits, WidthsOfTheSourceReadAsDigits, MeasuredTextsReadAsDigits, MeasuredTextsOfTheSourceReadAsDigits, MotionsAreAsLongAsTheirColumns, MotionsCountInTheLine, EndsText, NewlineAhead, NewlineOfTheSource, EndOfTheSource, WidthsEndWithTheirLine}
 use Rattle.roff_run.specs.declared.reading.Reading.{Reading}
+use Rattle.roff_run.specs.declared.reading.Reading.TheVariants.{LineStart, Branch, Braced, Text as InText, Control, Name as NameOf, Arguments as InArguments, Deciding, StringName, StringText, Skipping, Dropped}
 
 -- a width was measured where escapes are read
 read_in-measures : (k : Known) (reading : Reading) (base : Surroundings) (i : PageInput) (half : List Half) (width : ℕ) → ReadsEscapes reading base
@@ -44,6 +45,8 @@ read_in-measures k _ _ i half width AtBraced = refl
 read_in-measures k _ _ i half width (OnText line) = refl
 read_in-measures k _ _ i half width (OnArguments breaks request) = refl
 read_in-measures k _ _ i half width (OnCondition keeps) = refl
+read_in-measures k _ _ i half width (OnStringName appends) = refl
+read_in-measures k _ _ i half width (OnStringText string appends is_front) = refl
 
 -- a byte that ends a text that is measured
 taking-measures : (k : Known) (reading : Reading) (base : Surroundings) (i : PageInput) (b width : ℕ) (half : List Half) → ReadsEscapes reading base
@@ -147,6 +150,8 @@ half_ended-reads k _ _ i AtBraced = refl
 half_ended-reads k _ _ i (OnText line) = refl
 half_ended-reads k _ _ i (OnArguments breaks request) = refl
 half_ended-reads k _ _ i (OnCondition keeps) = refl
+half_ended-reads k _ _ i (OnStringName appends) = refl
+half_ended-reads k _ _ i (OnStringText string appends is_front) = refl
 
 -- the end of a text that is measured
 half_ended-measures : (k : Known) (reading : Reading) (base : Surroundings) (i : PageInput) (delimiter : Option ℕ) (width : ℕ) (is_deep : Bool) (half : List Half)
@@ -227,14 +232,31 @@ finds-text base d width (b ∷ text) may plain =
     Behind _ _ b (text ++ d ∷ []) (IsRead-itself b first.1) (is_no_newline b first.1) (byte_read-measured base d width b first) refl
     (finds-text base d (wider width (byte_columns b)) text may (All-tail (λ b. ((b == d) ≡ false) × StandsForItself b) b text plain))
 
--- above a text line and above arguments widths are read
-reads_widths-above : (reading : Reading) (base : Surroundings) → ReadsEscapes reading base → reads_widths base ≡ true
-reads_widths-above _ _ AtBeginning = refl
-reads_widths-above _ _ AtBranch = refl
-reads_widths-above _ _ AtBraced = refl
-reads_widths-above _ _ (OnText line) = refl
-reads_widths-above _ _ (OnArguments breaks request) = refl
-reads_widths-above _ _ (OnCondition keeps) = refl
+-- where texts are measured escapes are read
+reads_escapes-measures_texts : (reading : Reading) → measures_texts reading ≡ true → reads_escapes reading ≡ true
+reads_escapes-measures_texts LineStart is = refl
+reads_escapes-measures_texts Branch is = refl
+reads_escapes-measures_texts Braced is = refl
+reads_escapes-measures_texts (InText line) is = refl
+reads_escapes-measures_texts (Control breaks) is = absurd (cc)
+reads_escapes-measures_texts (NameOf breaks first) is = absurd (cc)
+reads_escapes-measures_texts (InArguments breaks request) is = refl
+reads_escapes-measures_texts (Deciding keeps) is = refl
+reads_escapes-measures_texts (StringName appends) is = refl
+reads_escapes-measures_texts (StringText name appends is_front) is = absurd (cc)
+reads_escapes-measures_texts (Skipping opened closed behind) is = absurd (cc)
+reads_escapes-measures_texts Dropped is = absurd (cc)
+
+-- above a text line and above arguments widths are read, but not where a string's text is copied
+reads_widths-above : (reading : Reading) (base : Surroundings) → ReadsEscapes reading base → measures_texts reading ≡ true → reads_widths base ≡ true
+reads_widths-above _ _ AtBeginning reads = refl
+reads_widths-above _ _ AtBranch reads = refl
+reads_widths-above _ _ AtBraced reads = refl
+reads_widths-above _ _ (OnText line) reads = refl
+reads_widths-above _ _ (OnArguments breaks request) reads = refl
+reads_widths-above _ _ (OnCondition keeps) reads = refl
+reads_widths-above _ _ (OnStringName appends) reads = refl
+reads_widths-above _ _ (OnStringText string appends is_front) reads = absurd (cc)
 
 -- `w`
 byte_read-w : (base : Surroundings) → reads_widths base ≡ true → byte_read base (Backslash ∷ []) 119 ≡ (GoesOn, Width None 0 false ∷ [])
@@ -252,11 +274,11 @@ finds-escape base d text reads may plain =
 
 -- the steps at the escape
 after-width : (l : Limits) (s : State) (reading : Reading) (base : Surroundings) (from : Origin) (a : Arguments) (d : ℕ) (text : List ℕ) (charge line : ℕ)
-    → ReadsEscapes reading base → MayDelimit d → IsPlain d text
+    → ReadsEscapes reading base → measures_texts reading ≡ true → MayDelimit d → IsPlain d text
     → let first : State = going s reading from (width_escape d text) a [] charge line in
     let read : State = width_from from (text_units text) [] (length (width_escape d text)) first in
     IsWithin l first → IsWithin l read → after l (length (width_escape d text)) first ≡ read
-after-width l s reading base from a d text charge line on may plain within within_read =
+after-width l s reading base from a d text charge line on reads may plain within within_read =
     let escape : List ℕ = width_escape d text in
     let total : ℕ = charge + length escape in
     let next : ℕ = line_behind from s line in
@@ -269,17 +291,17 @@ after-width l s reading base from a d text charge line on may plain within withi
     subst (λ (b : Arguments). Means s reading base from there total next (Measures (text_units text)) [] (measured s reading from b [] total next (text_units text)))
     (settled_for-settled_for reading base a on) (means-measures s reading base from there total next (text_units text) [] on) in
     after-escape l s reading base from a (Measures (text_units text)) [] [] (119 ∷ d ∷ text ++ d ∷ []) charge line t on refl refl
-    (finds-escape base d text (reads_widths-above reading base on) may plain) within_t.bytes
+    (finds-escape base d text (reads_widths-above reading base on reads) may plain) within_t.bytes
     (Fits-IsWithin l (going s reading from escape a [] charge line) within) means (Fits-IsWithin l t within_t)
     ∙ sym is
 
 -- and in any state of such a run
 width-reads : (l : Limits) (s : State) (from : Origin) (d : ℕ) (text : List ℕ) → MayDelimit d → IsPlain d text → TakesItems s
-    → reads_escapes s.reading ≡ true → s.input.half ≡ [] → s.input.ahead ≡ ahead_at from (width_escape d text) → s.tape ≡ tape_at from (width_escape d text) s.tape
+    → measures_texts s.reading ≡ true → s.input.half ≡ [] → s.input.ahead ≡ ahead_at from (width_escape d text) → s.tape ≡ tape_at from (width_escape d text) s.tape
     → let read : State = width_from from (text_units text) [] (length (width_escape d text)) s in
     IsWithin l s → IsWithin l read → after l (length (width_escape d text)) s ≡ read
 width-reads l s from d text may plain takes reads none ahead tape =
-    let on = ReadsEscapes-reads_escapes s.reading reads in
+    let on = ReadsEscapes-reads_escapes s.reading (reads_escapes-measures_texts s.reading reads) in
     let escape : List ℕ = width_escape d text in
     let Goal : State → Type 0 = λ t.
     IsWithin l t → IsWithin l (width_from from (text_units text) [] (length escape) t)
@@ -287,7 +309,7 @@ width-reads l s from d text may plain takes reads none ahead tape =
     let is : going s s.reading from escape s.input.arguments [] s.input.charge s.input.line ≡ s =
     ap (λ (h : List Half). going s s.reading from escape s.input.arguments h s.input.charge s.input.line) (sym none)
     ∙ is-going s from escape takes ahead tape in
-    subst Goal is (after-width l s s.reading on.0 from s.input.arguments d text s.input.charge s.input.line on.1 may plain)
+    subst Goal is (after-width l s s.reading on.0 from s.input.arguments d text s.input.charge s.input.line on.1 reads may plain)
 
 pub measured_texts_read_as_digits : MeasuredTextsReadAsDigits
 measured_texts_read_as_digits l s d text rest may plain takes reads none ahead =

@@ -6,7 +6,7 @@ use Rattle.roff_scan.specs.Bytes.{newline, backslash, is_dropped}
 use Rattle.roff_scan.specs.HalfLaws.{is_special, short_escape, long_escape, string_escape, argument_escape}
 use Rattle.roff_scan.specs.Half.{Half, Backslash, Comment, Name as NameHalf, Size, Delimited, Width, Condition, names_in}
 use Rattle.roff_scan.specs.Halves.{most_names, seen_stays}
-use Rattle.roff_scan.specs.Input.{Ahead, ByteAhead, pushing, item_taken, cost, counting}
+use Rattle.roff_scan.specs.Input.{Ahead, ByteAhead, pushing, item_taken, cost, counting, body_named}
 use Rattle.roff_scan.specs.declared.escapes.NameUse.{NameUse}
 use Rattle.roff_scan.specs.declared.escapes.NameUse.TheVariants.{Register, Text as OfText, Argument}
 use Rattle.roff_scan.specs.declared.half.ConditionPart.{ConditionPart}
@@ -20,7 +20,7 @@ use Rattle.roff_run.specs.Registers.{Known, StepBy, changed_by, step_messages, t
 use Rattle.roff_run.specs.Requests.{PageEvent}
 use Rattle.roff_run.specs.Run.{State, known, made, byte_taken, moved, answered, reading_on, step, after}
 use Rattle.roff_run.specs.declared.reading.Reading.{Reading}
-use Rattle.roff_run.specs.declared.reading.Reading.TheVariants.{LineStart, Branch, Braced, Text as InText, Control, Name, Arguments as InArguments, Deciding, Skipping, Dropped}
+use Rattle.roff_run.specs.declared.reading.Reading.TheVariants.{LineStart, Branch, Braced, Text as InText, Control, Name, Arguments as InArguments, Deciding, StringName, StringText, Skipping, Dropped}
 
 -- a run takes items: it hasn't ended and isn't about to, and there is nothing to do first
 pub record TakesItems (s : State) : Type 0 where
@@ -75,10 +75,13 @@ reads_text (Control breaks) = false
 reads_text (Name breaks first) = false
 reads_text (InArguments breaks request) = false
 reads_text (Deciding keeps) = false
+reads_text (StringName appends) = false
+reads_text (StringText name appends is_front) = false
 reads_text (Skipping opened closed behind) = false
 reads_text Dropped = false
 
--- whether escapes are read: those of text, those among a request's arguments, and those of conditions
+-- whether escapes are read: those of text, those among a request's arguments, those of conditions, and those of a string's
+-- name and text
 abbrev pub reads_escapes : Reading → Bool
 reads_escapes LineStart = true
 reads_escapes Branch = true
@@ -88,6 +91,8 @@ reads_escapes (Control breaks) = false
 reads_escapes (Name breaks first) = false
 reads_escapes (InArguments breaks request) = true
 reads_escapes (Deciding keeps) = true
+reads_escapes (StringName appends) = true
+reads_escapes (StringText name appends is_front) = true
 reads_escapes (Skipping opened closed behind) = false
 reads_escapes Dropped = false
 
@@ -117,16 +122,20 @@ stepped (Register (Some direction)) name s = record s {
 }
 stepped (_) name s = s
 
--- the text that is read in the place of an escape: a register's. Strings and arguments are empty, as there are none yet.
-abbrev pub text_named : Known → NameUse → List ℕ → List ℕ
-text_named k (Register step) name = text_of_register k name
-text_named k (_) name = []
+-- the text that is read in the place of an escape: a register's, or the body of a string's name. Arguments are empty, as
+-- there are none yet.
+abbrev pub text_named : Known → PageInput → NameUse → List ℕ → List ℕ
+text_named k i (Register step) name = text_of_register k name
+text_named k i OfText name = body_named name i
+text_named k i (_) name = []
 
 -- such a text and its end stand in front of the rest, and so many bytes more were taken. What isn't a byte of the
--- line has come: among arguments no quote follows the quote before it.
+-- line has come: among arguments, and in a string's name, no quote follows the quote before it.
 abbrev pub with_text_ahead : NameUse → List ℕ → ℕ → List (Ahead PageEvent) → State → State
 with_text_ahead purpose name taken rest s = record s {
-  input = pushing (text_named (known s) purpose name) (record (interrupted s.reading s.input) { ahead = rest; charge = s.input.charge + taken });
+  input =
+      pushing (text_named (known s) s.input purpose name)
+      (record (interrupted s.reading s.input) { ahead = rest; charge = s.input.charge + taken });
 }
 
 -- Reading such an escape is reading its text, the text's end, and what stood behind the escape. So it

@@ -1,18 +1,19 @@
 -- What is being read, and what each byte means there (manual, sections 1.1, 4.1, 8, 10.1 and 16).
-use Rattle.std.specs.Prelude.{◌≡◌, ℕ, ◌+◌, Bool, true, false, ◌||◌, ◌&&◌, not, nat_le, List, [], ◌∷◌, ◌++◌, decimal, map, reverse, min, Some, None, Option, if◌then◌else◌, ◌==◌}
+use Rattle.std.specs.Prelude.{◌≡◌, ℕ, ◌+◌, Bool, true, false, ◌||◌, ◌&&◌, not, nat_le, List, [], ◌∷◌, ◌++◌, decimal, map, reverse, min, slice_get, option_map, option_to_list, Some, None, Option, if◌then◌else◌, ◌==◌}
 use Rattle.roff_lines.specs.declared.event.Event.TheVariants.{Print, WordEnd, Gap, LineEnd, Break}
 use Rattle.roff_lines.specs.declared.glyph.Glyph.{Glyph}
 use Rattle.roff_lines.specs.declared.glyph.Glyph.TheVariants.{Printed, Blanks}
 use Rattle.roff_scan.specs.Arguments.{no_arguments, with_unit, settled, finished, only_kept}
-use Rattle.roff_scan.specs.Bytes.{tab, newline, blank, apostrophe, dot, backslash, is_silent, is_dropped}
+use Rattle.roff_scan.specs.Bytes.{tab, newline, blank, apostrophe, quote, dot, backslash, is_silent, is_dropped}
 use Rattle.roff_scan.specs.Characters.{character}
 use Rattle.roff_scan.specs.Escapes.{escape_of}
+use Rattle.roff_scan.specs.Half.{unit_bytes}
 use Rattle.roff_scan.specs.Halves.{Reads, byte_read, reading_ended}
-use Rattle.roff_scan.specs.Input.{Input, pushing, holding_text, choosing, keeping, kept_last, without_last}
+use Rattle.roff_scan.specs.Input.{Input, pushing, holding_text, choosing, keeping, kept_last, without_last, texts_of, calling, body_named, adding, entering}
 use Rattle.roff_scan.specs.declared.escapes.Escape.{Escape as Kind}
 use Rattle.roff_scan.specs.declared.escapes.Escape.TheVariants.{Prints, Blank, NoWidth, Brace, LeftOut as IsLeftOut, Text as BeginsText}
 use Rattle.roff_scan.specs.declared.escapes.NameUse.{NameUse}
-use Rattle.roff_scan.specs.declared.escapes.NameUse.TheVariants.{Register, Character, Font, LeftOut as NameLeftOut}
+use Rattle.roff_scan.specs.declared.escapes.NameUse.TheVariants.{Register, Text as OfText, Character, Font, LeftOut as NameLeftOut}
 use Rattle.roff_scan.specs.declared.escapes.TextUse.TheVariants.{LeftOut as LeftOutText}
 use Rattle.roff_scan.specs.declared.half.CopyUnit.{CopyUnit}
 use Rattle.roff_scan.specs.declared.half.CopyUnit.TheVariants.{Byte, Kept}
@@ -21,17 +22,20 @@ use Rattle.roff_scan.specs.declared.half.Decision.TheVariants.{Is, OnPages}
 use Rattle.roff_scan.specs.declared.half.Read.{Read}
 use Rattle.roff_scan.specs.declared.half.Read.TheVariants.{GoesOn, Unit, Holds, Escape, Asks, Motion, Measures, Tells, Decides}
 use Rattle.roff_scan.specs.declared.half.Remark.{Remark}
-use Rattle.roff_scan.specs.declared.half.Surroundings.TheVariants.{Text as AboveText, Arguments as AboveArguments}
+use Rattle.roff_scan.specs.declared.half.Surroundings.TheVariants.{Text as AboveText, Arguments as AboveArguments, Copy as AboveCopy}
 use Rattle.roff_store.specs.declared.register.Direction.{Direction}
+use Rattle.roff_store.specs.TextCalls.{Open, Set}
+use Rattle.roff_store.specs.Texts.{Body, has_body}
 use Rattle.roff_run.specs.Messages.{character_name, remark_message, remark_messages}
 use Rattle.roff_run.specs.declared.message.Message.{Message}
 use Rattle.roff_run.specs.declared.message.Message.TheVariants.{LeftOut, UnknownCharacter}
 use Rattle.roff_run.specs.declared.reading.Reading.{Reading}
-use Rattle.roff_run.specs.declared.reading.Reading.TheVariants.{LineStart, Branch, Braced, Text as InText, Control, Name, Arguments as InArguments, Deciding, Skipping, Dropped}
+use Rattle.roff_run.specs.declared.reading.Reading.TheVariants.{LineStart, Branch, Braced, Text as InText, Control, Name, Arguments as InArguments, Deciding, StringName, StringText, Skipping, Dropped}
+use Rattle.roff_run.specs.declared.reading.ShortName.{ShortName}
 use Rattle.roff_run.specs.declared.reading.TextLine.{TextLine}
 use Rattle.roff_run.specs.declared.request.Request.{Request}
 use Rattle.roff_run.specs.declared.request.LineReading.{LineReading}
-use Rattle.roff_run.specs.declared.request.LineReading.TheVariants.{ByArguments, ByCondition, ByElse}
+use Rattle.roff_run.specs.declared.request.LineReading.TheVariants.{ByArguments, ByCondition, ByElse, ByString}
 use Rattle.roff_run.specs.Registers.{Known, is_page_odd, known_behind, step_changes, step_messages, text_of_register}
 use Rattle.roff_run.specs.Requests.{PageEvent, Text, Space, Effect, doing, row_of, request_named, request_effect}
 
@@ -183,7 +187,11 @@ interpolating k i reading step name = record {
   effect = record { messages = step_messages step name k.registers; changes = step_changes step name; events = [] };
 }
 
--- a string or an argument is read in the place of its escape; there are none yet, so the text is empty
+-- a string is read in the place of its escape
+abbrev pub putting_string : PageInput → Reading → List ℕ → Taking
+putting_string i reading name = going_on (pushing (body_named name i) i) reading
+
+-- an argument is read in the place of its escape; there are none yet, so the text is empty
 abbrev pub putting_nothing : PageInput → Reading → Taking
 putting_nothing i reading = going_on (pushing [] i) reading
 
@@ -195,6 +203,7 @@ measuring i reading width = going_on (pushing (decimal width) i) reading
 abbrev pub asking : Known → PageInput → Reading → NameUse → Option (List ℕ) → Taking
 asking k i reading purpose None = going_on i reading
 asking k i reading (Register step) (Some name) = interpolating k i reading step name
+asking k i reading OfText (Some name) = putting_string i reading name
 asking k i reading (_) (Some name) = putting_nothing i reading
 
 -- the name behind an escape of a text line; where something is read in the escape's place this is read on
@@ -308,6 +317,96 @@ arguments_found k i breaks request found = no_unit_found k (settling i) (InArgum
 abbrev pub arguments_read_on : Known → PageInput → Bool → Request → Reads → Taking
 arguments_read_on k i breaks request r = arguments_found k (record i { half = r.1 }) breaks request r.0
 
+-- the name of a string, by the argument that gives it: its first two bytes
+abbrev pub short_name : List ℕ → Option ShortName
+short_name [] = None
+short_name (first ∷ []) = Some (record { first = first; second = None })
+short_name (first ∷ second ∷ others) = Some (record { first = first; second = Some second })
+
+abbrev pub name_bytes : ShortName → List ℕ
+name_bytes name = name.first ∷ option_to_list name.second
+
+-- the name that the first of these arguments gives, if there is one
+abbrev pub first_name : List (List ℕ) → Option (Option ShortName)
+first_name texts = option_map short_name (slice_get texts 0)
+
+-- the name of a string, if the argument that gives it is whole
+abbrev pub name_read : PageInput → Option (Option ShortName)
+name_read i = first_name (reverse i.arguments.whole)
+
+-- the text of a string is begun, and the argument that gave its name is released; one without a name gets none
+abbrev pub string_begun : Option ShortName → PageInput → PageInput
+string_begun None i = record i { arguments = no_arguments }
+string_begun (Some name) i = calling Open (record i { arguments = no_arguments })
+
+-- a unit is put behind the text, if there is one
+abbrev pub string_grown : Option ShortName → CopyUnit → PageInput → PageInput
+string_grown None unit i = i
+string_grown (Some name) unit i = adding (unit_bytes unit) i
+
+-- the text is the string from now on, or is put behind it
+abbrev pub string_entered : Option ShortName → Bool → PageInput → PageInput
+string_entered None appends i = i
+string_entered (Some name) appends i = entering (name_bytes name) appends i
+
+-- a string without a text is empty; one that is appended to stays
+abbrev pub string_emptied : Option ShortName → Bool → PageInput → PageInput
+string_emptied None appends i = i
+string_emptied (Some name) appends i =
+    if appends && has_body (name_bytes name) (texts_of i) then i else calling (Set (name_bytes name) (Body [])) i
+
+-- a unit of a string's text: in front of it blanks are dropped, and then one quote; a newline ends it
+abbrev pub string_unit : PageInput → Option ShortName → Bool → Bool → CopyUnit → Taking
+string_unit i name appends is_front (Byte b) =
+    if b == newline then going_on (string_entered name appends i) LineStart
+    else if is_front && b == blank then going_on i (StringText name appends true)
+    else if is_front && b == quote then going_on i (StringText name appends false)
+    else going_on (string_grown name (Byte b) i) (StringText name appends false)
+string_unit i name appends is_front (Kept b) = going_on (string_grown name (Kept b) i) (StringText name appends false)
+
+-- the line ends where its name is read: the string is without a text
+abbrev pub string_line_ended : PageInput → Bool → Option (Option ShortName) → Taking
+string_line_ended i appends None = going_on (record i { arguments = no_arguments }) LineStart
+string_line_ended i appends (Some name) = going_on (string_emptied name appends (record i { arguments = no_arguments })) LineStart
+
+-- behind a unit of the name: where the name is whole the text comes
+abbrev pub string_name_behind : PageInput → Bool → Option (Option ShortName) → Taking
+string_name_behind i appends None = going_on i (StringName appends)
+string_name_behind i appends (Some name) = going_on (string_begun name i) (StringText name appends true)
+
+-- a unit where the name may be whole: it is the text's first one, or one of the name
+abbrev pub string_name_or_text : PageInput → Bool → CopyUnit → Option (Option ShortName) → Taking
+string_name_or_text i appends unit None = string_name_behind (holding unit i) appends (name_read (holding unit i))
+string_name_or_text i appends unit (Some name) = string_unit (string_begun name i) name appends true unit
+
+-- a unit of a string's name, which is read as an argument is; one in quotes ends before all but a quote
+abbrev pub string_name_unit : PageInput → Bool → CopyUnit → Taking
+string_name_unit i appends (Byte b) =
+    if b == newline then string_line_ended i appends (first_name (arguments_given i))
+    else if b == quote then string_name_or_text i appends (Byte b) (name_read i)
+    else string_name_or_text (settling i) appends (Byte b) (name_read (settling i))
+string_name_unit i appends (Kept b) = string_name_or_text (settling i) appends (Kept b) (name_read (settling i))
+
+-- what was found where the name is read
+abbrev pub string_name_found : Known → PageInput → Bool → Read → Taking
+string_name_found k i appends (Unit unit) = string_name_unit i appends unit
+string_name_found k i appends (Escape b) = string_name_unit i appends (Kept b)
+string_name_found k i appends found = no_unit_found k (settling i) (StringName appends) found
+
+-- what something reads there, with what is half read then
+abbrev pub string_name_read : Known → PageInput → Bool → Reads → Taking
+string_name_read k i appends r = string_name_found k (record i { half = r.1 }) appends r.0
+
+-- what was found of the text
+abbrev pub string_text_found : Known → PageInput → Option ShortName → Bool → Bool → Read → Taking
+string_text_found k i name appends is_front (Unit unit) = string_unit i name appends is_front unit
+string_text_found k i name appends is_front (Escape b) = string_unit i name appends is_front (Kept b)
+string_text_found k i name appends is_front found = no_unit_found k i (StringText name appends is_front) found
+
+-- what something reads of it, with what is half read then
+abbrev pub string_text_read : Known → PageInput → Option ShortName → Bool → Bool → Reads → Taking
+string_text_read k i name appends is_front r = string_text_found k (record i { half = r.1 }) name appends is_front r.0
+
 -- a byte of a branch that is skipped, in which so many braces were opened and closed: one behind a backslash belongs to
 -- that, and a newline ends the branch unless more were opened
 abbrev pub skipping_taking : PageInput → ℕ → ℕ → Bool → ℕ → Taking
@@ -367,6 +466,7 @@ ends_name b = b == blank || (b == tab || (b == newline || b == backslash))
 abbrev pub line_taking : Known → PageInput → Bool → Request → LineReading → ℕ → Taking
 line_taking k i breaks request ByArguments b = arguments_read_on k i breaks request (byte_read AboveArguments i.half b)
 line_taking k i breaks request (ByCondition keeps) b = condition_read k i keeps (byte_read AboveArguments (choosing i).half b)
+line_taking k i breaks request (ByString appends) b = string_name_read k i appends (byte_read AboveArguments i.half b)
 line_taking k i breaks request ByElse b = branch_taking k (without_last i) (reads_else (kept_last i)) b
 
 -- a byte behind a name that it doesn't belong to: the line of an unknown name is dropped
@@ -381,6 +481,7 @@ name_ended_taking k i breaks name b = elim (request_named name) [
 abbrev pub behind_name : PageInput → Bool → Request → LineReading → Taking
 behind_name i breaks request ByArguments = going_on i (InArguments breaks request)
 behind_name i breaks request (ByCondition keeps) = going_on (choosing i) (Deciding keeps)
+behind_name i breaks request (ByString appends) = going_on i (StringName appends)
 behind_name i breaks request ByElse = going_on (without_last i) (branch_of (reads_else (kept_last i)))
 
 -- the last byte of a name of two bytes
@@ -405,12 +506,15 @@ kept_taking k (Name breaks first) i b =
     else name_whole_taking i breaks (first ∷ b ∷ [])
 kept_taking k (InArguments breaks request) i b = arguments_read_on k i breaks request (byte_read AboveArguments i.half b)
 kept_taking k (Deciding keeps) i b = condition_read k i keeps (byte_read AboveArguments i.half b)
+kept_taking k (StringName appends) i b = string_name_read k i appends (byte_read AboveArguments i.half b)
+kept_taking k (StringText name appends is_front) i b = string_text_read k i name appends is_front (byte_read AboveCopy i.half b)
 kept_taking k (Skipping opened closed behind) i b = skipping_taking i opened closed behind b
 kept_taking k Dropped i b = dropped_taking i b
 
 -- what isn't a byte of the line: no quote follows the quote before it
 abbrev pub interrupted : Reading → PageInput → PageInput
 interrupted (InArguments breaks request) i = settling i
+interrupted (StringName appends) i = settling i
 interrupted (_) i = i
 
 -- what a byte does where this is being read
@@ -429,6 +533,8 @@ half_ended k Braced i = beginning_read k i Braced (reading_ended AboveText i.hal
 half_ended k (InText line) i = text_read k i line (reading_ended AboveText i.half)
 half_ended k (InArguments breaks request) i = arguments_read_on k i breaks request (reading_ended AboveArguments i.half)
 half_ended k (Deciding keeps) i = condition_read k i keeps (reading_ended AboveArguments i.half)
+half_ended k (StringName appends) i = string_name_read k i appends (reading_ended AboveArguments i.half)
+half_ended k (StringText name appends is_front) i = string_text_read k i name appends is_front (reading_ended AboveCopy i.half)
 half_ended k reading i = going_on (record i { half = (reading_ended AboveText i.half).1 }) reading
 
 -- the end of the input: an unfinished line ends as by a newline

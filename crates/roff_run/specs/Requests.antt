@@ -5,9 +5,9 @@ pub use Rattle.roff_run.specs.declared.event.PageEvent.{PageEvent}
 pub use Rattle.roff_run.specs.declared.event.PageEvent.TheVariants.{Text, Space}
 pub use Rattle.roff_run.specs.Registers.{Known}
 use Rattle.roff_run.specs.declared.request.LineReading.{LineReading}
-use Rattle.roff_run.specs.declared.request.LineReading.TheVariants.{ByArguments, ByCondition, ByElse}
+use Rattle.roff_run.specs.declared.request.LineReading.TheVariants.{ByArguments, ByCondition, ByElse, ByString}
 use Rattle.roff_run.specs.declared.request.Request.{Request}
-use Rattle.roff_run.specs.declared.request.Request.TheVariants.{Adjust, AssignFormat, Break, Else, Fill, If, IfElse, Indent, LineLength, NoAdjust, NoFill, NumberRegister, RemoveRegisters, Space as SpaceDown, WithoutEffect, LeftOut}
+use Rattle.roff_run.specs.declared.request.Request.TheVariants.{Adjust, AppendString, AssignFormat, Break, DefineString, Else, Fill, If, IfElse, Indent, LineLength, NoAdjust, NoFill, NumberRegister, RemoveRegisters, Space as SpaceDown, WithoutEffect, LeftOut}
 pub use Rattle.roff_run.specs.Requests.Effects.{Effect, doing, Done, Ignored, Does, nothing, setting, left_out, meant_by}
 use Rattle.roff_run.specs.Requests.Adjustment.{adjust}
 use Rattle.roff_run.specs.Requests.Spacing.{space_down}
@@ -38,7 +38,9 @@ always done known as_given = done
 abbrev pub row_of : Request → Row
 row_of Adjust = row (codes "ad") ByArguments false (λ known. adjust)  -- section 4
 row_of AssignFormat = row (codes "af") ByArguments false (λ known. assign_format)  -- section 8
+row_of AppendString = row (codes "as") (ByString true) false (always nothing)  -- section 7
 row_of Break = row (codes "br") ByArguments true (always nothing)  -- section 4
+row_of DefineString = row (codes "ds") (ByString false) false (always nothing)  -- section 7
 row_of Else = row (codes "el") ByElse false (always nothing)  -- section 16
 row_of Fill = row (codes "fi") ByArguments true (always (setting (Filling true)))  -- section 4
 row_of IfElse = row (codes "ie") (ByCondition true) false (always nothing)  -- section 16
@@ -77,8 +79,8 @@ names_left_out =
 -- the requests that are built, in the order of their names
 abbrev pub built : List Request
 built =
-    Adjust ∷ AssignFormat ∷ Break ∷ Else ∷ Fill ∷ IfElse ∷ If ∷ Indent ∷ LineLength ∷ NoAdjust ∷ NoFill ∷ NumberRegister
-    ∷ RemoveRegisters ∷ SpaceDown ∷ []
+    Adjust ∷ AssignFormat ∷ AppendString ∷ Break ∷ DefineString ∷ Else ∷ Fill ∷ IfElse ∷ If ∷ Indent ∷ LineLength ∷ NoAdjust
+    ∷ NoFill ∷ NumberRegister ∷ RemoveRegisters ∷ SpaceDown ∷ []
 
 -- those that do nothing, or nothing but say that they are left out
 abbrev pub others : List Request

@@ -127,7 +127,7 @@ performing l e rest s = unless_refused l (refusal l s.history e) s (record s { t
 abbrev pub counts_in : AllRegisters → PageInput → List (Limit × ℕ)
 counts_in rs i =
     (Names, length rs.named) ∷ (Stack, pushed i) ∷ (Depth, depth i)
-    ∷ (Store, stored i) ∷ (Names, length i.names) ∷ (Diversions, length i.open_texts - 1)
+    ∷ (Diversions, length i.open_texts - 1) ∷ (Store, stored i) ∷ (Names, length i.names)
     ∷ (Conditions, results i) ∷ []
 
 -- the same of a state

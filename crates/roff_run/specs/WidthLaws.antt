@@ -19,9 +19,12 @@ use Rattle.roff_run.specs.Output.{PageHistory, text_of}
 use Rattle.roff_run.specs.Reading.{interrupted}
 use Rattle.roff_run.specs.Requests.{PageEvent, Text}
 use Rattle.roff_run.specs.Run.{State, refusal, step, after}
+use Rattle.roff_run.specs.declared.reading.Reading.{Reading}
+use Rattle.roff_run.specs.declared.reading.Reading.TheVariants.{StringText}
 
 -- The digits of a width and their end stand in front of the rest, this is half read, and so many bytes more were
--- taken. What isn't a byte of the line has come: among arguments no quote follows the quote before it.
+-- taken. What isn't a byte of the line has come: among arguments, and in a string's name, no quote follows the quote before
+-- it.
 abbrev pub with_width_ahead : ℕ → List Half → ℕ → List (Ahead PageEvent) → State → State
 with_width_ahead width half taken rest s = record s {
   input = pushing (decimal width) (record (interrupted s.reading s.input) { ahead = rest; half = half; charge = s.input.charge + taken });
@@ -64,6 +67,11 @@ WidthsEndWithTheirLine =
     let read : State = with_width_ahead width half 0 s.input.ahead s in
     IsWithin l s → IsWithin l read → step l s ≡ read
 
+-- whether texts are measured: where escapes are read, but for a string's text, into which they are copied
+abbrev pub measures_texts : Reading → Bool
+measures_texts (StringText name appends is_front) = false
+measures_texts reading = reads_escapes reading
+
 -- `\w`, a delimiter, a text, and the delimiter again
 abbrev pub width_escape : ℕ → List ℕ → List ℕ
 width_escape d text = backslash ∷ 119 ∷ d ∷ text ++ d ∷ []
@@ -77,11 +85,11 @@ abbrev pub text_units : List ℕ → ℕ
 text_units text = min (24 * sum_by byte_columns text) most_width
 
 -- Reading such an escape is reading the digits of its text's width, and their end, and what stood behind it. So it is
--- where nothing is half read, in text and among arguments.
+-- where nothing is half read, in text and among arguments, but not in the text of a string.
 abbrev pub MeasuredTextsReadAsDigits : Type 0
 MeasuredTextsReadAsDigits =
     (l : Limits) (s : State) (d : ℕ) (text : List ℕ) (rest : List (Ahead PageEvent)) →
-    MayDelimit d → IsPlain d text → TakesItems s → reads_escapes s.reading ≡ true → s.input.half ≡ [] →
+    MayDelimit d → IsPlain d text → TakesItems s → measures_texts s.reading ≡ true → s.input.half ≡ [] →
     s.input.ahead ≡ map ByteAhead (width_escape d text) ++ rest →
     let read : State = with_width_ahead (text_units text) [] (length (width_escape d text)) rest s in
     IsWithin l s → IsWithin l read → after l (length (width_escape d text)) s ≡ read
@@ -90,7 +98,7 @@ MeasuredTextsReadAsDigits =
 abbrev pub MeasuredTextsOfTheSourceReadAsDigits : Type 0
 MeasuredTextsOfTheSourceReadAsDigits =
     (l : Limits) (s : State) (d : ℕ) (text : List ℕ) (tape : Tape) →
-    MayDelimit d → IsPlain d text → TakesItems s → reads_escapes s.reading ≡ true → s.input.half ≡ [] →
+    MayDelimit d → IsPlain d text → TakesItems s → measures_texts s.reading ≡ true → s.input.half ≡ [] →
     s.input.ahead ≡ [] → s.tape ≡ items_then (map OneByte (width_escape d text)) tape →
     let read : State = with_width_ahead (text_units text) [] (length (width_escape d text)) [] (with_source_behind tape s) in
     IsWithin l s → IsWithin l read → after l (length (width_escape d text)) s ≡ read

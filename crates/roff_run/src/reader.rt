@@ -1,16 +1,18 @@
 //! Reading: what each item of the input means, before it is done.
 
-ghost use Rattle.std.specs.Prelude.{◌≡◌, ℕ, List, [], ◌∷◌, None, Some, true, IfOk, IfSome, Ok, reverse, slice_get};
+ghost use Rattle.std.specs.Prelude.{◌≡◌, ◌≢◌, ℕ, List, [], ◌∷◌, None, Some, true, IfOk, IfSome, Ok, reverse, slice_get};
 ghost use Rattle.std.specs.Option.{option_copied};
 ghost use Rattle.roff_lines.specs.declared.event.Event.TheVariants.{Gap, Print, WordEnd};
 ghost use Rattle.roff_lines.specs.declared.glyph.Glyph.TheVariants.{Printed};
 ghost use Rattle.roff_run.specs.Requests.{Text};
+ghost use Rattle.roff_scan.specs.declared.arguments.Place.TheVariants.{BehindQuote};
+ghost use Rattle.roff_scan.specs.declared.half.CopyUnit.TheVariants.{Byte};
 ghost use Rattle.roff_run.specs.Registers.{Known as KnownOf};
-ghost use Rattle.roff_run.specs.Clauses.{AllRegisters, Changed, Env, LineStart, NameOf, PageHistory, PageInput, PageUnread, Passes, Remove, Stands, TakesAs, arguments_found, asking, beginning_found, behind_name, changed_by, changes_of, condition_found, decided, effect_of, end_taking, first_escape, first_taking, fresh_reader, going_on, meaning_events, half_ended, holding, holding_text, interpolating, interrupted, is_passed, is_so, kept_taking, known_at, known_of, line_begun, line_ended, listed, row_of, measuring, name_taking, names_given, no_unit_found, putting_nothing, register_named, request_effect, taking, telling, text_found, text_of, unit_found, value_in_force};
+ghost use Rattle.roff_run.specs.Clauses.{AllRegisters, Changed, Env, LineStart, NameOf, PageHistory, PageInput, PageUnread, Passes, Remove, Stands, TakesAs, arguments_found, asking, beginning_found, behind_name, changed_by, changes_of, condition_found, decided, effect_of, end_taking, first_escape, first_taking, fresh_reader, going_on, meaning_events, half_ended, holding, holding_text, interpolating, interrupted, is_passed, is_so, kept_taking, known_at, known_of, line_begun, line_ended, listed, row_of, measuring, name_taking, names_given, no_unit_found, putting_nothing, register_named, request_effect, taking, telling, text_found, text_of, unit_found, value_in_force, InputBecame, arguments_given, first_name, name_read, putting_string, string_begun, string_emptied, string_entered, string_grown, string_line_ended, string_name_behind, string_name_found, string_name_or_text, string_name_unit, string_text_found, string_unit};
 
 use crate::event::{Events, PageEvent};
 use crate::message::Message;
-use crate::reading::{Reading, TextLine, TextStep, ends_name};
+use crate::reading::{Reading, ShortName, TextLine, TextStep, ends_name};
 use crate::registers::{Facts, RunRegisters};
 use crate::request::{
     Changes, Effect, Given, Known, LineReading, Request, name_given, register_named,
@@ -21,7 +23,7 @@ use roff_num::{Limit, Name, Num};
 use roff_scan::{
     ArgumentList, CopyUnit, Decision, NameUse, Read, Remark, Surroundings, Unread, is_dropped,
 };
-use roff_store::Direction;
+use roff_store::{Direction, Entry, Kind};
 use std::alloc::{AllocError, Global};
 use std::marker::Model;
 
@@ -164,6 +166,18 @@ impl Reader {
                 let found = unread.read_byte(Surroundings::Arguments, byte);
                 self.read_condition(keeps, found, env, unread)
             }
+            Reading::StringName { appends } => {
+                let found = unread.read_byte(Surroundings::Arguments, byte);
+                self.read_string_name(appends, found, env, unread)
+            }
+            Reading::StringText {
+                name,
+                appends,
+                is_front,
+            } => {
+                let found = unread.read_byte(Surroundings::Copy, byte);
+                self.read_string(name, appends, is_front, found, env, unread)
+            }
             Reading::Skipping {
                 opened,
                 closed,
@@ -207,6 +221,18 @@ impl Reader {
                 let found = unread.end_reading(Surroundings::Arguments);
                 self.read_condition(keeps, found, env, unread)
             }
+            Reading::StringName { appends } => {
+                let found = unread.end_reading(Surroundings::Arguments);
+                self.read_string_name(appends, found, env, unread)
+            }
+            Reading::StringText {
+                name,
+                appends,
+                is_front,
+            } => {
+                let found = unread.end_reading(Surroundings::Copy);
+                self.read_string(name, appends, is_front, found, env, unread)
+            }
             _ => {
                 let _ = unread.end_reading(Surroundings::Text);
                 Ok(Meaning::nothing())
@@ -238,8 +264,10 @@ impl Reader {
         ensures { unread.new
             ≡ record unread.old { input = interrupted self.now.reading unread.old.input } }
     {
-        if let Reading::Arguments { .. } = self.reading {
-            unread.settle();
+        match self.reading {
+            Reading::Arguments { .. } => unread.settle(),
+            Reading::StringName { .. } => unread.settle(),
+            _ => {}
         }
     }
 
@@ -422,6 +450,7 @@ impl Reader {
                 unread.begin_condition();
                 Reading::Deciding { keeps }
             }
+            LineReading::ByString { appends } => Reading::StringName { appends },
             LineReading::ByElse => Reading::branch(unread.take_kept() == Some(false)),
         };
         self.read_on(reading)
@@ -551,6 +580,179 @@ impl Reader {
         }
     }
 
+    /// Something of a string's name.
+    fn read_string_name(
+        &mut self,
+        appends: bool,
+        found: Read,
+        env: &Env,
+        unread: &mut Unread<PageEvent>,
+    ) -> Result<Meaning, Limit>
+        ensures { TakesAs (λ k. string_name_found k unread.old.input appends found)
+            env.now self.old self.new unread.old unread.new result }
+    {
+        match found {
+            Read::Unit(unit) => self.read_unit_of_string_name(appends, unit, unread),
+            Read::Escape(byte) => {
+                self.read_unit_of_string_name(appends, CopyUnit::Kept(byte), unread)
+            }
+            _ => {
+                unread.settle();
+                self.read_in_arguments(Reading::StringName { appends }, found, env, unread)
+            }
+        }
+    }
+
+    /// A unit of a string's name; one in quotes ends before all but a quote.
+    fn read_unit_of_string_name(
+        &mut self,
+        appends: bool,
+        unit: CopyUnit,
+        unread: &mut Unread<PageEvent>,
+    ) -> Result<Meaning, Limit>
+        ensures { (env : Env)
+            → TakesAs (λ k. string_name_unit unread.old.input appends unit)
+            env self.old self.new unread.old unread.new result }
+    {
+        match unit {
+            CopyUnit::Byte(b'\n') => self.end_string_line(appends, unread),
+            CopyUnit::Byte(b'"') => self.read_name_or_string(appends, unit, unread),
+            _ => {
+                unread.settle();
+                self.read_name_or_string(appends, unit, unread)
+            }
+        }
+    }
+
+    /// A unit where a string's name may be whole: the first one of its text, or one of the name.
+    fn read_name_or_string(
+        &mut self,
+        appends: bool,
+        unit: CopyUnit,
+        unread: &mut Unread<PageEvent>,
+    ) -> Result<Meaning, Limit>
+        requires line_goes_on { unit ≢ Byte 10 }
+        requires apart { unit ≢ Byte 34 → unread.old.input.arguments.place ≢ BehindQuote }
+        ensures { (env : Env)
+            → TakesAs (λ k. string_name_or_text unread.old.input appends unit (name_read unread.old.input))
+            env self.old self.new unread.old unread.new result }
+    {
+        match first_name(unread.arguments()) {
+            Some(name) => {
+                begin_string(name, unread)?;
+                self.read_unit_of_string(name, appends, true, unit, unread)
+            }
+            None => {
+                unread.hold(unit)?;
+                self.begin_text_if_named(appends, unread)
+            }
+        }
+    }
+
+    /// Behind a unit of a string's name: where the name is whole its text comes.
+    fn begin_text_if_named(
+        &mut self,
+        appends: bool,
+        unread: &mut Unread<PageEvent>,
+    ) -> Result<Meaning, Limit>
+        ensures { (env : Env)
+            → TakesAs (λ k. string_name_behind unread.old.input appends (name_read unread.old.input))
+            env self.old self.new unread.old unread.new result }
+    {
+        match first_name(unread.arguments()) {
+            Some(name) => {
+                begin_string(name, unread)?;
+                Ok(self.read_on(Reading::StringText {
+                    name,
+                    appends,
+                    is_front: true,
+                }))
+            }
+            None => Ok(self.read_on(Reading::StringName { appends })),
+        }
+    }
+
+    /// The line of a string ends where its name is read.
+    fn end_string_line(
+        &mut self,
+        appends: bool,
+        unread: &mut Unread<PageEvent>,
+    ) -> Result<Meaning, Limit>
+        ensures { (env : Env)
+            → TakesAs (λ k. string_line_ended unread.old.input appends (first_name (arguments_given unread.old.input)))
+            env self.old self.new unread.old unread.new result }
+    {
+        unread.finish_arguments();
+        let given = first_name(unread.arguments());
+        unread.begin_arguments();
+        if let Some(Some(name)) = given {
+            empty_string(name, appends, unread)?;
+        }
+        Ok(self.read_on(Reading::LineStart))
+    }
+
+    /// Something of a string's text.
+    fn read_string(
+        &mut self,
+        name: Option<ShortName>,
+        appends: bool,
+        is_front: bool,
+        found: Read,
+        env: &Env,
+        unread: &mut Unread<PageEvent>,
+    ) -> Result<Meaning, Limit>
+        ensures { TakesAs (λ k. string_text_found k unread.old.input name appends is_front found)
+            env.now self.old self.new unread.old unread.new result }
+    {
+        match found {
+            Read::Unit(unit) => self.read_unit_of_string(name, appends, is_front, unit, unread),
+            Read::Escape(byte) => {
+                self.read_unit_of_string(name, appends, is_front, CopyUnit::Kept(byte), unread)
+            }
+            _ => {
+                let reading = Reading::StringText {
+                    name,
+                    appends,
+                    is_front,
+                };
+                self.read_in_arguments(reading, found, env, unread)
+            }
+        }
+    }
+
+    /// A unit of a string's text: in front of it blanks are dropped, and then one quote; a newline
+    /// ends it.
+    fn read_unit_of_string(
+        &mut self,
+        name: Option<ShortName>,
+        appends: bool,
+        is_front: bool,
+        unit: CopyUnit,
+        unread: &mut Unread<PageEvent>,
+    ) -> Result<Meaning, Limit>
+        ensures { (env : Env)
+            → TakesAs (λ k. string_unit unread.old.input name appends is_front unit)
+            env self.old self.new unread.old unread.new result }
+    {
+        let text = |is_front| Reading::StringText {
+            name,
+            appends,
+            is_front,
+        };
+        match unit {
+            CopyUnit::Byte(b'\n') => {
+                enter_string(name, appends, unread)?;
+                Ok(self.read_on(Reading::LineStart))
+            }
+            CopyUnit::Byte(b' ') if is_front => Ok(self.read_on(text(true))),
+            CopyUnit::Byte(b'"') if is_front => Ok(self.read_on(text(false))),
+            _ => {
+                grow_string(name, unit, unread)?;
+                Ok(self.read_on(text(false)))
+            }
+        }
+    }
+
     /// A unit of an argument is held, and this is read on.
     fn hold(
         &mut self,
@@ -625,13 +827,23 @@ impl Reader {
         };
         match purpose {
             NameUse::Register(step) => self.interpolate(step, &name, env, unread),
-            NameUse::Text => self.put_nothing(unread),
+            NameUse::Text => self.put_string(&name, unread),
             NameUse::Argument => self.put_nothing(unread),
             // Copy mode reads no such name, and text reads it otherwise.
             NameUse::Character => self.put_nothing(unread),
             NameUse::Font => self.put_nothing(unread),
             NameUse::LeftOut(_) => self.put_nothing(unread),
         }
+    }
+
+    /// A string is put in front.
+    fn put_string(&self, name: &Name, unread: &mut Unread<PageEvent>) -> Result<Meaning, Limit>
+        ensures { (env : Env)
+            → TakesAs (λ k. putting_string unread.old.input self.now.reading name.now)
+            env self.now self.now unread.old unread.new result }
+    {
+        unread.push_body(name)?;
+        Ok(Meaning::nothing())
     }
 
     /// An empty text is put in front.
@@ -773,6 +985,66 @@ impl Meaning {
             message: None,
             events: Events::new(),
         }
+    }
+}
+
+/// The name that the first of these arguments gives, if there is one.
+fn first_name(arguments: ArgumentList<'_>) -> Option<Option<ShortName>>
+    ensures { result ≡ first_name (listed arguments.entry) }
+{
+    arguments.get(0).map(ShortName::of)
+}
+
+/// Begins the text of a string, and releases the argument that gave its name.
+fn begin_string(name: Option<ShortName>, unread: &mut Unread<PageEvent>) -> Result<(), Limit>
+    ensures { InputBecame (string_begun name unread.old.input) unread.old unread.new result }
+{
+    unread.begin_arguments();
+    match name {
+        Some(_) => unread.begin_text(),
+        None => Ok(()),
+    }
+}
+
+/// Puts a unit behind the text of a string, if it has a name.
+fn grow_string(
+    name: Option<ShortName>,
+    unit: CopyUnit,
+    unread: &mut Unread<PageEvent>,
+) -> Result<(), Limit>
+    ensures { InputBecame (string_grown name unit unread.old.input) unread.old unread.new result }
+{
+    if name.is_none() {
+        return Ok(());
+    }
+    match unit {
+        CopyUnit::Byte(byte) => unread.add(&[byte]),
+        CopyUnit::Kept(byte) => unread.add(&[b'\\', byte]),
+    }
+}
+
+/// Ends the text of a string.
+fn enter_string(
+    name: Option<ShortName>,
+    appends: bool,
+    unread: &mut Unread<PageEvent>,
+) -> Result<(), Limit>
+    ensures { InputBecame (string_entered name appends unread.old.input) unread.old unread.new result }
+{
+    match name {
+        Some(name) => unread.enter(&name.name(), appends),
+        None => Ok(()),
+    }
+}
+
+/// A string without a text is empty; one that is appended to stays.
+fn empty_string(name: ShortName, appends: bool, unread: &mut Unread<PageEvent>) -> Result<(), Limit>
+    ensures { InputBecame (string_emptied (Some name) appends unread.old.input) unread.old unread.new result }
+{
+    let name = name.name();
+    match unread.get(&name) {
+        Some(Kind::Body(_)) if appends => Ok(()),
+        _ => unread.set(&name, Entry::Body(&[])),
     }
 }
 

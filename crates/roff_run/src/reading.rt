@@ -3,7 +3,7 @@
 ghost use Rattle.std.specs.Prelude.{◌≡◌, ℕ, ◌≤◌, ◌+◌, ◌++◌, ◌∷◌, [], length, map, true, min};
 ghost use Rattle.roff_lines.specs.declared.event.Event.TheVariants.{Gap, Print, WordEnd};
 ghost use Rattle.roff_lines.specs.declared.glyph.Glyph.TheVariants.{Printed};
-ghost use Rattle.roff_run.specs.Reading.{PageInput, branch_of, counted_if, going_on, kept_taking, dropped_taking, skipping_taking, ends_name, brace_taking, character_taking, escape_taking, fresh_line, glyph_taking, glyphs_taking, blank_taking, leading_blank_events, leading_glyph, left_out_taking, meaning_events, most_leading, motion_taking, other_taking, taking, told_taking, text_line_end, text_taking};
+ghost use Rattle.roff_run.specs.Reading.{PageInput, name_bytes, short_name, branch_of, counted_if, going_on, kept_taking, dropped_taking, skipping_taking, ends_name, brace_taking, character_taking, escape_taking, fresh_line, glyph_taking, glyphs_taking, blank_taking, leading_blank_events, leading_glyph, left_out_taking, meaning_events, most_leading, motion_taking, other_taking, taking, told_taking, text_line_end, text_taking};
 ghost use Rattle.std.specs.Option.{option_to_list};
 ghost use Rattle.roff_run.specs.Messages.{remark_messages};
 ghost use Rattle.roff_run.specs.Requests.{Text};
@@ -53,6 +53,16 @@ pub(crate) enum Reading {
     Deciding {
         keeps: bool,
     },
+    /// The name of a string, which may be appended to.
+    StringName {
+        appends: bool,
+    },
+    /// A string's text, of a string with this name, and whether it is in front of it.
+    StringText {
+        name: Option<ShortName>,
+        appends: bool,
+        is_front: bool,
+    },
     /// A branch that is skipped: how many braces were opened and closed in it, and whether a
     /// backslash stands in front.
     Skipping {
@@ -62,6 +72,13 @@ pub(crate) enum Reading {
     },
     /// A line that is dropped.
     Dropped,
+}
+
+/// A name of one or two bytes.
+#[derive(Clone, Copy, Debug, PartialEq, Eq)]
+pub(crate) struct ShortName {
+    pub(crate) first: u8,
+    pub(crate) second: Option<u8>,
 }
 
 /// What stands on a text line so far.
@@ -151,6 +168,28 @@ impl Reading {
         } else {
             Reading::Dropped
         }
+    }
+}
+
+impl ShortName {
+    /// The name that an argument gives: its first two bytes.
+    pub(crate) fn of(text: &[u8]) -> Option<ShortName>
+        ensures { result ≡ short_name text.now }
+    {
+        let first = text.first()?;
+        Some(ShortName {
+            first: *first,
+            second: text.get(1).copied(),
+        })
+    }
+
+    /// The same as a name.
+    pub(crate) fn name(self) -> Name
+        ensures { result ≡ name_bytes self }
+    {
+        let bytes = [self.first, self.second.unwrap_or(0)];
+        let count = if self.second.is_some() { 2 } else { 1 };
+        Name::new(&bytes[..count]).unwrap()
     }
 }
 

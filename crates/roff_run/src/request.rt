@@ -14,7 +14,7 @@ mod spacing;
 #[cfg(test)]
 mod tests;
 
-use LineReading::{ByArguments, ByCondition, ByElse};
+use LineReading::{ByArguments, ByCondition, ByElse, ByString};
 use Request::{LeftOut, WithoutEffect};
 pub(crate) use effects::{Changes, Done, Effect, Known};
 pub(crate) use numbering::{name_given, register_named};
@@ -25,10 +25,14 @@ use roff_lines::Param;
 pub(crate) enum Request {
     /// `ad`: adjusting on, in a mode.
     Adjust,
+    /// `as`: a string is appended to.
+    AppendString,
     /// `af`: how a number register is written.
     AssignFormat,
     /// `br`: a break.
     Break,
+    /// `ds`: a string.
+    DefineString,
     /// `el`: the other branch of a condition.
     Else,
     /// `fi`: filling on.
@@ -69,6 +73,11 @@ pub(crate) enum LineReading {
     },
     /// As the other branch of the condition whose result was kept last.
     ByElse,
+    /// As the name of a string and its text.
+    ByString {
+        /// Whether the text is put behind the string.
+        appends: bool,
+    },
 }
 
 /// The first arguments of a request, as far as they are given.
@@ -91,10 +100,12 @@ pub(crate) struct Row {
 }
 
 /// The requests that are built, in the order of their names.
-static BUILT: [Request; 14] = [
+static BUILT: [Request; 16] = [
     Request::Adjust,
     Request::AssignFormat,
+    Request::AppendString,
     Request::Break,
+    Request::DefineString,
     Request::Else,
     Request::Fill,
     Request::IfElse,
@@ -151,7 +162,9 @@ impl Request {
         match self {
             Request::Adjust => Row { name: *b"ad", line: ByArguments, breaks: false },
             Request::AssignFormat => Row { name: *b"af", line: ByArguments, breaks: false },
+            Request::AppendString => Row { name: *b"as", line: ByString { appends: true }, breaks: false },
             Request::Break => Row { name: *b"br", line: ByArguments, breaks: true },
+            Request::DefineString => Row { name: *b"ds", line: ByString { appends: false }, breaks: false },
             Request::Else => Row { name: *b"el", line: ByElse, breaks: false },
             Request::Fill => Row { name: *b"fi", line: ByArguments, breaks: true },
             Request::IfElse => Row { name: *b"ie", line: ByCondition { keeps: true }, breaks: false },
@@ -186,7 +199,9 @@ impl Request {
         match self {
             Request::Adjust => adjustment::adjust(given.first),
             Request::AssignFormat => numbering::assign_format(given.first, given.second),
+            Request::AppendString => Done::nothing(),
             Request::Break => Done::nothing(),
+            Request::DefineString => Done::nothing(),
             Request::Else => Done::nothing(),
             Request::Fill => Done::setting(Param::Filling(true)),
             Request::IfElse => Done::nothing(),

@@ -198,9 +198,9 @@ abbrev pub input_refusal : {E : Type 0} → Limits → Input E → Option Limit
 input_refusal l i =
     if nat_lt l.stack (pushed i) then Some Stack
     else if nat_lt l.depth (depth i) then Some Depth
+    else if nat_lt l.diversions (length i.open_texts - 1) then Some Diversions
     else if nat_lt l.store (stored i) then Some Store
     else if nat_lt l.names (length i.names) then Some Names
-    else if nat_lt l.diversions (length i.open_texts - 1) then Some Diversions
     else if nat_lt l.conditions (results i) then Some Conditions
     else None
 

@@ -5,9 +5,9 @@ use Rattle.roff_lines.specs.Env.Stands.{Stands}
 use Rattle.roff_lines.specs.declared.env.Env.{Env}
 use Rattle.roff_num.specs.declared.limit.Limit.{Limit}
 use Rattle.roff_num.specs.declared.limit.Limit.TheVariants.{Names}
-use Rattle.roff_scan.specs.Unread.{Unread}
+use Rattle.roff_scan.specs.Unread.{Unread, input_refusal}
 use Rattle.roff_run.specs.Output.{PageHistory, text_of}
-use Rattle.roff_run.specs.Reading.{Taking}
+use Rattle.roff_run.specs.Reading.{PageInput, Taking}
 use Rattle.roff_run.specs.Registers.{Change, Known, changed_by_all}
 use Rattle.roff_run.specs.Registers.Capped.{Capped, is_past_cap}
 use Rattle.roff_run.specs.Requests.{PageEvent}
@@ -57,6 +57,15 @@ abbrev pub Takes : Taking → Capped → ReaderState → PageUnread → PageUnre
 Takes t old new before behind (Ok m) = Took t old new before behind m
 Takes t old new before behind (Err limit) =
     first_passed before.limits (counts_in (changed_by_all t.effect.changes old.all) t.input) ≡ Some limit
+
+-- the input is this one now, and no count is above its limit; or a limit refuses it
+abbrev pub IsInputNow : PageInput → PageUnread → PageUnread → Result (Unit {0}) Limit → Type 0
+IsInputNow i before behind (Ok done) = (behind ≡ record before { input = i }) × (input_refusal before.limits i ≡ None)
+IsInputNow i before behind (Err limit) = input_refusal before.limits i ≡ Some limit
+
+-- so it became, if no count was above its limit before
+pub record InputBecame (i : PageInput) (before behind : PageUnread) (result : Result (Unit {0}) Limit) : Type 0 where
+  pub becomes : input_refusal before.limits before.input ≡ None → IsInputNow i before behind result
 
 -- the registers have the limit of the unread input, and no count is above its limit
 pub record IsReady (r : Capped) (u : PageUnread) : Type 0 where

@@ -2,10 +2,10 @@ use Rattle.std.proofs.Common.{◌≡◌, [], Ok, refl, rules, ap, ◌∙◌}
 use Rattle.roff_scan.specs.Halves.{reading_ended}
 use Rattle.roff_scan.proofs.TextsHeld.{texts_held-reading_ended}
 use Rattle.roff_scan.specs.Input.{with_half}
-use Rattle.roff_scan.specs.declared.half.Surroundings.TheVariants.{Text as AboveText, Arguments as AboveArguments}
+use Rattle.roff_scan.specs.declared.half.Surroundings.TheVariants.{Text as AboveText, Arguments as AboveArguments, Copy as AboveCopy}
 use Rattle.roff_run.specs.Reader.State.{ReaderState}
-use Rattle.roff_run.specs.Reading.{arguments_found, beginning_found, condition_found, going_on, half_ended, text_found}
-use Rattle.roff_run.specs.declared.reading.Reading.TheVariants.{Arguments as InArguments, Branch, Braced, Deciding, LineStart, Text as InText}
+use Rattle.roff_run.specs.Reading.{arguments_found, beginning_found, condition_found, string_name_found, string_text_found, going_on, half_ended, text_found}
+use Rattle.roff_run.specs.declared.reading.Reading.TheVariants.{StringName, StringText, Arguments as InArguments, Branch, Braced, Deciding, LineStart, Text as InText}
 use Rattle.roff_run.proofs.TakesAs.{TakesAs-as, TakesAs-meant, TakesAs-read, TakesAs-where, half_ended-dropped}
 use Rattle.roff_run.proofs.reader.Reader.end_half.Goals as goal
 
@@ -82,6 +82,34 @@ returns-in-Deciding c =
     c.end_reading-found-in-Deciding.new.self c.read_condition.new.unread c.end_reading-found-in-Deciding.result c.read_condition.result
     c.end_reading-found-in-Deciding.ensures.reading (texts_held-reading_ended AboveArguments u.input.half) c.read_condition.ensures)
 
+pub returns-in-StringName : goal.returns-in-StringName
+returns-in-StringName c =
+    let env = c.args.env.now in
+    let old = c.args.self.now in
+    let u = c.args.unread.now in
+    let appends = c.in-StringName.appends in
+    let done = c.read_string_name in
+    let read = c.end_reading-found-in-StringName in
+    let is : old.reading ≡ StringName appends = search rules in
+    TakesAs-where (λ k r. half_ended k r u.input) (StringName appends) env old done.new.self u done.new.unread done.result is
+    (TakesAs-read (λ k i found. string_name_found k i appends found) (reading_ended AboveArguments u.input.half) env old done.new.self u read.new.self done.new.unread
+    read.result done.result read.ensures.reading (texts_held-reading_ended AboveArguments u.input.half) done.ensures)
+
+pub returns-in-StringText : goal.returns-in-StringText
+returns-in-StringText c =
+    let env = c.args.env.now in
+    let old = c.args.self.now in
+    let u = c.args.unread.now in
+    let name = c.in-StringText.name in
+    let appends = c.in-StringText.appends in
+    let is_front = c.in-StringText.is_front in
+    let done = c.read_string in
+    let read = c.end_reading-found-in-StringText in
+    let is : old.reading ≡ StringText name appends is_front = search rules in
+    TakesAs-where (λ k r. half_ended k r u.input) (StringText name appends is_front) env old done.new.self u done.new.unread done.result is
+    (TakesAs-read (λ k i found. string_text_found k i name appends is_front found) (reading_ended AboveCopy u.input.half) env old done.new.self u read.new.self done.new.unread
+    read.result done.result read.ensures.reading (texts_held-reading_ended AboveCopy u.input.half) done.ensures)
+
 pub returns-in_default : goal.returns-in_default
 returns-in_default c =
     let env = c.args.env.now in
@@ -95,7 +123,8 @@ returns-in_default c =
     TakesAs-as (λ k. going_on (with_half read.1 u.input) old.reading) (λ k. half_ended k old.reading u.input) env old old u mid (Ok m)
     (λ k. half_ended-dropped k old.reading u.input (λ is. others.not-LineStart (same ∙ is)) (λ is. others.not-Branch (same ∙ is)) (λ is. others.not-Braced (same ∙ is))
     (λ line is. others.not-Text line (same ∙ is)) (λ breaks request is. others.not-Arguments breaks request (same ∙ is))
-    (λ keeps is. others.not-Deciding keeps (same ∙ is)))
+    (λ keeps is. others.not-Deciding keeps (same ∙ is)) (λ appends is. others.not-StringName appends (same ∙ is))
+    (λ name appends is_front is. others.not-StringText name appends is_front (same ∙ is)))
     (TakesAs-read (λ k i found. going_on i old.reading) read env old old u mid mid c.end_reading.result (Ok m) c.end_reading.ensures.reading
     (texts_held-reading_ended AboveText u.input.half)
     (TakesAs-meant (λ k. going_on mid.input old.reading) old.reading [] env old old mid m (λ k. refl) refl c.nothing.ensures.message c.nothing.ensures.events))

@@ -1,9 +1,9 @@
 use Rattle.std.proofs.Common.{◌≡◌, [], Ok, rules}
 use Rattle.roff_scan.specs.Halves.{byte_read}
-use Rattle.roff_scan.specs.declared.half.Surroundings.TheVariants.{Text as AboveText, Arguments as AboveArguments}
+use Rattle.roff_scan.specs.declared.half.Surroundings.TheVariants.{Text as AboveText, Arguments as AboveArguments, Copy as AboveCopy}
 use Rattle.roff_scan.proofs.TextsHeld.{texts_held-byte_read}
-use Rattle.roff_run.specs.Reading.{arguments_found, beginning_found, condition_found, kept_taking, text_found}
-use Rattle.roff_run.specs.declared.reading.Reading.TheVariants.{Arguments as InArguments, Branch, Braced, Control, Deciding, Dropped, LineStart, Name, Skipping, Text as InText}
+use Rattle.roff_run.specs.Reading.{arguments_found, beginning_found, condition_found, string_name_found, string_text_found, kept_taking, text_found}
+use Rattle.roff_run.specs.declared.reading.Reading.TheVariants.{StringName, StringText, Arguments as InArguments, Branch, Braced, Control, Deciding, Dropped, LineStart, Name, Skipping, Text as InText}
 use Rattle.roff_run.proofs.TakesAs.{TakesAs-meant, TakesAs-read, TakesAs-where}
 use Rattle.roff_run.proofs.reader.Reader.read_kept.Goals as goal
 
@@ -98,6 +98,34 @@ returns-in-Deciding c =
     (TakesAs-read (λ k i found. condition_found k i keeps found) (byte_read AboveArguments u.input.half c.args.byte) env old c.read_condition.new.self u
     c.read_byte-found-in-Deciding.new.self c.read_condition.new.unread c.read_byte-found-in-Deciding.result c.read_condition.result
     c.read_byte-found-in-Deciding.ensures.reading (texts_held-byte_read AboveArguments c.args.byte u.input.half) c.read_condition.ensures)
+
+pub returns-in-StringName : goal.returns-in-StringName
+returns-in-StringName c =
+    let env = c.args.env.now in
+    let old = c.args.self.now in
+    let u = c.args.unread.now in
+    let appends = c.in-StringName.appends in
+    let done = c.read_string_name in
+    let read = c.read_byte-found-in-StringName in
+    let is : old.reading ≡ StringName appends = search rules in
+    TakesAs-where (λ k r. kept_taking k r u.input c.args.byte) (StringName appends) env old done.new.self u done.new.unread done.result is
+    (TakesAs-read (λ k i found. string_name_found k i appends found) (byte_read AboveArguments u.input.half c.args.byte) env old done.new.self u read.new.self done.new.unread
+    read.result done.result read.ensures.reading (texts_held-byte_read AboveArguments c.args.byte u.input.half) done.ensures)
+
+pub returns-in-StringText : goal.returns-in-StringText
+returns-in-StringText c =
+    let env = c.args.env.now in
+    let old = c.args.self.now in
+    let u = c.args.unread.now in
+    let name = c.in-StringText.name in
+    let appends = c.in-StringText.appends in
+    let is_front = c.in-StringText.is_front in
+    let done = c.read_string in
+    let read = c.read_byte-found-in-StringText in
+    let is : old.reading ≡ StringText name appends is_front = search rules in
+    TakesAs-where (λ k r. kept_taking k r u.input c.args.byte) (StringText name appends is_front) env old done.new.self u done.new.unread done.result is
+    (TakesAs-read (λ k i found. string_text_found k i name appends is_front found) (byte_read AboveCopy u.input.half c.args.byte) env old done.new.self u read.new.self done.new.unread
+    read.result done.result read.ensures.reading (texts_held-byte_read AboveCopy c.args.byte u.input.half) done.ensures)
 
 pub returns-in-Skipping : goal.returns-in-Skipping
 returns-in-Skipping c =
