@@ -8,7 +8,7 @@ use Rattle.roff_num.specs.declared.limit.Limit.{Limit}
 use Rattle.roff_num.specs.declared.limit.Limit.TheVariants.{Names, Stack, Depth, Store, Diversions, Conditions}
 use Rattle.roff_num.specs.declared.limits.Limits.{Limits}
 use Rattle.roff_scan.specs.Halves.{reading_ended}
-use Rattle.roff_scan.specs.Input.{DoAhead, depth, results, stored}
+use Rattle.roff_scan.specs.Input.{names_added, DoAhead, depth, results, stored}
 use Rattle.roff_scan.specs.Tape.{Tape}
 use Rattle.roff_scan.specs.Unread.{looked_then}
 use Rattle.roff_scan.specs.Half.{Half}
@@ -285,7 +285,7 @@ line-half_ended k reading i =
 counts_in-settling : (rs : AllRegisters) (i : PageInput) → counts_in rs (settling i) ≡ counts_in rs i
 counts_in-settling rs i =
     let others : List (Limit × ℕ) =
-    (Depth, depth i) ∷ (Diversions, length i.open_texts - 1) ∷ (Store, stored i) ∷ (Names, length i.names) ∷ (Conditions, results i) ∷ [] in
+    (Depth, depth i) ∷ (Diversions, length i.open_texts - 1) ∷ (Store, stored i) ∷ (Names, names_added i) ∷ (Conditions, results i) ∷ [] in
     ap (λ bytes. (Names, length rs.named) ∷ (Stack, bytes) ∷ others) (pushed-settling i)
 
 -- nor where something that isn't a byte of the line has come

@@ -129,8 +129,8 @@ module _ {gave gives : Tape → Type 0} {left : PageUnread} {item : Shown PageEv
   ends_front : IsEnding item → EndsThere old.unread left taken
   ends_front = subst (λ (c : Shown PageEvent × PageUnread). IsEnding c.0 → EndsThere old.unread c.1 taken) left_is (EndsThere-takes old.unread call.answer)
 
-  falls_front : IsTaken item → turns_to_come left + 3 ≤ turns_to_come old.unread
-  falls_front = subst (λ (c : Shown PageEvent × PageUnread). IsTaken c.0 → turns_to_come c.1 + 3 ≤ turns_to_come old.unread) left_is (turns_to_come-taking call.answer old.unread)
+  falls_front : IsTaken item → turns_to_come left + 4 ≤ turns_to_come old.unread
+  falls_front = subst (λ (c : Shown PageEvent × PageUnread). IsTaken c.0 → turns_to_come c.1 + 4 ≤ turns_to_come old.unread) left_is (turns_to_come-taking call.answer old.unread)
 
   -- the step that takes the item is what the call shows
   shown_front : old.unread.limits ≡ old.limits → (tape : Tape) → gives tape → (h : PageHistory) (ms : List ℕ)

@@ -5,15 +5,14 @@ use Rattle.std.proofs.lemmas.Bool.{le-ltb}
 use Rattle.roff_lines.specs.Env.Stands.{Stands}
 use Rattle.roff_num.specs.declared.limits.Limits.{Limits}
 use Rattle.roff_scan.specs.Halves.{newline_stays}
-use Rattle.roff_scan.specs.Input.{initial_input}
 use Rattle.roff_scan.specs.Tape.{Tape, items_then}
-use Rattle.roff_scan.specs.Unread.{asks_to_take, initial_unread, looked_then}
+use Rattle.roff_scan.specs.Unread.{asks_to_take, looked_then}
 use Rattle.roff_run.specs.declared.status.Status.{Status}
 use Rattle.roff_run.specs.Output.{PageHistory}
 use Rattle.roff_run.specs.Reader.State.{ReaderState, fresh_reader}
 use Rattle.roff_run.specs.Reader.Taken.{IsReady, PageUnread}
 use Rattle.roff_run.specs.Registers.{no_registers}
-use Rattle.roff_run.specs.Run.{State, Leads, counts_in, first_passed, in_front_taken, initial, step, waiting}
+use Rattle.roff_run.specs.Run.{State, Leads, counts_in, first_input, first_passed, first_unread, in_front_taken, initial, step, waiting}
 use Rattle.roff_run.specs.TurnsToCome.{turns_to_come}
 use Rattle.roff_engine.specs.declared.running.Running.{Running as Coded}
 use Rattle.roff_engine.specs.Engine.Outcome.{Seen, Outcome, Runs}
@@ -58,7 +57,7 @@ module _ (gave gives : Tape → Type 0) (noted notes : ℕ) (old new : Coded) (n
       turn
 
 -- before the first item no count is above its limit
-none_passed-fresh : (l : Limits) → first_passed l (counts_in no_registers initial_input) ≡ None
+none_passed-fresh : (l : Limits) → first_passed l (counts_in no_registers first_input) ≡ None
 none_passed-fresh l =
     let none : (limit : ℕ) → nat_lt limit 0 ≡ false = λ limit. le-ltb limit 0 (omega arith) in
     rw (none l.names, none l.stack, none l.depth, none l.store, none l.diversions, none l.conditions) refl
@@ -70,9 +69,9 @@ starts t now run stands fresh =
     let l : Limits = run.limits in
     let at : PageUnread → ReaderState → State = λ u r. going (looked_then u.looked t) u.input r.reading r.registers.all [] [] false [] in
     let is : state_at t run [] [] ≡ initial t =
-    ap (λ (u : PageUnread). at u run.formatter.reader) fresh.unread ∙ ap (λ (r : ReaderState). at (initial_unread l) r) fresh.reader in
+    ap (λ (u : PageUnread). at u run.formatter.reader) fresh.unread ∙ ap (λ (r : ReaderState). at (first_unread l) r) fresh.reader in
     let P : PageUnread → ReaderState → Type 0 = λ u r. IsReady r.registers u in
-    let first : P (initial_unread l) (fresh_reader l.names) = record { cap = refl; within = none_passed-fresh l } in record {
+    let first : P (first_unread l) (fresh_reader l.names) = record { cap = refl; within = none_passed-fresh l } in record {
       history = [];
       messages = [];
       reaches = record {
@@ -82,7 +81,7 @@ starts t now run stands fresh =
         faults = record { source = omega arith; out = omega arith; err = omega arith };
       };
       stands = stands;
-      ready = subst (λ (u : PageUnread). P u run.formatter.reader) (sym fresh.unread) (subst (λ (r : ReaderState). P (initial_unread l) r) (sym fresh.reader) first);
+      ready = subst (λ (u : PageUnread). P u run.formatter.reader) (sym fresh.unread) (subst (λ (r : ReaderState). P (first_unread l) r) (sym fresh.reader) first);
       limits = ap (λ (u : PageUnread). u.limits) fresh.unread;
     }
 

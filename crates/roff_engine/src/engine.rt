@@ -7,7 +7,7 @@ use crate::formatter::Formatter;
 use crate::running::Running;
 use crate::sink::ByteSink;
 use roff_num::Limits;
-use roff_run::{PageEvent, Status};
+use roff_run::{PageEvent, Status, first_unread};
 use roff_scan::{ByteSource, Unread};
 use std::alloc::{AllocError, Global};
 use std::marker::Model;
@@ -45,7 +45,7 @@ impl Engine {
         Ok(Engine {
             limits,
             formatter: Formatter::new(alloc, limits.line, limits.names)?,
-            unread: Unread::new(alloc, limits)?,
+            unread: first_unread(alloc, limits)?,
         })
     }
 

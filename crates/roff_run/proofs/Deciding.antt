@@ -10,7 +10,7 @@ use Rattle.roff_scan.specs.Bytes.{tab, newline, blank, apostrophe, dot, backslas
 use Rattle.roff_scan.specs.Characters.{character}
 use Rattle.roff_scan.specs.Escapes.{escape_of}
 use Rattle.roff_scan.specs.Halves.{byte_read}
-use Rattle.roff_scan.specs.Input.{keeping, pushed, depth, results, stored}
+use Rattle.roff_scan.specs.Input.{names_added, keeping, pushed, depth, results, stored}
 use Rattle.roff_scan.specs.Unread.{changing, input_refusal}
 use Rattle.roff_scan.specs.declared.escapes.Escape.{Escape as Kind}
 use Rattle.roff_scan.specs.declared.escapes.Escape.TheVariants.{Prints, Blank, NoWidth, Brace, Nothing, Comment as BeginsComment, Size as BeginsSize, Name as BeginsName, Text as BeginsText, Width as BeginsWidth, LeftOut as IsLeftOut}
@@ -131,7 +131,7 @@ first_passed-keeping l rs so i limit passed =
     (unless_first limit Depth _ _ (nat_lt l.depth (depth i))
     (unless_first limit Diversions _ _ (nat_lt l.diversions (length i.open_texts - 1))
     (unless_first limit Store _ _ (nat_lt l.store (stored i))
-    (unless_first limit Names _ _ (nat_lt l.names (length i.names))
+    (unless_first limit Names _ _ (nat_lt l.names (names_added i))
     (results_more limit l.conditions (results i) (results (keeping so i)) (nat_lt l.conditions (results i)) refl (omega arith))))))) passed
 
 -- the limit that a taking would pass, if it would pass one

@@ -71,9 +71,10 @@ all_performed l (e ∷ es) s to_do =
 
 -- How many turns are enough before the end of the input. What is still to be charged may begin something, whose end
 -- takes a turn too, and so may a free byte; what is half read, and an item of the source, takes one; and two end the run.
--- A condition takes two endings: the bytes of the name that begins it begin nothing, and one of these is kept for it.
+-- A condition takes two endings, and the escape that begins it one more: the first byte of its request's name begins
+-- nothing, and one is kept for it.
 abbrev turns_needed : Limits → State → ℕ
-turns_needed l s = 2 * (l.bytes - s.input.charge) + 2 * free_ahead s.input.ahead + endings_of s.input.half + begun s.reading + length s.tape.items + 2
+turns_needed l s = 3 * (l.bytes - s.input.charge) + 3 * free_ahead s.input.ahead + endings_of s.input.half + begun s.reading + length s.tape.items + 2
 
 -- so many turns are enough: one behind the end of the input, and before it as many as it needs
 data HasTurns (l : Limits) (n : ℕ) (s : State) : Type 0 where
@@ -186,7 +187,7 @@ ended-turns l (suc n) s within =
 
 -- every run ends
 pub every_run_ends : EveryRunEnds
-every_run_ends l tape = ended-turns l (2 * l.bytes + length tape.items + 2) (initial tape) (inr (Reading (omega arith)))
+every_run_ends l tape = ended-turns l (3 * l.bytes + length tape.items + 2) (initial tape) (inr (Reading (omega arith)))
 
 -- turns are steps
 Leads-turns : (l : Limits) (n : ℕ) (s : State) → Leads l s (turns l n s)
@@ -201,7 +202,7 @@ Leads-turns l (suc n) s =
 
 -- steps lead to the last state
 pub steps_lead_to_the_last_state : StepsLeadToTheLastState
-steps_lead_to_the_last_state l tape = Leads-turns l (2 * l.bytes + length tape.items + 2) (initial tape)
+steps_lead_to_the_last_state l tape = Leads-turns l (3 * l.bytes + length tape.items + 2) (initial tape)
 
 -- what holds behind each number of steps holds of the last state
 pub at_last_state : (P : State → Type 0) (l : Limits) (tape : Tape) → ((n : ℕ) → P (after l n (initial tape))) → P (last_state l tape)

@@ -1,17 +1,17 @@
 -- What the calls of the unread input leave of the counts that limits are on.
 use Rattle.std.proofs.Common.{◌≡◌, ℕ, ◌+◌, ◌-◌, ◌≤◌, Bool, true, false, List, [], ◌∷◌, length, Option, Some, None, refl, sym, subst, ap, ◌∙◌, arith}
-use Rattle.std.specs.Prelude.{nat_lt, if◌then◌else◌}
+use Rattle.std.specs.Prelude.{nat_lt, sum_by, if◌then◌else◌}
 use Rattle.std.proofs.lemmas.Bool.{le-ltb, ltb-false}
 use Rattle.roff_num.specs.declared.limit.Limit.{Limit}
 use Rattle.roff_num.specs.declared.limit.Limit.TheVariants.{Stack, Depth, Conditions, Names, Store, Diversions}
 use Rattle.roff_num.specs.declared.limits.Limits.{Limits}
 use Rattle.roff_scan.specs.Arguments.{held, settled, no_arguments}
 use Rattle.roff_scan.specs.Half.{texts_held}
-use Rattle.roff_scan.specs.Input.{Ahead, ByteAhead, FreeAhead, EndAhead, DoAhead, counting, item_taken, pushed, depth, results, stored, bytes_ahead, ends_ahead}
+use Rattle.roff_scan.specs.Input.{Ahead, ByteAhead, FreeAhead, EndAhead, DoAhead, counting, item_taken, names_added, pushed, depth, results, stored, bytes_ahead, ends_ahead}
 use Rattle.roff_scan.specs.Tape.{Answer, Gives, Ends, OneByte, OneNote}
 use Rattle.roff_scan.specs.Unread.{Unread, Shown, taking, taking_answer, answer_behind, input_refusal}
 use Rattle.roff_store.specs.Named.{Named}
-use Rattle.roff_store.specs.Texts.{Entry}
+use Rattle.roff_store.specs.Texts.{Entry, bytes_in}
 use Rattle.roff_scan.proofs.KeptArguments.{held-only_kept, held-settled}
 use Rattle.roff_run.specs.Reading.{PageInput, interrupted, settling}
 use Rattle.roff_run.specs.Registers.{AllRegisters}
@@ -25,27 +25,52 @@ pub one_of : {A : Type 0} (P : A → Type 0) (c : Bool) (x y : A) → P x → P 
 one_of P true x y first second = first
 one_of P false x y first second = second
 
--- what one input has ahead, in its arguments and of results counts for no more than what another has, with the same texts
+-- what one input has ahead, in its arguments, of results, of texts and of names counts for no more than what another has
 pub record NoMore (now before : PageInput) : Type 0 where
   pub bytes : pushed now ≤ pushed before
   pub texts : depth now ≤ depth before
   pub results : results now ≤ results before
-  pub names : now.names ≡ before.names
-  pub open_texts : now.open_texts ≡ before.open_texts
+  pub stored : stored now ≤ stored before
+  pub names : names_added now ≤ names_added before
+  pub open_texts : length now.open_texts ≤ length before.open_texts
+
+-- of the same names and texts the same counts
+stored-same : (now before : PageInput) → now.names ≡ before.names → now.open_texts ≡ before.open_texts → stored now ≡ stored before
+stored-same now before names open_texts =
+    ap (λ (names : Named Entry). bytes_in names + sum_by length now.open_texts) names
+    ∙ ap (λ (texts : List (List ℕ)). bytes_in before.names + sum_by length texts) open_texts
+
+names_added-same : (now before : PageInput) → now.names ≡ before.names → now.first_names ≡ before.first_names → names_added now ≡ names_added before
+names_added-same now before names first_names =
+    ap (λ (names : Named Entry). length names - now.first_names) names ∙ ap (λ (first : ℕ). length before.names - first) first_names
 
 -- by the items ahead alone
 by_ahead : (now before : PageInput) → now.arguments ≡ before.arguments → now.half ≡ before.half → now.kept ≡ before.kept → now.names ≡ before.names
-    → now.open_texts ≡ before.open_texts → bytes_ahead now.ahead ≤ bytes_ahead before.ahead
+    → now.first_names ≡ before.first_names → now.open_texts ≡ before.open_texts → bytes_ahead now.ahead ≤ bytes_ahead before.ahead
     → ends_ahead now.ahead ≤ ends_ahead before.ahead → NoMore now before
-by_ahead now before same same_half same_kept names open_texts bytes texts =
+by_ahead now before same same_half same_kept names first_names open_texts bytes texts =
     let held_same : held now.arguments ≡ held before.arguments = ap held same in
     let half_same : texts_held now.half ≡ texts_held before.half = ap texts_held same_half in
     let results_same : length now.kept ≡ length before.kept = ap (λ (kept : List Bool). length kept) same_kept in
-    record { bytes = omega arith; texts = texts; results = omega arith; names = names; open_texts = open_texts }
+    let texts_same : length now.open_texts ≡ length before.open_texts = ap (λ (texts : List (List ℕ)). length texts) open_texts in
+    let stored_same = stored-same now before names open_texts in
+    let names_same = names_added-same now before names first_names in
+    record { bytes = omega arith; texts = texts; results = omega arith; stored = omega arith; names = omega arith; open_texts = omega arith }
 
 -- what changes nothing there
-NoMore-same : (i : PageInput) → NoMore i i
-NoMore-same i = record { bytes = omega arith; texts = omega arith; results = omega arith; names = refl; open_texts = refl }
+pub NoMore-same : (i : PageInput) → NoMore i i
+NoMore-same i = record { bytes = omega arith; texts = omega arith; results = omega arith; stored = omega arith; names = omega arith; open_texts = omega arith }
+
+-- what counts for no more than another, which counts for no more than a third
+pub NoMore-trans : (now before first : PageInput) → NoMore now before → NoMore before first → NoMore now first
+NoMore-trans now before first less fewer = record {
+  bytes = omega (arith, less.bytes, fewer.bytes);
+  texts = omega (arith, less.texts, fewer.texts);
+  results = omega (arith, less.results, fewer.results);
+  stored = omega (arith, less.stored, fewer.stored);
+  names = omega (arith, less.names, fewer.names);
+  open_texts = omega (arith, less.open_texts, fewer.open_texts);
+}
 
 -- behind an item
 bytes_behind : (item : Ahead PageEvent) (items : List (Ahead PageEvent)) → bytes_ahead items ≤ bytes_ahead (item ∷ items)
@@ -61,7 +86,7 @@ ends_behind EndAhead items = omega arith
 ends_behind (DoAhead event) items = omega arith
 
 pub NoMore-item_taken : (item : Ahead PageEvent) (items : List (Ahead PageEvent)) (i : PageInput) → i.ahead ≡ item ∷ items → NoMore (item_taken item items i) i
-NoMore-item_taken item items i ahead = by_ahead (item_taken item items i) i refl refl refl refl refl
+NoMore-item_taken item items i ahead = by_ahead (item_taken item items i) i refl refl refl refl refl refl
     (subst (λ (all : List (Ahead PageEvent)). bytes_ahead items ≤ bytes_ahead all) (sym ahead) (bytes_behind item items))
     (subst (λ (all : List (Ahead PageEvent)). ends_ahead items ≤ ends_ahead all) (sym ahead) (ends_behind item items))
 
@@ -70,7 +95,7 @@ abbrev LeavesNoMore : PageInput → Shown PageEvent × Unread PageEvent → Type
 LeavesNoMore i call = NoMore call.1.input i
 
 NoMore-answer : (a : Answer) (u : Unread PageEvent) → LeavesNoMore u.input (taking_answer a u)
-NoMore-answer (Gives (OneByte b)) u = one_of (LeavesNoMore u.input) _ _ _ (NoMore-same u.input) (by_ahead (counting b u.input) u.input refl refl refl refl refl (omega arith) (omega arith))
+NoMore-answer (Gives (OneByte b)) u = one_of (LeavesNoMore u.input) _ _ _ (NoMore-same u.input) (by_ahead (counting b u.input) u.input refl refl refl refl refl refl (omega arith) (omega arith))
 NoMore-answer (Gives (OneNote message)) u = NoMore-same u.input
 NoMore-answer (Ends ending) u = NoMore-same u.input
 
@@ -90,7 +115,7 @@ pub pushed-settling : (i : PageInput) → pushed (settling i) ≡ pushed i
 pushed-settling i = ap (λ n. bytes_ahead i.ahead + n + texts_held i.half) (held-only_kept (settled i.arguments) ∙ held-settled i.arguments)
 
 pub NoMore-settling : (i : PageInput) → NoMore (settling i) i
-NoMore-settling i = record { bytes = omega (arith, pushed-settling i); texts = omega arith; results = omega arith; names = refl; open_texts = refl }
+NoMore-settling i = record { bytes = omega (arith, pushed-settling i); texts = omega arith; results = omega arith; stored = omega arith; names = omega arith; open_texts = omega arith }
 
 pub NoMore-interrupted : (reading : Reading) (i : PageInput) → NoMore (interrupted reading i) i
 NoMore-interrupted (InArguments breaks request) i = NoMore-settling i
@@ -99,7 +124,7 @@ NoMore-interrupted (_) i = NoMore-same i
 
 -- where the arguments are released
 pub NoMore-released : (i : PageInput) → NoMore (record i { arguments = no_arguments }) i
-NoMore-released i = record { bytes = omega arith; texts = omega arith; results = omega arith; names = refl; open_texts = refl }
+NoMore-released i = record { bytes = omega arith; texts = omega arith; results = omega arith; stored = omega arith; names = omega arith; open_texts = omega arith }
 
 -- a limit that a count isn't above is above none that is no more
 pub not_above : (limit before now : ℕ) → now ≤ before → nat_lt limit before ≡ false → nat_lt limit now ≡ false
@@ -114,41 +139,26 @@ first_not : {A : Type 0} (x : A) (rest : Option A) (c : Bool) → c ≡ false �
 first_not x rest true passes none = cc
 first_not x rest false passes none = none
 
--- the limits behind that on the depth
-abbrev texts_refusal : Limits → Named Entry → List (List ℕ) → PageInput → Option Limit → Option Limit
-texts_refusal l names open_texts i rest =
-    if nat_lt l.diversions (length open_texts - 1) then Some Diversions
-    else if nat_lt l.store (stored (record i { names = names; open_texts = open_texts })) then Some Store
-    else if nat_lt l.names (length names) then Some Names
-    else rest
-
-abbrev results_refusal : Limits → ℕ → Option Limit
-results_refusal l count = if nat_lt l.conditions count then Some Conditions else None
-
--- of the same texts, and no more results
-texts_then : (l : Limits) (names : Named Entry) (open_texts : List (List ℕ)) (i j : PageInput) (before now : Option Limit) → (before ≡ None → now ≡ None)
-    → texts_refusal l names open_texts i before ≡ None → texts_refusal l names open_texts j now ≡ None
-texts_then l names open_texts i j before now passes none =
-    let behind_bytes : Option Limit = if nat_lt l.names (length names) then Some Names else before in
-    let is_past : Bool = nat_lt l.store (stored (record i { names = names; open_texts = open_texts })) in
-    let making = neither Diversions (if is_past then Some Store else behind_bytes) (nat_lt l.diversions (length open_texts - 1)) none in
-    let bytes = neither Store behind_bytes is_past making.1 in
-    let few = neither Names before (nat_lt l.names (length names)) bytes.1 in
-    first_not Diversions _ _ making.0 (first_not Store _ _ bytes.0 (first_not Names now _ few.0 (passes few.1)))
-
 -- where the counts are no more, no limit refuses what none refused
 pub input_refusal-no_more : (l : Limits) (now before : PageInput) → NoMore now before → input_refusal l before ≡ None → input_refusal l now ≡ None
 input_refusal-no_more l now before less none =
-    let behind : Option Limit = texts_refusal l before.names before.open_texts before (results_refusal l (results before)) in
-    let stack = neither Stack (if nat_lt l.depth (depth before) then Some Depth else behind) (nat_lt l.stack (pushed before)) none in
-    let texts = neither Depth behind (nat_lt l.depth (depth before)) stack.1 in
-    let still : results_refusal l (results before) ≡ None → results_refusal l (results now) ≡ None = λ passes.
-    first_not Conditions None _ (not_above l.conditions (results before) (results now) less.results (neither Conditions None (nat_lt l.conditions (results before)) passes).0) refl in
+    let behind_names : Option Limit = if nat_lt l.conditions (results before) then Some Conditions else None in
+    let behind_bytes : Option Limit = if nat_lt l.names (names_added before) then Some Names else behind_names in
+    let behind_making : Option Limit = if nat_lt l.store (stored before) then Some Store else behind_bytes in
+    let behind_depth : Option Limit = if nat_lt l.diversions (length before.open_texts - 1) then Some Diversions else behind_making in
+    let stack = neither Stack (if nat_lt l.depth (depth before) then Some Depth else behind_depth) (nat_lt l.stack (pushed before)) none in
+    let texts = neither Depth behind_depth (nat_lt l.depth (depth before)) stack.1 in
+    let making = neither Diversions behind_making (nat_lt l.diversions (length before.open_texts - 1)) texts.1 in
+    let bytes = neither Store behind_bytes (nat_lt l.store (stored before)) making.1 in
+    let names = neither Names behind_names (nat_lt l.names (names_added before)) bytes.1 in
+    let kept = neither Conditions None (nat_lt l.conditions (results before)) names.1 in
+    let fewer : length now.open_texts - 1 ≤ length before.open_texts - 1 = omega (arith, less.open_texts) in
     first_not Stack _ _ (not_above l.stack (pushed before) (pushed now) less.bytes stack.0)
     (first_not Depth _ _ (not_above l.depth (depth before) (depth now) less.texts texts.0)
-    (subst (λ (names : Named Entry). texts_refusal l names now.open_texts now (results_refusal l (results now)) ≡ None) (sym less.names)
-    (subst (λ (open_texts : List (List ℕ)). texts_refusal l before.names open_texts now (results_refusal l (results now)) ≡ None) (sym less.open_texts)
-    (texts_then l before.names before.open_texts before now _ _ still texts.1))))
+    (first_not Diversions _ _ (not_above l.diversions (length before.open_texts - 1) (length now.open_texts - 1) fewer making.0)
+    (first_not Store _ _ (not_above l.store (stored before) (stored now) less.stored bytes.0)
+    (first_not Names _ _ (not_above l.names (names_added before) (names_added now) less.names names.0)
+    (first_not Conditions None _ (not_above l.conditions (results before) (results now) less.results kept.0) refl)))))
 
 -- where the names are within their limit, the others decide
 pub first_passed-few_names : (l : Limits) (rs : AllRegisters) (i : PageInput) → nat_lt l.names (length rs.named) ≡ false

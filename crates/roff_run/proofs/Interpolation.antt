@@ -12,7 +12,7 @@ use Rattle.roff_scan.specs.Arguments.{Arguments, settled, only_kept, held}
 use Rattle.roff_scan.specs.Bytes.{newline, backslash, is_dropped}
 use Rattle.roff_scan.specs.Conditions.{ends_condition, is_decided}
 use Rattle.roff_scan.specs.Halves.{Reads, byte_read, decides_now, newline_stays, seen_stays}
-use Rattle.roff_scan.specs.Input.{Ahead, ByteAhead, EndAhead, cost, counting, item_taken, pushed, depth, results, stored}
+use Rattle.roff_scan.specs.Input.{names_added, Ahead, ByteAhead, EndAhead, cost, counting, item_taken, pushed, depth, results, stored}
 use Rattle.roff_scan.specs.Tape.{Tape, Answer, Gives, OneByte, front, items_then}
 use Rattle.roff_scan.specs.Unread.{seen_ahead}
 use Rattle.roff_scan.specs.Half.{Half, Backslash, Comment, Name, Size, Delimited, Width, Condition, texts_held}
@@ -263,7 +263,7 @@ pub record Fits (l : Limits) (registers : AllRegisters) (i : PageInput) : Type 0
   stack : pushed i ≤ l.stack
   depth : depth i ≤ l.depth
   store : stored i ≤ l.store
-  texts : length i.names ≤ l.names
+  texts : names_added i ≤ l.names
   making : length i.open_texts ≤ l.diversions + 1
   conditions : results i ≤ l.conditions
 
@@ -275,7 +275,7 @@ made-Fits l from done fits =
     let depth : nat_lt l.depth (depth done.input) ≡ false = le-ltb _ _ fits.depth in
     let conditions : nat_lt l.conditions (results done.input) ≡ false = le-ltb _ _ fits.conditions in
     let store : nat_lt l.store (stored done.input) ≡ false = le-ltb _ _ fits.store in
-    let texts : nat_lt l.names (length done.input.names) ≡ false = le-ltb _ _ fits.texts in
+    let texts : nat_lt l.names (names_added done.input) ≡ false = le-ltb _ _ fits.texts in
     let making : nat_lt l.diversions (length done.input.open_texts - 1) ≡ false = le-ltb _ _ (omega (arith, fits.making)) in
     let allowed : first_passed l (grown done) ≡ None = rw (names, stack, depth, store, texts, making, conditions) refl in
     ap (λ (r : Option Limit). unless_refused l r from done) allowed

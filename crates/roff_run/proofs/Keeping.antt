@@ -3,15 +3,13 @@
 -- Each function f of reading has its lemma here, with a line for each of its cases: Stays-f where it leaves the input,
 -- and else Keeps-f.
 use Rattle.std.proofs.Common.{◌≡◌, ℕ, ◌+◌, ◌-◌, ◌≤◌, Bool, true, false, List, [], ◌∷◌, ◌++◌, map, Option, Some, None, refl, ap, sym, subst, ◌∙◌, arith}
-use Rattle.std.specs.Prelude.{◌&&◌, ◌||◌, decimal, find, nat_le, if◌then◌else◌, ◌==◌}
-use Rattle.std.specs.List.{AllByRecursion}
-use Rattle.std.proofs.Math.Bool.{and-false}
+use Rattle.std.specs.Prelude.{◌&&◌, ◌||◌, decimal, nat_le, if◌then◌else◌, ◌==◌}
 use Rattle.roff_lines.specs.declared.glyph.Glyph.TheVariants.{Printed}
 use Rattle.roff_scan.specs.Bytes.{tab, newline, blank, apostrophe, quote, dot, backslash, is_silent, is_dropped}
 use Rattle.roff_scan.specs.Characters.{character}
 use Rattle.roff_scan.specs.Escapes.{escape_of}
 use Rattle.roff_scan.specs.Halves.{byte_read, reading_ended}
-use Rattle.roff_scan.specs.Input.{Ahead, ByteAhead, EndAhead, holding_text, kept_last}
+use Rattle.roff_scan.specs.Input.{Ahead, ByteAhead, EndAhead, choosing, holding_text, kept_last, without_last}
 use Rattle.roff_scan.specs.declared.escapes.Escape.{Escape as Kind}
 use Rattle.roff_scan.specs.declared.escapes.Escape.TheVariants.{Prints, Blank, NoWidth, Nothing as GivesNothing, Brace, LeftOut as IsLeftOut, Comment as BeginsComment, Size as BeginsSize, Name as BeginsName, Text as BeginsText, Width as BeginsWidth}
 use Rattle.roff_scan.specs.declared.escapes.NameUse.{NameUse}
@@ -22,6 +20,7 @@ use Rattle.roff_scan.specs.declared.half.CopyUnit.{CopyUnit}
 use Rattle.roff_scan.specs.declared.half.CopyUnit.TheVariants.{Byte, Kept}
 use Rattle.roff_scan.specs.Half.{Half, Backslash, Comment, Name as NameHalf, Size, Delimited, Width, Condition, text_held, unit_bytes}
 use Rattle.roff_scan.specs.declared.half.Decision.{Decision}
+use Rattle.roff_scan.specs.declared.half.Decision.TheVariants.{Is}
 use Rattle.roff_scan.specs.declared.half.Read.{Read}
 use Rattle.roff_scan.specs.declared.half.Read.TheVariants.{GoesOn, Unit as GivesUnit, Holds, Escape, Asks, Motion, Measures, Tells, Decides}
 use Rattle.roff_scan.specs.declared.half.Surroundings.{Surroundings}
@@ -34,13 +33,13 @@ use Rattle.roff_run.specs.declared.reading.TextLine.{TextLine}
 use Rattle.roff_run.specs.declared.request.LineReading.{LineReading}
 use Rattle.roff_run.specs.declared.request.LineReading.TheVariants.{ByArguments, ByCondition, ByElse, ByString}
 use Rattle.roff_run.specs.declared.request.Request.{Request}
-use Rattle.roff_run.specs.Reading.{PageInput, Taking, fresh_line, glyph_taking, blank_taking, text_taking, escape_meant, escape_taking, character_printed, character_taking, asking, measuring, name_taking, settling, line_begun, first_taking, first_escape, beginning_found, text_found, unit_found, no_unit_found, arguments_found, skipping_taking, branch_of, branch_taking, is_so, decided, kept_if, condition_found, reads_else, dropped_taking, ends_name, line_taking, name_ended_taking, behind_name, name_whole_taking, kept_taking, interrupted, taking, half_ended, end_taking, going_on, name_bytes, arguments_given, first_name, holding, name_read, string_begun, string_emptied, string_entered, string_grown, string_line_ended, string_name_behind, string_name_found, string_name_or_text, string_name_unit, string_text_found, string_unit}
+use Rattle.roff_run.specs.Reading.{PageInput, Taking, fresh_line, glyph_taking, blank_taking, text_taking, escape_meant, escape_taking, character_printed, character_taking, asking, measuring, name_taking, settling, line_begun, first_taking, first_escape, beginning_found, text_found, unit_found, no_unit_found, arguments_found, skipping_taking, branch_of, branch_taking, is_so, decided, kept_if, condition_found, condition_read, reads_else, dropped_taking, ends_name, line_taking, name_ended_taking, behind_name, name_whole_taking, kept_taking, interrupted, taking, half_ended, end_taking, going_on, calling_all, ended_by, name_bytes, arguments_given, first_name, holding, name_read, string_begun, string_emptied, string_entered, string_grown, string_line_ended, string_name_behind, string_name_found, string_name_or_text, string_name_unit, string_text_found, string_unit}
 use Rattle.roff_scan.specs.Arguments.{no_arguments}
-use Rattle.roff_scan.specs.Input.{body_named, calling_on}
+use Rattle.roff_scan.specs.Input.{body_named, calling, calling_on}
 use Rattle.roff_store.specs.TextCalls.{Call, PushOpen, Enter}
 use Rattle.roff_store.specs.Texts.{newest}
 use Rattle.roff_run.specs.Registers.{Known, known_behind, step_changes, text_of_register}
-use Rattle.roff_run.specs.Requests.{PageEvent, has_name, row_of, request_named, requests}
+use Rattle.roff_run.specs.Requests.{Effect, PageEvent, row_of, request_effect, request_named}
 use Rattle.roff_run.specs.TurnsToCome.{endings_of, free_ahead}
 use Rattle.roff_run.proofs.HalfCounts.{Falls, Leaves, freed_endings, endings-byte_read, endings-reading_ended}
 
@@ -287,12 +286,45 @@ Keeps-beginning_found most k i j reading (Measures width) keeps = Keeps-measurin
 Keeps-beginning_found most k i j reading (Tells remark) keeps = keeps
 Keeps-beginning_found most k i j reading (Decides decision freed) keeps = keeps
 
+-- an input that differs from another in its arguments and texts alone
+record Alike (j i : PageInput) : Type 0 where
+  charge : j.charge ≡ i.charge
+  newlines : j.newlines ≡ i.newlines
+  line : j.line ≡ i.line
+  ahead : j.ahead ≡ i.ahead
+  half : j.half ≡ i.half
+
+Alike-same : (i : PageInput) → Alike i i
+Alike-same i = record { charge = refl; newlines = refl; line = refl; ahead = refl; half = refl }
+
+-- where no name is read it keeps what was kept
+Keeps-alike : (most : ℕ) (i j : PageInput) (old : Reading) (n : PageInput) (reading : Reading) → Keeps most i j old → Alike n j → begun reading ≡ 0 → Keeps most i n reading
+Keeps-alike most i j old n reading keeps alike unnamed = record {
+  charge = alike.charge ∙ keeps.charge;
+  newlines = alike.newlines ∙ keeps.newlines;
+  line = alike.line ∙ keeps.line;
+  free = ap free_ahead alike.ahead ∙ keeps.free;
+  half = let same : endings_of n.half ≡ endings_of j.half = ap endings_of alike.half in omega (arith, keeps.half, same, unnamed);
+}
+
+-- so do calls on what names stand for
+Alike-calling_all : (calls : List Call) (j i : PageInput) → Alike j i → Alike (calling_all calls j) i
+Alike-calling_all [] j i alike = alike
+Alike-calling_all (call ∷ calls) j i alike =
+    Alike-calling_all calls (calling call j) i (record { charge = alike.charge; newlines = alike.newlines; line = alike.line; ahead = alike.ahead; half = alike.half })
+
+Keeps-ended_by : (most : ℕ) (i j : PageInput) (old : Reading) (effect : Effect) → Keeps most i j old → KeepsBy most i (ended_by j effect)
+Keeps-ended_by most i j old effect keeps =
+    let released : PageInput = record j { arguments = no_arguments } in
+    Keeps-alike most i j old (calling_all effect.calls released) LineStart keeps
+    (Alike-calling_all effect.calls released j (record { charge = refl; newlines = refl; line = refl; ahead = refl; half = refl })) refl
+
 -- a unit of a line of arguments
 Keeps-unit_found : (most : ℕ) (k : Known) (i j : PageInput) (breaks : Bool) (request : Request) (unit : CopyUnit) → Keeps most i j (InArguments breaks request)
     → KeepsBy most i (unit_found k j breaks request unit)
 Keeps-unit_found most k i j breaks request (Byte b) keeps =
     Keeps-if most i (b == newline) _ _
-    (record { charge = keeps.charge; newlines = keeps.newlines; line = keeps.line; free = keeps.free; half = keeps.half })
+    (Keeps-ended_by most i j (InArguments breaks request) (request_effect k breaks request (arguments_given j)) keeps)
     (record { charge = keeps.charge; newlines = keeps.newlines; line = keeps.line; free = keeps.free; half = keeps.half })
 Keeps-unit_found most k i j breaks request (Kept b) keeps =
     record { charge = keeps.charge; newlines = keeps.newlines; line = keeps.line; free = keeps.free; half = keeps.half }
@@ -329,27 +361,6 @@ Keeps-arguments_found most k i j breaks request (Motion columns remark) keeps = 
 Keeps-arguments_found most k i j breaks request (Measures width) keeps = Keeps-settled most k i j (InArguments breaks request) (Measures width) keeps
 Keeps-arguments_found most k i j breaks request (Tells remark) keeps = Keeps-settled most k i j (InArguments breaks request) (Tells remark) keeps
 Keeps-arguments_found most k i j breaks request (Decides decision freed) keeps = Keeps-settled most k i j (InArguments breaks request) (Decides decision freed) keeps
-
--- an input that differs from another in its arguments and texts alone
-record Alike (j i : PageInput) : Type 0 where
-  charge : j.charge ≡ i.charge
-  newlines : j.newlines ≡ i.newlines
-  line : j.line ≡ i.line
-  ahead : j.ahead ≡ i.ahead
-  half : j.half ≡ i.half
-
-Alike-same : (i : PageInput) → Alike i i
-Alike-same i = record { charge = refl; newlines = refl; line = refl; ahead = refl; half = refl }
-
--- where no name is read it keeps what was kept
-Keeps-alike : (most : ℕ) (i j : PageInput) (old : Reading) (n : PageInput) (reading : Reading) → Keeps most i j old → Alike n j → begun reading ≡ 0 → Keeps most i n reading
-Keeps-alike most i j old n reading keeps alike unnamed = record {
-  charge = alike.charge ∙ keeps.charge;
-  newlines = alike.newlines ∙ keeps.newlines;
-  line = alike.line ∙ keeps.line;
-  free = ap free_ahead alike.ahead ∙ keeps.free;
-  half = let same : endings_of n.half ≡ endings_of j.half = ap endings_of alike.half in omega (arith, keeps.half, same, unnamed);
-}
 
 -- so do calls on texts
 Alike-calling_on : (call : ℕ → Call) (id : Option ℕ) (i : PageInput) → Alike (calling_on call id i) i
@@ -493,104 +504,121 @@ Keeps-condition_found less most k i j keeping (GivesUnit unit) keeps few = Keeps
 Keeps-condition_found less most k i j keeping (Escape b) keeps few = Keeps-undecided less most k i j (Deciding keeping) (Escape b) keeps few
 Keeps-condition_found less most k i j keeping (Motion columns remark) keeps few = Keeps-undecided less most k i j (Deciding keeping) (Motion columns remark) keeps few
 
--- one ending more is to come, or none
-abbrev pub KeepsOneMore : PageInput → Reading → PageInput → Reading → Type 0
-KeepsOneMore i old j reading = Keeps (endings_of i.half + begun old + 1) i j reading
+-- two endings more are to come at the most
+abbrev pub KeepsTwoMore : PageInput → Reading → PageInput → Reading → Type 0
+KeepsTwoMore i old j reading = Keeps (endings_of i.half + begun old + 2) i j reading
 
 -- the same of what is done with an item
-abbrev OneMore : PageInput → Reading → Taking → Type 0
-OneMore i old t = KeepsOneMore i old t.input t.reading
+abbrev TwoMore : PageInput → Reading → Taking → Type 0
+TwoMore i old t = KeepsTwoMore i old t.input t.reading
 
 -- the same input, where the same is read
-pub KeepsOneMore-same : (i : PageInput) (reading : Reading) → KeepsOneMore i reading i reading
-KeepsOneMore-same i reading = record { charge = refl; newlines = refl; line = refl; free = refl; half = omega arith }
+pub KeepsTwoMore-same : (i : PageInput) (reading : Reading) → KeepsTwoMore i reading i reading
+KeepsTwoMore-same i reading = record { charge = refl; newlines = refl; line = refl; free = refl; half = omega arith }
 
 -- what leaves the input, and reads no name
-OneMore-stays : (i : PageInput) (old : Reading) (t : Taking) → Stays i t → OneMore i old t
-OneMore-stays i old t stays = Keeps-stays _ i i old t (KeepsOneMore-same i old) stays
+TwoMore-stays : (i : PageInput) (old : Reading) (t : Taking) → Stays i t → TwoMore i old t
+TwoMore-stays i old t stays = Keeps-stays _ i i old t (KeepsTwoMore-same i old) stays
 
 -- what something reads, with this half read then
 Keeps-read : (base : Surroundings) (i : PageInput) (old reading : Reading) (b : ℕ) → begun reading ≡ 0
-    → KeepsOneMore i old (record i { half = (byte_read base i.half b).1 }) reading
+    → KeepsTwoMore i old (record i { half = (byte_read base i.half b).1 }) reading
 Keeps-read base i old reading b unnamed =
     let read : Leaves (endings_of i.half + 1) (byte_read base i.half b) = endings-byte_read base i.half b in
-    Keeps-with_half _ _ i i old reading (byte_read base i.half b).1 (KeepsOneMore-same i old) (omega (arith, read, unnamed))
+    Keeps-with_half _ _ i i old reading (byte_read base i.half b).1 (KeepsTwoMore-same i old) (omega (arith, read, unnamed))
 
--- a list in which nothing passes has nothing to find
-find-none : {A : Type 0} (passes : A → Bool) (xs : List A) → AllByRecursion (λ x. passes x ≡ false) xs → find passes xs ≡ None
-find-none passes [] each = refl
-find-none passes (x ∷ xs) each = rw each.0 (find-none passes xs each.1)
+-- the first byte of a condition, which may begin an escape
+Keeps-condition_read : (k : Known) (i : PageInput) (breaks : Bool) (first : ℕ) (keeping : Bool) (b : ℕ)
+    → TwoMore i (Name breaks first) (condition_read k i keeping (byte_read AboveArguments (choosing i).half b))
+Keeps-condition_read k i breaks first keeping b =
+    let half : List Half = (choosing i).half in
+    let read : Leaves (endings_of half + 1) (byte_read AboveArguments half b) = endings-byte_read AboveArguments half b in
+    Keeps-condition_found (endings_of (byte_read AboveArguments half b).1) _ k i (record i { half = (byte_read AboveArguments half b).1 }) keeping (byte_read AboveArguments half b).0
+    (Keeps-with_half _ _ i i (Name breaks first) (Deciding keeping) (byte_read AboveArguments half b).1 (KeepsTwoMore-same i (Name breaks first)) (omega arith)) (omega (arith, read))
 
--- no request is named by one byte
-no_request : (b : ℕ) → request_named (b ∷ []) ≡ None
-no_request b = find-none (has_name (b ∷ [])) requests (search (and-false))
+-- the first byte behind a request's name
+Keeps-line_taking : (k : Known) (i : PageInput) (breaks : Bool) (first : ℕ) (request : Request) (line : LineReading) (b : ℕ)
+    → TwoMore i (Name breaks first) (line_taking k i breaks request line b)
+Keeps-line_taking k i breaks first request ByArguments b =
+    Keeps-arguments_found _ k i _ breaks request (byte_read AboveArguments i.half b).0 (Keeps-read AboveArguments i (Name breaks first) (InArguments breaks request) b refl)
+Keeps-line_taking k i breaks first request (ByCondition keeping) b =
+    Keeps-if _ i (b == newline) _ _
+    (Keeps-condition_found (endings_of i.half) _ k i i keeping (Decides (Is false) (Some b)) (record { charge = refl; newlines = refl; line = refl; free = refl; half = omega arith }) (omega arith))
+    (Keeps-condition_read k i breaks first keeping b)
+Keeps-line_taking k i breaks first request (ByString appends) b =
+    Keeps-string_name_found _ k i _ appends (byte_read AboveArguments i.half b).0 (Keeps-read AboveArguments i (Name breaks first) (StringName appends) b refl)
+Keeps-line_taking k i breaks first request ByElse b =
+    Keeps-branch_taking (endings_of i.half + begun (Name breaks first)) _ k i (without_last i) (Name breaks first) (reads_else (kept_last i)) b
+    (record { charge = refl; newlines = refl; line = refl; free = refl; half = omega arith }) (omega arith)
 
--- so a byte behind one drops the line
-Keeps-name_ended_taking : (k : Known) (i : PageInput) (breaks : Bool) (first b : ℕ) → OneMore i (Name breaks first) (name_ended_taking k i breaks (first ∷ []) b)
-Keeps-name_ended_taking k i breaks first b =
-    subst (λ (o : Option Request). OneMore i (Name breaks first) (elim o as (λ _. Taking) [ None ↦ dropped_taking i b | Some request ↦ line_taking k i breaks request (row_of request).line b ]))
-    (sym (no_request first)) (OneMore-stays i (Name breaks first) _ (Stays-dropped_taking i b))
+-- a byte behind a name that it doesn't belong to
+Keeps-name_ended_taking : (k : Known) (i : PageInput) (breaks : Bool) (first : ℕ) (name : List ℕ) (b : ℕ) → TwoMore i (Name breaks first) (name_ended_taking k i breaks name b)
+Keeps-name_ended_taking k i breaks first name b =
+    elim (request_named name i.names) as (λ o. TwoMore i (Name breaks first) (elim o as (λ _. Taking) [ None ↦ dropped_taking i b | Some request ↦ line_taking k i breaks request (row_of request).line b ])) [
+      | None ↦ TwoMore-stays i (Name breaks first) _ (Stays-dropped_taking i b)
+      | Some request ↦ Keeps-line_taking k i breaks first request (row_of request).line b
+    ]
 
 -- what is read behind a request's name
-Keeps-behind_name : (i : PageInput) (breaks : Bool) (first : ℕ) (request : Request) (line : LineReading) → OneMore i (Name breaks first) (behind_name i breaks request line)
-Keeps-behind_name i breaks first request ByArguments = Keeps-unnamed _ i i (Name breaks first) _ (KeepsOneMore-same i (Name breaks first)) refl
+Keeps-behind_name : (i : PageInput) (breaks : Bool) (first : ℕ) (request : Request) (line : LineReading) → TwoMore i (Name breaks first) (behind_name i breaks request line)
+Keeps-behind_name i breaks first request ByArguments = Keeps-unnamed _ i i (Name breaks first) _ (KeepsTwoMore-same i (Name breaks first)) refl
 Keeps-behind_name i breaks first request (ByCondition keeping) =
     record { charge = refl; newlines = refl; line = refl; free = refl; half = omega arith }
-Keeps-behind_name i breaks first request (ByString appends) = Keeps-unnamed _ i i (Name breaks first) _ (KeepsOneMore-same i (Name breaks first)) refl
+Keeps-behind_name i breaks first request (ByString appends) = Keeps-unnamed _ i i (Name breaks first) _ (KeepsTwoMore-same i (Name breaks first)) refl
 Keeps-behind_name i breaks first request ByElse =
     record { charge = refl; newlines = refl; line = refl; free = refl; half = omega (arith, unnamed-branch_of (reads_else (kept_last i))) }
 
 -- the last byte of a name
-Keeps-name_whole_taking : (i : PageInput) (breaks : Bool) (first : ℕ) (name : List ℕ) → OneMore i (Name breaks first) (name_whole_taking i breaks name)
+Keeps-name_whole_taking : (i : PageInput) (breaks : Bool) (first : ℕ) (name : List ℕ) → TwoMore i (Name breaks first) (name_whole_taking i breaks name)
 Keeps-name_whole_taking i breaks first name =
-    elim (request_named name) as (λ o. OneMore i (Name breaks first) (elim o as (λ _. Taking) [ None ↦ going_on i Dropped | Some request ↦ behind_name i breaks request (row_of request).line ])) [
-      | None ↦ OneMore-stays i (Name breaks first) (going_on i Dropped) (record { input = refl; unnamed = refl })
+    elim (request_named name i.names) as (λ o. TwoMore i (Name breaks first) (elim o as (λ _. Taking) [ None ↦ going_on i Dropped | Some request ↦ behind_name i breaks request (row_of request).line ])) [
+      | None ↦ TwoMore-stays i (Name breaks first) (going_on i Dropped) (record { input = refl; unnamed = refl })
       | Some request ↦ Keeps-behind_name i breaks first request (row_of request).line
     ]
 
 -- a byte that isn't dropped
-Keeps-kept_taking : (k : Known) (reading : Reading) (i : PageInput) (b : ℕ) → OneMore i reading (kept_taking k reading i b)
+Keeps-kept_taking : (k : Known) (reading : Reading) (i : PageInput) (b : ℕ) → TwoMore i reading (kept_taking k reading i b)
 Keeps-kept_taking k LineStart i b = Keeps-beginning_found _ k i _ LineStart (byte_read AboveText i.half b).0 (Keeps-read AboveText i LineStart LineStart b refl)
 Keeps-kept_taking k Branch i b = Keeps-beginning_found _ k i _ Branch (byte_read AboveText i.half b).0 (Keeps-read AboveText i Branch Branch b refl)
 Keeps-kept_taking k Braced i b = Keeps-beginning_found _ k i _ Braced (byte_read AboveText i.half b).0 (Keeps-read AboveText i Braced Braced b refl)
 Keeps-kept_taking k (InText line) i b = Keeps-text_found _ k i _ line (byte_read AboveText i.half b).0 (Keeps-read AboveText i (InText line) (InText line) b refl)
 Keeps-kept_taking k (Control breaks) i b =
-    Keeps-if _ i (b == blank || b == tab) _ _ (KeepsOneMore-same i (Control breaks))
-    (Keeps-if _ i (ends_name b) _ _ (OneMore-stays i (Control breaks) _ (Stays-dropped_taking i b))
+    Keeps-if _ i (b == blank || b == tab) _ _ (KeepsTwoMore-same i (Control breaks))
+    (Keeps-if _ i (ends_name b) _ _ (TwoMore-stays i (Control breaks) _ (Stays-dropped_taking i b))
     (record { charge = refl; newlines = refl; line = refl; free = refl; half = omega arith }))
 Keeps-kept_taking k (Name breaks first) i b =
-    Keeps-if _ i (ends_name b) _ _ (Keeps-name_ended_taking k i breaks first b) (Keeps-name_whole_taking i breaks first (first ∷ b ∷ []))
+    Keeps-if _ i (ends_name b) _ _ (Keeps-name_ended_taking k i breaks first (first ∷ []) b) (Keeps-name_whole_taking i breaks first (first ∷ b ∷ []))
 Keeps-kept_taking k (InArguments breaks request) i b =
     Keeps-arguments_found _ k i _ breaks request (byte_read AboveArguments i.half b).0 (Keeps-read AboveArguments i (InArguments breaks request) (InArguments breaks request) b refl)
 Keeps-kept_taking k (Deciding keeping) i b =
     let read : Leaves (endings_of i.half + 1) (byte_read AboveArguments i.half b) = endings-byte_read AboveArguments i.half b in
     Keeps-condition_found (endings_of (byte_read AboveArguments i.half b).1) _ k i (record i { half = (byte_read AboveArguments i.half b).1 }) keeping (byte_read AboveArguments i.half b).0
-    (Keeps-with_half _ _ i i (Deciding keeping) (Deciding keeping) (byte_read AboveArguments i.half b).1 (KeepsOneMore-same i (Deciding keeping)) (omega arith)) (omega (arith, read))
+    (Keeps-with_half _ _ i i (Deciding keeping) (Deciding keeping) (byte_read AboveArguments i.half b).1 (KeepsTwoMore-same i (Deciding keeping)) (omega arith)) (omega (arith, read))
 Keeps-kept_taking k (StringName appends) i b =
     Keeps-string_name_found _ k i _ appends (byte_read AboveArguments i.half b).0 (Keeps-read AboveArguments i (StringName appends) (StringName appends) b refl)
 Keeps-kept_taking k (StringText name appends is_front) i b =
     Keeps-string_text_found _ k i _ name appends is_front (byte_read AboveCopy i.half b).0
     (Keeps-read AboveCopy i (StringText name appends is_front) (StringText name appends is_front) b refl)
-Keeps-kept_taking k (Skipping opened closed behind) i b = OneMore-stays i (Skipping opened closed behind) _ (Stays-skipping_taking i opened closed behind b)
-Keeps-kept_taking k Dropped i b = OneMore-stays i Dropped _ (Stays-dropped_taking i b)
+Keeps-kept_taking k (Skipping opened closed behind) i b = TwoMore-stays i (Skipping opened closed behind) _ (Stays-skipping_taking i opened closed behind b)
+Keeps-kept_taking k Dropped i b = TwoMore-stays i Dropped _ (Stays-dropped_taking i b)
 
 -- what isn't a byte of the line
-pub Keeps-interrupted : (reading : Reading) (i : PageInput) → KeepsOneMore i reading (interrupted reading i) reading
-Keeps-interrupted LineStart i = KeepsOneMore-same i LineStart
-Keeps-interrupted Branch i = KeepsOneMore-same i Branch
-Keeps-interrupted Braced i = KeepsOneMore-same i Braced
-Keeps-interrupted (InText line) i = KeepsOneMore-same i (InText line)
-Keeps-interrupted (Control breaks) i = KeepsOneMore-same i (Control breaks)
-Keeps-interrupted (Name breaks first) i = KeepsOneMore-same i (Name breaks first)
+pub Keeps-interrupted : (reading : Reading) (i : PageInput) → KeepsTwoMore i reading (interrupted reading i) reading
+Keeps-interrupted LineStart i = KeepsTwoMore-same i LineStart
+Keeps-interrupted Branch i = KeepsTwoMore-same i Branch
+Keeps-interrupted Braced i = KeepsTwoMore-same i Braced
+Keeps-interrupted (InText line) i = KeepsTwoMore-same i (InText line)
+Keeps-interrupted (Control breaks) i = KeepsTwoMore-same i (Control breaks)
+Keeps-interrupted (Name breaks first) i = KeepsTwoMore-same i (Name breaks first)
 Keeps-interrupted (InArguments breaks request) i = record { charge = refl; newlines = refl; line = refl; free = refl; half = omega arith }
-Keeps-interrupted (Deciding keeping) i = KeepsOneMore-same i (Deciding keeping)
+Keeps-interrupted (Deciding keeping) i = KeepsTwoMore-same i (Deciding keeping)
 Keeps-interrupted (StringName appends) i = record { charge = refl; newlines = refl; line = refl; free = refl; half = omega arith }
-Keeps-interrupted (StringText name appends is_front) i = KeepsOneMore-same i (StringText name appends is_front)
-Keeps-interrupted (Skipping opened closed behind) i = KeepsOneMore-same i (Skipping opened closed behind)
-Keeps-interrupted Dropped i = KeepsOneMore-same i Dropped
+Keeps-interrupted (StringText name appends is_front) i = KeepsTwoMore-same i (StringText name appends is_front)
+Keeps-interrupted (Skipping opened closed behind) i = KeepsTwoMore-same i (Skipping opened closed behind)
+Keeps-interrupted Dropped i = KeepsTwoMore-same i Dropped
 
 -- a byte
-pub Keeps-taking : (k : Known) (reading : Reading) (i : PageInput) (b : ℕ) → OneMore i reading (taking k reading i b)
+pub Keeps-taking : (k : Known) (reading : Reading) (i : PageInput) (b : ℕ) → TwoMore i reading (taking k reading i b)
 Keeps-taking k reading i b = Keeps-if _ i (is_dropped b) _ _ (Keeps-interrupted reading i) (Keeps-kept_taking k reading i b)
 
 -- one ending fewer is to come
@@ -628,7 +656,7 @@ Keeps-half_ended k (InArguments breaks request) i first others is =
 Keeps-half_ended k (Deciding keeping) i first others is =
     let fewer : Falls (endings_of i.half) (reading_ended AboveArguments i.half) = falls_ended AboveArguments i.half first others is in
     Keeps-condition_found (endings_of (reading_ended AboveArguments i.half).1) _ k i (record i { half = (reading_ended AboveArguments i.half).1 }) keeping (reading_ended AboveArguments i.half).0
-    (Keeps-with_half _ _ i i (Deciding keeping) (Deciding keeping) (reading_ended AboveArguments i.half).1 (KeepsOneMore-same i (Deciding keeping)) (omega arith)) (omega (arith, fewer))
+    (Keeps-with_half _ _ i i (Deciding keeping) (Deciding keeping) (reading_ended AboveArguments i.half).1 (KeepsTwoMore-same i (Deciding keeping)) (omega arith)) (omega (arith, fewer))
 Keeps-half_ended k (StringName appends) i first others is =
     Keeps-string_name_found _ k i _ appends (reading_ended AboveArguments i.half).0 (Keeps-ended AboveArguments i (StringName appends) first others is)
 Keeps-half_ended k (StringText name appends is_front) i first others is =
@@ -637,8 +665,8 @@ Keeps-half_ended k (Skipping opened closed behind) i first others is = Keeps-end
 Keeps-half_ended k Dropped i first others is = Keeps-ended AboveText i Dropped first others is
 
 -- the end of the input
-pub Keeps-end_taking : (k : Known) (reading : Reading) (i : PageInput) → OneMore i reading (end_taking k reading i)
-Keeps-end_taking k LineStart i = KeepsOneMore-same i LineStart
+pub Keeps-end_taking : (k : Known) (reading : Reading) (i : PageInput) → TwoMore i reading (end_taking k reading i)
+Keeps-end_taking k LineStart i = KeepsTwoMore-same i LineStart
 Keeps-end_taking k Branch i = Keeps-kept_taking k Branch i newline
 Keeps-end_taking k Braced i = Keeps-kept_taking k Braced i newline
 Keeps-end_taking k (InText line) i = Keeps-kept_taking k (InText line) i newline

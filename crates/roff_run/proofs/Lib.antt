@@ -17,6 +17,7 @@ pub mod RunsAppend
 pub mod RequestNames
 pub mod RegisterTables
 pub mod RegisterLaws
+pub mod NumberedRequests
 pub mod Numbering
 pub mod InputCounts
 pub mod TurnsToCome
@@ -24,12 +25,15 @@ pub mod TakesAs
 pub mod Obeying
 pub mod Deciding
 pub mod RemovedRegisters
+pub mod RemovedNames
+pub mod FewerNames
 pub mod InFront
 pub mod Interpolation
 pub mod InterpolatedNames
 pub mod WidthLaws
 pub mod QuotedArguments
 pub mod Printing
+pub mod FirstNames
 pub mod HalfCounts
 pub mod Skipping
 pub mod SkippingRuns

@@ -7,19 +7,20 @@ use Rattle.roff_lines.specs.Env.Stands.{Stands}
 use Rattle.roff_lines.specs.declared.env.Env.{Env}
 use Rattle.roff_num.specs.declared.limit.Limit.{Limit}
 use Rattle.roff_num.specs.declared.limit.Limit.TheVariants.{Names}
-use Rattle.roff_scan.specs.Arguments.{finished, no_arguments}
+use Rattle.roff_scan.specs.Arguments.{finished, no_arguments, only_kept}
 use Rattle.roff_scan.specs.Input.{with_arguments, without_arguments}
 use Rattle.roff_scan.specs.Unread.{input_refusal}
 use Rattle.roff_store.proofs.Calls.{length-without_entry_le}
 use Rattle.roff_store.specs.Named.{without_entry}
 use Rattle.roff_store.specs.Registers.{Registers}
+use Rattle.roff_store.specs.TextCalls.{Call}
 use Rattle.roff_run.specs.Output.{PageHistory, text_of}
 use Rattle.roff_run.specs.Reader.State.{ReaderState}
 use Rattle.roff_run.specs.Reader.Taken.{ChangedTo, PageUnread, Refused, TakesAs, Took, behind_changes}
-use Rattle.roff_run.specs.Reading.{PageInput, Taking, arguments_given, line_ended}
+use Rattle.roff_run.specs.Reading.{PageInput, arguments_given, calling_all, ended_by, line_ended}
 use Rattle.roff_run.specs.Registers.{AllRegisters, Change, Remove, changed_by_all}
 use Rattle.roff_run.specs.Registers.Capped.{Capped, is_past_cap, with_change}
-use Rattle.roff_run.specs.Request.Coded.{changes_of, effect_of}
+use Rattle.roff_run.specs.Request.Coded.{calls_of, changes_of, effect_of}
 use Rattle.roff_run.specs.Requests.{Effect, request_effect}
 use Rattle.roff_run.specs.Run.{counts_in, first_passed, known_at}
 use Rattle.roff_run.specs.declared.message.Message.{Message}
@@ -27,7 +28,9 @@ use Rattle.roff_run.specs.declared.reader.Meaning.{Meaning}
 use Rattle.roff_run.specs.declared.reading.Reading.TheVariants.{LineStart}
 use Rattle.roff_run.specs.declared.request.Request.{Request}
 use Rattle.roff_run.specs.declared.request.effects.Effect.{Effect as CodedEffect}
-use Rattle.roff_run.proofs.InputCounts.{NoMore-released, first_passed-few_names, input_refusal-no_more}
+use Rattle.roff_run.proofs.FewerNames.{NoMore-calls}
+use Rattle.roff_run.proofs.InputCounts.{NoMore, NoMore-released, NoMore-trans, first_passed-few_names, input_refusal-no_more}
+use Rattle.roff_run.proofs.RemovedNames.{calling_all-arguments}
 use Rattle.roff_run.proofs.TakesAs.{few_names}
 
 -- where names go, no more have a register
@@ -44,19 +47,31 @@ Changed-removed names old new goes = record {
       ap is_past_cap goes ∙ le-ltb old.cap _ (let fewer = length-without names old.all.named in omega (arith, ltb-false old.cap (length old.all.named) few));
 }
 
--- what a request was obeyed by: its arguments, and what it means with them
-pub record Obeys (env : Env) (rs : AllRegisters) (u : PageUnread) (breaks : Bool) (request : Request) (e : CodedEffect) (texts : List (List ℕ)) : Type 0 where
-  pub texts_are : texts ≡ reverse u.input.arguments.whole
+-- the arguments that were read
+abbrev pub texts_read : PageUnread → List (List ℕ)
+texts_read u = reverse u.input.arguments.whole
+
+-- a request was obeyed by what it means with its arguments
+pub record Obeys (env : Env) (rs : AllRegisters) (u : PageUnread) (breaks : Bool) (request : Request) (e : CodedEffect) : Type 0 where
   pub effect_is : (cap : ℕ) (h : PageHistory) → Stands cap (text_of h) env
-      → effect_of (reverse u.input.arguments.whole) e ≡ request_effect (known_at h rs u.input) breaks request (reverse u.input.arguments.whole)
+      → effect_of (texts_read u) e ≡ request_effect (known_at h rs u.input) breaks request (texts_read u)
 
 -- the input of a line that has ended
 abbrev line_finished : PageUnread → PageUnread
 line_finished u = record u { input = with_arguments (finished u.input.arguments) u.input }
 
--- the taking of a line that has ended, by what its request means
-abbrev ended_by : PageInput → Effect → Taking
-ended_by i effect = record { input = record i { arguments = no_arguments }; reading = LineStart; effect = effect }
+-- the input behind the calls of a request, and without its arguments
+abbrev called : List Call → PageUnread → PageUnread
+called calls u = record u { input = calling_all calls u.input }
+
+abbrev released : PageUnread → PageUnread
+released u = record u { input = without_arguments u.input }
+
+-- calls are made behind a line as they are where its arguments are released
+released-called : (calls : List Call) (u : PageUnread) → released (called calls (line_finished u)) ≡ called calls (released u)
+released-called calls u =
+    ap (λ (i : PageInput). released (record u { input = i })) (calling_all-arguments calls (only_kept (finished u.input.arguments)) u.input)
+    ∙ ap (λ (i : PageInput). (let now : PageUnread = record u { input = i } in now)) (sym (calling_all-arguments calls no_arguments u.input))
 
 -- whether more names than may have a register, by the unread input's limit
 few_behind : (changes : List Change) (old : Capped) (u : PageUnread) (passes : Bool) → old.cap ≡ u.limits.names
@@ -64,35 +79,40 @@ few_behind : (changes : List Change) (old : Capped) (u : PageUnread) (passes : B
 few_behind changes old u passes cap is = ap (λ (n : ℕ). nat_lt n (length (changed_by_all changes old.all).named)) (sym cap) ∙ is
 
 -- a request was obeyed, its changes made, and its arguments released
-pub TakesAs-obeyed : (env : Env) (old new : ReaderState) (before mid behind : PageUnread) (breaks : Bool) (request : Request) (e : CodedEffect) (texts : List (List ℕ)) (m : Meaning)
-    → mid ≡ line_finished before → Obeys env old.registers.all mid breaks request e texts
-    → ChangedTo (changes_of texts e.changes) old.registers new.registers
-    → behind ≡ record mid { input = without_arguments mid.input }
+pub TakesAs-obeyed : (env : Env) (old new : ReaderState) (before mid change behind : PageUnread) (breaks : Bool) (request : Request) (e : CodedEffect) (m : Meaning)
+    → mid ≡ line_finished before → Obeys env old.registers.all mid breaks request e
+    → ChangedTo (changes_of (texts_read mid) e.changes) old.registers new.registers
+    → change ≡ called (calls_of (texts_read mid) e.changes) mid → behind ≡ released change
     → new.reading ≡ LineStart → m.message ≡ e.message → m.events ≡ e.events
     → TakesAs (λ k. line_ended k before.input breaks request) env old new before behind (Ok m)
-TakesAs-obeyed env old new before mid behind breaks request e texts m finishes obeying changed released begins says means = record {
+TakesAs-obeyed env old new before mid change behind breaks request e m finishes obeying changed calls releases begins says means = record {
   takes = λ cap h stands ready.
       let i : PageInput = before.input in
-      let obeys : Obeys env old.registers.all (line_finished before) breaks request e texts =
-      subst (λ (u : PageUnread). Obeys env old.registers.all u breaks request e texts) finishes obeying in
+      let obeys : Obeys env old.registers.all (line_finished before) breaks request e =
+      subst (λ (u : PageUnread). Obeys env old.registers.all u breaks request e) finishes obeying in
       let changes : List Change = changes_of (arguments_given i) e.changes in
       let registers : new.registers ≡ behind_changes changes old.registers =
-      changed.registers ∙ ap (λ (texts : List (List ℕ)). behind_changes (changes_of texts e.changes) old.registers) obeys.texts_are in
+      changed.registers ∙ ap (λ (u : PageUnread). behind_changes (changes_of (texts_read u) e.changes) old.registers) finishes in
       let few : is_past_cap old.registers ≡ false =
       ap (λ (n : ℕ). nat_lt n (length old.registers.all.named)) ready.cap ∙ few_names old.registers before ready in
       let few_now : nat_lt before.limits.names (length (changed_by_all changes old.registers.all).named) ≡ false =
       few_behind changes old.registers before false ready.cap (ap is_past_cap (sym registers) ∙ changed.within few) in
       let none_before : input_refusal before.limits i ≡ None =
       sym (first_passed-few_names before.limits old.registers.all i (few_names old.registers before ready)) ∙ ready.within in
-      let ended : PageInput = record i { arguments = no_arguments } in
+      let without : PageInput = record i { arguments = no_arguments } in
+      let ended : PageInput = calling_all (calls_of (arguments_given i) e.changes) without in
+      let less : NoMore ended i = NoMore-trans ended without i (NoMore-calls (arguments_given i) e.changes without) (NoMore-released i) in
+      let input : behind ≡ record before { input = ended } =
+      releases ∙ ap released calls ∙ ap (λ (u : PageUnread). released (called (calls_of (texts_read u) e.changes) u)) finishes
+      ∙ released-called (calls_of (arguments_given i) e.changes) before in
       subst (λ (effect : Effect). Took (ended_by i effect) old.registers new before behind m) (obeys.effect_is cap h stands)
       (record {
         became = record {
-          input = released ∙ ap (λ (u : PageUnread). (let left : PageUnread = record u { input = without_arguments u.input } in left)) finishes;
+          input = input;
           reading = begins;
           registers = registers;
           within = first_passed-few_names before.limits (changed_by_all changes old.registers.all) ended few_now
-              ∙ input_refusal-no_more before.limits ended i (NoMore-released i) none_before;
+              ∙ input_refusal-no_more before.limits ended i less none_before;
         };
         messages = ap (λ (message : Option Message). option_to_list message) says;
         events = ap (λ (events : _). events.items) means;
@@ -100,21 +120,21 @@ TakesAs-obeyed env old new before mid behind breaks request e texts m finishes o
 }
 
 -- or more names than may would have a register
-pub TakesAs-not_obeyed : (env : Env) (old new : ReaderState) (before mid behind : PageUnread) (breaks : Bool) (request : Request) (e : CodedEffect) (texts : List (List ℕ)) (limit : Limit)
-    → mid ≡ line_finished before → Obeys env old.registers.all mid breaks request e texts
-    → Refused (changes_of texts e.changes) old.registers limit
+pub TakesAs-not_obeyed : (env : Env) (old new : ReaderState) (before mid behind : PageUnread) (breaks : Bool) (request : Request) (e : CodedEffect) (limit : Limit)
+    → mid ≡ line_finished before → Obeys env old.registers.all mid breaks request e
+    → Refused (changes_of (texts_read mid) e.changes) old.registers limit
     → TakesAs (λ k. line_ended k before.input breaks request) env old new before behind (Err limit)
-TakesAs-not_obeyed env old new before mid behind breaks request e texts limit finishes obeying refused = record {
+TakesAs-not_obeyed env old new before mid behind breaks request e limit finishes obeying refused = record {
   takes = λ cap h stands ready.
       let i : PageInput = before.input in
-      let obeys : Obeys env old.registers.all (line_finished before) breaks request e texts =
-      subst (λ (u : PageUnread). Obeys env old.registers.all u breaks request e texts) finishes obeying in
+      let obeys : Obeys env old.registers.all (line_finished before) breaks request e =
+      subst (λ (u : PageUnread). Obeys env old.registers.all u breaks request e) finishes obeying in
       let changes : List Change = changes_of (arguments_given i) e.changes in
       let past : is_past_cap (behind_changes changes old.registers) ≡ true =
-      ap (λ (texts : List (List ℕ)). is_past_cap (behind_changes (changes_of texts e.changes) old.registers)) (sym obeys.texts_are) ∙ refused.past in
+      ap (λ (u : PageUnread). is_past_cap (behind_changes (changes_of (texts_read u) e.changes) old.registers)) (sym finishes) ∙ refused.past in
       let many : nat_lt before.limits.names (length (changed_by_all changes old.registers.all).named) ≡ true =
       few_behind changes old.registers before true ready.cap past in
-      let ended : PageInput = record i { arguments = no_arguments } in
-      subst (λ (effect : Effect). first_passed before.limits (counts_in (changed_by_all effect.changes old.registers.all) ended) ≡ Some limit) (obeys.effect_is cap h stands)
+      let ended : PageInput = calling_all (calls_of (arguments_given i) e.changes) (record i { arguments = no_arguments }) in
+      subst (λ (effect : Effect). first_passed before.limits (counts_in (changed_by_all effect.changes old.registers.all) (ended_by i effect).input) ≡ Some limit) (obeys.effect_is cap h stands)
       (ap (λ (many : Bool). if many then Some Names else input_refusal before.limits ended) many ∙ ap (λ (l : Limit). Some l) (sym refused.limit_is));
 }

@@ -18,10 +18,10 @@ use Rattle.roff_run.proofs.Interpolation.{IsRead, not-first, not-second, IsRead-
 use Rattle.roff_run.specs.declared.reading.Reading.{Reading}
 use Rattle.roff_run.specs.InterpolationLaws.{StandsForItself}
 use Rattle.roff_run.specs.Quoting.{both, taking_all, RequestsGetQuotedArguments}
-use Rattle.roff_run.specs.Reading.{PageInput, Taking, taking, kept_taking, arguments_read_on, line_ended, holding, settling, going_on, arguments_given}
+use Rattle.roff_run.specs.Reading.{PageInput, Taking, ended_by, taking, kept_taking, arguments_read_on, line_ended, holding, settling, going_on, arguments_given}
 use Rattle.roff_run.specs.Registers.{Known}
 use Rattle.roff_run.specs.Requests.{request_effect}
-use Rattle.roff_run.specs.declared.reading.Reading.TheVariants.{LineStart, Arguments as InArguments}
+use Rattle.roff_run.specs.declared.reading.Reading.TheVariants.{Arguments as InArguments}
 use Rattle.roff_run.specs.declared.request.Request.{Request}
 
 -- an input that holds what is kept of some arguments
@@ -53,12 +53,11 @@ arguments_given-with_kept i a =
 
 -- what the end of the line does
 abbrev line_taken : Known → Bool → Request → PageInput → List (List ℕ) → Taking
-line_taken k breaks request i as_given =
-    record { input = record i { half = []; arguments = no_arguments }; reading = LineStart; effect = request_effect k breaks request as_given }
+line_taken k breaks request i as_given = ended_by (record i { half = [] }) (request_effect k breaks request as_given)
 
 -- nothing is meant behind an effect
 both-none : (t : Taking) → joined t (going_on t.input t.reading) ≡ t
-both-none t = rw (append-nil t.effect.messages, append-nil t.effect.changes, append-nil t.effect.events) refl
+both-none t = rw (append-nil t.effect.messages, append-nil t.effect.changes, append-nil t.effect.calls, append-nil t.effect.events) refl
 
 -- bytes of the arguments, and a newline
 taking_all-arguments : (k : Known) (breaks : Bool) (request : Request) (i : PageInput) (a : Arguments) (bytes : List ℕ) → All StandsForItself bytes
@@ -114,4 +113,4 @@ requests_get_quoted_arguments k breaks request i arguments half none themselves 
     ap (λ (j : PageInput). taking_all k (InArguments breaks request) j (quoted_line arguments ++ newline ∷ [])) (sym input)
     ∙ taking_all-arguments k breaks request i no_arguments (quoted_line arguments) (itself-quoted_line arguments themselves)
     ∙ ap (λ (texts : List (List ℕ)). line_taken k breaks request i (kept texts)) (quoted_arguments_read_back arguments)
-    ∙ ap (λ (j : PageInput). let t : Taking = record { input = j; reading = LineStart; effect = request_effect k breaks request (kept arguments) } in t) input
+    ∙ ap (λ (h : List Half). ended_by (record i { half = h }) (request_effect k breaks request (kept arguments))) (sym half)

@@ -17,7 +17,7 @@ use Rattle.roff_run.specs.Run.{waiting, State, known, ending_as, ending_with, st
 use Rattle.roff_run.specs.declared.message.Message.TheVariants.{ReadFailed}
 use Rattle.roff_run.specs.declared.status.Status.TheVariants.{Device, Limit as Limited}
 use Rattle.roff_run.specs.TurnsToCome.{endings_of}
-use Rattle.roff_run.proofs.Keeping.{Keeps, begun, KeepsOneMore-same, Keeps-taking, Keeps-interrupted, Keeps-half_ended}
+use Rattle.roff_run.proofs.Keeping.{Keeps, begun, KeepsTwoMore-same, Keeps-taking, Keeps-interrupted, Keeps-half_ended}
 
 -- no count passes its limit in a state
 abbrev pub IsMade : Limits → State → Type 0
@@ -158,7 +158,7 @@ pub record Behind (most : ℕ) (s t : State) : Type 0 where
   pub last_message : t.last_message ≡ s.last_message
 
 -- a byte
-pub Behind-byte_taken : (b : ℕ) (s : State) → Behind (endings_of s.input.half + begun s.reading + 1) s (byte_taken b s)
+pub Behind-byte_taken : (b : ℕ) (s : State) → Behind (endings_of s.input.half + begun s.reading + 2) s (byte_taken b s)
 Behind-byte_taken b s = record {
   input = Keeps-taking (known s) s.reading s.input b;
   tape = refl;
@@ -169,11 +169,11 @@ Behind-byte_taken b s = record {
 }
 
 -- an item ahead of the source
-pub Behind-ahead_taken : (item : Ahead PageEvent) (s : State) → Behind (endings_of s.input.half + begun s.reading + 1) s (ahead_taken item s)
+pub Behind-ahead_taken : (item : Ahead PageEvent) (s : State) → Behind (endings_of s.input.half + begun s.reading + 2) s (ahead_taken item s)
 Behind-ahead_taken (ByteAhead b) s = Behind-byte_taken b s
 Behind-ahead_taken (FreeAhead b) s = Behind-byte_taken b s
 Behind-ahead_taken EndAhead s =
-    record { input = KeepsOneMore-same s.input s.reading; tape = refl; history = refl; is_closing = refl; ended = refl; last_message = refl }
+    record { input = KeepsTwoMore-same s.input s.reading; tape = refl; history = refl; is_closing = refl; ended = refl; last_message = refl }
 Behind-ahead_taken (DoAhead event) s =
     record { input = Keeps-interrupted s.reading s.input; tape = refl; history = refl; is_closing = refl; ended = refl; last_message = refl }
 

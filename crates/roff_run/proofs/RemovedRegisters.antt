@@ -26,19 +26,19 @@ take_next zero (first ∷ texts) text is = cc
 take_next (suc n) (first ∷ texts) text is = ap (λ rest. first ∷ rest) (take_next n texts text is)
 
 -- behind the last
-take_past : {A : Type 0} (n : ℕ) (texts : List A) → slice_get texts n ≡ None → take (suc n) texts ≡ take n texts
+pub take_past : {A : Type 0} (n : ℕ) (texts : List A) → slice_get texts n ≡ None → take (suc n) texts ≡ take n texts
 take_past zero [] is = refl
 take_past (suc n) [] is = refl
 take_past zero (first ∷ texts) is = cc
 take_past (suc n) (first ∷ texts) is = ap (λ rest. first ∷ rest) (take_past n texts is)
 
 -- a text gives a name, or none
-named_by : (text name : List ℕ) → name_of (name_given text) ≡ Some name → names_given (text ∷ []) ≡ name ∷ []
+pub named_by : (text name : List ℕ) → name_of (name_given text) ≡ Some name → names_given (text ∷ []) ≡ name ∷ []
 named_by [] name is = cc
 named_by (b ∷ []) name is = cc
 named_by (b ∷ c ∷ text) name is = cc
 
-not_named : (text : List ℕ) → name_of (name_given text) ≡ None → names_given (text ∷ []) ≡ []
+pub not_named : (text : List ℕ) → name_of (name_given text) ≡ None → names_given (text ∷ []) ≡ []
 not_named [] is = refl
 not_named (b ∷ []) is = cc
 not_named (b ∷ c ∷ text) is = cc
@@ -47,7 +47,7 @@ names_given-append : (texts others : List (List ℕ)) → names_given (texts ++ 
 names_given-append texts others =
     ap (map name_given) (filter-append has_byte texts others) ∙ map-append name_given (filter has_byte texts) (filter has_byte others)
 
-names_given-next : (n : ℕ) (texts : List (List ℕ)) (text : List ℕ) → slice_get texts n ≡ Some text
+pub names_given-next : (n : ℕ) (texts : List (List ℕ)) (text : List ℕ) → slice_get texts n ≡ Some text
     → names_given (take (suc n) texts) ≡ names_given (take n texts) ++ names_given (text ∷ [])
 names_given-next n texts text is = ap names_given (take_next n texts text is) ∙ names_given-append (take n texts) (text ∷ [])
 

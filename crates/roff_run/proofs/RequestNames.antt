@@ -4,13 +4,13 @@ use Rattle.std.specs.Prelude.{count_by, Contains}
 use Rattle.std.specs.List.{AllByRecursion}
 use Rattle.std.proofs.lemmas.List.Elements.{All-contains, All-from_recursion}
 use Rattle.roff_run.specs.RequestLaws.{EachIsNamed, EachIsListedOnce, name_of}
-use Rattle.roff_run.specs.Requests.{names_without_effect, names_left_out, requests, request_named}
+use Rattle.roff_run.specs.Requests.{first_entries, names_without_effect, names_left_out, requests, request_named}
 use Rattle.roff_run.specs.declared.request.Request.{Request}
 use Rattle.roff_run.specs.declared.request.Request.TheVariants.{WithoutEffect, LeftOut}
 
 -- a name is that of the request that is made with it
 abbrev IsNamed : (List ℕ → Request) → List ℕ → Type 0
-IsNamed made name = request_named name ≡ Some (made name)
+IsNamed made name = request_named name first_entries ≡ Some (made name)
 
 -- a name stands in the table once
 abbrev IsListedOnce : List ℕ → Type 0

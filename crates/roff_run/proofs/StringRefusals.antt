@@ -10,7 +10,7 @@ use Rattle.roff_num.specs.declared.limit.Limit.TheVariants.{Stack, Depth, Divers
 use Rattle.roff_num.specs.declared.limits.Limits.{Limits}
 use Rattle.roff_scan.specs.Arguments.{Arguments, held, no_arguments, settled_at, with_byte_at, with_unit, with_whole}
 use Rattle.roff_scan.specs.Half.{texts_held, unit_bytes}
-use Rattle.roff_scan.specs.Input.{adding, bytes_ahead, calling, calling_on, depth, pushed, results, stored}
+use Rattle.roff_scan.specs.Input.{adding, bytes_ahead, calling, calling_on, depth, names_added, pushed, results, stored}
 use Rattle.roff_scan.specs.Unread.{input_refusal}
 use Rattle.roff_scan.specs.declared.arguments.Place.{Place}
 use Rattle.roff_scan.specs.declared.arguments.Place.TheVariants.{Between, InPlain, InQuotes, BehindQuote}
@@ -82,7 +82,7 @@ stored-begun i = let more = sum_by-append (λ (text : List ℕ). length text) i.
 -- the others are passed as little as before
 others_not : (l : Limits) (i : PageInput) → input_refusal l i ≡ None
     → NonePassed (nat_lt l.stack (pushed (begun i))) (nat_lt l.depth (depth (begun i))) (nat_lt l.diversions (length (begun i).open_texts - 1))
-    (nat_lt l.store (stored (begun i))) (nat_lt l.names (length (begun i).names)) (nat_lt l.conditions (results (begun i)))
+    (nat_lt l.store (stored (begun i))) (nat_lt l.names (names_added (begun i))) (nat_lt l.conditions (results (begun i)))
 others_not l i none =
     let before = none_passed _ _ _ _ _ _ none in
     let released = NoMore-released i in
@@ -111,10 +111,10 @@ refused-grown l i bytes limit none is =
     let others = others_not l i none in
     let passed = diversions_passed _ _ _ _ _ _ limit others is in
     let same = SameInFront-adding bytes (newest (begun i).open_texts) (begun i) in
-    let was = first_of-diversions _ _ _ (nat_lt l.store (stored (begun i))) (nat_lt l.names (length (begun i).names))
+    let was = first_of-diversions _ _ _ (nat_lt l.store (stored (begun i))) (nat_lt l.names (names_added (begun i)))
     (nat_lt l.conditions (results (begun i))) others.stack_not others.depth_not passed in
     let grown : PageInput = adding bytes (begun i) in
-    first_of-diversions _ _ _ (nat_lt l.store (stored grown)) (nat_lt l.names (length grown.names)) (nat_lt l.conditions (results grown))
+    first_of-diversions _ _ _ (nat_lt l.store (stored grown)) (nat_lt l.names (names_added grown)) (nat_lt l.conditions (results grown))
     (ap (λ (n : ℕ). nat_lt l.stack n) same.bytes ∙ others.stack_not)
     (ap (λ (n : ℕ). nat_lt l.depth n) same.texts ∙ others.depth_not)
     (ap (λ (n : ℕ). nat_lt l.diversions (n - 1)) same.making ∙ passed)
@@ -189,7 +189,7 @@ NoMore-held : (i : PageInput) (unit : CopyUnit) → held (with_unit i.arguments 
 NoMore-held i unit same =
     let bytes : pushed (holding unit i) ≡ pushed i =
     ap (λ n. bytes_ahead i.ahead + n + texts_held i.half) (held-only_kept (with_unit i.arguments unit) ∙ same) in
-    record { bytes = omega (arith, bytes); texts = omega arith; results = omega arith; names = refl; open_texts = refl }
+    record { bytes = omega (arith, bytes); texts = omega arith; results = omega arith; stored = omega arith; names = omega arith; open_texts = omega arith }
 
 -- no name is whole behind a unit that a limit refuses
 no_name : (i : PageInput) (unit : CopyUnit) (l : Limits) (limit : Limit) → input_refusal l i ≡ None → input_refusal l (holding unit i) ≡ Some limit

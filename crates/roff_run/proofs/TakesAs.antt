@@ -1,7 +1,7 @@
 -- What the code of the reader takes, piece by piece, as the definition takes it.
-use Rattle.std.proofs.Common.{◌≡◌, ℕ, ◌≤◌, Bool, true, false, cond, List, [], length, Option, Some, None, Result, Ok, Err, refl, sym, subst, ap, ◌∙◌, arith}
+use Rattle.std.proofs.Common.{◌≡◌, ℕ, ◌≤◌, Bool, true, false, cond, List, [], ◌∷◌, length, Option, Some, None, Result, Ok, Err, refl, sym, subst, ap, ◌∙◌, arith}
 use Rattle.std.specs.Option.{option_to_list}
-use Rattle.std.specs.Prelude.{nat_lt, ◌&&◌, is_some, if◌then◌else◌, ◌==◌}
+use Rattle.std.specs.Prelude.{nat_lt, ◌&&◌, drop, is_some, if◌then◌else◌, ◌==◌}
 use Rattle.roff_lines.specs.Env.Stands.{Stands}
 use Rattle.roff_lines.specs.declared.env.Env.{Env}
 use Rattle.roff_num.specs.declared.limit.Limit.{Limit}
@@ -10,7 +10,7 @@ use Rattle.roff_num.specs.Ranges.{is_in_range}
 use Rattle.roff_scan.specs.Bytes.{blank, is_dropped, newline}
 use Rattle.roff_scan.specs.Half.{Half, texts_held}
 use Rattle.roff_scan.specs.Halves.{Reads, reading_ended}
-use Rattle.roff_scan.specs.Input.{pushing, with_half}
+use Rattle.roff_scan.specs.Input.{choosing, pushing, with_half, without_last}
 use Rattle.roff_scan.specs.Unread.{changing, input_refusal, reading, unless_passed}
 use Rattle.roff_scan.specs.declared.half.CopyUnit.{CopyUnit}
 use Rattle.roff_scan.specs.declared.half.Read.{Read}
@@ -24,11 +24,11 @@ use Rattle.roff_store.specs.declared.register.Register.{Register}
 use Rattle.roff_run.specs.Output.{PageHistory, text_of}
 use Rattle.roff_run.specs.Reader.State.{ReaderState}
 use Rattle.roff_run.specs.Reader.Taken.{IsReady, PageUnread, Takes, TakesAs, Took}
-use Rattle.roff_run.specs.Reading.{PageInput, Taking, arguments_found, end_taking, escape_taking, first_escape, first_taking, fresh_line, going_on, half_ended, interpolating, interrupted, kept_taking, line_begun, meaning_events, no_unit_found, settling, taking}
+use Rattle.roff_run.specs.Reading.{PageInput, Taking, arguments_found, end_taking, escape_taking, first_escape, first_taking, fresh_line, going_on, half_ended, interpolating, interrupted, kept_taking, line_begun, line_taking, meaning_events, no_unit_found, settling, taking}
 use Rattle.roff_run.specs.Registers.{AllRegisters, Known, changed_by_all, is_page, is_read_only, known_behind, step_changes, step_messages, stepped_page, text_of_register}
 use Rattle.roff_run.specs.Registers.Capped.{Capped}
 use Rattle.roff_run.specs.Registers.Coded.{known_of}
-use Rattle.roff_run.specs.Requests.{PageEvent}
+use Rattle.roff_run.specs.Requests.{PageEvent, row_of}
 use Rattle.roff_run.specs.Run.{counts_in, first_passed, known_at}
 use Rattle.roff_run.specs.declared.message.Message.{Message}
 use Rattle.roff_run.specs.declared.reader.Meaning.{Meaning}
@@ -38,6 +38,7 @@ use Rattle.roff_run.specs.declared.reading.ShortName.{ShortName}
 use Rattle.roff_run.specs.declared.reading.TextLine.{TextLine}
 use Rattle.roff_run.specs.declared.reading.TextStep.{TextStep}
 use Rattle.roff_run.specs.declared.registers.Facts.{Facts}
+use Rattle.roff_run.specs.declared.request.LineReading.{LineReading}
 use Rattle.roff_run.specs.declared.request.Request.{Request}
 use Rattle.roff_run.specs.TextLine.Stepping.{step_at}
 use Rattle.roff_run.proofs.InputCounts.{NoMore, NoMore-interrupted, NoMore-settling, first_passed-few_names, first_passed-no_more, one_of}
@@ -59,7 +60,21 @@ Takes-elsewhere t old new before behind i (Err limit) passed = passed
 
 -- where no more is held of texts that are half read
 NoMore-with_half : (half : List Half) (i : PageInput) → texts_held half ≤ texts_held i.half → NoMore (with_half half i) i
-NoMore-with_half half i fewer = record { bytes = omega (arith, fewer); texts = omega arith; results = omega arith; names = refl; open_texts = refl }
+NoMore-with_half half i fewer = record { bytes = omega (arith, fewer); texts = omega arith; results = omega arith; stored = omega arith; names = omega arith; open_texts = omega arith }
+
+-- where a condition begins
+pub NoMore-choosing : (i : PageInput) → NoMore (choosing i) i
+NoMore-choosing i = NoMore-with_half (choosing i).half i (omega arith)
+
+-- where the newest result is taken
+fewer_kept : (kept : List Bool) → length (drop 1 kept) ≤ length kept
+fewer_kept [] = omega arith
+fewer_kept (so ∷ kept) = omega arith
+
+pub NoMore-without_last : (i : PageInput) → NoMore (without_last i) i
+NoMore-without_last i =
+    let fewer = fewer_kept i.kept in
+    record { bytes = omega arith; texts = omega arith; results = omega arith; stored = omega arith; names = omega arith; open_texts = omega arith }
 
 -- what something reads, with what is half read then
 pub TakesAs-read : (t : Known → PageInput → Read → Taking) (r : Reads) (env : Env) (old new : ReaderState) (before mid behind : PageUnread)
@@ -116,6 +131,27 @@ TakesAs-settled t env old new before mid behind result settles takes =
           Takes-elsewhere (t (known_at h old.registers.all before.input) i) old.registers new before behind i result
           (moved.takes cap h stands (record { cap = ready.cap; within = within }));
     }
+
+-- what is taken once the input is another one, of no more counts and as many newlines
+pub TakesAs-less : (i : PageInput) (t : Known → Taking) (env : Env) (old new : ReaderState) (before behind : PageUnread) (result : Result Meaning Limit)
+    → NoMore i before.input → i.newlines ≡ before.input.newlines → TakesAs t env old new (record before { input = i }) behind result
+    → TakesAs t env old new before behind result
+TakesAs-less i t env old new before behind result less newlines takes = record {
+  takes = λ cap h stands ready.
+      let within = first_passed-no_more before.limits old.registers.all i before.input less ready.within in
+      let known : known_at h old.registers.all i ≡ known_at h old.registers.all before.input =
+      ap (λ (lines : ℕ). (let k : Known = record (known_at h old.registers.all before.input) { newlines = lines } in k)) newlines in
+      Takes-elsewhere (t (known_at h old.registers.all before.input)) old.registers new before behind i result
+      (subst (λ (k : Known). Takes (t k) old.registers new (record before { input = i }) behind result) known
+      (takes.takes cap h stands (record { cap = ready.cap; within = within })));
+}
+
+-- what the first byte behind a name does, by how the line of its request is read
+pub TakesAs-line : (line : LineReading) (breaks : Bool) (request : Request) (b : ℕ) (env : Env) (old new : ReaderState) (before behind : PageUnread) (result : Result Meaning Limit)
+    → (row_of request).line ≡ line → TakesAs (λ k. line_taking k before.input breaks request line b) env old new before behind result
+    → TakesAs (λ k. line_taking k before.input breaks request (row_of request).line b) env old new before behind result
+TakesAs-line line breaks request b env old new before behind result is takes =
+    subst (λ (l : LineReading). TakesAs (λ k. line_taking k before.input breaks request l b) env old new before behind result) (sym is) takes
 
 -- an input that changed
 pub passed_none : (refusal : Option Limit) (i : PageInput) (u behind : PageUnread) (done : Unit {0}) → (Ok done, behind) ≡ unless_passed refusal i u
@@ -192,7 +228,7 @@ TakesAs-interpolated env old registers before behind step name text m done knows
       let at : List ℕ → Taking = λ t. record {
         input = pushing t before.input;
         reading = old.reading;
-        effect = record { messages = step_messages step name old.registers.all; changes = step_changes step name; events = [] };
+        effect = record { messages = step_messages step name old.registers.all; changes = step_changes step name; calls = []; events = [] };
       } in
       subst (λ (t : List ℕ). Took (at t) old.registers new before behind m) known
       (record {

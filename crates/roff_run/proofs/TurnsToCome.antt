@@ -15,7 +15,7 @@ use Rattle.roff_run.specs.declared.reading.Reading.{Reading}
 use Rattle.roff_run.specs.declared.reading.Reading.TheVariants.{StringName, StringText, LineStart, Branch, Braced, Text as InText, Control, Name, Arguments as InArguments, Deciding, Skipping, Dropped}
 use Rattle.roff_run.specs.TurnsToCome.{endings_of, turns_within, turns_to_come}
 use Rattle.roff_run.proofs.HalfCounts.{some_ending}
-use Rattle.roff_run.proofs.Keeping.{KeepsOneMore, begun, Keeps-taking, Keeps-half_ended}
+use Rattle.roff_run.proofs.Keeping.{KeepsTwoMore, begun, Keeps-taking, Keeps-half_ended}
 
 -- a call took a byte, the end of a text, or an event
 abbrev pub IsTaken : Shown PageEvent → Type 0
@@ -28,16 +28,16 @@ IsTaken (ShowsRefusal limit) = ⊥
 
 -- fewer turns are to come behind a call, if it took something
 abbrev Falls : Unread PageEvent → Shown PageEvent × Unread PageEvent → Type 0
-Falls u call = IsTaken call.0 → turns_to_come call.1 + 3 ≤ turns_to_come u
+Falls u call = IsTaken call.0 → turns_to_come call.1 + 4 ≤ turns_to_come u
 
 -- unless the limit on bytes refuses the item
 falls_unless : (limit count : ℕ) (refused : Bool) → nat_lt limit count ≡ refused → (u left : Unread PageEvent) (call : Shown PageEvent × Unread PageEvent)
-    → (count ≤ limit → turns_to_come call.1 + 3 ≤ turns_to_come u) → Falls u (if refused then (ShowsRefusal Bytes, left) else call)
+    → (count ≤ limit → turns_to_come call.1 + 4 ≤ turns_to_come u) → Falls u (if refused then (ShowsRefusal Bytes, left) else call)
 falls_unless limit count true is u left call falls taken = absurd taken
 falls_unless limit count false is u left call falls taken = falls (ltb-false limit count is)
 
 falls-item : (item : Ahead PageEvent) (items : List (Ahead PageEvent)) (bytes : ℕ) (i : PageInput) → i.charge + cost item ≤ bytes
-    → turns_within bytes (item_taken item items i) + 3 ≤ turns_within bytes (record i { ahead = item ∷ items })
+    → turns_within bytes (item_taken item items i) + 4 ≤ turns_within bytes (record i { ahead = item ∷ items })
 falls-item (ByteAhead b) items bytes i room = omega arith
 falls-item (FreeAhead b) items bytes i room = omega arith
 falls-item EndAhead items bytes i room = omega arith
@@ -55,8 +55,8 @@ falls-taking (item ∷ items) a i looked v =
     let u : Unread PageEvent = record v { input = record i { ahead = item ∷ items }; looked = looked } in
     falls_unless v.limits.bytes (i.charge + cost item) _ refl u _ _ (falls-item item items v.limits.bytes u.input)
 
--- behind each item that is taken, fewer turns are to come, by three
-pub turns_to_come-taking : (a : Answer) (u : Unread PageEvent) → IsTaken (taking a u).0 → turns_to_come (taking a u).1 + 3 ≤ turns_to_come u
+-- behind each item that is taken, fewer turns are to come, by four
+pub turns_to_come-taking : (a : Answer) (u : Unread PageEvent) → IsTaken (taking a u).0 → turns_to_come (taking a u).1 + 4 ≤ turns_to_come u
 turns_to_come-taking a u taken = falls-taking u.input.ahead a u.input u.looked u taken
 
 -- a name's first byte is kept for one ending at most
@@ -74,14 +74,14 @@ begun-one (StringName appends) = omega arith
 begun-one (StringText name appends is_front) = omega arith
 begun-one Dropped = omega arith
 
--- so what keeps the input's counts, and leaves one ending more to come, leaves two turns more at most
-turns-two_more : (bytes : ℕ) (i j : PageInput) (old reading : Reading) → KeepsOneMore i old j reading → turns_within bytes j ≤ turns_within bytes i + 2
-turns-two_more bytes i j old reading keeps = omega (arith, keeps.charge, keeps.free, keeps.half, begun-one old)
+-- so what keeps the input's counts, and leaves two endings more to come, leaves three turns more at most
+turns-three_more : (bytes : ℕ) (i j : PageInput) (old reading : Reading) → KeepsTwoMore i old j reading → turns_within bytes j ≤ turns_within bytes i + 3
+turns-three_more bytes i j old reading keeps = omega (arith, keeps.charge, keeps.free, keeps.half, begun-one old)
 
 -- and so does a byte
 pub turns_within-byte : (bytes : ℕ) (k : Known) (reading : Reading) (i : PageInput) (b : ℕ)
-    → turns_within bytes (byte_taking k reading i b).input ≤ turns_within bytes i + 2
-turns_within-byte bytes k reading i b = turns-two_more bytes i _ reading _ (Keeps-taking k reading i b)
+    → turns_within bytes (byte_taking k reading i b).input ≤ turns_within bytes i + 3
+turns_within-byte bytes k reading i b = turns-three_more bytes i _ reading _ (Keeps-taking k reading i b)
 
 -- what is half read where a newline stays
 pub length-newline_stays : (half : List Half) → newline_stays half ≡ true → 1 ≤ length half

@@ -8,7 +8,7 @@ use Rattle.roff_num.specs.declared.limits.Limits.{Limits}
 use Rattle.roff_run.specs.Limits.{AreWithin}
 use Rattle.roff_run.specs.Output.{text_of}
 use Rattle.roff_run.specs.Run.{State, initial, after, output, reported}
-use Rattle.roff_scan.specs.Input.{pushed, depth, results, stored}
+use Rattle.roff_scan.specs.Input.{names_added, pushed, depth, results, stored}
 use Rattle.roff_scan.specs.Tape.{Tape, Item, Ending, Failed}
 
 -- one run is only cut beside another: what it wrote is a beginning of what the other did, and so are its
@@ -62,7 +62,7 @@ pub record IsWithin (l : Limits) (s : State) : Type 0 where
   pub stack : pushed s.input ≤ l.stack
   pub depth : depth s.input ≤ l.depth
   pub store : stored s.input ≤ l.store
-  pub texts : length s.input.names ≤ l.names
+  pub texts : names_added s.input ≤ l.names
   pub making : length s.input.open_texts ≤ l.diversions + 1
   pub conditions : results s.input ≤ l.conditions
   pub names : length s.registers.named ≤ l.names

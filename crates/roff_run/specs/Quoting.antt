@@ -4,11 +4,11 @@ use Rattle.roff_scan.specs.Arguments.{no_arguments, kept}
 use Rattle.roff_scan.specs.Bytes.{newline}
 use Rattle.roff_scan.specs.Quoting.{quoted_line}
 use Rattle.roff_run.specs.InterpolationLaws.{StandsForItself}
-use Rattle.roff_run.specs.Reading.{PageInput, Taking, going_on, taking}
+use Rattle.roff_run.specs.Reading.{PageInput, Taking, ended_by, going_on, taking}
 use Rattle.roff_run.specs.Registers.{Known}
 use Rattle.roff_run.specs.Requests.{Effect, request_effect}
 use Rattle.roff_run.specs.declared.reading.Reading.{Reading}
-use Rattle.roff_run.specs.declared.reading.Reading.TheVariants.{LineStart, Arguments as InArguments}
+use Rattle.roff_run.specs.declared.reading.Reading.TheVariants.{Arguments as InArguments}
 use Rattle.roff_run.specs.declared.request.Request.{Request}
 
 -- what two effects mean together, one after the other
@@ -16,6 +16,7 @@ abbrev pub both : Effect → Effect → Effect
 both first second = record {
   messages = first.messages ++ second.messages;
   changes = first.changes ++ second.changes;
+  calls = first.calls ++ second.calls;
   events = first.events ++ second.events;
 }
 
@@ -37,4 +38,4 @@ RequestsGetQuotedArguments =
     (k : Known) (breaks : Bool) (request : Request) (i : PageInput) (arguments : List (List ℕ)) →
     i.half ≡ [] → i.arguments ≡ no_arguments → All (All StandsForItself) arguments →
     taking_all k (InArguments breaks request) i (quoted_line arguments ++ newline ∷ [])
-    ≡ record { input = i; reading = LineStart; effect = request_effect k breaks request (kept arguments) }
+    ≡ ended_by i (request_effect k breaks request (kept arguments))

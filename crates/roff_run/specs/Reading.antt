@@ -24,7 +24,7 @@ use Rattle.roff_scan.specs.declared.half.Read.TheVariants.{GoesOn, Unit, Holds, 
 use Rattle.roff_scan.specs.declared.half.Remark.{Remark}
 use Rattle.roff_scan.specs.declared.half.Surroundings.TheVariants.{Text as AboveText, Arguments as AboveArguments, Copy as AboveCopy}
 use Rattle.roff_store.specs.declared.register.Direction.{Direction}
-use Rattle.roff_store.specs.TextCalls.{Open, Set}
+use Rattle.roff_store.specs.TextCalls.{Call, Open, Set}
 use Rattle.roff_store.specs.Texts.{Body, has_body}
 use Rattle.roff_run.specs.Messages.{character_name, remark_message, remark_messages}
 use Rattle.roff_run.specs.declared.message.Message.{Message}
@@ -37,7 +37,7 @@ use Rattle.roff_run.specs.declared.request.Request.{Request}
 use Rattle.roff_run.specs.declared.request.LineReading.{LineReading}
 use Rattle.roff_run.specs.declared.request.LineReading.TheVariants.{ByArguments, ByCondition, ByElse, ByString}
 use Rattle.roff_run.specs.Registers.{Known, is_page_odd, known_behind, step_changes, step_messages, text_of_register}
-use Rattle.roff_run.specs.Requests.{PageEvent, Text, Space, Effect, doing, row_of, request_named, request_effect}
+use Rattle.roff_run.specs.Requests.{PageEvent, Text, Space, Effect, doing, saying, row_of, request_named, request_effect}
 
 -- the input, as a run of the formatter has it
 abbrev pub PageInput : Type 0
@@ -110,7 +110,7 @@ abbrev pub told_taking : PageInput → TextLine → Message → Taking
 told_taking i line message = record {
   input = i;
   reading = InText (record line { has_other = true });
-  effect = record { messages = message ∷ []; changes = []; events = [] };
+  effect = saying (message ∷ []) [];
 }
 
 -- something that was read within a text that is measured, or a condition, and of which this is said
@@ -118,7 +118,7 @@ abbrev pub telling : PageInput → Reading → Remark → Taking
 telling i reading remark = record {
   input = i;
   reading = reading;
-  effect = record { messages = remark_message remark ∷ []; changes = []; events = [] };
+  effect = saying (remark_message remark ∷ []) [];
 }
 
 -- a motion of so many columns along a text line, and what is said of it: a glyph, however long it is
@@ -126,11 +126,7 @@ abbrev pub motion_taking : PageInput → TextLine → ℕ → Option Remark → 
 motion_taking i line columns remark = record {
   input = i;
   reading = InText (record line { has_glyph = true; leading = 0 });
-  effect = record {
-    messages = remark_messages remark;
-    changes = [];
-    events = leading_glyph line.leading ++ Text (Print (Blanks columns)) ∷ [];
-  };
+  effect = saying (remark_messages remark) (leading_glyph line.leading ++ Text (Print (Blanks columns)) ∷ []);
 }
 
 -- a count of leading blanks above this reads as this
@@ -184,7 +180,7 @@ abbrev pub interpolating : Known → PageInput → Reading → Option Direction 
 interpolating k i reading step name = record {
   input = pushing (text_of_register (known_behind (step_changes step name) k) name) i;
   reading = reading;
-  effect = record { messages = step_messages step name k.registers; changes = step_changes step name; events = [] };
+  effect = record { messages = step_messages step name k.registers; changes = step_changes step name; calls = []; events = [] };
 }
 
 -- a string is read in the place of its escape
@@ -283,13 +279,18 @@ holding unit i = record i { arguments = only_kept (with_unit i.arguments unit) }
 abbrev pub settling : PageInput → PageInput
 settling i = record i { arguments = only_kept (settled i.arguments) }
 
--- the end of a request's line: the request is obeyed, and its arguments are released
+-- the input behind calls on names, one after another
+abbrev pub calling_all : List Call → PageInput → PageInput
+calling_all [] i = i
+calling_all (call ∷ calls) i = calling_all calls (calling call i)
+
+-- a line has ended, and its request means this: its arguments are released, and what names stand for changes so
+abbrev pub ended_by : PageInput → Effect → Taking
+ended_by i effect = record { input = calling_all effect.calls (record i { arguments = no_arguments }); reading = LineStart; effect = effect }
+
+-- the end of a request's line: the request is obeyed
 abbrev pub line_ended : Known → PageInput → Bool → Request → Taking
-line_ended k i breaks request = record {
-  input = record i { arguments = no_arguments };
-  reading = LineStart;
-  effect = request_effect k breaks request (arguments_given i);
-}
+line_ended k i breaks request = ended_by i (request_effect k breaks request (arguments_given i))
 
 -- a unit behind a request's name is held; a newline ends the line
 abbrev pub unit_found : Known → PageInput → Bool → Request → CopyUnit → Taking
@@ -449,6 +450,12 @@ condition_found k i keeps found = no_unit_found k i (Deciding keeps) found
 abbrev pub condition_read : Known → PageInput → Bool → Reads → Taking
 condition_read k i keeps r = condition_found k (record i { half = r.1 }) keeps r.0
 
+-- the first byte of a condition behind a name of one byte: one that isn't there is false
+abbrev pub condition_begun : Known → PageInput → Bool → ℕ → Taking
+condition_begun k i keeps b =
+    if b == newline then condition_found k i keeps (Decides (Is false) (Some b))
+    else condition_read k i keeps (byte_read AboveArguments (choosing i).half b)
+
 -- whether the other branch is read: a result was kept, and was that it isn't so
 abbrev pub reads_else : Option Bool → Bool
 reads_else None = false
@@ -465,13 +472,13 @@ ends_name b = b == blank || (b == tab || (b == newline || b == backslash))
 -- the first byte behind a request's name, by how its line is read
 abbrev pub line_taking : Known → PageInput → Bool → Request → LineReading → ℕ → Taking
 line_taking k i breaks request ByArguments b = arguments_read_on k i breaks request (byte_read AboveArguments i.half b)
-line_taking k i breaks request (ByCondition keeps) b = condition_read k i keeps (byte_read AboveArguments (choosing i).half b)
+line_taking k i breaks request (ByCondition keeps) b = condition_begun k i keeps b
 line_taking k i breaks request (ByString appends) b = string_name_read k i appends (byte_read AboveArguments i.half b)
 line_taking k i breaks request ByElse b = branch_taking k (without_last i) (reads_else (kept_last i)) b
 
 -- a byte behind a name that it doesn't belong to: the line of an unknown name is dropped
 abbrev pub name_ended_taking : Known → PageInput → Bool → List ℕ → ℕ → Taking
-name_ended_taking k i breaks name b = elim (request_named name) [
+name_ended_taking k i breaks name b = elim (request_named name i.names) [
   | None ↦ dropped_taking i b
   | Some request ↦ line_taking k i breaks request (row_of request).line b
 ]
@@ -486,7 +493,7 @@ behind_name i breaks request ByElse = going_on (without_last i) (branch_of (read
 
 -- the last byte of a name of two bytes
 abbrev pub name_whole_taking : PageInput → Bool → List ℕ → Taking
-name_whole_taking i breaks name = elim (request_named name) [
+name_whole_taking i breaks name = elim (request_named name i.names) [
   | None ↦ going_on i Dropped
   | Some request ↦ behind_name i breaks request (row_of request).line
 ]

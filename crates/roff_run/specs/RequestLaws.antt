@@ -1,10 +1,9 @@
 -- Laws over the table of requests.
 use Rattle.std.specs.Prelude.{◌≡◌, ℕ, Bool, List, [], ◌∷◌, length, bytes_eq, count_by, Contains, Some}
-use Rattle.roff_run.specs.declared.message.Message.{Message}
 use Rattle.roff_run.specs.declared.message.Message.TheVariants.{LeftOut as SaysLeftOut}
 use Rattle.roff_run.specs.declared.request.Request.{Request}
 use Rattle.roff_run.specs.declared.request.Request.TheVariants.{WithoutEffect, LeftOut}
-use Rattle.roff_run.specs.Requests.{Effect, Known, doing, requests, names_without_effect, names_left_out, request_named, request_effect, row_of}
+use Rattle.roff_run.specs.Requests.{Known, doing, saying, first_entries, requests, names_without_effect, names_left_out, request_named, request_effect, row_of}
 
 -- the name of a request
 abbrev pub name_of : Request → List ℕ
@@ -16,9 +15,9 @@ IsListed (WithoutEffect name) = Contains names_without_effect name
 IsListed (LeftOut name) = Contains names_left_out name
 IsListed (_) = Unit {0}
 
--- each of them is the one of its name
+-- each of them is the one of its name, before anything is read
 abbrev pub EachIsNamed : Type 0
-EachIsNamed = (request : Request) → IsListed request → request_named (name_of request) ≡ Some request
+EachIsNamed = (request : Request) → IsListed request → request_named (name_of request) first_entries ≡ Some request
 
 -- each name stands in the table once
 abbrev pub EachIsListedOnce : Type 0
@@ -28,10 +27,6 @@ EachIsListedOnce =
 -- each name has two bytes
 abbrev pub EachNameHasTwoBytes : Type 0
 EachNameHasTwoBytes = (request : Request) → IsListed request → length (name_of request) ≡ 2
-
--- messages alone
-abbrev pub saying : List Message → Effect
-saying messages = record { messages = messages; changes = []; events = [] }
 
 -- a request without effect does nothing, whatever is known and given, and doesn't break
 abbrev pub WithoutEffectDoesNothing : Type 0
@@ -43,4 +38,4 @@ WithoutEffectDoesNothing =
 abbrev pub LeftOutOnlySaysSo : Type 0
 LeftOutOnlySaysSo =
     (k : Known) (breaks : Bool) (name : List ℕ) (as_given : List (List ℕ)) →
-    request_effect k breaks (LeftOut name) as_given ≡ saying (SaysLeftOut name ∷ [])
+    request_effect k breaks (LeftOut name) as_given ≡ saying (SaysLeftOut name ∷ []) []

@@ -1,5 +1,7 @@
 -- The requests, as in the manual's alphabetical list of requests and sections.
-use Rattle.std.specs.Prelude.{ℕ, Bool, true, false, List, [], ◌∷◌, ◌++◌, map, bytes_eq, codes, find, Option, ◌&&◌}
+use Rattle.std.specs.Prelude.{ℕ, ◌+◌, Bool, true, false, List, [], ◌∷◌, ◌++◌, map, codes, slice_get, Option, Some, None, ◌&&◌}
+use Rattle.roff_store.specs.Named.{Named, entry_of}
+use Rattle.roff_store.specs.Texts.{Entry, Body, Request as RequestEntry}
 use Rattle.roff_lines.specs.declared.settings.Param.TheVariants.{Filling, Adjusting}
 pub use Rattle.roff_run.specs.declared.event.PageEvent.{PageEvent}
 pub use Rattle.roff_run.specs.declared.event.PageEvent.TheVariants.{Text, Space}
@@ -7,17 +9,19 @@ pub use Rattle.roff_run.specs.Registers.{Known}
 use Rattle.roff_run.specs.declared.request.LineReading.{LineReading}
 use Rattle.roff_run.specs.declared.request.LineReading.TheVariants.{ByArguments, ByCondition, ByElse, ByString}
 use Rattle.roff_run.specs.declared.request.Request.{Request}
-use Rattle.roff_run.specs.declared.request.Request.TheVariants.{Adjust, AppendString, AssignFormat, Break, DefineString, Else, Fill, If, IfElse, Indent, LineLength, NoAdjust, NoFill, NumberRegister, RemoveRegisters, Space as SpaceDown, WithoutEffect, LeftOut}
-pub use Rattle.roff_run.specs.Requests.Effects.{Effect, doing, Done, Ignored, Does, nothing, setting, left_out, meant_by}
+use Rattle.roff_run.specs.declared.request.Request.TheVariants.{Adjust, AppendString, AssignFormat, Break, DefineString, Else, Fill, If, IfElse, Indent, LineLength, NoAdjust, NoFill, NumberRegister, RemoveNames, RemoveRegisters, Rename, Space as SpaceDown, WithoutEffect, LeftOut}
+pub use Rattle.roff_run.specs.Requests.Effects.{Effect, doing, saying, Done, Ignored, Does, nothing, setting, left_out, meant_by}
 use Rattle.roff_run.specs.Requests.Adjustment.{adjust}
 use Rattle.roff_run.specs.Requests.Spacing.{space_down}
 use Rattle.roff_run.specs.Requests.Lengths.{line_length, indent}
+use Rattle.roff_run.specs.Requests.Naming.{remove_names, rename}
 use Rattle.roff_run.specs.Requests.Numbering.{assign_format, set_register, remove_registers}
 pub mod Effects
 pub mod Adjustment
 pub mod Spacing
 pub mod Lengths
 pub mod Numbering
+pub mod Naming
 
 -- a request's name, how its line is read, whether it breaks, and what it does with its arguments
 pub record Row : Type 0 where
@@ -50,6 +54,8 @@ row_of LineLength = row (codes "ll") ByArguments false line_length  -- section 6
 row_of NoAdjust = row (codes "na") ByArguments false (always (setting (Adjusting false)))  -- section 4
 row_of NoFill = row (codes "nf") ByArguments true (always (setting (Filling false)))  -- section 4
 row_of NumberRegister = row (codes "nr") ByArguments false set_register  -- section 8
+row_of RemoveNames = row (codes "rm") ByArguments false (λ known. remove_names)  -- section 7
+row_of Rename = row (codes "rn") ByArguments false (λ known. rename)  -- section 7
 row_of RemoveRegisters = row (codes "rr") ByArguments false (λ known. remove_registers)  -- section 8
 row_of SpaceDown = row (codes "sp") ByArguments true (λ known. space_down)  -- section 5
 row_of (WithoutEffect name) = row name ByArguments false (always nothing)
@@ -80,7 +86,7 @@ names_left_out =
 abbrev pub built : List Request
 built =
     Adjust ∷ AssignFormat ∷ AppendString ∷ Break ∷ DefineString ∷ Else ∷ Fill ∷ IfElse ∷ If ∷ Indent ∷ LineLength ∷ NoAdjust
-    ∷ NoFill ∷ NumberRegister ∷ RemoveRegisters ∷ SpaceDown ∷ []
+    ∷ NoFill ∷ NumberRegister ∷ RemoveNames ∷ Rename ∷ RemoveRegisters ∷ SpaceDown ∷ []
 
 -- those that do nothing, or nothing but say that they are left out
 abbrev pub others : List Request
@@ -90,13 +96,23 @@ others = map WithoutEffect names_without_effect ++ map LeftOut names_left_out
 abbrev pub requests : List Request
 requests = built ++ others
 
--- whether a request has this name
-abbrev pub has_name : List ℕ → Request → Bool
-has_name name request = bytes_eq (row_of request).name name
+-- what names stand for before anything is read: that of each request for the request, by its place in the list
+abbrev pub entries_from : ℕ → List Request → Named Entry
+entries_from number [] = []
+entries_from number (request ∷ others) = ((row_of request).name, RequestEntry number) ∷ entries_from (number + 1) others
 
--- the request of a name
-abbrev pub request_named : List ℕ → Option Request
-request_named name = find (has_name name) requests
+abbrev pub first_entries : Named Entry
+first_entries = entries_from 0 requests
+
+-- the request that an entry is for
+abbrev pub request_of : Option Entry → Option Request
+request_of None = None
+request_of (Some (RequestEntry number)) = slice_get requests number
+request_of (Some (Body bytes)) = None
+
+-- the request that a name stands for, if it stands for one
+abbrev pub request_named : List ℕ → Named Entry → Option Request
+request_named name names = request_of (entry_of name names)
 
 -- what a request means: it breaks if its row says so and a dot called it
 abbrev pub request_effect : Known → Bool → Request → List (List ℕ) → Effect

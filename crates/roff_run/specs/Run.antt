@@ -9,15 +9,15 @@ use Rattle.roff_num.specs.declared.limit.Limit.{Limit}
 use Rattle.roff_num.specs.declared.limit.Limit.TheVariants.{Bytes, Names, Stack, Depth, Line, Conditions, Store, Diversions}
 use Rattle.roff_num.specs.declared.limits.Limits.{Limits}
 use Rattle.roff_scan.specs.Halves.{decides_now, newline_stays, seen_stays}
-use Rattle.roff_scan.specs.Input.{Ahead, ByteAhead, FreeAhead, EndAhead, DoAhead, initial_input, pushed, depth, results, stored, cost, item_taken, counting}
+use Rattle.roff_scan.specs.Input.{Ahead, ByteAhead, FreeAhead, EndAhead, DoAhead, initial_input, names_added, pushed, depth, results, stored, cost, item_taken, counting}
 use Rattle.roff_scan.specs.Tape.{Tape, Answer, OneByte, OneNote, Ended, Failed, Stopped, Gives, Ends, front, behind_front}
-use Rattle.roff_scan.specs.Unread.{Sighted, SeesByte, SeesNothing, SeesNote, SeesEnding, seen_ahead}
+use Rattle.roff_scan.specs.Unread.{Unread, Sighted, SeesByte, SeesNothing, SeesNote, SeesEnding, seen_ahead}
 use Rattle.roff_scan.specs.Half.{Half}
 use Rattle.roff_run.specs.Messages.{message_line, message_lines}
 use Rattle.roff_run.specs.Output.{PageHistory, text_of, written}
 use Rattle.roff_run.specs.Reading.{PageInput, Taking, taking, half_ended, end_taking, interrupted}
 use Rattle.roff_run.specs.Registers.{AllRegisters, Known, no_registers, changed_by_all}
-use Rattle.roff_run.specs.Requests.{PageEvent, Text, Space, Effect}
+use Rattle.roff_run.specs.Requests.{PageEvent, Text, Space, Effect, first_entries, requests}
 use Rattle.roff_run.specs.declared.message.Message.{Message}
 use Rattle.roff_run.specs.declared.message.Message.TheVariants.{LimitReached, ReadFailed}
 use Rattle.roff_run.specs.declared.reading.Reading.{Reading}
@@ -47,11 +47,19 @@ pub record State : Type 0 where
   pub ended : Option Status
   pub last_message : List ℕ
 
+-- the input before anything is read: the requests have their names
+abbrev pub first_input : PageInput
+first_input = record (initial_input (length requests)) { names = first_entries }
+
+-- the same within these limits
+abbrev pub first_unread : Limits → Unread PageEvent
+first_unread l = record { input = first_input; looked = None; limits = l }
+
 -- before the first step
 abbrev pub initial : Tape → State
 initial tape = record {
   tape = tape;
-  input = initial_input;
+  input = first_input;
   reading = LineStart;
   registers = no_registers;
   to_do = [];
@@ -127,7 +135,7 @@ performing l e rest s = unless_refused l (refusal l s.history e) s (record s { t
 abbrev pub counts_in : AllRegisters → PageInput → List (Limit × ℕ)
 counts_in rs i =
     (Names, length rs.named) ∷ (Stack, pushed i) ∷ (Depth, depth i)
-    ∷ (Diversions, length i.open_texts - 1) ∷ (Store, stored i) ∷ (Names, length i.names)
+    ∷ (Diversions, length i.open_texts - 1) ∷ (Store, stored i) ∷ (Names, names_added i)
     ∷ (Conditions, results i) ∷ []
 
 -- the same of a state

@@ -23,9 +23,9 @@ endings_of (Condition (Decided decision None) text ∷ rest) = endings_of rest +
 endings_of (Condition part text ∷ rest) = endings_of rest + 2
 endings_of (half ∷ rest) = endings_of rest + 1
 
--- what falls with each turn, within so many bytes: each item is paid for or free, and may begin two endings
+-- what falls with each turn, within so many bytes: each item is paid for or free, and may begin three endings
 abbrev pub turns_within : ℕ → PageInput → ℕ
-turns_within bytes i = 3 * (bytes - i.charge) + 3 * free_ahead i.ahead + endings_of i.half
+turns_within bytes i = 4 * (bytes - i.charge) + 4 * free_ahead i.ahead + endings_of i.half
 
 -- the same of the unread input, within its limit
 abbrev pub turns_to_come : Unread PageEvent → ℕ

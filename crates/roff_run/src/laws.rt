@@ -5,7 +5,9 @@ ghost use Rattle.roff_num.specs.declared.num.NumFault.TheVariants.{Range};
 ghost use Rattle.roff_num.specs.declared.num.Scale.TheVariants.{Columns, Lines, Units};
 ghost use Rattle.roff_run.specs.Numbers.{value_beside, value_in};
 ghost use Rattle.roff_run.specs.Registers.{Known, Remove, SetTo};
-ghost use Rattle.roff_run.specs.Requests.Effects.{Does, Ignored};
+ghost use Rattle.roff_run.specs.Requests.Naming.{remove_names, rename};
+ghost use Rattle.roff_store.specs.TextCalls.{Remove as RemoveName, Rename};
+ghost use Rattle.roff_run.specs.Requests.Effects.{Ignored, changing, naming};
 ghost use Rattle.roff_run.specs.Requests.Lengths.{length_set};
 ghost use Rattle.roff_run.specs.Requests.Numbering.{number, remove_registers, set_register};
 ghost use Rattle.roff_num.specs.declared.limit.Limit.TheVariants.{Bytes, Depth, Line, Names, Stack};
@@ -176,10 +178,22 @@ pub fn argument_rows()
     ensures at_least_zero { length_set 10 (codes "-99n") ≡ Ok 0 }
     ensures too_great { length_set 1 (codes "+89478485n") ≡ Err Range }
     ensures register_set { (k : Known) → set_register k (codes "abc" ∷ codes "3" ∷ codes "-2" ∷ [])
-        ≡ Does [] (SetTo (codes "ab") (number (pos 3)) (number (negsuc 1)) ∷ []) [] }
+        ≡ changing (SetTo (codes "ab") (number (pos 3)) (number (negsuc 1))) }
     ensures unnamed { (k : Known) → set_register k (codes "" ∷ codes "x" ∷ []) ≡ Ignored [] }
     ensures registers_removed { remove_registers (codes "a" ∷ codes "" ∷ codes "bcd" ∷ [])
-        ≡ Does [] (Remove (codes "a" ∷ codes "bc" ∷ []) ∷ []) [] }
+        ≡ changing (Remove (codes "a" ∷ codes "bc" ∷ [])) }
+    ensures names_removed { remove_names (codes "a" ∷ codes "" ∷ codes "bcd" ∷ [])
+        ≡ naming (RemoveName (codes "a") ∷ RemoveName (codes "bc") ∷ []) }
+    ensures renamed { rename (codes "abc" ∷ codes "d" ∷ [])
+        ≡ naming (Rename (codes "ab") (codes "d") ∷ []) }
+    ensures not_renamed { rename (codes "a" ∷ codes "" ∷ []) ≡ Ignored [] }
+{}
+
+/// What the definitions give on worked rows of names that are removed and renamed.
+pub fn naming_rows()
+    ensures renamed { formatted (codes ".rn br x\na\n.x\nb\n") ≡ gives (codes "a\nb\n") [] Done }
+    ensures removed { formatted (codes ".rm br\na\n.br\nb\n") ≡ gives (codes "a b\n") [] Done }
+    ensures string_removed { formatted (codes ".ds s a\n.rm s\n.as s b\n\\*s\n") ≡ gives (codes "b\n") [] Done }
 {}
 
 /// What the definitions give on worked rows of escapes.

@@ -17,5 +17,5 @@ mod status;
 
 pub use event::{Events, PageEvent};
 pub use message::{CharacterName, Message, MessageLine};
-pub use reader::{Meaning, Reader};
+pub use reader::{Meaning, Reader, first_unread};
 pub use status::Status;

@@ -1,6 +1,6 @@
 //! Reading: what each item of the input means, before it is done.
 
-ghost use Rattle.std.specs.Prelude.{◌≡◌, ◌≢◌, ℕ, List, [], ◌∷◌, None, Some, true, IfOk, IfSome, Ok, reverse, slice_get};
+ghost use Rattle.std.specs.Prelude.{◌≡◌, ◌≢◌, ◌≤◌, ℕ, List, [], ◌∷◌, None, Some, true, IfOk, IfSome, Ok, length, reverse, slice_get};
 ghost use Rattle.std.specs.Option.{option_copied};
 ghost use Rattle.roff_lines.specs.declared.event.Event.TheVariants.{Gap, Print, WordEnd};
 ghost use Rattle.roff_lines.specs.declared.glyph.Glyph.TheVariants.{Printed};
@@ -8,7 +8,7 @@ ghost use Rattle.roff_run.specs.Requests.{Text};
 ghost use Rattle.roff_scan.specs.declared.arguments.Place.TheVariants.{BehindQuote};
 ghost use Rattle.roff_scan.specs.declared.half.CopyUnit.TheVariants.{Byte};
 ghost use Rattle.roff_run.specs.Registers.{Known as KnownOf};
-ghost use Rattle.roff_run.specs.Clauses.{AllRegisters, Changed, Env, LineStart, NameOf, PageHistory, PageInput, PageUnread, Passes, Remove, Stands, TakesAs, arguments_found, asking, beginning_found, behind_name, changed_by, changes_of, condition_found, decided, effect_of, end_taking, first_escape, first_taking, fresh_reader, going_on, meaning_events, half_ended, holding, holding_text, interpolating, interrupted, is_passed, is_so, kept_taking, known_at, known_of, line_begun, line_ended, listed, row_of, measuring, name_taking, names_given, no_unit_found, putting_nothing, register_named, request_effect, taking, telling, text_found, text_of, unit_found, value_in_force, InputBecame, arguments_given, first_name, name_read, putting_string, string_begun, string_emptied, string_entered, string_grown, string_line_ended, string_name_behind, string_name_found, string_name_or_text, string_name_unit, string_text_found, string_unit};
+ghost use Rattle.roff_run.specs.Clauses.{AllRegisters, Changed, calling_all, calls_of, name_in, removals, Env, LineStart, NameOf, PageHistory, PageInput, PageUnread, Passes, Remove, Stands, TakesAs, arguments_found, asking, beginning_found, behind_name, changed_by, changes_of, condition_begun, condition_found, decided, effect_of, end_taking, first_escape, first_taking, fresh_reader, going_on, meaning_events, half_ended, holding, holding_text, interpolating, interrupted, is_passed, is_so, kept_taking, known_at, known_of, first_unread, line_taking, request_named, line_begun, line_ended, listed, row_of, measuring, name_ended_taking, name_taking, names_given, no_unit_found, putting_nothing, register_named, request_effect, taking, telling, text_found, text_of, unit_found, value_in_force, InputBecame, arguments_given, first_name, name_read, putting_string, string_begun, string_emptied, string_entered, string_grown, string_line_ended, string_name_behind, string_name_found, string_name_or_text, string_name_unit, string_text_found, string_unit};
 
 use crate::event::{Events, PageEvent};
 use crate::message::Message;
@@ -19,7 +19,7 @@ use crate::request::{
 };
 use itoa::Buffer;
 use roff_lines::Env;
-use roff_num::{Limit, Name, Num};
+use roff_num::{Limit, Limits, Name, Num};
 use roff_scan::{
     ArgumentList, CopyUnit, Decision, NameUse, Read, Remark, Surroundings, Unread, is_dropped,
 };
@@ -157,7 +157,7 @@ impl Reader {
                 self.read_text(line, found, env, unread)
             }
             Reading::Control { breaks } => Ok(self.read_on(Reading::behind_control(breaks, byte))),
-            Reading::Name { breaks, first } => Ok(self.end_name(breaks, first, byte, unread)),
+            Reading::Name { breaks, first } => self.end_name(breaks, first, byte, env, unread),
             Reading::Arguments { breaks, request } => {
                 let found = unread.read_byte(Surroundings::Arguments, byte);
                 self.read_arguments(breaks, request, found, env, unread)
@@ -412,25 +412,92 @@ impl Reader {
         }
     }
 
-    /// The byte behind the first one of a name. No request has a name of one byte.
+    /// The byte behind the first one of a name.
     fn end_name(
         &mut self,
         breaks: bool,
         first: u8,
         byte: u8,
+        env: &Env,
         unread: &mut Unread<PageEvent>,
-    ) -> Meaning
-        ensures { (env : Env)
-            → TakesAs (λ k. kept_taking k (NameOf breaks first) unread.old.input byte)
-            env self.old self.new unread.old unread.new (Ok result) }
+    ) -> Result<Meaning, Limit>
+        ensures { TakesAs (λ k. kept_taking k (NameOf breaks first) unread.old.input byte)
+            env.now self.old self.new unread.old unread.new result }
     {
         if ends_name(byte) {
-            return self.read_on(Reading::behind_dropped(byte));
+            return self.end_short_name(breaks, first, byte, env, unread);
         }
-        match Request::named(first, byte) {
-            Some(request) => self.begin_request(breaks, request, unread),
-            None => self.read_on(Reading::Dropped),
+        match request_named(&[first, byte], unread) {
+            Some(request) => Ok(self.begin_request(breaks, request, unread)),
+            None => Ok(self.read_on(Reading::Dropped)),
         }
+    }
+
+    /// The byte behind a name of one byte.
+    fn end_short_name(
+        &mut self,
+        breaks: bool,
+        first: u8,
+        byte: u8,
+        env: &Env,
+        unread: &mut Unread<PageEvent>,
+    ) -> Result<Meaning, Limit>
+        ensures { TakesAs (λ k. name_ended_taking k unread.old.input breaks (first ∷ []) byte)
+            env.now self.old self.new unread.old unread.new result }
+    {
+        match request_named(&[first], unread) {
+            Some(request) => self.read_first(breaks, request, byte, env, unread),
+            None => Ok(self.read_on(Reading::behind_dropped(byte))),
+        }
+    }
+
+    /// The first byte behind a request's name, which ends the name.
+    fn read_first(
+        &mut self,
+        breaks: bool,
+        request: Request,
+        byte: u8,
+        env: &Env,
+        unread: &mut Unread<PageEvent>,
+    ) -> Result<Meaning, Limit>
+        ensures { TakesAs (λ k. line_taking k unread.old.input breaks request (row_of request).line byte)
+            env.now self.old self.new unread.old unread.new result }
+    {
+        match request.row().line {
+            LineReading::ByArguments => {
+                let found = unread.read_byte(Surroundings::Arguments, byte);
+                self.read_arguments(breaks, request, found, env, unread)
+            }
+            LineReading::ByCondition { keeps } => self.begin_condition(keeps, byte, env, unread),
+            LineReading::ByString { appends } => {
+                let found = unread.read_byte(Surroundings::Arguments, byte);
+                self.read_string_name(appends, found, env, unread)
+            }
+            LineReading::ByElse => {
+                let so = unread.take_kept() == Some(false);
+                self.begin_branch(so, Some(byte), env, unread)
+            }
+        }
+    }
+
+    /// The first byte of a condition behind a name of one byte; one that isn't there is false.
+    fn begin_condition(
+        &mut self,
+        keeps: bool,
+        byte: u8,
+        env: &Env,
+        unread: &mut Unread<PageEvent>,
+    ) -> Result<Meaning, Limit>
+        ensures { TakesAs (λ k. condition_begun k unread.old.input keeps byte)
+            env.now self.old self.new unread.old unread.new result }
+    {
+        if byte == b'\n' {
+            let found = Read::Decides(Decision::Is(false), Some(byte));
+            return self.read_condition(keeps, found, env, unread);
+        }
+        unread.begin_condition();
+        let found = unread.read_byte(Surroundings::Arguments, byte);
+        self.read_condition(keeps, found, env, unread)
     }
 
     /// What is read behind a request's name.
@@ -888,7 +955,7 @@ impl Reader {
     {
         unread.finish_arguments();
         let effect = self.effect(breaks, request, env, unread);
-        self.change(effect.changes, unread.arguments())?;
+        self.change(effect.changes, unread)?;
         unread.begin_arguments();
         self.reading = Reading::LineStart;
         Ok(Meaning {
@@ -937,21 +1004,33 @@ impl Reader {
         }
     }
 
-    /// Changes registers.
+    /// Changes registers, or what names stand for.
     ///
     /// # Errors
     ///
     /// The limit on names, if more would have a register.
-    fn change(&mut self, changes: Changes, arguments: ArgumentList<'_>) -> Result<(), Limit>
-        ensures changed { Changed (changes_of (listed arguments.entry) changes)
+    fn change(&mut self, changes: Changes, unread: &mut Unread<PageEvent>) -> Result<(), Limit>
+        ensures changed { Changed (changes_of (reverse unread.old.input.arguments.whole) changes)
             self.old.registers self.new.registers result }
+        ensures called { unread.new ≡ record unread.old {
+          input = calling_all (calls_of (reverse unread.old.input.arguments.whole) changes)
+              unread.old.input;
+        } }
         ensures reading { self.new.reading ≡ self.old.reading }
     {
         match changes {
             Changes::Nothing => Ok(()),
             Changes::One(change) => self.registers.apply(&change),
             Changes::RemoveGiven => {
-                self.remove_given(arguments);
+                self.remove_given(unread.arguments());
+                Ok(())
+            }
+            Changes::RemoveNamesGiven => {
+                remove_names_given(unread);
+                Ok(())
+            }
+            Changes::Rename { from, to } => {
+                unread.rename(&from, &to);
                 Ok(())
             }
         }
@@ -985,6 +1064,60 @@ impl Meaning {
             message: None,
             events: Events::new(),
         }
+    }
+}
+
+/// The unread input before anything is read: the requests have their names.
+///
+/// # Errors
+///
+/// [`AllocError`] if the memory for the limits can't be had.
+pub fn first_unread(alloc: Global, limits: Limits) -> Result<Unread<PageEvent>, AllocError>
+    ensures { IfOk result (λ u. u ≡ first_unread limits) }
+{
+    let mut unread = Unread::new(alloc, limits, Request::COUNT as u32)?;
+    for number in 0..Request::COUNT {
+        if let Some(request) = Request::numbered(number as usize) {
+            let name = Name::new(&request.row().name).unwrap();
+            let _ = unread.set(&name, Entry::Request(number));
+        }
+    }
+    Ok(unread)
+}
+
+/// The request that a name stands for, if it stands for one.
+fn request_named(name: &[u8], unread: &Unread<PageEvent>) -> Option<Request>
+    requires { 1 ≤ length name.now × length name.now ≤ 2 }
+    ensures { result ≡ request_named name.now unread.now.input.names }
+{
+    let name = Name::new(name)?;
+    match unread.get(&name)? {
+        Kind::Request(number) => Request::numbered(number as usize),
+        Kind::Body(_) => None,
+    }
+}
+
+/// Removes what the names stand for that the arguments give.
+fn remove_names_given(unread: &mut Unread<PageEvent>)
+    ensures { unread.new ≡ record unread.old {
+      input = calling_all (removals (names_given (reverse unread.old.input.arguments.whole)))
+          unread.old.input;
+    } }
+{
+    for index in 0..unread.arguments().len() {
+        if let Some(name) = name_at(index, unread) {
+            unread.remove(&name);
+        }
+    }
+}
+
+/// The name that the argument at an index gives, if there is one that gives one.
+fn name_at(index: usize, unread: &Unread<PageEvent>) -> Option<Name>
+    ensures { result ≡ name_in (slice_get (reverse unread.now.input.arguments.whole) index) }
+{
+    match unread.arguments().get(index) {
+        Some(text) => name_given(text),
+        None => None,
     }
 }
 

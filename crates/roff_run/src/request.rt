@@ -1,14 +1,14 @@
 //! The requests: a row for each, and what each does.
 
-ghost use Rattle.std.specs.Prelude.{◌≡◌, ℕ, List, [], ◌∷◌, find};
-ghost use Rattle.std.specs.Option.{option_copied};
+ghost use Rattle.std.specs.Prelude.{◌≡◌, ℕ, List, slice_get};
 ghost use Rattle.roff_run.specs.Registers.{Known as KnownOfRun};
 ghost use Rattle.roff_run.specs.Request.Coded.{GivesFirst, KnowsOf, coded_row, done_of, effect_of};
-ghost use Rattle.roff_run.specs.Requests.{built, has_name, others, request_effect, request_named, row_of};
+ghost use Rattle.roff_run.specs.Requests.{request_effect, requests, row_of};
 
 mod adjustment;
 mod effects;
 mod lengths;
+mod naming;
 mod numbering;
 mod spacing;
 #[cfg(test)]
@@ -51,8 +51,12 @@ pub(crate) enum Request {
     NoFill,
     /// `nr`: a number register's value and increment.
     NumberRegister,
+    /// `rm`: strings, macros and requests go.
+    RemoveNames,
     /// `rr`: number registers go.
     RemoveRegisters,
+    /// `rn`: a string, macro or request gets another name.
+    Rename,
     /// `sp`: blank lines.
     Space,
     /// One of this name that is read without effect.
@@ -100,7 +104,7 @@ pub(crate) struct Row {
 }
 
 /// The requests that are built, in the order of their names.
-static BUILT: [Request; 16] = [
+static BUILT: [Request; 18] = [
     Request::Adjust,
     Request::AssignFormat,
     Request::AppendString,
@@ -115,6 +119,8 @@ static BUILT: [Request; 16] = [
     Request::NoAdjust,
     Request::NoFill,
     Request::NumberRegister,
+    Request::RemoveNames,
+    Request::Rename,
     Request::RemoveRegisters,
     Request::Space,
 ];
@@ -143,14 +149,20 @@ static LEFT_OUT: [[u8; 2]; 24] = [
 ];
 
 impl Request {
-    /// The request of a name of two bytes, if there is one.
-    pub(crate) fn named(first: u8, second: u8) -> Option<Request>
-        ensures { result ≡ request_named (first ∷ second ∷ []) }
+    /// How many there are.
+    pub(crate) const COUNT: u16 = 57;
+
+    /// The request of this place in the table, if there is one.
+    pub(crate) fn numbered(number: usize) -> Option<Request>
+        ensures { result ≡ slice_get requests number }
     {
-        let name = [first, second];
-        match built_named(name) {
-            Some(request) => Some(*request),
-            None => other_named(name),
+        if let Some(request) = BUILT.get(number) {
+            return Some(*request);
+        }
+        let number = number - BUILT.len();
+        match WITHOUT_EFFECT.get(number) {
+            Some(name) => Some(WithoutEffect(*name)),
+            None => Some(LeftOut(*LEFT_OUT.get(number - WITHOUT_EFFECT.len())?)),
         }
     }
 
@@ -174,6 +186,8 @@ impl Request {
             Request::NoAdjust => Row { name: *b"na", line: ByArguments, breaks: false },
             Request::NoFill => Row { name: *b"nf", line: ByArguments, breaks: true },
             Request::NumberRegister => Row { name: *b"nr", line: ByArguments, breaks: false },
+            Request::RemoveNames => Row { name: *b"rm", line: ByArguments, breaks: false },
+            Request::Rename => Row { name: *b"rn", line: ByArguments, breaks: false },
             Request::RemoveRegisters => Row { name: *b"rr", line: ByArguments, breaks: false },
             Request::Space => Row { name: *b"sp", line: ByArguments, breaks: true },
             WithoutEffect(name) => Row { name, line: ByArguments, breaks: false },
@@ -211,30 +225,12 @@ impl Request {
             Request::NoAdjust => Done::setting(Param::Adjusting(false)),
             Request::NoFill => Done::setting(Param::Filling(false)),
             Request::NumberRegister => numbering::set_register(known, given),
+            Request::RemoveNames => Done::changing(Changes::RemoveNamesGiven),
+            Request::Rename => naming::rename(given.first, given.second),
             Request::RemoveRegisters => Done::changing(Changes::RemoveGiven),
             Request::Space => spacing::space_down(given.first),
             WithoutEffect(_) => Done::nothing(),
             LeftOut(name) => Done::left_out(name),
         }
-    }
-}
-
-/// The request of a name among those that are built.
-fn built_named(name: [u8; 2]) -> Option<&'static Request>
-    ensures { option_copied result ≡ find (has_name name) built }
-{
-    BUILT.iter().find(|request| request.row().name == name)
-}
-
-/// The request of a name among those that do nothing.
-fn other_named(name: [u8; 2]) -> Option<Request>
-    ensures { result ≡ find (has_name name) others }
-{
-    if WITHOUT_EFFECT.contains(&name) {
-        Some(WithoutEffect(name))
-    } else if LEFT_OUT.contains(&name) {
-        Some(LeftOut(name))
-    } else {
-        None
     }
 }

@@ -1,6 +1,7 @@
 -- Calls on names and on texts in the making: what the store answers is what the limits on the input refuse.
-use Rattle.std.proofs.Common.{◌≡◌, ℕ, ◌+◌, ◌≤◌, true, false, zero, suc, List, [], ◌∷◌, length, Ok, Err, refl, sym, ap, subst, ◌∙◌, arith}
+use Rattle.std.proofs.Common.{◌≡◌, inl, inr, ℕ, ◌+◌, ◌-◌, ◌≤◌, true, false, zero, suc, List, [], ◌∷◌, length, Ok, Err, refl, sym, ap, subst, ◌∙◌, arith}
 use Rattle.std.specs.Prelude.{Bool, Result, nat_lt, remove, if◌then◌else◌}
+use Rattle.std.proofs.lemmas.Bool.{cases_Bool, le-ltb, lt-ltb, ltb-false, ltb-true}
 use Rattle.roff_num.specs.declared.limit.Limit.{Limit}
 use Rattle.roff_num.specs.declared.limit.Limit.TheVariants.{Store}
 use Rattle.roff_num.specs.declared.limits.Limits.{Limits}
@@ -18,6 +19,13 @@ use Rattle.roff_scan.proofs.Changing.{changing_texts, texts_refusal}
 abbrev answer_by_tests : Bool → Bool → Result (Unit {0}) Limit
 answer_by_tests bytes names = if bytes then Err Store else answer_by names
 
+-- as many more than a limit as beyond some that don't count
+nat_lt-beyond : (limit first count : ℕ) → nat_lt (limit + first) count ≡ nat_lt limit (count - first)
+nat_lt-beyond limit first count = elim (cases_Bool (nat_lt (limit + first) count)) [
+  | inl above ↦ let more = ltb-true (limit + first) count above in above ∙ sym (lt-ltb limit (count - first) (omega (arith, more)))
+  | inr within ↦ let few = ltb-false (limit + first) count within in within ∙ sym (le-ltb limit (count - first) (omega (arith, few)))
+]
+
 module _ {E : Type 0} (u : Unread E) where
   by_tests : (m : Texts) (bytes names : Bool)
       → unless_passed (texts_refusal bytes names) (with_texts m u.input) u
@@ -27,21 +35,24 @@ module _ {E : Type 0} (u : Unread E) where
   by_tests m false false = refl
 
   -- the input with other texts: what a store with them answers
-  pub changing_to : (m : Texts) → IsWithin u → m.cap_bytes ≡ u.limits.store → m.names.cap ≡ u.limits.names
+  pub changing_to : (m : Texts) → IsWithin u → m.cap_bytes ≡ u.limits.store → m.names.cap ≡ u.limits.names + u.input.first_names
       → length m.open_texts ≤ u.limits.diversions + 1
       → changing (with_texts m u.input) u
       ≡ (answer_of m, record u { input = with_texts (unless_refused (answer_of m) (texts_within u.limits u.input) m) u.input })
   changing_to m within bytes names making =
-      let answer : answer_of m ≡ answer_by_tests (nat_lt u.limits.store (used m)) (nat_lt u.limits.names (length m.names.entries)) =
+      let first = u.input.first_names in
+      let count = length m.names.entries in
+      let answer : answer_of m ≡ answer_by_tests (nat_lt u.limits.store (used m)) (nat_lt u.limits.names (count - first)) =
       ap (λ (cap : ℕ). answer_by_tests (nat_lt cap (used m)) (nat_lt m.names.cap (length m.names.entries))) bytes
-      ∙ ap (λ (cap : ℕ). answer_by_tests (nat_lt u.limits.store (used m)) (nat_lt cap (length m.names.entries))) names in
+      ∙ ap (λ (cap : ℕ). answer_by_tests (nat_lt u.limits.store (used m)) (nat_lt cap count)) names
+      ∙ ap (λ (full : Bool). answer_by_tests (nat_lt u.limits.store (used m)) full) (nat_lt-beyond u.limits.names first count) in
       changing_texts u (with_texts m u.input) within.pushed within.depth making within.results
-      ∙ by_tests m (nat_lt u.limits.store (used m)) (nat_lt u.limits.names (length m.names.entries))
+      ∙ by_tests m (nat_lt u.limits.store (used m)) (nat_lt u.limits.names (count - first))
       ∙ ap (λ (a : Result (Unit {0}) Limit). (a, record u { input = with_texts (unless_refused a (texts_within u.limits u.input) m) u.input })) (sym answer)
 
   -- the texts of what is within the limits
   pub counted_within : IsWithin u → EachOnce u.input.names → IsCounted (texts_within u.limits u.input)
-  counted_within within once = record { once = once; names = within.names; bytes = within.stored }
+  counted_within within once = record { once = once; names = omega (arith, within.names); bytes = within.stored }
 
   -- a call that the store answers by what it would make
   pub changing_called : (call : Call) → IsWithin u
@@ -74,7 +85,7 @@ module _ {E : Type 0} (u : Unread E) where
         depth = within.depth;
         results = within.results;
         stored = subst (λ (cap : ℕ). used (after call t) ≤ cap) same.bytes bytes;
-        names = subst (λ (cap : ℕ). length (after call t).names.entries ≤ cap) same.names names;
+        names = omega (arith, names, same.names);
         making = making;
       }
 

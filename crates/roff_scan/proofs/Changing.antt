@@ -6,7 +6,7 @@ use Rattle.roff_num.specs.declared.limit.Limit.{Limit}
 use Rattle.roff_num.specs.declared.limit.Limit.TheVariants.{Stack, Depth, Store, Names}
 use Rattle.roff_scan.specs.Arguments.{Arguments, held}
 use Rattle.roff_scan.specs.Half.{Half, texts_held}
-use Rattle.roff_scan.specs.Input.{Input, EndAhead, pushed, depth, results, pushing, freeing, with_arguments, with_half, bytes_ahead, stored}
+use Rattle.roff_scan.specs.Input.{Input, EndAhead, pushed, depth, results, pushing, freeing, with_arguments, with_half, bytes_ahead, names_added, stored}
 use Rattle.roff_scan.specs.Unread.{Unread, IsWithin, changing, unless_passed}
 use Rattle.roff_scan.proofs.KeptArguments.{held-only_kept}
 use Rattle.roff_scan.proofs.Counts.{bytes_ahead-bytes, ends_ahead-bytes, bytes_ahead-frees, ends_ahead-frees}
@@ -40,7 +40,7 @@ module _ {E : Type 0} (u : Unread E) (i : Input E) where
 
   -- then come those on the texts, of which the bytes and the names may be above theirs
   pub changing_texts : pushed i ≤ u.limits.stack → depth i ≤ u.limits.depth → length i.open_texts ≤ u.limits.diversions + 1 → results i ≤ u.limits.conditions
-      → changing i u ≡ unless_passed (texts_refusal (nat_lt u.limits.store (stored i)) (nat_lt u.limits.names (length i.names))) i u
+      → changing i u ≡ unless_passed (texts_refusal (nat_lt u.limits.store (stored i)) (nat_lt u.limits.names (names_added i))) i u
   changing_texts within inside making few =
       rw (
         not_above u.limits.stack (pushed i) within,
@@ -50,13 +50,13 @@ module _ {E : Type 0} (u : Unread E) (i : Input E) where
       ) refl
 
   pub changing_within : pushed i ≤ u.limits.stack → depth i ≤ u.limits.depth → results i ≤ u.limits.conditions
-      → stored i ≤ u.limits.store → length i.names ≤ u.limits.names → length i.open_texts ≤ u.limits.diversions + 1
+      → stored i ≤ u.limits.store → names_added i ≤ u.limits.names → length i.open_texts ≤ u.limits.diversions + 1
       → changing i u ≡ (Ok tt, record u { input = i })
   changing_within within inside few bytes names making =
       rw (
         changing_texts within inside making few,
         not_above u.limits.store (stored i) bytes,
-        not_above u.limits.names (length i.names) names,
+        not_above u.limits.names (names_added i) names,
       ) refl
 
 module _ {E : Type 0} (u : Unread E) (text : List ℕ) (bytes : ℕ) (counted : bytes ≡ pushed u.input) where

@@ -1,5 +1,5 @@
 -- Bytes that are passed over: how many they are, and what is counted of them.
-use Rattle.std.proofs.Common.{◌≡◌, ◌==◌, ℕ, ◌+◌, ◌-◌, ◌≤◌, Bool, true, false, not, ◌&&◌, List, [], ◌∷◌, ◌++◌, append_assoc, cond, count_by, min, map, if◌then◌else◌, Option, Some, None, length, length-take, take, take_while, refl, sym, ap, subst, arith, inr, ◌∙◌}
+use Rattle.std.proofs.Common.{◌≡◌, ◌==◌, ℕ, ◌+◌, ◌-◌, ◌≤◌, Bool, true, false, not, ◌&&◌, List, [], ◌∷◌, ◌++◌, append_assoc, cond, count_by, min, map, if◌then◌else◌, Option, Some, None, length, length-take, take, take_while, refl, sym, ap, subst, arith, inl, inr, ◌∙◌}
 use Rattle.std.specs.Prelude.{is_none, unwrap_or}
 use Rattle.std.proofs.Math.Bool.{or-false}
 use Rattle.std.proofs.lemmas.List.Folds.{length-prefix_len}
@@ -151,3 +151,25 @@ module _ {E : Type 0} where
         subst (λ u. PassesOver old new ready u after within_block) is
         (subst (λ u. PassesOver old new ready kept u within_block) (sym behind)
         (passes_bare kept all split (ap is_bare is ∙ bare) within took))
+
+  -- where none may be taken, nothing changes
+  none_taken : (gives : Tape → Type 0) (ready : List ℕ) (within_block : Bool) (u : Unread E)
+      → [] ≡ take_while (is_passed within_block) (take (u.limits.bytes - u.input.charge) ready) → is_bare u ≡ true → IsWithin u
+      → PassesOver gives gives ready u u within_block
+  none_taken gives ready within_block u all bare within = record {
+    bytes = [];
+    are_all = all ∙ ap (λ t. if t then take_while (is_passed within_block) (take (u.limits.bytes - u.input.charge) ready) else []) (sym bare);
+    plain = tt;
+    bare = inl refl;
+    in_front = λ t may. may;
+    some = inl refl;
+    stays = λ none. record { before = λ t may. may; after = λ t may. may };
+    input = refl;
+    within = omega (arith, within.charge);
+  }
+
+  pub passes_none : (gives : Tape → Type 0) (ready : List ℕ) (within_block : Bool) (kept before : Unread E) → kept ≡ before
+      → [] ≡ take_while (is_passed within_block) (take (kept.limits.bytes - kept.input.charge) ready) → is_bare before ≡ true → IsWithin kept
+      → PassesOver gives gives ready before before within_block
+  passes_none gives ready within_block kept before is all bare within =
+      subst (λ u. PassesOver gives gives ready u u within_block) is (none_taken gives ready within_block kept all (ap is_bare is ∙ bare) within)

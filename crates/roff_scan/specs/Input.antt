@@ -2,7 +2,7 @@
 --
 -- Pushed texts, each with its end, and events put back stand ahead of the source's items in one list. Beside it the input
 -- has what names stand for, whose bodies are pushed, and the texts that are being made of it.
-use Rattle.std.specs.Prelude.{ℕ, ◌+◌, ◌*◌, Bool, true, false, List, [], ◌∷◌, ◌++◌, drop, length, map, Option, Some, None, if◌then◌else◌, ◌==◌}
+use Rattle.std.specs.Prelude.{ℕ, ◌+◌, ◌-◌, ◌*◌, Bool, true, false, List, [], ◌∷◌, ◌++◌, drop, length, map, Option, Some, None, if◌then◌else◌, ◌==◌}
 use Rattle.roff_scan.specs.Arguments.{Arguments, no_arguments, only_kept, held}
 use Rattle.roff_scan.specs.Bytes.{newline}
 use Rattle.roff_scan.specs.Half.{Half, Condition, texts_held, text_held}
@@ -41,12 +41,14 @@ pub record Input (E : Type 0) : Type 0 where
   pub line : ℕ
   -- what names stand for: strings, macros and requests
   pub names : Named Entry
+  -- how many names stood for something before anything was read
+  pub first_names : ℕ
   -- the texts in the making, the oldest first
   pub open_texts : List (List ℕ)
 
--- before the first item
-abbrev pub initial_input : {E : Type 0} → Input E
-initial_input = record {
+-- before the first item, and before any of so many names stands for something
+abbrev pub initial_input : {E : Type 0} → ℕ → Input E
+initial_input first_names = record {
   ahead = [];
   arguments = no_arguments;
   half = [];
@@ -55,6 +57,7 @@ initial_input = record {
   newlines = 0;
   line = 1;
   names = [];
+  first_names = first_names;
   open_texts = [];
 }
 
@@ -224,6 +227,10 @@ calling call i = with_texts (made call (texts_of i)) i
 -- what counts in the limit on the store: the bytes of bodies and of texts in the making
 abbrev pub stored : {E : Type 0} → Input E → ℕ
 stored i = used (texts_of i)
+
+-- what counts in the limit on names: those beyond the ones that were there at the start
+abbrev pub names_added : {E : Type 0} → Input E → ℕ
+names_added i = length i.names - i.first_names
 
 -- the body of a name; a name that has none reads as an empty one
 abbrev pub body_named : {E : Type 0} → List ℕ → Input E → List ℕ

@@ -10,7 +10,7 @@ use Rattle.roff_num.specs.declared.limit.Limit.TheVariants.{Bytes, Stack, Depth,
 use Rattle.roff_num.specs.declared.limits.Limits.{Limits}
 use Rattle.roff_scan.specs.Bytes.{is_passed}
 use Rattle.roff_scan.specs.Halves.{Reads}
-use Rattle.roff_scan.specs.Input.{with_half, Input, initial_input, is_none_ahead, Ahead, ByteAhead, FreeAhead, EndAhead, DoAhead, cost, counting, item_taken, pushed, depth, results, stored}
+use Rattle.roff_scan.specs.Input.{with_half, Input, initial_input, is_none_ahead, Ahead, ByteAhead, FreeAhead, EndAhead, DoAhead, cost, counting, item_taken, pushed, depth, results, stored, names_added}
 use Rattle.roff_store.specs.Texts.{Texts}
 use Rattle.roff_scan.specs.Tape.{Tape, Answer, Answers, Gives, Ends, OneByte, OneNote, Ending, Ended, Failed, Stopped, items_then}
 use Rattle.roff_scan.specs.declared.half.Read.{Read}
@@ -34,13 +34,13 @@ pub record IsWithin {E : Type 0} (u : Unread E) : Type 0 where
   pub depth : depth u.input ≤ u.limits.depth
   pub results : results u.input ≤ u.limits.conditions
   pub stored : stored u.input ≤ u.limits.store
-  pub names : length u.input.names ≤ u.limits.names
+  pub names : names_added u.input ≤ u.limits.names
   pub making : length u.input.open_texts ≤ u.limits.diversions + 1
 
--- no name stands for anything
-abbrev pub no_texts : Limits → Texts
-no_texts l = record {
-  names = record { entries = []; cap = l.names };
+-- no name stands for anything; there is room for so many that the limit doesn't count
+abbrev pub no_texts : Limits → ℕ → Texts
+no_texts l first_names = record {
+  names = record { entries = []; cap = l.names + first_names };
   open_texts = [];
   leases = [];
   cap_bytes = l.store;
@@ -51,11 +51,14 @@ no_texts l = record {
 
 -- the texts of an input, as a store within these limits has them
 abbrev pub texts_within : {E : Type 0} → Limits → Input E → Texts
-texts_within l i = record (no_texts l) { names = record { entries = i.names; cap = l.names }; open_texts = i.open_texts }
+texts_within l i = record (no_texts l i.first_names) {
+  names = record { entries = i.names; cap = l.names + i.first_names };
+  open_texts = i.open_texts;
+}
 
 -- before anything is read
-abbrev pub initial_unread : {E : Type 0} → Limits → Unread E
-initial_unread limits = record { input = initial_input; looked = None; limits = limits }
+abbrev pub initial_unread : {E : Type 0} → Limits → ℕ → Unread E
+initial_unread limits first_names = record { input = initial_input first_names; looked = None; limits = limits }
 
 -- whether the source's next byte is the next one: nothing is ahead, nothing half read, and nothing looked at
 abbrev pub is_bare : {E : Type 0} → Unread E → Bool
@@ -200,7 +203,7 @@ input_refusal l i =
     else if nat_lt l.depth (depth i) then Some Depth
     else if nat_lt l.diversions (length i.open_texts - 1) then Some Diversions
     else if nat_lt l.store (stored i) then Some Store
-    else if nat_lt l.names (length i.names) then Some Names
+    else if nat_lt l.names (names_added i) then Some Names
     else if nat_lt l.conditions (results i) then Some Conditions
     else None
 

@@ -45,11 +45,12 @@ impl<E: Copy> Frames<E> {
     ghost use Rattle.roff_scan.specs.Frames.Calls.{TakesFront};
     ghost use Rattle.roff_store.specs.TextCalls.{DropOpen, Enter, Open, PushOpen, Remove, Rename, Set, after, answered};
 
-    /// Nothing stands ahead, and no name stands for anything.
-    pub(crate) fn new(alloc: Global, limits: &Limits) -> Result<Self, AllocError>
+    /// Nothing stands ahead, and no name stands for anything. There is room for so many names
+    /// beyond the limit.
+    pub(crate) fn new(alloc: Global, limits: &Limits, first_names: u32) -> Result<Self, AllocError>
         ensures { IfOk result (λ f. f ≡ record {
           ahead = [];
-          texts = no_texts limits.now;
+          texts = no_texts limits.now first_names;
           most_bytes = limits.now.stack;
           most_texts = limits.now.depth;
         }) }
@@ -57,12 +58,15 @@ impl<E: Copy> Frames<E> {
         let Some(cap_open) = limits.diversions.checked_add(1) else {
             return Err(AllocError);
         };
+        let Some(cap_names) = limits.names.checked_add(first_names) else {
+            return Err(AllocError);
+        };
         Ok(Frames {
             slots: Slots::new(alloc, limits.stack, limits.depth)?,
             texts: TextStore::new(
                 alloc,
                 limits.store,
-                limits.names,
+                cap_names,
                 cap_open,
                 limits.depth,
                 limits.stack,

@@ -74,6 +74,8 @@ pub struct Unread<E> {
     charge: u32,
     newlines: u32,
     line: u32,
+    /// How many names stand for something before anything is read.
+    first_names: u32,
 }
 
 impl<E> Model for Unread<E> {
@@ -93,13 +95,14 @@ impl<E: Copy> Unread<E> {
     ghost use Rattle.roff_scan.specs.Unread.Calls.{Takes, Looks, PassesOver};
     ghost use Rattle.roff_store.specs.TextCalls.{Open, Remove, Rename, Set};
 
-    /// The input before anything is read.
-    pub fn new(alloc: Global, limits: Limits) -> Result<Self, AllocError>
-        ensures { IfOk result (λ u. u ≡ initial_unread limits) }
+    /// The input before anything is read. So many names stand for something then: they are to be
+    /// set before anything is taken, and the limit on names doesn't count them.
+    pub fn new(alloc: Global, limits: Limits, first_names: u32) -> Result<Self, AllocError>
+        ensures { IfOk result (λ u. u ≡ initial_unread limits first_names) }
     {
         Ok(Unread {
             limits,
-            frames: Frames::new(alloc, &limits)?,
+            frames: Frames::new(alloc, &limits, first_names)?,
             arguments: ArgumentTexts::new(alloc, limits.stack)?,
             half: Halves::new(alloc, limits.stack)?,
             kept: Vec::with_capacity(alloc, limits.conditions as usize)?,
@@ -107,6 +110,7 @@ impl<E: Copy> Unread<E> {
             charge: 0,
             newlines: 0,
             line: 1,
+            first_names,
         })
     }
 

@@ -32,7 +32,7 @@ fn seen(sight: Sight) -> Option<u8> {
 #[test]
 fn items_are_taken_from_the_front(rt: HostRuntime) -> Result<(), Fail> {
     let mut source = ReadSource::new(rt.alloc(), b"x\n".as_slice())?;
-    let mut unread = Unread::new(rt.alloc(), Limits::DEFAULT)?;
+    let mut unread = Unread::new(rt.alloc(), Limits::DEFAULT, 0)?;
     assert!(rt; unread.is_bare());
     assert_eq!(rt; seen(unread.look(&mut source)), Some(b'x'));
     unread.put_back(7);
@@ -58,7 +58,7 @@ fn items_are_taken_from_the_front(rt: HostRuntime) -> Result<(), Fail> {
 #[test]
 fn free_bytes_cost_nothing(rt: HostRuntime) -> Result<(), Fail> {
     let mut source = ReadSource::new(rt.alloc(), b"x".as_slice())?;
-    let mut unread: Unread<u8> = Unread::new(rt.alloc(), Limits::DEFAULT)?;
+    let mut unread: Unread<u8> = Unread::new(rt.alloc(), Limits::DEFAULT, 0)?;
     unread.free(b"!");
     assert_eq!(rt; unread.pushed(), 0);
     assert_eq!(rt; shown(unread.take(&mut source)), ('b', b'!'));
@@ -77,7 +77,7 @@ fn limits_refuse_what_passes_them(rt: HostRuntime) -> Result<(), Fail> {
         ..Limits::DEFAULT
     };
     let mut source = ReadSource::new(rt.alloc(), b"xy".as_slice())?;
-    let mut unread: Unread<u8> = Unread::new(rt.alloc(), limits)?;
+    let mut unread: Unread<u8> = Unread::new(rt.alloc(), limits, 0)?;
     assert_eq!(rt; shown(unread.take(&mut source)), ('b', b'x'));
     assert_eq!(rt; shown(unread.take(&mut source)), ('r', 0));
     assert_eq!(rt; seen(unread.look(&mut source)), Some(b'y'));
@@ -95,7 +95,7 @@ fn limits_refuse_what_passes_them(rt: HostRuntime) -> Result<(), Fail> {
 
 #[test]
 fn names_are_read_behind_backslashes(rt: HostRuntime) -> Result<(), Fail> {
-    let mut unread: Unread<u8> = Unread::new(rt.alloc(), Limits::DEFAULT)?;
+    let mut unread: Unread<u8> = Unread::new(rt.alloc(), Limits::DEFAULT, 0)?;
     for byte in b"\\n(x" {
         assert!(rt; matches!(unread.read_byte(Surroundings::Text, *byte), Read::GoesOn));
     }
@@ -112,7 +112,7 @@ fn names_are_read_behind_backslashes(rt: HostRuntime) -> Result<(), Fail> {
 
 #[test]
 fn a_size_takes_only_what_belongs_to_it(rt: HostRuntime) -> Result<(), Fail> {
-    let mut unread: Unread<u8> = Unread::new(rt.alloc(), Limits::DEFAULT)?;
+    let mut unread: Unread<u8> = Unread::new(rt.alloc(), Limits::DEFAULT, 0)?;
     for byte in b"\\s2" {
         assert!(rt; matches!(unread.read_byte(Surroundings::Text, *byte), Read::GoesOn));
     }
@@ -129,7 +129,7 @@ fn a_motion_is_read_from_its_text(rt: HostRuntime) -> Result<(), Fail> {
         stack: 2,
         ..Limits::DEFAULT
     };
-    let mut unread: Unread<u8> = Unread::new(rt.alloc(), limits)?;
+    let mut unread: Unread<u8> = Unread::new(rt.alloc(), limits, 0)?;
     for byte in b"\\h'" {
         assert!(rt; matches!(unread.read_byte(Surroundings::Text, *byte), Read::GoesOn));
     }
@@ -151,7 +151,7 @@ fn a_motion_is_read_from_its_text(rt: HostRuntime) -> Result<(), Fail> {
 
 #[test]
 fn a_motion_below_0_is_none(rt: HostRuntime) -> Result<(), Fail> {
-    let mut unread: Unread<u8> = Unread::new(rt.alloc(), Limits::DEFAULT)?;
+    let mut unread: Unread<u8> = Unread::new(rt.alloc(), Limits::DEFAULT, 0)?;
     for byte in b"\\h'" {
         assert!(rt; matches!(unread.read_byte(Surroundings::Text, *byte), Read::GoesOn));
     }
@@ -168,7 +168,7 @@ fn a_motion_below_0_is_none(rt: HostRuntime) -> Result<(), Fail> {
 
 #[test]
 fn a_text_is_measured_without_its_tabs(rt: HostRuntime) -> Result<(), Fail> {
-    let mut unread: Unread<u8> = Unread::new(rt.alloc(), Limits::DEFAULT)?;
+    let mut unread: Unread<u8> = Unread::new(rt.alloc(), Limits::DEFAULT, 0)?;
     for byte in b"\\w'a\tb\\(->" {
         assert!(rt;
             matches!(
@@ -193,7 +193,7 @@ fn results_are_kept_up_to_their_limit(rt: HostRuntime) -> Result<(), Fail> {
         conditions: 2,
         ..Limits::DEFAULT
     };
-    let mut unread: Unread<u8> = Unread::new(rt.alloc(), limits)?;
+    let mut unread: Unread<u8> = Unread::new(rt.alloc(), limits, 0)?;
     assert_eq!(rt; unread.take_kept(), None);
     assert_eq!(rt; unread.push(b"a"), Ok(()));
     assert_eq!(rt; unread.keep(true), Ok(()));
@@ -213,7 +213,7 @@ fn results_are_kept_up_to_their_limit(rt: HostRuntime) -> Result<(), Fail> {
 
 #[test]
 fn a_letter_of_a_condition_decides(rt: HostRuntime) -> Result<(), Fail> {
-    let mut unread: Unread<u8> = Unread::new(rt.alloc(), Limits::DEFAULT)?;
+    let mut unread: Unread<u8> = Unread::new(rt.alloc(), Limits::DEFAULT, 0)?;
     unread.begin_condition();
     assert!(rt; unread.is_half_read() && !unread.decides_now());
     for byte in b" !o" {
@@ -237,7 +237,7 @@ fn a_letter_of_a_condition_decides(rt: HostRuntime) -> Result<(), Fail> {
 
 #[test]
 fn an_escape_that_makes_a_tab_ends_an_expression(rt: HostRuntime) -> Result<(), Fail> {
-    let mut unread: Unread<u8> = Unread::new(rt.alloc(), Limits::DEFAULT)?;
+    let mut unread: Unread<u8> = Unread::new(rt.alloc(), Limits::DEFAULT, 0)?;
     unread.begin_condition();
     for byte in b"3-2" {
         assert!(rt;
@@ -275,7 +275,7 @@ fn two_texts_are_compared(rt: HostRuntime) -> Result<(), Fail> {
         stack: 2,
         ..Limits::DEFAULT
     };
-    let mut unread: Unread<u8> = Unread::new(rt.alloc(), limits)?;
+    let mut unread: Unread<u8> = Unread::new(rt.alloc(), limits, 0)?;
     unread.begin_condition();
     assert!(rt;
         matches!(
@@ -313,7 +313,7 @@ fn two_texts_are_compared(rt: HostRuntime) -> Result<(), Fail> {
 #[test]
 fn ready_bytes_are_passed_over(rt: HostRuntime) -> Result<(), Fail> {
     let mut source = ReadSource::new(rt.alloc(), b"xab\ncd\\e\n".as_slice())?;
-    let mut unread: Unread<u8> = Unread::new(rt.alloc(), Limits::DEFAULT)?;
+    let mut unread: Unread<u8> = Unread::new(rt.alloc(), Limits::DEFAULT, 0)?;
     unread.pass_over(&mut source, true);
     assert_eq!(rt; unread.charge(), 0);
     assert_eq!(rt; shown(unread.take(&mut source)), ('b', b'x'));
@@ -350,7 +350,7 @@ fn a_block_is_passed_over_up_to_its_border(rt: HostRuntime) -> Result<(), Fail> 
         ..Limits::DEFAULT
     };
     let mut source = ReadSource::new(rt.alloc(), text.as_slice())?;
-    let mut unread: Unread<u8> = Unread::new(rt.alloc(), limits)?;
+    let mut unread: Unread<u8> = Unread::new(rt.alloc(), limits, 0)?;
     assert_eq!(rt; shown(unread.take(&mut source)), ('b', b'\n'));
     unread.pass_over(&mut source, true);
     assert_eq!(rt; (unread.charge(), unread.line()), (4_096, 4_096));
@@ -364,7 +364,7 @@ fn a_block_is_passed_over_up_to_its_border(rt: HostRuntime) -> Result<(), Fail> 
 #[test]
 fn nothing_is_passed_over_behind_what_is_ahead(rt: HostRuntime) -> Result<(), Fail> {
     let mut source = ReadSource::new(rt.alloc(), b"xabc".as_slice())?;
-    let mut unread: Unread<u8> = Unread::new(rt.alloc(), Limits::DEFAULT)?;
+    let mut unread: Unread<u8> = Unread::new(rt.alloc(), Limits::DEFAULT, 0)?;
     assert_eq!(rt; shown(unread.take(&mut source)), ('b', b'x'));
     unread.put_back(7);
     unread.pass_over(&mut source, true);
@@ -372,7 +372,7 @@ fn nothing_is_passed_over_behind_what_is_ahead(rt: HostRuntime) -> Result<(), Fa
     assert!(rt; matches!(unread.read_byte(Surroundings::Text, b'\\'), Read::GoesOn));
     unread.pass_over(&mut source, true);
     assert_eq!(rt; (unread.charge(), unread.is_half_read()), (2, true));
-    let mut unread: Unread<u8> = Unread::new(rt.alloc(), Limits::DEFAULT)?;
+    let mut unread: Unread<u8> = Unread::new(rt.alloc(), Limits::DEFAULT, 0)?;
     assert_eq!(rt; seen(unread.look(&mut source)), Some(b'a'));
     unread.pass_over(&mut source, true);
     assert_eq!(rt; unread.charge(), 0);

@@ -4,7 +4,7 @@ use Rattle.std.specs.Io.KnownBytes.{Appends}
 use Rattle.roff_num.specs.declared.limit.Limit.{Limit}
 use Rattle.roff_num.specs.declared.limits.Limits.{Limits}
 use Rattle.roff_scan.specs.Tape.{Tape, Item, items_then}
-use Rattle.roff_scan.specs.Unread.{asks_to_take, initial_unread, looked_then}
+use Rattle.roff_scan.specs.Unread.{asks_to_take, looked_then}
 use Rattle.roff_lines.specs.Env.Stands.{Stands}
 use Rattle.roff_engine.specs.declared.formatter.Formatter.{Formatter}
 use Rattle.roff_engine.specs.declared.running.Running.{Running as Coded}
@@ -18,7 +18,7 @@ use Rattle.roff_run.specs.Reader.State.{fresh_reader}
 use Rattle.roff_run.specs.Reader.Taken.{IsReady, PageUnread}
 use Rattle.roff_run.specs.TurnsToCome.{turns_to_come}
 use Rattle.roff_run.specs.Output.{PageHistory, text_of}
-use Rattle.roff_run.specs.Run.{State, end_met, half_ends, step, stopped_by, reported}
+use Rattle.roff_run.specs.Run.{State, end_met, first_unread, half_ends, step, stopped_by, reported}
 
 -- the state of a run that reads on, where the source still gives this tape
 abbrev pub state_at : Tape → Coded → PageHistory → List ℕ → State
@@ -141,7 +141,7 @@ pub record HasCome (old new : Tape → Type 0) (start now : Seen) (run : Coded) 
   pub some : HasTape run new
   pub at : (tape : Tape) → new tape → IsAt (items_then taken tape) tape start now run
 
--- before the first item: nothing is read, set or ahead
+-- before the first item: nothing is read, set or ahead, and the requests have their names
 pub record IsFresh (l : Limits) (f : Formatter) (u : PageUnread) : Type 0 where
   pub reader : f.reader ≡ fresh_reader l.names
-  pub unread : u ≡ initial_unread l
+  pub unread : u ≡ first_unread l

@@ -1,19 +1,21 @@
 -- The code's table of requests, and what it does, as the definition's.
-use Rattle.std.specs.Prelude.{◌≡◌, ℕ, List, [], ◌∷◌, slice_get, IfSome, Option, None}
+use Rattle.std.specs.Prelude.{◌≡◌, ℕ, List, [], ◌∷◌, slice_get, IfSome, Option, Some, None}
 use Rattle.std.specs.Option.{option_copied, option_to_list}
 use Rattle.roff_num.specs.Names.{name_of}
 use Rattle.roff_run.specs.declared.request.Given.{Given}
 use Rattle.roff_run.specs.declared.request.Request.{Request}
 use Rattle.roff_run.specs.declared.request.Row.{Row as CodedRow}
 use Rattle.roff_run.specs.declared.request.effects.Changes.{Changes}
-use Rattle.roff_run.specs.declared.request.effects.Changes.TheVariants.{Nothing, One, RemoveGiven}
+use Rattle.roff_run.specs.declared.request.effects.Changes.TheVariants.{Nothing, One, RemoveGiven, RemoveNamesGiven, Rename as RenameGiven}
 use Rattle.roff_run.specs.declared.request.effects.Done.{Done as CodedDone}
 use Rattle.roff_run.specs.declared.request.effects.Done.TheVariants.{Ignored as IgnoredWith, Does as DoesWith}
 use Rattle.roff_run.specs.declared.request.effects.Effect.{Effect as CodedEffect}
 use Rattle.roff_run.specs.declared.request.effects.Known.{Known as CodedKnown}
 use Rattle.roff_run.specs.Registers.{Known, Change, Remove, value_in_force}
 use Rattle.roff_run.specs.Registers.Coded.{change_of}
+use Rattle.roff_store.specs.TextCalls.{Call, Rename}
 use Rattle.roff_run.specs.Requests.{Row, row_of, Done, Ignored, Does, Effect}
+use Rattle.roff_run.specs.Requests.Naming.{removals}
 use Rattle.roff_run.specs.Requests.Numbering.{name_given, names_given}
 
 -- the row that the code has for a request
@@ -33,27 +35,43 @@ abbrev pub register_named : List (List ℕ) → Option (List ℕ)
 register_named [] = None
 register_named (text ∷ others) = name_of (name_given text)
 
+-- the name that an argument gives, if there is one that gives one
+abbrev pub name_in : Option (List ℕ) → Option (List ℕ)
+name_in None = None
+name_in (Some text) = name_of (name_given text)
+
 -- the code knows what a request asks for: the settings, and the value of the register that the first argument names
 pub record KnowsOf (k : Known) (as_given : List (List ℕ)) (known : CodedKnown) : Type 0 where
   pub settings : known.settings ≡ k.settings
   pub in_force : IfSome (register_named as_given) (λ name. known.in_force ≡ value_in_force k name)
 
--- the changes that a request makes, given these arguments
+-- the changes of registers that a request makes, given these arguments
 abbrev pub changes_of : List (List ℕ) → Changes → List Change
 changes_of as_given Nothing = []
 changes_of as_given (One change) = change_of change ∷ []
 changes_of as_given RemoveGiven = Remove (names_given as_given) ∷ []
+changes_of as_given RemoveNamesGiven = []
+changes_of as_given (RenameGiven from to) = []
+
+-- and the calls on what names stand for
+abbrev pub calls_of : List (List ℕ) → Changes → List Call
+calls_of as_given Nothing = []
+calls_of as_given (One change) = []
+calls_of as_given RemoveGiven = []
+calls_of as_given RemoveNamesGiven = removals (names_given as_given)
+calls_of as_given (RenameGiven from to) = Rename from to ∷ []
 
 -- what a request did in the code, given these arguments
 abbrev pub done_of : List (List ℕ) → CodedDone → Done
 done_of as_given (IgnoredWith message) = Ignored (option_to_list message)
 done_of as_given (DoesWith message changes events) =
-    Does (option_to_list message) (changes_of as_given changes) events.items
+    Does (option_to_list message) (changes_of as_given changes) (calls_of as_given changes) events.items
 
 -- what it means there
 abbrev pub effect_of : List (List ℕ) → CodedEffect → Effect
 effect_of as_given e = record {
   messages = option_to_list e.message;
   changes = changes_of as_given e.changes;
+  calls = calls_of as_given e.changes;
   events = e.events.items;
 }

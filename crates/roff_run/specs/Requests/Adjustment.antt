@@ -5,7 +5,7 @@ use Rattle.roff_lines.specs.declared.settings.AdjustMode.{AdjustMode}
 use Rattle.roff_lines.specs.declared.settings.AdjustMode.TheVariants.{Left, Right, Centre, Both}
 use Rattle.roff_lines.specs.declared.settings.Param.TheVariants.{Adjusting, Mode}
 use Rattle.roff_run.specs.declared.event.PageEvent.TheVariants.{Text}
-use Rattle.roff_run.specs.Requests.Effects.{Done, Does, setting}
+use Rattle.roff_run.specs.Requests.Effects.{Done, happens, setting}
 
 -- the mode of adjusting that a letter stands for
 abbrev pub mode_named : ℕ → Option AdjustMode
@@ -26,7 +26,7 @@ mode_wanted ((c ∷ letters) ∷ as_given) = mode_named c
 -- adjusting on, in a mode or in the one in force
 abbrev pub adjusting_in : Option AdjustMode → Done
 adjusting_in None = setting (Adjusting true)
-adjusting_in (Some mode) = Does [] [] (Text (Set (Mode mode)) ∷ Text (Set (Adjusting true)) ∷ [])
+adjusting_in (Some mode) = happens [] (Text (Set (Mode mode)) ∷ Text (Set (Adjusting true)) ∷ [])
 
 -- `ad`: the mode is that of the argument, if it names one
 abbrev pub adjust : List (List ℕ) → Done

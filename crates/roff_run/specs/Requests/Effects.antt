@@ -7,35 +7,49 @@ use Rattle.roff_run.specs.declared.event.PageEvent.TheVariants.{Text}
 use Rattle.roff_run.specs.declared.message.Message.{Message}
 use Rattle.roff_run.specs.declared.message.Message.TheVariants.{BadNumber, BadFormat, LeftOut}
 use Rattle.roff_run.specs.Registers.{Change}
+use Rattle.roff_store.specs.TextCalls.{Call}
 
--- what a byte or a request means: messages, changes of registers, and then events
+-- what a byte or a request means: messages, changes of registers, calls on what names stand for, and then events
 pub record Effect : Type 0 where
   pub messages : List Message
   pub changes : List Change
+  pub calls : List Call
   pub events : List PageEvent
 
 -- events alone
 abbrev pub doing : List PageEvent → Effect
-doing events = record { messages = []; changes = []; events = events }
+doing events = record { messages = []; changes = []; calls = []; events = events }
+
+-- events of which this is said
+abbrev pub saying : List Message → List PageEvent → Effect
+saying messages events = record { messages = messages; changes = []; calls = []; events = events }
 
 -- what a request does with its arguments
 pub data Done : Type 0 where
   -- it is ignored, and says why
   Ignored : (messages : List Message) → Done
-  -- it says this, the registers change so, and this happens behind its break
-  Does : (messages : List Message) (changes : List Change) (events : List PageEvent) → Done
+  -- it says this, the registers change so, and what names stand for, and this happens behind its break
+  Does : (messages : List Message) (changes : List Change) (calls : List Call) (events : List PageEvent) → Done
+
+-- these events happen behind its break, and it says this
+abbrev pub happens : List Message → List PageEvent → Done
+happens messages events = Does messages [] [] events
 
 -- nothing happens behind its break
 abbrev pub nothing : Done
-nothing = Does [] [] []
+nothing = happens [] []
 
 -- a parameter is set
 abbrev pub setting : Param → Done
-setting p = Does [] [] (Text (Set p) ∷ [])
+setting p = happens [] (Text (Set p) ∷ [])
 
 -- a register changes
 abbrev pub changing : Change → Done
-changing change = Does [] (change ∷ []) []
+changing change = Does [] (change ∷ []) [] []
+
+-- what names stand for changes
+abbrev pub naming : List Call → Done
+naming calls = Does [] [] calls []
 
 -- an argument isn't a number, or is out of range
 abbrev pub bad_number : Done
@@ -55,6 +69,6 @@ behind_break breaks events = if breaks then Text WordEnd ∷ Text Break ∷ even
 
 -- what a request means by what it did: it breaks, if its row has it so, unless it is ignored
 abbrev pub meant_by : Bool → Done → Effect
-meant_by breaks (Ignored messages) = record { messages = messages; changes = []; events = [] }
-meant_by breaks (Does messages changes events) =
-    record { messages = messages; changes = changes; events = behind_break breaks events }
+meant_by breaks (Ignored messages) = saying messages []
+meant_by breaks (Does messages changes calls events) =
+    record { messages = messages; changes = changes; calls = calls; events = behind_break breaks events }

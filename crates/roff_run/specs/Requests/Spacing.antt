@@ -6,15 +6,15 @@ use Rattle.roff_num.specs.declared.num.Scale.TheVariants.{Lines}
 use Rattle.roff_run.specs.Numbers.{value_in, rounded_in_range}
 use Rattle.roff_run.specs.declared.event.PageEvent.TheVariants.{Space}
 use Rattle.roff_run.specs.declared.message.Message.TheVariants.{BackwardMotion}
-use Rattle.roff_run.specs.Requests.Effects.{Done, Does, bad_number}
+use Rattle.roff_run.specs.Requests.Effects.{Done, happens, bad_number}
 
 -- the blank lines of a height in basic units: none if it is below 0, which is reported
 abbrev pub spaced : Result ℤ NumFault → Done
-spaced (Ok (pos height)) = Does [] [] (Space (height / 40) ∷ [])
-spaced (Ok (negsuc height)) = Does (BackwardMotion ∷ []) [] (Space 0 ∷ [])
+spaced (Ok (pos height)) = happens [] (Space (height / 40) ∷ [])
+spaced (Ok (negsuc height)) = happens (BackwardMotion ∷ []) (Space 0 ∷ [])
 spaced (Err fault) = bad_number
 
 -- `sp`: so many blank lines, and one where no height is given
 abbrev pub space_down : List (List ℕ) → Done
-space_down [] = Does [] [] (Space 1 ∷ [])
+space_down [] = happens [] (Space 1 ∷ [])
 space_down (text ∷ others) = spaced (followed (value_in Lines text) (rounded_in_range 40))

@@ -1,7 +1,7 @@
 -- What the code of a text line does, as the definition has it.
-use Rattle.std.specs.Prelude.{[]}
 use Rattle.std.specs.Option.{option_to_list}
 use Rattle.roff_run.specs.Reading.{PageInput, Taking}
+use Rattle.roff_run.specs.Requests.{saying}
 use Rattle.roff_run.specs.declared.reading.TextStep.{TextStep}
 
 -- what something of a text line does: what is read behind it, and what it means
@@ -9,5 +9,5 @@ abbrev pub step_at : PageInput → TextStep → Taking
 step_at i step = record {
   input = i;
   reading = step.reading;
-  effect = record { messages = option_to_list step.message; changes = []; events = step.events.items };
+  effect = saying (option_to_list step.message) step.events.items;
 }

@@ -2,14 +2,14 @@
 
 ghost use Rattle.std.specs.Prelude.{◌≡◌, ◌≤◌, ℕ, List, [], length};
 ghost use Rattle.std.specs.Option.{option_to_list};
-ghost use Rattle.roff_run.specs.Request.Coded.{changes_of, done_of, effect_of};
-ghost use Rattle.roff_run.specs.Requests.Effects.{Does, Ignored, bad_format, bad_number, left_out, meant_by, nothing, setting};
+ghost use Rattle.roff_run.specs.Request.Coded.{calls_of, changes_of, done_of, effect_of};
+ghost use Rattle.roff_run.specs.Requests.Effects.{Does, Ignored, bad_format, bad_number, happens, left_out, meant_by, nothing, setting};
 
 use crate::event::{Events, PageEvent, RequestEvents};
 use crate::message::Message;
 use crate::registers::Change;
 use roff_lines::{Event, Param, Settings};
-use roff_num::Num;
+use roff_num::{Name, Num};
 
 /// All that a request may ask of the run.
 #[derive(Clone, Copy, Debug)]
@@ -25,11 +25,11 @@ pub(crate) struct Known {
 pub(crate) enum Done {
     /// It is ignored, and says why.
     Ignored(Option<Message>),
-    /// It says this, the registers change so, and this happens behind its break.
+    /// It says this, registers or names change so, and this happens behind its break.
     Does(Option<Message>, Changes, RequestEvents),
 }
 
-/// What a request changes of the registers.
+/// What a request changes of the registers, or of what names stand for.
 #[derive(Drop)]
 pub(crate) enum Changes {
     /// Nothing.
@@ -38,9 +38,18 @@ pub(crate) enum Changes {
     One(Change),
     /// The registers that its arguments name go.
     RemoveGiven,
+    /// What the names that its arguments give stand for goes.
+    RemoveNamesGiven,
+    /// What a name stands for goes to another one.
+    Rename {
+        /// The name.
+        from: Name,
+        /// The other one.
+        to: Name,
+    },
 }
 
-/// What a request means: a message, changes of registers, and then events.
+/// What a request means: a message, changes of registers or of names, and then events.
 #[derive(Drop)]
 pub(crate) struct Effect {
     pub(crate) message: Option<Message>,
@@ -63,10 +72,11 @@ impl Done {
         Done::doing(None, &[PageEvent::Text(Event::Set(param))])
     }
 
-    /// Registers change.
+    /// Registers change, or what names stand for.
     pub(super) fn changing(changes: Changes) -> Done
         ensures { (as_given : List (List ℕ))
-            → done_of as_given result ≡ Does [] (changes_of as_given changes) [] }
+            → done_of as_given result
+            ≡ Does [] (changes_of as_given changes) (calls_of as_given changes) [] }
     {
         Done::Does(None, changes, RequestEvents::new())
     }
@@ -103,7 +113,7 @@ impl Done {
     pub(super) fn doing(message: Option<Message>, events: &[PageEvent]) -> Done
         requires { length events.now ≤ 2 }
         ensures { (as_given : List (List ℕ))
-            → done_of as_given result ≡ Does (option_to_list message) [] events.now }
+            → done_of as_given result ≡ happens (option_to_list message) events.now }
     {
         let mut behind_break = RequestEvents::new();
         behind_break.try_extend_from_slice(events).unwrap();

@@ -16,6 +16,7 @@ kept_by a = record {
     newlines = a.newlines;
     line = a.line;
     names = a.frames.texts.names.entries;
+    first_names = a.first_names;
     open_texts = a.frames.texts.open_texts;
   };
   looked = a.looked;

@@ -1,10 +1,9 @@
 use Rattle.std.proofs.Common.{◌≡◌, Err, refl, rules, subst, sym}
-use Rattle.roff_scan.specs.ArgumentList.{listed}
 use Rattle.roff_run.specs.Reader.State.{ReaderState}
 use Rattle.roff_run.specs.Reader.Taken.{ChangedTo}
 use Rattle.roff_run.specs.Request.Coded.{changes_of}
 use Rattle.roff_run.specs.declared.reading.Reading.TheVariants.{LineStart}
-use Rattle.roff_run.proofs.Obeying.{Obeys, TakesAs-obeyed, TakesAs-not_obeyed}
+use Rattle.roff_run.proofs.Obeying.{Obeys, TakesAs-obeyed, TakesAs-not_obeyed, texts_read}
 use Rattle.roff_run.proofs.reader.Reader.obey.Goals as goal
 
 pub returns-in_err-change : goal.returns-in_err-change
@@ -12,14 +11,10 @@ returns-in_err-change c =
     let env = c.args.env.now in
     let u = c.args.unread.now in
     let mid = c.finish_arguments.new.self in
-    let texts = listed c.arguments.result in
-    let obeys : Obeys env c.args.self.now.registers.all mid c.args.breaks c.args.request c.effect-effect.result texts = record {
-      texts_are = c.arguments.ensures;
-      effect_is = c.effect-effect.ensures;
-    } in
+    let obeys : Obeys env c.args.self.now.registers.all mid c.args.breaks c.args.request c.effect-effect.result = record { effect_is = c.effect-effect.ensures } in
     let refused : c.from_residual.result ≡ Err c.in_err-change.field-0.0 = search rules in
     rw refused
-    (TakesAs-not_obeyed env c.args.self.now c.change.new.self u mid mid c.args.breaks c.args.request c.effect-effect.result texts c.in_err-change.field-0.0
+    (TakesAs-not_obeyed env c.args.self.now c.change.new.self u mid c.change.new.unread c.args.breaks c.args.request c.effect-effect.result c.in_err-change.field-0.0
     c.finish_arguments.ensures.change obeys c.in_err-change.ensures.changed)
 
 pub returns : goal.returns
@@ -27,14 +22,10 @@ returns c =
     let env = c.args.env.now in
     let u = c.args.unread.now in
     let mid = c.finish_arguments.new.self in
-    let texts = listed c.arguments.result in
-    let obeys : Obeys env c.args.self.now.registers.all mid c.args.breaks c.args.request c.effect-effect.result texts = record {
-      texts_are = c.arguments.ensures;
-      effect_is = c.effect-effect.ensures;
-    } in
+    let obeys : Obeys env c.args.self.now.registers.all mid c.args.breaks c.args.request c.effect-effect.result = record { effect_is = c.effect-effect.ensures } in
     let set : ReaderState = record { reading = LineStart; registers = c.self.inside.registers } in
-    let changed : ChangedTo (changes_of texts c.effect-effect.result.changes) c.args.self.now.registers set.registers =
-    subst (λ (s : ReaderState). ChangedTo (changes_of texts c.effect-effect.result.changes) c.args.self.now.registers s.registers) (sym c.self.view_is)
+    let changed : ChangedTo (changes_of (texts_read mid) c.effect-effect.result.changes) c.args.self.now.registers set.registers =
+    subst (λ (s : ReaderState). ChangedTo (changes_of (texts_read mid) c.effect-effect.result.changes) c.args.self.now.registers s.registers) (sym c.self.view_is)
     c.in_ok-change.ensures.changed in
-    TakesAs-obeyed env c.args.self.now set u mid c.begin_arguments.new.self c.args.breaks c.args.request c.effect-effect.result texts _
-    c.finish_arguments.ensures.change obeys changed c.begin_arguments.ensures.change refl refl refl
+    TakesAs-obeyed env c.args.self.now set u mid c.change.new.unread c.begin_arguments.new.self c.args.breaks c.args.request c.effect-effect.result _
+    c.finish_arguments.ensures.change obeys changed c.in_ok-change.ensures.called c.begin_arguments.ensures.change refl refl refl

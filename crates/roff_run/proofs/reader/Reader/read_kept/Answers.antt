@@ -84,8 +84,8 @@ returns-in-Name c =
     let u = c.args.unread.now in
     let place = Name c.in-Name.breaks c.in-Name.first in
     let is : c.args.self.now.reading ≡ place = search rules in
-    TakesAs-where (λ k r. kept_taking k r u.input c.args.byte) place c.args.env.now c.args.self.now c.end_name.new.self u c.end_name.new.unread (Ok c.end_name.result) is
-    (c.end_name.ensures c.args.env.now)
+    TakesAs-where (λ k r. kept_taking k r u.input c.args.byte) place c.args.env.now c.args.self.now c.end_name.new.self u c.end_name.new.unread c.end_name.result is
+    c.end_name.ensures
 
 pub returns-in-Deciding : goal.returns-in-Deciding
 returns-in-Deciding c =

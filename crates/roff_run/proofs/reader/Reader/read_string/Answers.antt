@@ -1,7 +1,7 @@
-use Rattle.roff_run.specs.Reading.{string_text_found, no_unit_found, settling}
+use Rattle.roff_run.specs.Reading.{string_text_found, no_unit_found}
 use Rattle.roff_run.specs.declared.reading.Reading.{Reading}
 use Rattle.roff_run.specs.declared.reading.Reading.TheVariants.{StringText}
-use Rattle.roff_run.proofs.TakesAs.{TakesAs-as, TakesAs-settled}
+use Rattle.roff_run.proofs.TakesAs.{TakesAs-as}
 use Rattle.roff_run.proofs.Strings.{string_text_found-no_unit}
 use Rattle.roff_run.proofs.reader.Reader.read_string.Goals as goal
 

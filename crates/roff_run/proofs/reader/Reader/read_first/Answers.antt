@@ -1,0 +1,66 @@
+use Rattle.std.proofs.Common.{◌≡◌, Bool, rules, refl, subst}
+use Rattle.roff_scan.specs.Halves.{byte_read}
+use Rattle.roff_scan.specs.Input.{kept_last, without_last}
+use Rattle.roff_scan.specs.declared.half.Surroundings.TheVariants.{Arguments as AboveArguments}
+use Rattle.roff_scan.proofs.TextsHeld.{texts_held-byte_read}
+use Rattle.roff_run.specs.Reader.Taken.{PageUnread, TakesAs}
+use Rattle.roff_run.specs.Reading.{arguments_found, branch_taking, line_taking, reads_else, string_name_found}
+use Rattle.roff_run.specs.Requests.{row_of}
+use Rattle.roff_run.specs.declared.request.LineReading.TheVariants.{ByArguments, ByCondition, ByElse, ByString}
+use Rattle.roff_run.proofs.TakesAs.{NoMore-without_last, TakesAs-less, TakesAs-line, TakesAs-read}
+use Rattle.roff_run.proofs.reader.Reader.read_first.Goals as goal
+
+pub returns-in-ByArguments : goal.returns-in-ByArguments
+returns-in-ByArguments c =
+    let env = c.args.env.now in
+    let old = c.args.self.now in
+    let u = c.args.unread.now in
+    let b = c.args.byte in
+    let breaks = c.args.breaks in
+    let request = c.args.request in
+    let read = c.read_byte-found in
+    let done = c.read_arguments in
+    let line : (row_of request).line ≡ ByArguments = search rules in
+    TakesAs-line ByArguments breaks request b env old done.new.self u done.new.unread done.result line
+    (TakesAs-read (λ k i found. arguments_found k i breaks request found) (byte_read AboveArguments u.input.half b) env old done.new.self u read.new.self done.new.unread
+    read.result done.result read.ensures.reading (texts_held-byte_read AboveArguments b u.input.half) done.ensures)
+
+pub returns-in-ByString : goal.returns-in-ByString
+returns-in-ByString c =
+    let env = c.args.env.now in
+    let old = c.args.self.now in
+    let u = c.args.unread.now in
+    let b = c.args.byte in
+    let breaks = c.args.breaks in
+    let request = c.args.request in
+    let appends = c.in-ByString.appends in
+    let read = c.read_byte-found-in-ByString in
+    let done = c.read_string_name in
+    let line : (row_of request).line ≡ ByString appends = search rules in
+    TakesAs-line (ByString appends) breaks request b env old done.new.self u done.new.unread done.result line
+    (TakesAs-read (λ k i found. string_name_found k i appends found) (byte_read AboveArguments u.input.half b) env old done.new.self u read.new.self done.new.unread
+    read.result done.result read.ensures.reading (texts_held-byte_read AboveArguments b u.input.half) done.ensures)
+
+pub returns-in-ByCondition : goal.returns-in-ByCondition
+returns-in-ByCondition c =
+    let keeps = c.in-ByCondition.keeps in
+    let done = c.begin_condition in
+    let line : (row_of c.args.request).line ≡ ByCondition keeps = search rules in
+    TakesAs-line (ByCondition keeps) c.args.breaks c.args.request c.args.byte c.args.env.now c.args.self.now done.new.self c.args.unread.now done.new.unread done.result line
+    done.ensures
+
+pub returns-in-ByElse : goal.returns-in-ByElse
+returns-in-ByElse c =
+    let env = c.args.env.now in
+    let old = c.args.self.now in
+    let u = c.args.unread.now in
+    let b = c.args.byte in
+    let breaks = c.args.breaks in
+    let request = c.args.request in
+    let done = c.begin_branch in
+    let line : (row_of request).line ≡ ByElse = search rules in
+    let so : c.eq-so.result ≡ reads_else (kept_last u.input) = search rules in
+    let At : PageUnread → Bool → Type 0 = λ v so. TakesAs (λ k. branch_taking k v.input so b) env old done.new.self v done.new.unread done.result in
+    TakesAs-line ByElse breaks request b env old done.new.self u done.new.unread done.result line
+    (TakesAs-less (without_last u.input) (λ k. line_taking k u.input breaks request ByElse b) env old done.new.self u done.new.unread done.result
+    (NoMore-without_last u.input) refl (subst (λ (v : PageUnread). At v (reads_else (kept_last u.input))) c.take_kept.ensures.change (subst (λ (so : Bool). At c.take_kept.new.self so) so done.ensures)))
