@@ -9,7 +9,7 @@ use Rattle.roff_num.specs.declared.limit.Limit.TheVariants.{Names, Stack, Depth,
 use Rattle.roff_num.specs.declared.limits.Limits.{Limits}
 use Rattle.roff_scan.specs.Halves.{reading_ended}
 use Rattle.roff_scan.specs.Input.{names_added, DoAhead, depth, results, stored}
-use Rattle.roff_scan.specs.Tape.{Tape}
+use Rattle.roff_scan.specs.Tape.{Tape, behind_front}
 use Rattle.roff_scan.specs.Unread.{looked_then}
 use Rattle.roff_scan.specs.Half.{Half}
 use Rattle.roff_scan.specs.declared.half.Surroundings.TheVariants.{Text as AboveText, Arguments as AboveArguments, Copy as AboveCopy}
@@ -17,19 +17,19 @@ use Rattle.roff_engine.specs.declared.formatter.Formatter.{Formatter}
 use Rattle.roff_engine.specs.declared.halt.Halt.{Halt}
 use Rattle.roff_engine.specs.declared.halt.Halt.TheVariants.{Limit as Limited, Refused, Output, Messages}
 use Rattle.roff_engine.specs.declared.running.Running.{Running as Coded}
-use Rattle.roff_engine.specs.Engine.Outcome.{Seen, IsLeftOf, Reaches, Outcome, seen}
+use Rattle.roff_engine.specs.Engine.Outcome.{Seen, IsLeftOf, IsRest, Reaches, Outcome, seen}
 use Rattle.roff_engine.specs.Formatter.Performing.{AllPerformed, Did, DoesTaking, Opens, Performs, PerformsOnly, acting, going, sinks}
-use Rattle.roff_engine.specs.Running.Turning.{Acts, Halts, IsAt, TookFrom, input_ends, line_told, state_at}
+use Rattle.roff_engine.specs.Running.Turning.{Acts, Halts, IsAt, MayEnd, TookFrom, input_ends, line_told, state_at}
 use Rattle.roff_engine.specs.Sinks.{Sunk}
 use Rattle.roff_run.specs.Output.{PageHistory, text_of}
 use Rattle.roff_run.specs.Reader.State.{ReaderState}
 use Rattle.roff_run.specs.Reader.Taken.{Became, IsReady, PageUnread}
-use Rattle.roff_run.specs.Reading.{PageInput, Taking, arguments_read_on, beginning_read, condition_read, going_on, half_ended, interrupted, settling, string_name_read, string_text_read, text_read}
+use Rattle.roff_run.specs.Reading.{PageInput, Taking, arguments_read_on, beginning_read, condition_read, going_on, half_ended, interrupted, message_begun, message_read, settling, string_name_read, string_text_read, text_read}
 use Rattle.roff_run.specs.Registers.{AllRegisters, Known}
-use Rattle.roff_run.specs.Run.{State, initial, ahead_taken, counts_in, end_met, ending_as, half_ends, known_at, made, step, taken_as, unless_refused, first_passed, grown}
+use Rattle.roff_run.specs.Run.{State, initial, ahead_taken, counts_in, ending_as, half_ends, input_ended, known_at, made, step, taken_as, unless_refused, first_passed, grown}
 use Rattle.roff_run.specs.declared.event.PageEvent.{PageEvent}
 use Rattle.roff_run.specs.declared.reading.Reading.{Reading}
-use Rattle.roff_run.specs.declared.reading.Reading.TheVariants.{LineStart, Branch, Braced, Text as InText, Control, Name, Arguments as InArguments, Deciding, StringName, StringText, Skipping, Dropped}
+use Rattle.roff_run.specs.declared.reading.Reading.TheVariants.{LineStart, Branch, Braced, Text as InText, Control, Name, Arguments as InArguments, Deciding, StringName, StringText, Skipping, Dropped, Telling, Told, Exiting}
 use Rattle.roff_run.specs.declared.status.Status.{Status}
 use Rattle.roff_run.specs.declared.status.Status.TheVariants.{Done}
 use Rattle.roff_run.proofs.InputCounts.{pushed-settling}
@@ -177,6 +177,7 @@ module _ (f : Known → Taking) (does : State → State) (is_closing : Bool) (mo
         [] halt new.formatter.env (did new.formatter new.unread (Err halt) takes t tape start failures from took) in
         rw limits (ends t tape start halts);
     input = λ t tape start from took. tt;
+    reading = λ t tape start from took. tt;
   }
 
 -- what the code takes and does goes on behind it
@@ -194,15 +195,27 @@ taking_acts {out_old} {err_old} {out_new} {err_new} f does more line old new fai
   input = λ t tape start from took.
       ap (λ (u : PageUnread). u.input) (takes.became old.limits.line took.history took.stands took.ready).input
       ∙ sym (ap (λ (s : State). s.input) (meant tape took.history took.messages));
+  reading = λ t tape start from took.
+      (takes.became old.limits.line took.history took.stands took.ready).reading
+      ∙ sym (ap (λ (s : State). s.reading) (meant tape took.history took.messages));
 }
+
+-- what is left where a run may end: all, or its input was left
+rest_at_end : (old : Coded) (tape : Tape) (s : State) → MayEnd old → s.tape ≡ looked_then old.unread.looked tape
+    → (old.formatter.reader.reading ≡ Exiting → s.reading ≡ Exiting) → IsRest Done tape s
+rest_at_end old tape s (inl none) is leaves = inl (sym (is ∙ ap (λ (looked : Option ℕ). looked_then looked tape) none))
+rest_at_end old tape s (inr leaving) is leaves = elim (IsLeftOf-looked_then old.unread.looked tape) [
+  | inl all ↦ inl (all ∙ sym is)
+  | inr looked ↦ inr (leaves leaving, looked ∙ sym (ap behind_front is))
+]
 
 -- all is done at the input's end: one step more ends the run
 pub finished_acts : {out_old err_old out_new err_new : Sunk} (f : Known → Taking) (does : State → State) (more : List PageEvent) (line : ℕ) (old new : Coded) (failures : ℕ)
     → IsTaking f does true more old
-    → new.limits ≡ old.limits → old.unread.looked ≡ None
+    → new.limits ≡ old.limits → MayEnd old → ((k : Known) → old.formatter.reader.reading ≡ Exiting → (f k).reading ≡ Exiting)
     → DoesTaking f more old.formatter new.formatter old.unread new.unread (sinks out_old err_old) (sinks out_new err_new) (Ok tt)
     → Acts line does old new (seen failures out_old err_old) (seen failures out_new err_new) (Err Done)
-finished_acts {out_old} {err_old} {out_new} {err_new} f does more line old new failures meant limits none takes = record {
+finished_acts {out_old} {err_old} {out_new} {err_new} f does more line old new failures meant limits may_end leaves takes = record {
   limits = limits;
   acts = λ t tape start from took.
       let taken : Taking = taken_of f old took.history in
@@ -218,10 +231,11 @@ finished_acts {out_old} {err_old} {out_new} {err_new} f does more line old new f
           faults = performed.reaches.faults;
         });
         ended = refl;
-        rest = inl (sym (ap (λ (looked : Option ℕ). looked_then looked tape) none));
+        rest = rest_at_end old tape (ending_as Done (acting state [] performed.history)) may_end refl (leaves (known_at took.history old.formatter.reader.registers.all old.unread.input));
         fault = λ wrong. cc;
       });
   input = λ t tape start from took. tt;
+  reading = λ t tape start from took. tt;
 }
 
 -- a step that leads to one thing leads to another that is the same
@@ -251,6 +265,9 @@ Acts-as does other line old new now behind r same acts = record {
   input = λ t tape start from took.
       subst (λ (s : State). OnOk r (new.unread.input ≡ s.input)) (sym (same tape took.history took.messages))
       (acts.input t tape start from (TookFrom-as does other line old t tape start now from same took));
+  reading = λ t tape start from took.
+      subst (λ (s : State). OnOk r (new.formatter.reader.reading ≡ s.reading)) (sym (same tape took.history took.messages))
+      (acts.reading t tape start from (TookFrom-as does other line old t tape start now from same took));
 }
 
 -- the line stays where a half read item ends with nothing half read
@@ -269,6 +286,10 @@ line-nothing_ended k (StringName appends) i none =
     subst (λ (half : List Half). (string_name_read k i appends (reading_ended AboveArguments half)).input.line ≡ i.line) (sym none) refl
 line-nothing_ended k (StringText name appends is_front) i none =
     subst (λ (half : List Half). (string_text_read k i name appends is_front (reading_ended AboveCopy half)).input.line ≡ i.line) (sym none) refl
+line-nothing_ended k (Telling aborts is_front) i none =
+    subst (λ (half : List Half). (message_read k i aborts is_front (reading_ended AboveCopy half)).input.line ≡ i.line) (sym none) refl
+line-nothing_ended k (Told aborts) i none = refl
+line-nothing_ended k Exiting i none = refl
 line-nothing_ended k (Skipping opened closed behind) i none = refl
 line-nothing_ended k Dropped i none = refl
 
@@ -300,6 +321,9 @@ counts_in-interrupted rs (InArguments breaks request) i = counts_in-settling rs 
 counts_in-interrupted rs (StringName appends) i = counts_in-settling rs i
 counts_in-interrupted rs (Deciding keeping) i = refl
 counts_in-interrupted rs (StringText name appends is_front) i = refl
+counts_in-interrupted rs (Telling aborts is_front) i = refl
+counts_in-interrupted rs (Told aborts) i = refl
+counts_in-interrupted rs Exiting i = refl
 counts_in-interrupted rs (Skipping opened closed behind) i = refl
 counts_in-interrupted rs Dropped i = refl
 
@@ -378,8 +402,10 @@ by_no_half (first ∷ others) none some is = cc (eqb-suc-zero (length others))
 
 -- at the input's end what is half read ends, if something is
 pub input_ends-half : (s : State) → not (length s.input.half == 0) ≡ true → input_ends s ≡ half_ends s
-input_ends-half s is = by_half s.input.half (end_met s) (half_ends s) is
+input_ends-half s is = by_half s.input.half (input_ended (message_begun s.reading) s) (half_ends s) is
 
--- and else the input's end is met
-pub input_ends-no_half : (s : State) → not (length s.input.half == 0) ≡ false → input_ends s ≡ end_met s
-input_ends-no_half s is = by_no_half s.input.half (end_met s) (half_ends s) is
+-- and else a message, or the input's end is met
+pub input_ends-no_half : (s : State) (message : Option Bool) → not (length s.input.half == 0) ≡ false → message_begun s.reading ≡ message
+    → input_ends s ≡ input_ended message s
+input_ends-no_half s message is begun =
+    by_no_half s.input.half (input_ended (message_begun s.reading) s) (half_ends s) is ∙ ap (λ (o : Option Bool). input_ended o s) begun

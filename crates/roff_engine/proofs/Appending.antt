@@ -1,7 +1,7 @@
 -- What is written to sinks, piece by piece.
-use Rattle.std.proofs.Common.{ℕ, Option, Some, None, List, [], ◌∷◌, ◌++◌, refl, append_assoc, append-nil, arith, sym}
+use Rattle.std.proofs.Common.{ℕ, Option, Some, None, List, [], ◌∷◌, ◌++◌, Result, Ok, Err, refl, append_assoc, append-nil, arith, sym}
 use Rattle.std.specs.Io.KnownBytes.{Appends}
-use Rattle.roff_engine.specs.Sinks.{Sunk, Writes, HoldsBack, Fails}
+use Rattle.roff_engine.specs.Sinks.{Sunk, Writes, HoldsBack, Fails, Puts}
 
 -- two pieces one after the other are one
 pub Appends-append : (old mid new : Option (List ℕ)) (front back : List ℕ) → Appends old mid front → Appends mid new back → Appends old new (front ++ back)
@@ -62,4 +62,34 @@ HoldsBack-keep more all = record {
   front = all.front;
   split = rw (all.split, append_assoc) refl;
   writes = all.writes;
+}
+
+-- a beginning of a piece is one of what it begins
+pub Fails-front : {old new : Sunk} (front back : List ℕ) → Fails old new front → Fails old new (front ++ back)
+Fails-front front back part = record {
+  written = record {
+    front = part.written.front;
+    back = part.written.back ++ back;
+    split = rw part.written.split (simp append_assoc);
+    written = part.written.written;
+  };
+  failures = part.failures;
+  fault = part.fault;
+}
+
+-- a second piece is put behind the first
+pub Puts-behind : {F : Type 0} {old mid new : Sunk} (front back : List ℕ) (r : Result (Unit {0}) F) → Writes old mid front → Puts mid new back r → Puts old new (front ++ back) r
+Puts-behind front back (Ok done) first second = record { ok = Writes-append front back first second.ok; err = tt }
+Puts-behind {F} {old} {mid} {new} front back (Err fault) first second = record {
+  ok = tt;
+  err = record {
+    written = record {
+      front = front ++ second.err.written.front;
+      back = second.err.written.back;
+      split = rw second.err.written.split (simp append_assoc);
+      written = Appends-append _ _ _ _ _ first.written second.err.written.written;
+    };
+    failures = omega (arith, first.failures, second.err.failures);
+    fault = omega (arith, first.failures, second.err.fault);
+  };
 }

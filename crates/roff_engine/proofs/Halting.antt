@@ -3,13 +3,13 @@ use Rattle.std.proofs.Common.{◌≡◌, ◌⊎◌, ℕ, Result, Ok, Err, inl, i
 use Rattle.roff_num.specs.declared.limit.Limit.{Limit}
 use Rattle.roff_num.specs.declared.limits.Limits.{Limits}
 use Rattle.roff_num.specs.LimitValues.{value_of}
-use Rattle.roff_scan.specs.Tape.{Tape, behind_front}
+use Rattle.roff_scan.specs.Tape.{Tape}
 use Rattle.roff_run.specs.declared.status.Status.TheVariants.{Device, Limit as Limited}
 use Rattle.roff_run.specs.declared.message.Message.TheVariants.{LimitReached, WriteFailed}
 use Rattle.roff_run.specs.Messages.{message_line}
 use Rattle.roff_engine.specs.declared.halt.Halt.{Halt}
 use Rattle.roff_engine.specs.declared.halt.Halt.TheVariants.{Limit as ByLimit, Refused}
-use Rattle.roff_engine.specs.Engine.Outcome.{Seen, IsLeftOf, Completes, OutputFails, MessagesFail, seen}
+use Rattle.roff_engine.specs.Engine.Outcome.{Seen, IsLeftOf, IsRest, Completes, OutputFails, MessagesFail, seen}
 use Rattle.roff_run.specs.Run.{State, initial, stopped_by}
 use Rattle.roff_engine.specs.Running.Turning.{LimitStops, OutputStopsAt, Halts}
 use Rattle.roff_engine.specs.Sinks.{Sunk, Writes, Fails, Puts}
@@ -18,10 +18,9 @@ use Rattle.roff_run.proofs.Leads.{Leads-to}
 use Rattle.roff_engine.proofs.Performed.{between, faults_of_err}
 
 -- what is left at a limit, by the status that names it
-rest_told : (limit : Limit) (left tape : Tape) → IsLeftOf left tape
-    → (left ≡ tape) ⊎ ((named : Limit) × (Limited limit ≡ Limited named) × (left ≡ behind_front tape))
-rest_told limit left tape (inl all) = inl all
-rest_told limit left tape (inr looked) = inr (limit, refl, looked)
+rest_told : (limit : Limit) (left : Tape) (s : State) → IsLeftOf left s.tape → IsRest (Limited limit) left s
+rest_told limit left s (inl all) = inl all
+rest_told limit left s (inr looked) = inr (tt, looked)
 
 -- a limit stops the run, whether it took the item or not
 pub limit_stops : (l : Limits) (t left : Tape) (line : ℕ) (halt : Halt) (limit : Limit) (before now : Seen)
@@ -44,7 +43,7 @@ module _ (l : Limits) (t left : Tape) (line : ℕ) (before : Seen) (failures : �
       faults = faults_of_err before failures out old new told.failures stops.reaches.faults;
     };
     ended = refl;
-    rest = rest_told limit left stops.state.tape stops.rest;
+    rest = rest_told limit left (stopped_by l limit stops.state) stops.rest;
     fault = λ wrong. cc;
   }
 

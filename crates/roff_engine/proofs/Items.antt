@@ -129,7 +129,7 @@ module _ {gave gives : Tape → Type 0} {old : Coded} {left : PageUnread} {taken
   -- the message sink is given more
   module _ (new : Sunk) where
     -- a state one step on that has written no more
-    one_more : (s : State) (piece : List ℕ) → step old.limits from ≡ s → output s ≡ output from → reported s ≡ at.messages ++ piece
+    pub one_more : (s : State) (piece : List ℕ) → step old.limits from ≡ s → output s ≡ output from → reported s ≡ at.messages ++ piece
         → Writes err new piece → Reaches old.limits t start (seen failures out new) s
     one_more s piece goes wrote said told = record {
       comes = Leads-to old.limits (initial t) from s reached.comes goes;
@@ -139,7 +139,7 @@ module _ {gave gives : Tape → Type 0} {old : Coded} {left : PageUnread} {taken
     }
 
     -- the message sink failed in the step
-    lost : (s : State) (piece : List ℕ) → step old.limits from ≡ s → reported s ≡ at.messages ++ piece → IsLeftOf tape s.tape → Fails err new piece
+    pub lost : (s : State) (piece : List ℕ) → step old.limits from ≡ s → reported s ≡ at.messages ++ piece → IsLeftOf tape s.tape → Fails err new piece
         → MessagesFail old.limits t tape Device start (seen failures out new)
     lost s piece goes said rest part = record {
       is_device = refl;

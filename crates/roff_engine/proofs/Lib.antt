@@ -11,3 +11,4 @@ pub mod WholeRuns
 pub mod Outcomes
 pub mod TwoRuns
 pub mod Passing
+pub mod Settling

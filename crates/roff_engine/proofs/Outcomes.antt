@@ -1,17 +1,15 @@
 -- Each outcome of a run of the code beside the last state of the definition.
-use Rattle.std.proofs.Common.{◌≡◌, inl, inr, List, ℕ, ◌++◌, Option, Some, refl, ◌∙◌, subst, append_assoc, ◌⊎◌}
+use Rattle.std.proofs.Common.{◌≡◌, inl, inr, List, ℕ, ◌++◌, Option, Some, refl, ◌∙◌, subst, append_assoc}
 use Rattle.std.specs.Io.KnownBytes.{Appends}
 use Rattle.roff_num.specs.Lists.{IsBeginning}
-use Rattle.roff_num.specs.declared.limit.Limit.{Limit}
 use Rattle.roff_num.specs.declared.limits.Limits.{Limits}
-use Rattle.roff_run.specs.declared.status.Status.TheVariants.{Limit as Limited}
-use Rattle.roff_engine.specs.Engine.Outcome.{Seen, AppendsBetween, Completes, OutputFails, MessagesFail}
+use Rattle.roff_engine.specs.Engine.Outcome.{Seen, AppendsBetween, Completes, IsRest, OutputFails, MessagesFail}
 use Rattle.roff_engine.specs.Outcomes.{Gives, EachOutcomeGives}
 use Rattle.roff_run.specs.Results.{last_state, output_of, messages_of}
 use Rattle.roff_run.specs.Run.{State, step, output, reported}
 use Rattle.roff_engine.specs.Sinks.{AppendsFront}
 use Rattle.roff_run.specs.declared.status.Status.{Status}
-use Rattle.roff_scan.specs.Tape.{Tape, behind_front}
+use Rattle.roff_scan.specs.Tape.{Tape}
 use Rattle.roff_run.proofs.Beginnings.{IsBeginning-same}
 use Rattle.roff_run.proofs.Endings.{no_other_state_is_last}
 use Rattle.roff_run.proofs.Leads.{Leads-step}
@@ -44,7 +42,7 @@ Gives-Completes l t left status before now run =
         text = text;
         messages = messages;
         ended = subst (λ (s : State). s.ended ≡ Some status) last run.ended;
-        rest = subst (λ (s : State). (left ≡ s.tape) ⊎ ((limit : Limit) × (status ≡ Limited limit) × (left ≡ behind_front s.tape))) last run.rest;
+        rest = subst (λ (s : State). IsRest status left s) last run.rest;
         fault = run.fault;
       };
     }

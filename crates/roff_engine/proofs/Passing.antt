@@ -9,7 +9,7 @@ use Rattle.roff_scan.specs.Tape.{Tape, OneByte, items_then}
 use Rattle.roff_scan.specs.Unread.{Stays, looked_then}
 use Rattle.roff_scan.specs.Unread.Calls.{IsBare, PassesOver}
 use Rattle.roff_run.specs.Reader.Taken.{IsReady, PageUnread}
-use Rattle.roff_run.specs.Reading.{PageInput, Passes}
+use Rattle.roff_run.specs.Reading.{PageInput, Passes, due}
 use Rattle.roff_run.specs.Run.{State, Leads, initial}
 use Rattle.roff_run.specs.TurnsToCome.{turns_to_come}
 use Rattle.roff_run.specs.declared.reading.Reading.{Reading}
@@ -35,9 +35,9 @@ behind old limits bytes input = record old { unread = record old.unread { input 
 -- the run is at its place behind them
 IsAt-passed : (whole t : Tape) (start now : Seen) (old : Coded) (limits : Limits) (bytes : List ℕ) (input : PageInput)
     → old.unread ≡ record old.unread { input = input; looked = None; limits = limits } → input.ahead ≡ [] → input.half ≡ []
-    → input.charge + length bytes ≤ limits.bytes → AllByRecursion (λ b. Passes old.formatter.reader.reading b) bytes
+    → input.charge + length bytes ≤ limits.bytes → due old.formatter.reader.reading ≡ None → AllByRecursion (λ b. Passes old.formatter.reader.reading b) bytes
     → IsAt whole (items_then (map OneByte bytes) t) start now old → IsAt whole t start now (behind old limits bytes input)
-IsAt-passed whole t start now old limits bytes input is none_ahead none_half within pass at =
+IsAt-passed whole t start now old limits bytes input is none_ahead none_half within none_due pass at =
     let l : Limits = old.limits in
     let u : PageUnread = record old.unread { input = input; looked = None; limits = limits } in
     let same : limits ≡ l = ap (λ (v : PageUnread). v.limits) (sym is) ∙ at.limits in
@@ -48,7 +48,7 @@ IsAt-passed whole t start now old limits bytes input is none_ahead none_half wit
     let plain : IsPlain limits there input = record { none_ahead = none_ahead; none_half = none_half; within = ready.within } in
     let plain_behind : IsPlain limits there (lines_taken bytes input) = IsPlain-lines_taken limits there bytes input plain in
     let leads : Leads limits (here u (items_then (map OneByte bytes) t)) there =
-    record { steps = length bytes; there = after-passed limits there t bytes input (record { going = refl; not_closing = refl; idle = refl }) plain within pass } in
+    record { steps = length bytes; there = after-passed limits there t bytes input (record { going = refl; not_closing = refl; idle = refl; none_due = none_due }) plain within pass } in
     let leads_from : Leads l from there = subst (λ (k : Limits). Leads k from there) same (subst (λ (v : PageUnread). Leads limits (here v (items_then (map OneByte bytes) t)) there) (sym is) leads) in
     record {
       history = at.history;
@@ -73,9 +73,9 @@ turns-passed gave gives ready before after within_block passes =
 -- the run goes past some bytes
 past-some : (gave gives : Tape → Type 0) (ready : List ℕ) (notes : ℕ) (now : Seen) (old : Coded) (after : PageUnread) (within_block : Bool)
     → (passes : PassesOver gave gives ready old.unread after within_block) → IsBare old.unread → (t : Tape) × gives t
-    → ((b : ℕ) → is_passed within_block b ≡ true → Passes old.formatter.reader.reading b)
+    → due old.formatter.reader.reading ≡ None → ((b : ℕ) → is_passed within_block b ≡ true → Passes old.formatter.reader.reading b)
     → GoesPast gave gives notes notes old (record old { unread = after }) now now
-past-some gave gives ready notes now old after within_block passes bare some pass =
+past-some gave gives ready notes now old after within_block passes bare some none_due pass =
     let bytes : List ℕ = passes.bytes in
     let input : PageInput = old.unread.input in
     let limits : Limits = old.unread.limits in
@@ -91,7 +91,7 @@ past-some gave gives ready notes now old after within_block passes bare some pas
       some = λ known. inr some;
       past = λ t tape start may at.
           subst (λ (u : PageUnread). IsAt t tape start now (record old { unread = u })) (sym left)
-          (IsAt-passed t tape start now old limits bytes input is bare.ahead bare.half passes.within (all_pass _ within_block bytes pass passes.plain) at);
+          (IsAt-passed t tape start now old limits bytes input is bare.ahead bare.half passes.within none_due (all_pass _ within_block bytes pass passes.plain) at);
       turns = omega (arith, few);
     }
 
@@ -115,26 +115,26 @@ past-none gave gives notes now old after same stays =
 -- the run goes past the bytes that were passed over, if any were
 past-passed : (gave gives : Tape → Type 0) (ready : List ℕ) (notes : ℕ) (now : Seen) (old : Coded) (after : PageUnread) (within_block : Bool)
     → PassesOver gave gives ready old.unread after within_block
-    → ((b : ℕ) → is_passed within_block b ≡ true → Passes old.formatter.reader.reading b)
+    → due old.formatter.reader.reading ≡ None → ((b : ℕ) → is_passed within_block b ≡ true → Passes old.formatter.reader.reading b)
     → GoesPast gave gives notes notes old (record old { unread = after }) now now
-past-passed gave gives ready notes now old after within_block passes pass =
+past-passed gave gives ready notes now old after within_block passes none_due pass =
     let nothing : passes.bytes ≡ [] → GoesPast gave gives notes notes old (record old { unread = after }) now now =
     λ none. past-none gave gives notes now old after (passes.input ∙ ap (λ (bytes : List ℕ). record old.unread { input = lines_taken bytes old.unread.input }) none) (passes.stays none) in
     elim passes.bare [
       | inl none ↦ nothing none
-      | inr bare ↦ elim passes.some [ inl none ↦ nothing none | inr some ↦ past-some gave gives ready notes now old after within_block passes bare some pass ]
+      | inr bare ↦ elim passes.some [ inl none ↦ nothing none | inr some ↦ past-some gave gives ready notes now old after within_block passes bare some none_due pass ]
     ]
 
 -- the same, as the source counts
 pub goes_past : (gave gives : Tape → Type 0) (ready : List ℕ) (noted notes failed failures : ℕ) (out err : Sunk) (old : Coded) (after : PageUnread) (within_block : Bool)
     → PassesOver gave gives ready old.unread after within_block → notes ≡ noted → failures ≡ failed
-    → ((b : ℕ) → is_passed within_block b ≡ true → Passes old.formatter.reader.reading b)
+    → due old.formatter.reader.reading ≡ None → ((b : ℕ) → is_passed within_block b ≡ true → Passes old.formatter.reader.reading b)
     → GoesPast gave gives noted notes old (record old { unread = after }) (seen failed out err) (seen failures out err)
-goes_past gave gives ready noted notes failed failures out err old after within_block passes same_notes same_failures pass =
+goes_past gave gives ready noted notes failed failures out err old after within_block passes same_notes same_failures none_due pass =
     let new : Coded = record old { unread = after } in
     subst (λ (n : ℕ). GoesPast gave gives noted n old new (seen failed out err) (seen failures out err)) (sym same_notes)
     (subst (λ (f : ℕ). GoesPast gave gives noted noted old new (seen failed out err) (seen f out err)) (sym same_failures)
-    (past-passed gave gives ready noted (seen failed out err) old after within_block passes pass))
+    (past-passed gave gives ready noted (seen failed out err) old after within_block passes none_due pass))
 
 -- a run that has come so far has come behind what it went past
 pub come-past : {first gave gives : Tape → Type 0} (noted notes : ℕ) (start now behind : Seen) (old new : Coded) → HasCome first gave start now old

@@ -1,6 +1,6 @@
 -- Turns of a run of the code: a call of the unread input, and what is done with what it shows.
-use Rattle.std.proofs.Common.{◌≡◌, ℕ, ◌+◌, ◌<◌, ◌≤◌, List, [], ◌∷◌, length, Result, Ok, Err, OnOk, None, refl, sym, ap, subst, ◌∙◌, arith}
-use Rattle.std.specs.Prelude.{IsOkUnless, not, true, ◌==◌}
+use Rattle.std.proofs.Common.{◌≡◌, ◌⊎◌, inl, inr, ℕ, ◌+◌, ◌<◌, ◌≤◌, List, [], ◌∷◌, length, Bool, Result, Ok, Err, OnOk, None, Some, refl, sym, ap, subst, ◌∙◌, arith}
+use Rattle.std.specs.Prelude.{IsOkUnless, IsSome, not, true, ◌==◌}
 use Rattle.roff_num.specs.declared.limit.Limit.{Limit}
 use Rattle.roff_num.specs.declared.limits.Limits.{Limits}
 use Rattle.roff_scan.specs.Input.{DoAhead}
@@ -15,15 +15,15 @@ use Rattle.roff_run.specs.declared.status.Status.TheVariants.{Device, Limit as L
 use Rattle.roff_run.specs.Messages.{message_line}
 use Rattle.roff_run.specs.Output.{PageHistory}
 use Rattle.roff_run.specs.Reader.Taken.{PageUnread}
-use Rattle.roff_run.specs.Reading.{PageInput, interrupted}
+use Rattle.roff_run.specs.Reading.{PageInput, interrupted, message_begun}
 use Rattle.roff_run.specs.declared.reading.Reading.{Reading}
-use Rattle.roff_run.specs.declared.reading.Reading.TheVariants.{Arguments as InArguments}
-use Rattle.roff_run.specs.Run.{State, ahead_taken, byte_taken, end_met, ending_input, half_ends, in_front_taken, known, made}
-use Rattle.roff_run.specs.TurnsToCome.{turns_to_come, turns_within}
+use Rattle.roff_run.specs.declared.reading.Reading.TheVariants.{LineStart, Branch, Braced, Text as InText, Control, Name, Arguments as InArguments, Deciding, StringName, StringText, Skipping, Dropped, Telling, Told, Exiting}
+use Rattle.roff_run.specs.Run.{State, ahead_taken, byte_taken, ending_input, half_ends, in_front_taken, input_ended, known, made}
+use Rattle.roff_run.specs.TurnsToCome.{begun, turns_to_come, turns_within}
 use Rattle.roff_engine.specs.declared.halt.Halt.TheVariants.{Refused}
 use Rattle.roff_engine.specs.declared.running.Running.{Running as Coded}
 use Rattle.roff_engine.specs.Engine.Outcome.{Seen, Outcome, seen}
-use Rattle.roff_engine.specs.Running.Turning.{Acts, Continues, Halts, IsAt, StepDoes, TookFrom, TurnsBy, input_ends, state_at}
+use Rattle.roff_engine.specs.Running.Turning.{Acts, AsksFirst, Continues, Halts, HasTape, IsAt, IsEnded, StepDoes, TookFrom, TurnsBy, input_ends, state_at, turns_left}
 use Rattle.roff_engine.specs.Sinks.{Sunk, Puts}
 use Rattle.roff_engine.proofs.Calls.{EndsThere, EndsThere-takes, Leaves, Leaves-takes}
 use Rattle.roff_engine.proofs.Items.{end_passed, moved, note_told, refused, source_failed, source_stopped, took}
@@ -31,8 +31,8 @@ use Rattle.roff_run.proofs.InFront.{Given-asked, IsEnding, in_front, items_asked
 use Rattle.roff_run.proofs.TurnsToCome.{IsTaken, turns_to_come-taking, turns_within-byte, turns_within-half_ended}
 
 -- fewer turns are to come of the run that goes on
-abbrev pub Falls : ℕ → ℕ → PageUnread → PageUnread → Result (Unit {0}) Status → Type 0
-Falls noted notes old new r = OnOk r (turns_to_come new + notes < turns_to_come old + noted)
+abbrev pub Falls : ℕ → ℕ → Coded → Coded → Result (Unit {0}) Status → Type 0
+Falls noted notes old new r = OnOk r (turns_left new + notes < turns_left old + noted)
 
 -- the turns to come of an unread input that has these limits and this input
 pub turns_of : (u : PageUnread) (l : Limits) (i : PageInput) → u.limits ≡ l → u.input ≡ i → turns_to_come u ≡ turns_within l.bytes i
@@ -40,8 +40,15 @@ turns_of u l i limits input =
     ap (λ (l : Limits). turns_within l.bytes u.input) limits ∙ ap (λ (i : PageInput). turns_within l.bytes i) input
 
 -- what is done with an item leaves fewer turns than there were before the item
-abbrev pub LeavesFewer : (State → State) → PageUnread → PageUnread → Type 0
-LeavesFewer doing old left = (s : State) → s.input ≡ left.input → turns_within old.limits.bytes (doing s).input < turns_to_come old
+abbrev pub LeavesFewer : (State → State) → Coded → PageUnread → Type 0
+LeavesFewer doing old left =
+    (s : State) → s.input ≡ left.input → s.reading ≡ old.formatter.reader.reading
+    → turns_within old.unread.limits.bytes (doing s).input + begun (doing s).reading < turns_to_come old.unread + begun s.reading
+
+-- the source is asked, or there is a tape
+pub asks_or_given : (run : Coded) (gave : Tape → Type 0) → HasTape run gave → AsksFirst run.unread ⊎ ((tape : Tape) × gave tape)
+asks_or_given run gave (inl first) = inl first.0
+asks_or_given run gave (inr given) = inr given
 
 -- a call took these items of the source, and left this
 module _ {gave gives : Tape → Type 0} {old : Coded} {left : PageUnread} {taken : List Item} (leaves : Leaves gave gives old.unread left taken)
@@ -50,29 +57,30 @@ module _ {gave gives : Tape → Type 0} {old : Coded} {left : PageUnread} {taken
   pub turned : (new : Coded) (now after : Seen) (r : Result (Unit {0}) Status) → new.limits ≡ old.limits
       → ((t tape : Tape) (start : Seen) → gives tape → (at : IsAt t (items_then taken tape) start now old)
       → StepDoes does (items_then taken tape) old at.history at.messages
-      → Continues t tape start after r new × Falls noted notes old.unread new.unread r)
+      → Continues t tape start after r new × Falls noted notes old new r)
       → TurnsBy does gave gives noted notes old new now after r
   turned new now after r limits each = record {
     limits = limits;
     taken = taken;
     before = leaves.before;
-    some = leaves.some;
+    some = λ known. leaves.some (asks_or_given old gave known);
     turns = λ t tape start may at goes. (each t tape start may at goes).0;
     falls = λ t tape start may at goes. (each t tape start may at goes).1;
   }
 
   -- what is done with the item leaves fewer turns
   fewer_behind : (doing : State → State) (line : ℕ) (new : Coded) (now after : Seen) (r : Result (Unit {0}) Status) → notes ≤ noted
-      → OnOk r (LeavesFewer doing old.unread left) → old.unread.limits ≡ old.limits
+      → OnOk r (LeavesFewer doing old left) → old.unread.limits ≡ old.limits
       → (acts : Acts line doing (moved old left) new now after r)
       → (t tape : Tape) (start : Seen) (from : State) → TookFrom t tape start now line doing from (moved old left)
-      → Falls noted notes old.unread new.unread r
+      → Falls noted notes old new r
   fewer_behind doing line new now after (Ok done) less fewer limits acts t tape start from took =
       let goes_on : IsAt t tape start after new = acts.acts t tape start from took in
       let s : State = state_at tape (moved old left) took.history took.messages in
-      let few : turns_within old.unread.limits.bytes (doing s).input < turns_to_come old.unread = fewer s refl in
+      let few : turns_within old.unread.limits.bytes (doing s).input + begun (doing s).reading < turns_to_come old.unread + begun s.reading = fewer s refl refl in
+      let reads : begun new.formatter.reader.reading ≡ begun (doing s).reading = ap begun (acts.reading t tape start from took) in
       let same : new.unread.limits ≡ old.unread.limits = goes_on.limits ∙ acts.limits ∙ sym limits in
-      omega (arith, less, few, turns_of new.unread old.unread.limits (doing s).input same (acts.input t tape start from took))
+      omega (arith, less, few, reads, turns_of new.unread old.unread.limits (doing s).input same (acts.input t tape start from took))
   fewer_behind doing line new now after (Err status) less fewer limits acts t tape start from took = tt
 
   -- what was taken is done
@@ -80,7 +88,7 @@ module _ {gave gives : Tape → Type 0} {old : Coded} {left : PageUnread} {taken
       → failed ≤ failures → notes ≤ noted → line ≡ old.unread.input.line
       → (old.unread.limits ≡ old.limits → (tape : Tape) → gives tape → (h : PageHistory) (ms : List ℕ)
       → let from : State = state_at (items_then taken tape) old h ms in does from ≡ made old.limits from (doing (state_at tape (moved old left) h ms)))
-      → OnOk r (LeavesFewer doing old.unread left)
+      → OnOk r (LeavesFewer doing old left)
       → Acts line doing (moved old left) new (seen failures out err) after r
       → TurnsBy does gave gives noted notes old new (seen failed out err) after r
   acted doing line new failed failures out err after r more less line_is shows fewer acts =
@@ -101,17 +109,38 @@ turns-interrupted bytes (_) i = refl
 
 -- what ends at the input's end, by what is half read
 ending_input-made : (l : Limits) (half : List Half) (s : State)
-    → ending_input l half s ≡ made l s (elim half [ [] ↦ end_met s | first ∷ others ↦ half_ends s ])
+    → ending_input l half s ≡ made l s (elim half [ [] ↦ input_ended (message_begun s.reading) s | first ∷ others ↦ half_ends s ])
 ending_input-made l [] s = refl
 ending_input-made l (first ∷ others) s = refl
 
--- where something is half read, its end leaves fewer turns
-half-input_ends : (bytes : ℕ) (half : List Half) (s : State) → 1 ≤ length half → s.input.half ≡ half
-    → let ended : State = elim half [ [] ↦ end_met s | first ∷ others ↦ half_ends s ] in
-    turns_within bytes ended.input < turns_within bytes s.input
-half-input_ends bytes [] s some is = omega (arith, some)
+-- where the line of a message ends with the input, a turn fewer is to come
+message-input_ended : (bytes : ℕ) (reading : Reading) (s : State) → s.reading ≡ reading → IsSome (message_begun reading)
+    → let ended : State = input_ended (message_begun reading) s in
+    turns_within bytes ended.input + begun ended.reading < turns_within bytes s.input + begun s.reading
+message-input_ended bytes (Telling aborts is_front) s is some = let two : begun s.reading ≡ 2 = ap begun is in omega (arith, two)
+message-input_ended bytes LineStart s is some = absurd (cc)
+message-input_ended bytes Branch s is some = absurd (cc)
+message-input_ended bytes Braced s is some = absurd (cc)
+message-input_ended bytes (InText line) s is some = absurd (cc)
+message-input_ended bytes (Control breaks) s is some = absurd (cc)
+message-input_ended bytes (Name breaks first) s is some = absurd (cc)
+message-input_ended bytes (InArguments breaks request) s is some = absurd (cc)
+message-input_ended bytes (Deciding keeping) s is some = absurd (cc)
+message-input_ended bytes (StringName appends) s is some = absurd (cc)
+message-input_ended bytes (StringText name appends is_front) s is some = absurd (cc)
+message-input_ended bytes (Skipping opened closed behind) s is some = absurd (cc)
+message-input_ended bytes Dropped s is some = absurd (cc)
+message-input_ended bytes (Told aborts) s is some = absurd (cc)
+message-input_ended bytes Exiting s is some = absurd (cc)
+
+-- so it is where something is half read, or a message
+half-input_ends : (bytes : ℕ) (half : List Half) (s : State) → IsEnded half s.reading → s.input.half ≡ half
+    → let ended : State = elim half [ [] ↦ input_ended (message_begun s.reading) s | first ∷ others ↦ half_ends s ] in
+    turns_within bytes ended.input + begun ended.reading < turns_within bytes s.input + begun s.reading
+half-input_ends bytes [] s (inl some) is = absurd (omega (arith, some))
+half-input_ends bytes [] s (inr some) is = message-input_ended bytes s.reading s refl some
 half-input_ends bytes (first ∷ others) s some is =
-    omega (arith, turns_within-half_ended bytes (known s) s.reading s.input (rw is some))
+    let one : 1 ≤ length s.input.half = rw is (omega arith) in omega (arith, turns_within-half_ended bytes (known s) s.reading s.input one)
 
 -- the call that takes the item in front
 module _ {gave gives : Tape → Type 0} {left : PageUnread} {item : Shown PageEvent} (old : Coded) (call : Takes gave gives old.unread left item) where
@@ -156,9 +185,13 @@ on_ok (Ok done) holds = holds
 on_ok (Err status) holds = tt
 
 -- where something is half read, a run may go on
-pub some_half : (half : List Half) (r : Result (Unit {0}) Status) → not (length half == 0) ≡ true → OnOk r (1 ≤ length half)
-some_half [] r is = cc
-some_half (first ∷ others) r is = on_ok r (omega arith)
+pub some_half : (half : List Half) (reading : Reading) (r : Result (Unit {0}) Status) → not (length half == 0) ≡ true → OnOk r (IsEnded half reading)
+some_half [] reading r is = cc
+some_half (first ∷ others) reading r is = on_ok r (inl (omega arith))
+
+-- and where a message is
+pub some_message : (half : List Half) (reading : Reading) (aborts : Bool) (r : Result (Unit {0}) Status) → message_begun reading ≡ Some aborts → OnOk r (IsEnded half reading)
+some_message half reading aborts r is = on_ok r (inr (rw is refl))
 
 -- where a run goes on, one follows from the other
 pub on_ok-then : {A B : Type 0} (r : Result (Unit {0}) Status) → (A → B) → OnOk r A → OnOk r B
@@ -175,7 +208,7 @@ module _ {gave gives : Tape → Type 0} {left : PageUnread} (old : Coded) (faile
       → line ≡ old.unread.input.line → Acts line (byte_taken b) (moved old left) new (seen failures out err) after r → FrontTurn gave gives noted notes old new (seen failed out err) after r
   front_byte b line new after r call line_is acts =
       let leaves = leaves_front old call in
-      let fewer : LeavesFewer (byte_taken b) old.unread left = λ s is.
+      let fewer : LeavesFewer (byte_taken b) old left = λ s is same.
       omega (arith, turns_within-byte old.unread.limits.bytes (known s) s.reading s.input b, turns_of left old.unread.limits s.input leaves.limits (sym is), falls_front old call tt) in
       acted leaves _ noted notes (byte_taken b) line new failed failures out err after r more less line_is (shown_front old call) (on_ok r fewer) acts
 
@@ -184,7 +217,7 @@ module _ {gave gives : Tape → Type 0} {left : PageUnread} (old : Coded) (faile
       → line ≡ old.unread.input.line → Acts line (ahead_taken (DoAhead event)) (moved old left) new (seen failures out err) after r → FrontTurn gave gives noted notes old new (seen failed out err) after r
   front_event event line new after r call line_is acts =
       let leaves = leaves_front old call in
-      let fewer : LeavesFewer (ahead_taken (DoAhead event)) old.unread left = λ s is.
+      let fewer : LeavesFewer (ahead_taken (DoAhead event)) old left = λ s is same.
       omega (arith, turns-interrupted old.unread.limits.bytes s.reading s.input, turns_of left old.unread.limits s.input leaves.limits (sym is), falls_front old call tt) in
       acted leaves _ noted notes (ahead_taken (DoAhead event)) line new failed failures out err after r more less line_is (shown_front old call) (on_ok r fewer) acts
 
@@ -209,13 +242,14 @@ module _ {gave gives : Tape → Type 0} {left : PageUnread} (old : Coded) (faile
   -- the end of the input
   pub front_ended : (new : Coded) (after : Seen) (r : Result (Unit {0}) Status) → Takes gave gives old.unread left (ShowsEnding Ended)
       → (left.looked ≡ None → Acts left.input.line input_ends (moved old left) new (seen failures out err) after r)
-      → OnOk r (1 ≤ length left.input.half) → FrontTurn gave gives noted notes old new (seen failed out err) after r
+      → OnOk r (IsEnded left.input.half old.formatter.reader.reading) → FrontTurn gave gives noted notes old new (seen failed out err) after r
   front_ended new after r call acts half =
       let leaves = leaves_front old call in
       let ends = ends_front old call tt in
-      let fewer : 1 ≤ length left.input.half → LeavesFewer input_ends old.unread left = λ some s is.
-      let fewer : turns_within old.unread.limits.bytes (input_ends s).input < turns_within old.unread.limits.bytes s.input =
-      half-input_ends old.unread.limits.bytes s.input.half s (rw is some) refl in
+      let fewer : IsEnded left.input.half old.formatter.reader.reading → LeavesFewer input_ends old left = λ some s is same.
+      let fewer : turns_within old.unread.limits.bytes (input_ends s).input + begun (input_ends s).reading < turns_within old.unread.limits.bytes s.input + begun s.reading =
+      half-input_ends old.unread.limits.bytes s.input.half s
+      (subst (λ (reading : Reading). IsEnded s.input.half reading) (sym same) (subst (λ (i : PageInput). IsEnded i.half old.formatter.reader.reading) (sym is) some)) refl in
       omega (arith, fewer, turns_of left old.unread.limits s.input leaves.limits (sym is), leaves.turns) in
       acted leaves _ noted notes input_ends left.input.line new failed failures out err after r more less (ap (λ (u : PageUnread). u.input.line) ends.same)
       (λ limits tape may h ms.

@@ -16,14 +16,13 @@ use Rattle.roff_run.specs.Output.{PageHistory}
 use Rattle.roff_run.specs.Reader.Taken.{PageUnread}
 use Rattle.roff_run.specs.Reading.{PageInput}
 use Rattle.roff_run.specs.Run.{State, awaited, half_ends, in_front_taken, known, made, step, waiting}
-use Rattle.roff_run.specs.TurnsToCome.{turns_to_come}
 use Rattle.roff_engine.specs.declared.running.Running.{Running as Coded}
 use Rattle.roff_engine.specs.Engine.Outcome.{Seen, seen}
-use Rattle.roff_engine.specs.Running.Turning.{Acts, IsAt, StepDoes, TurnsBy, state_at}
+use Rattle.roff_engine.specs.Running.Turning.{Acts, IsAt, StepDoes, TurnsBy, state_at, turns_left}
 use Rattle.roff_engine.specs.Sinks.{Sunk, Puts}
 use Rattle.roff_engine.proofs.Calls.{EndsThere, EndsThere-looks, IsEndingSeen, Leaves, Leaves-looks, Leaves-deciding}
 use Rattle.roff_engine.proofs.Items.{looked_at, moved, note_told, source_failed, source_stopped}
-use Rattle.roff_engine.proofs.Turns.{LeavesFewer, acted, on_ok, on_ok-then, turned, turns_of}
+use Rattle.roff_engine.proofs.Turns.{LeavesFewer, acted, asks_or_given, on_ok, on_ok-then, turned, turns_of}
 use Rattle.roff_run.proofs.InFront.{Given-asked, IsNoNote, Looks-looking, items_asked, over_unread, over_unread-looking, front_step, seen as seen_step, sighted_step}
 use Rattle.roff_run.proofs.TurnsToCome.{length-newline_stays, turns_within-half_ended}
 
@@ -109,7 +108,7 @@ module _ {gave gives : Tape → Type 0} {left : PageUnread} (old : Coded) (faile
   waiting_ends seen_byte sight new after r is call stays half acts =
       let leaves = leaves_look old call in
       let same : left.input ≡ old.unread.input = input_look old call in
-      let fewer : LeavesFewer half_ends old.unread left = λ s is.
+      let fewer : LeavesFewer half_ends old left = λ s is same_reading.
       let some : 1 ≤ length s.input.half = rw (is, same) (length-newline_stays old.unread.input.half half) in
       omega (arith, turns_within-half_ended old.unread.limits.bytes (known s) s.reading s.input some, turns_of left old.unread.limits s.input leaves.limits (sym is), leaves.turns) in
       acted leaves _ noted notes half_ends left.input.line new failed failures out err after r more less (ap (λ (i : PageInput). i.line) same)
@@ -174,7 +173,7 @@ pub waiting_decides :
     → decides_now old.unread.input.half ≡ true → Acts old.unread.input.line half_ends old new (seen failures out err) after r
     → TurnsBy (λ s. waiting old.limits s) gives gives notes notes old new (seen failures out err) after r
 waiting_decides gives old new failures out err notes after r decides acts =
-    let fewer : LeavesFewer half_ends old.unread old.unread = λ s is.
+    let fewer : LeavesFewer half_ends old old.unread = λ s is same_reading.
     let some : 1 ≤ length s.input.half = rw is (length-decides_now old.unread.input.half decides) in
     omega (arith, turns_within-half_ended old.unread.limits.bytes (known s) s.reading s.input some, turns_of old.unread old.unread.limits s.input refl (sym is)) in
     acted (Leaves-deciding gives old.unread decides) _ notes notes half_ends old.unread.input.line new failures failures out err after r (omega arith) (omega arith) refl
@@ -229,11 +228,11 @@ module _ {gave mid gives : Tape → Type 0} {left : PageUnread} {sight : Sighted
     limits = turn.limits;
     taken = both;
     before = λ tape may. subst gave (sym (items_then-append (taken old call) turn.taken tape)) ((leaves_look old call).before (items_then turn.taken tape) (turn.before tape may));
-    some = λ known. turn.some (inr ((leaves_look old call).some known));
+    some = λ known. turn.some (inr ((leaves_look old call).some (asks_or_given old gave known)));
     turns = λ t tape start may at goes.
         let behind = stands_behind t tape start may (at, goes) in turn.turns t tape start may behind.0 behind.1;
     falls = λ t tape start may at goes.
         let behind = stands_behind t tape start may (at, goes) in
-        on_ok-then r (λ (falls : turns_to_come new.unread + notes < turns_to_come left + kept). omega (arith, falls, less, (leaves_look old call).turns))
+        on_ok-then r (λ (falls : turns_left new + notes < turns_left (moved old left) + kept). omega (arith, falls, less, (leaves_look old call).turns))
         (turn.falls t tape start may behind.0 behind.1);
   }

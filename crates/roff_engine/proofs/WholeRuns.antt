@@ -1,5 +1,5 @@
 -- A whole run of the code, turn by turn: each turn is a step of the definition.
-use Rattle.std.proofs.Common.{◌≡◌, ℕ, ◌+◌, ◌<◌, Bool, true, false, List, [], ◌++◌, Some, None, Result, Ok, Err, inl, inr, refl, sym, ap, subst, ◌∙◌, arith}
+use Rattle.std.proofs.Common.{◌≡◌, ℕ, ◌+◌, ◌<◌, Bool, true, false, List, [], ◌++◌, Option, Some, None, Result, Ok, Err, inl, inr, refl, sym, ap, subst, ◌∙◌, arith}
 use Rattle.std.specs.Prelude.{nat_lt, if◌then◌else◌}
 use Rattle.std.proofs.lemmas.Bool.{le-ltb}
 use Rattle.roff_lines.specs.Env.Stands.{Stands}
@@ -12,12 +12,13 @@ use Rattle.roff_run.specs.Output.{PageHistory}
 use Rattle.roff_run.specs.Reader.State.{ReaderState, fresh_reader}
 use Rattle.roff_run.specs.Reader.Taken.{IsReady, PageUnread}
 use Rattle.roff_run.specs.Registers.{no_registers}
-use Rattle.roff_run.specs.Run.{State, Leads, counts_in, first_input, first_passed, first_unread, in_front_taken, initial, step, waiting}
-use Rattle.roff_run.specs.TurnsToCome.{turns_to_come}
+use Rattle.roff_run.specs.Run.{State, Leads, counts_in, first_input, first_passed, first_unread, in_front_taken, initial, reading_by, step, waiting}
+use Rattle.roff_run.specs.Reading.{due}
+use Rattle.roff_run.specs.declared.reading.Due.{Due}
 use Rattle.roff_engine.specs.declared.running.Running.{Running as Coded}
 use Rattle.roff_engine.specs.Engine.Outcome.{Seen, Outcome, Runs}
 use Rattle.roff_engine.specs.Formatter.Performing.{going}
-use Rattle.roff_engine.specs.Running.Turning.{HasCome, HasTape, IsAt, IsFresh, TurnsBy, state_at}
+use Rattle.roff_engine.specs.Running.Turning.{HasCome, HasTape, IsAt, IsFresh, Settles, TurnsBy, state_at, turns_left}
 use Rattle.roff_engine.proofs.Appending.{Appends-nothing}
 use Rattle.roff_engine.proofs.Waiting.{items_then-append}
 use Rattle.roff_run.proofs.Leads.{Leads-refl}
@@ -37,23 +38,25 @@ step_turn does gave gives noted notes old new now behind r is turn = record {
 
 module _ (gave gives : Tape → Type 0) (noted notes : ℕ) (old new : Coded) (now behind : Seen) (r : Result (Unit {0}) Status) where
   -- what is half read waits
-  pub waiting_turn : newline_stays old.unread.input.half ≡ true
+  pub waiting_turn : due old.formatter.reader.reading ≡ None → newline_stays old.unread.input.half ≡ true
       → TurnsBy (λ s. waiting old.limits s) gave gives noted notes old new now behind r
       → TurnsBy (step old.limits) gave gives noted notes old new now behind r
-  waiting_turn stays turn =
+  waiting_turn none_due stays turn =
       step_turn _ gave gives noted notes old new now behind r (λ tape h ms.
       let s : State = state_at tape old h ms in
-      ap (λ (c : Bool). if c then waiting old.limits s else in_front_taken old.limits old.unread.input.ahead s) stays)
+      ap (λ (what : Option Due). reading_by old.limits what s) none_due
+      ∙ ap (λ (c : Bool). if c then waiting old.limits s else in_front_taken old.limits old.unread.input.ahead s) stays)
       turn
 
   -- it waits for nothing
-  pub front_turn : newline_stays old.unread.input.half ≡ false
+  pub front_turn : due old.formatter.reader.reading ≡ None → newline_stays old.unread.input.half ≡ false
       → TurnsBy (λ s. in_front_taken old.limits s.input.ahead s) gave gives noted notes old new now behind r
       → TurnsBy (step old.limits) gave gives noted notes old new now behind r
-  front_turn stays turn =
+  front_turn none_due stays turn =
       step_turn _ gave gives noted notes old new now behind r (λ tape h ms.
       let s : State = state_at tape old h ms in
-      ap (λ (c : Bool). if c then waiting old.limits s else in_front_taken old.limits old.unread.input.ahead s) stays)
+      ap (λ (what : Option Due). reading_by old.limits what s) none_due
+      ∙ ap (λ (c : Bool). if c then waiting old.limits s else in_front_taken old.limits old.unread.input.ahead s) stays)
       turn
 
 -- before the first item no count is above its limit
@@ -87,7 +90,10 @@ starts t now run stands fresh =
 
 -- it asks its source first
 pub HasTape-fresh : (run : Coded) (gives : Tape → Type 0) → IsFresh run.limits run.formatter run.unread → HasTape run gives
-HasTape-fresh run gives fresh = inl (ap (λ (u : PageUnread). u.input.half) fresh.unread, ap (λ (u : PageUnread). asks_to_take u) fresh.unread)
+HasTape-fresh run gives fresh = inl (
+  (ap (λ (u : PageUnread). u.input.half) fresh.unread, ap (λ (u : PageUnread). asks_to_take u) fresh.unread),
+  ap (λ (r : ReaderState). due r.reading) fresh.reader,
+)
 
 -- behind another turn
 module _ {first old new : Tape → Type 0} (noted notes : ℕ) (start now behind : Seen) (run run_behind : Coded) (come : HasCome first old start now run) where
@@ -105,7 +111,7 @@ module _ {first old new : Tape → Type 0} (noted notes : ℕ) (start now behind
 
   -- and fewer turns are to come
   pub fewer_to_come : TurnsBy (step run.limits) old new noted notes run run_behind now behind (Ok tt)
-      → turns_to_come run_behind.unread + notes < turns_to_come run.unread + noted
+      → turns_left run_behind + notes < turns_left run + noted
   fewer_to_come turn =
       let some = turn.some come.some in
       let tape : Tape = items_then turn.taken some.0 in
@@ -128,4 +134,47 @@ module _ {first old new : Tape → Type 0} (noted notes : ℕ) (start now behind
             let own : Outcome run_behind.limits whole t status start behind = turn.turns whole t start may (come.at tape (turn.before t may)) refl in
             subst (λ (whole : Tape). Outcome l whole t status start behind) (sym (items_then-append come.taken turn.taken t))
             (subst (λ (k : Limits). Outcome k whole t status start behind) (turn.limits ∙ limits) own);
+      }
+
+-- where something is due there is a tape, if the run asks its source next or there is one
+tape_where_due : (run : Coded) (gives : Tape → Type 0) (what : Due) → due run.formatter.reader.reading ≡ Some what → HasTape run gives → (tape : Tape) × gives tape
+tape_where_due run gives what is (inl first) = let wrong : None ≡ Some what = sym first.1 ∙ is in absurd (cc)
+tape_where_due run gives what is (inr given) = given
+
+-- where nothing was due the run stays
+settled_tape : (run run_behind : Coded) (gives : Tape → Type 0) (what : Option Due) → due run.formatter.reader.reading ≡ what
+    → (due run.formatter.reader.reading ≡ None → run_behind ≡ run) → HasTape run gives → HasTape run_behind gives
+settled_tape run run_behind gives None is idle has = subst (λ (r : Coded). HasTape r gives) (sym (idle is)) has
+settled_tape run run_behind gives (Some what) is idle has = inr (tape_where_due run gives what is has)
+
+-- a run that has ended doesn't go on
+ends_or_goes_on : (r : Result (Unit {0}) Status) (status : Status) → r ≡ Err status → r ≡ Ok tt → ⊥
+ends_or_goes_on r status ends goes = cc
+
+-- a run that ended did what was due
+ended_tape : (run : Coded) (gives : Tape → Type 0) (status : Status) (r : Result (Unit {0}) Status) (what : Option Due) → r ≡ Err status
+    → due run.formatter.reader.reading ≡ what → (due run.formatter.reader.reading ≡ None → r ≡ Ok tt) → HasTape run gives → (tape : Tape) × gives tape
+ended_tape run gives status r None ends is idle has = absurd (ends_or_goes_on r status ends (idle is))
+ended_tape run gives status r (Some what) ends is idle has = tape_where_due run gives what is has
+
+-- behind what is due
+module _ {first gives : Tape → Type 0} (start now behind : Seen) (run run_behind : Coded) (come : HasCome first gives start now run) where
+  -- it goes on
+  pub settled : Settles run run_behind now behind (Ok tt) → HasCome first gives start behind run_behind
+  settled settles = record {
+    taken = come.taken;
+    before = come.before;
+    some = settled_tape run run_behind gives (due run.formatter.reader.reading) refl (λ none. (settles.idle none).1) come.some;
+    at = λ t may. settles.settles (items_then come.taken t) t start (come.at t may);
+  }
+
+  -- or it has ended
+  pub settled_end : (l : Limits) (status : Status) → run.limits ≡ l → Settles run run_behind now behind (Err status) → Runs l status first gives start behind
+  settled_end l status limits settles =
+      let some = ended_tape run gives status (Err status) (due run.formatter.reader.reading) refl refl (λ none. (settles.idle none).0) come.some in record {
+        taken = come.taken;
+        took = record { before = come.before; some = some.0; some_given = some.1 };
+        outcome = λ t may.
+            let whole : Tape = items_then come.taken t in
+            subst (λ (k : Limits). Outcome k whole t status start behind) (settles.limits ∙ limits) (settles.settles whole t start (come.at t may));
       }

@@ -1,10 +1,12 @@
 -- The words of the clauses in `src/`, each with the file that it stands in.
 pub use Rattle.roff_engine.specs.Engine.Outcome.{Outcome, Seen, seen, Runs}
 pub use Rattle.roff_engine.specs.Formatter.Performing.{DoesMeaning, DoesTaking, PerformsEvents, PerformsOnly, closing_events, sinks}
-pub use Rattle.roff_run.specs.Messages.{message_line, message_lines}
+pub use Rattle.roff_run.specs.Messages.{message_line, message_lines, text_told, told_line}
 pub use Rattle.roff_run.specs.Output.{finished_bytes}
 pub use Rattle.roff_run.specs.Reader.State.{fresh_reader}
-pub use Rattle.roff_run.specs.Reading.{end_taking, half_ended, interrupted, taking}
+pub use Rattle.roff_run.specs.Reading.{due, end_taking, half_ended, interrupted, message_begun, message_ended, taking}
+pub use Rattle.roff_run.specs.declared.reading.Due.TheVariants.{Tells}
+pub use Rattle.roff_run.specs.declared.reading.Reading.TheVariants.{LineStart}
 pub use Rattle.roff_run.specs.declared.event.PageEvent.TheVariants.{Text, Space}
 pub use Rattle.roff_engine.specs.Running.Turning.{Halts, IsFresh}
 pub use Rattle.roff_engine.specs.Sinks.{Puts, Sunk}

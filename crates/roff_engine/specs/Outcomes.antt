@@ -1,27 +1,26 @@
 -- What a run of the code gives of what the definition's whole run does, however it came out.
-use Rattle.std.specs.Prelude.{◌≡◌, ◌⊎◌, Some}
+use Rattle.std.specs.Prelude.{◌≡◌, Some}
 use Rattle.std.specs.Io.KnownBytes.{Appends}
-use Rattle.roff_num.specs.declared.limit.Limit.{Limit}
 use Rattle.roff_num.specs.declared.limits.Limits.{Limits}
-use Rattle.roff_engine.specs.Engine.Outcome.{Outcome, Seen}
-use Rattle.roff_run.specs.Results.{output_of, messages_of, status_of, rest_of}
+use Rattle.roff_engine.specs.Engine.Outcome.{IsRest, Outcome, Seen}
+use Rattle.roff_run.specs.Results.{last_state, output_of, messages_of, status_of}
 use Rattle.roff_engine.specs.Sinks.{Sunk, AppendsFront}
 use Rattle.roff_run.specs.declared.status.Status.{Status}
-use Rattle.roff_run.specs.declared.status.Status.TheVariants.{Device, Limit as Limited}
-use Rattle.roff_scan.specs.Tape.{Tape, Rises, behind_front}
+use Rattle.roff_run.specs.declared.status.Status.TheVariants.{Device}
+use Rattle.roff_scan.specs.Tape.{Tape, Rises}
 
 -- a sink had no fault: its count didn't rise
 abbrev pub HadNoFault : Sunk → Sunk → Type 0
 HadNoFault before now = ¬ Rises before.failures now.failures
 
 -- All of the definition's result: its text was written, its messages were reported, the status is its, and
--- what is left is its rest, at a limit perhaps without the item in front, which was looked at. A fault is the
--- source's.
+-- what is left is its rest, where it didn't come to its source's end perhaps without the item in front, which was looked
+-- at. A fault is the source's.
 pub record GivesAll (l : Limits) (t left : Tape) (status : Status) (before now : Seen) : Type 0 where
   pub text : Appends before.out.contents now.out.contents (output_of l t)
   pub messages : Appends before.err.contents now.err.contents (messages_of l t)
   pub ended : status_of l t ≡ Some status
-  pub rest : (left ≡ rest_of l t) ⊎ ((limit : Limit) × (status ≡ Limited limit) × (left ≡ behind_front (rest_of l t)))
+  pub rest : IsRest status left (last_state l t)
   pub fault : status ≡ Device → Rises before.failures now.failures
 
 -- A beginning of the definition's text, whatever failed. If the output had no fault, a beginning of its

@@ -74,6 +74,9 @@ impl Engine {
         };
         loop {
             running.pass_over(source);
+            if let Err(status) = running.settle(out, err) {
+                return status;
+            }
             if let Err(status) = running.turn(source, out, err) {
                 return status;
             }

@@ -3,14 +3,14 @@
 ghost use Rattle.std.specs.Prelude.{◌≡◌, ℕ, true, [], ◌∷◌, IfOk, IfSome, IsOkUnless, option_map};
 ghost use Rattle.roff_scan.specs.Bytes.{is_passed};
 ghost use Rattle.roff_run.specs.Reading.{Passes};
-ghost use Rattle.roff_engine.specs.Clauses.{option_to_list, finished_of, fresh_reader, Stands, Gap, Print, WordEnd, LineEnd, Break, message_lines, finished_bytes, DoesMeaning, DoesTaking, PerformsOnly, closing_events, sinks, end_taking, half_ended, interrupted, taking, Text, Space, Puts, Sunk};
+ghost use Rattle.roff_engine.specs.Clauses.{option_to_list, finished_of, fresh_reader, Stands, Gap, Print, WordEnd, LineEnd, Break, message_lines, finished_bytes, DoesMeaning, DoesTaking, PerformsOnly, closing_events, sinks, due, end_taking, half_ended, interrupted, message_begun, message_ended, taking, LineStart, Text, Space, Puts, Sunk};
 
 use crate::block::Block;
 use crate::halt::Halt;
 use crate::report::report;
 use crate::sink::ByteSink;
 use roff_lines::{Env, Event, Glyph, Line};
-use roff_run::{Meaning, Message, PageEvent, Reader};
+use roff_run::{Due, Meaning, Message, PageEvent, Reader};
 use roff_scan::Unread;
 use std::alloc::{AllocError, Global};
 
@@ -46,8 +46,9 @@ impl Formatter {
     /// change nothing either.
     #[inline(always)]
     pub(crate) fn passes_over(&self) -> Option<bool>
-        ensures { IfSome result (λ within_block. (b : ℕ) → is_passed within_block b ≡ true
+        ensures passes { IfSome result (λ within_block. (b : ℕ) → is_passed within_block b ≡ true
             → Passes self.now.reader.reading b) }
+        ensures none_due { IfSome result (λ within_block. due self.now.reader.reading ≡ None) }
     {
         self.reader.passes_over()
     }
@@ -119,6 +120,46 @@ impl Formatter {
             Ok(meaning) => self.act(meaning, unread.line(), out, err),
             Err(limit) => Err(Halt::Refused(limit)),
         }
+    }
+
+    /// What is due before anything more is taken.
+    #[inline(always)]
+    pub(crate) fn due(&self) -> Option<Due>
+        ensures { result ≡ due self.now.reader.reading }
+    {
+        self.reader.due()
+    }
+
+    /// A line begins.
+    pub(crate) fn begin_next_line(&mut self)
+        ensures { self.new
+            ≡ record self.old { reader = record self.old.reader { reading = LineStart } } }
+    {
+        self.reader.begin_next_line();
+    }
+
+    /// Whether the text of a message is read, and then whether it aborts the run.
+    pub(crate) fn message_begun(&self) -> Option<bool>
+        ensures { result ≡ message_begun self.now.reader.reading }
+    {
+        self.reader.message_begun()
+    }
+
+    /// The line of a message ends where the input does.
+    pub(crate) fn end_message<O: ByteSink, E: ByteSink>(
+        &mut self,
+        aborts: bool,
+        unread: &Unread<PageEvent>,
+        out: &mut O,
+        err: &mut E,
+    ) -> Result<(), Halt>
+        ensures { DoesTaking (λ k. message_ended unread.now.input aborts) []
+            self.old self.new unread.now unread.now
+            (sinks (O.sunk out.old) (E.sunk err.old))
+            (sinks (O.sunk out.new) (E.sunk err.new)) result }
+    {
+        let meaning = self.reader.end_message(aborts);
+        self.act(meaning, unread.line(), out, err)
     }
 
     /// The end of the input: an unfinished line ends, and the pending line is placed.

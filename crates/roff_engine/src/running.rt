@@ -1,18 +1,18 @@
 //! A run under way: what each item of the input does.
 
-ghost use Rattle.std.specs.Prelude.{◌≡◌, ◌≤◌, ℕ, length, true, None, Result, Err, IsOkUnless, OnOk};
-ghost use Rattle.roff_run.specs.Run.{ahead_taken, awaited, byte_taken, end_met, half_ends, in_front_taken, step, waiting};
+ghost use Rattle.std.specs.Prelude.{◌≡◌, ◌≤◌, ℕ, length, true, None, Some, Result, Err, IsOkUnless, OnOk};
+ghost use Rattle.roff_run.specs.Run.{ahead_taken, awaited, byte_taken, end_met, half_ends, in_front_taken, input_ended, step, waiting};
 ghost use Rattle.roff_scan.specs.Halves.{newline_stays};
 ghost use Rattle.roff_scan.specs.Input.{DoAhead};
 ghost use Rattle.roff_scan.specs.Unread.{seen_ahead};
-ghost use Rattle.roff_engine.specs.Clauses.{Outcome, Sunk, Tape, Puts, Seen, seen, message_line, ReadFailed, Device};
+ghost use Rattle.roff_engine.specs.Clauses.{Outcome, Sunk, Tape, Puts, Seen, seen, due, message_line, ReadFailed, Device, Tells};
 
 use crate::formatter::Formatter;
 use crate::halt::Halt;
-use crate::report::report;
+use crate::report::{report, report_text};
 use crate::sink::{ByteSink, SinkFault};
 use roff_num::Limits;
-use roff_run::{Message, PageEvent, Status};
+use roff_run::{Due, Message, PageEvent, Status};
 use roff_scan::{ByteSource, Item, Note, Sight, Unread};
 
 /// A run under way.
@@ -24,7 +24,7 @@ pub(crate) struct Running {
 }
 
 impl Running {
-    ghost use Rattle.roff_engine.specs.Running.Turning.{Acts, GoesPast, Halts, TurnsBy, input_ends, line_told};
+    ghost use Rattle.roff_engine.specs.Running.Turning.{Acts, GoesPast, Halts, IsEnded, MayEnd, Settles, TurnsBy, input_ends, line_told};
 
     /// Passes over bytes of the source that stand ready and change nothing, if there are some.
     #[inline(always)]
@@ -39,8 +39,64 @@ impl Running {
         }
     }
 
-    /// Takes an item of the input, or ends what is half read. An `Err` is the status of a run that
-    /// ended.
+    /// Does what is due before anything more is taken. An `Err` is the status of a run that ended.
+    #[inline(always)]
+    pub(crate) fn settle<O: ByteSink, E: ByteSink>(
+        &mut self,
+        out: &mut O,
+        err: &mut E,
+    ) -> Result<(), Status>
+        ensures { (failures : ℕ) → Settles self.old self.new
+            (seen failures (O.sunk out.old) (E.sunk err.old))
+            (seen failures (O.sunk out.new) (E.sunk err.new)) result }
+    {
+        match self.formatter.due() {
+            None => Ok(()),
+            Some(due) => self.settle_due(due, out, err),
+        }
+    }
+
+    /// The same of what is due.
+    #[inline(never)]
+    fn settle_due<O: ByteSink, E: ByteSink>(
+        &mut self,
+        what: Due,
+        out: &mut O,
+        err: &mut E,
+    ) -> Result<(), Status>
+        requires { due self.old.formatter.reader.reading ≡ Some what }
+        ensures { (failures : ℕ) → Settles self.old self.new
+            (seen failures (O.sunk out.old) (E.sunk err.old))
+            (seen failures (O.sunk out.new) (E.sunk err.new)) result }
+    {
+        match what {
+            Due::Tells { aborts } => self.tell_text(aborts, err),
+            Due::Leaves => {
+                self.unread.leave();
+                Err(self.finish(out, err))
+            }
+        }
+    }
+
+    /// Tells a message, which may end the run.
+    fn tell_text<E: ByteSink>(&mut self, aborts: bool, err: &mut E) -> Result<(), Status>
+        requires { due self.old.formatter.reader.reading ≡ Some (Tells aborts) }
+        ensures { (failures : ℕ) (out : Sunk) → Settles self.old self.new
+            (seen failures out (E.sunk err.old)) (seen failures out (E.sunk err.new)) result }
+    {
+        match report_text(self.unread.begun(), aborts, err) {
+            Ok(()) if aborts => Err(Status::Aborted),
+            Ok(()) => {
+                self.unread.begin_arguments();
+                self.formatter.begin_next_line();
+                Ok(())
+            }
+            Err(_) => Err(Status::Device),
+        }
+    }
+
+    /// Takes an item of the input, or ends what is half read; nothing is due. An `Err` is the status
+    /// of a run that ended.
     #[inline(always)]
     pub(crate) fn turn<S: ByteSource, O: ByteSink, E: ByteSink>(
         &mut self,
@@ -48,6 +104,7 @@ impl Running {
         out: &mut O,
         err: &mut E,
     ) -> Result<(), Status>
+        requires { due self.old.formatter.reader.reading ≡ None }
         ensures { TurnsBy (step self.old.limits)
             (S.gives source.old) (S.gives source.new) (S.notes source.old) (S.notes source.new)
             self.old self.new
@@ -213,7 +270,7 @@ impl Running {
         }
     }
 
-    /// The end of the input: what is half read ends first, and then the run.
+    /// The end of the input: what is half read ends first, then a message, and then the run.
     #[inline(never)]
     fn end_input<O: ByteSink, E: ByteSink>(
         &mut self,
@@ -224,19 +281,41 @@ impl Running {
             → Acts self.old.unread.input.line input_ends self.old self.new
             (seen failures (O.sunk out.old) (E.sunk err.old))
             (seen failures (O.sunk out.new) (E.sunk err.new)) result }
-        // It goes on only where something was half read.
-        ensures half { OnOk result (1 ≤ length self.old.unread.input.half) }
+        // It goes on only where something was half read, or a message.
+        ensures some { OnOk result (IsEnded self.old.unread.input.half
+            self.old.formatter.reader.reading) }
     {
         if self.unread.is_half_read() {
-            self.end_half(out, err)
-        } else {
-            Err(self.finish(out, err))
+            return self.end_half(out, err);
+        }
+        match self.formatter.message_begun() {
+            Some(aborts) => self.end_message(aborts, out, err),
+            None => Err(self.finish(out, err)),
+        }
+    }
+
+    /// Ends the line of a message, with nothing half read.
+    fn end_message<O: ByteSink, E: ByteSink>(
+        &mut self,
+        aborts: bool,
+        out: &mut O,
+        err: &mut E,
+    ) -> Result<(), Status>
+        ensures { (failures : ℕ) → Acts self.old.unread.input.line (input_ended (Some aborts))
+            self.old self.new
+            (seen failures (O.sunk out.old) (E.sunk err.old))
+            (seen failures (O.sunk out.new) (E.sunk err.new)) result }
+    {
+        let line = self.unread.line();
+        match self.formatter.end_message(aborts, &self.unread, out, err) {
+            Ok(()) => Ok(()),
+            Err(halt) => Err(self.halted(halt, line, line, err)),
         }
     }
 
     /// Ends the run, with nothing half read: its status.
     fn finish<O: ByteSink, E: ByteSink>(&mut self, out: &mut O, err: &mut E) -> Status
-        ensures { self.old.unread.looked ≡ None → (failures : ℕ)
+        ensures { MayEnd self.old → (failures : ℕ)
             → Acts self.old.unread.input.line end_met self.old self.new
             (seen failures (O.sunk out.old) (E.sunk err.old))
             (seen failures (O.sunk out.new) (E.sunk err.new)) (Err result) }

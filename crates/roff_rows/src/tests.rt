@@ -12,7 +12,7 @@ use std::process::{Abort, ExitCode};
 use std::test::Fail;
 
 /// The files that a command line may name. Documents begin with a page of one line, and don't fill.
-static FILES: [(&str, &[u8]); 14] = [
+static FILES: [(&str, &[u8]); 16] = [
     ("one", b".pl 1\n.nf\none\n"),
     ("two", b".pl 1\n.nf\ntwo\n"),
     ("three", b".pl 1\n.nf\nthree\n"),
@@ -27,6 +27,8 @@ static FILES: [(&str, &[u8]); 14] = [
     ("filled", b".pl 1\nab cd\n"),
     ("longer", b".pl 1\nabc de\n"),
     ("mistaken", b".pl 1\n.nf\nab\n.ll x\ncd\n"),
+    ("aborting", b".pl 1\n.nf\nab\n.ab no more\ncd\n"),
+    ("leaving", b".pl 1\n.nf\nab\n.tm so far\n.ex\ncd\n"),
 ];
 
 static STANDARD_INPUT: &[u8] = b".pl 1\n.nf\nstandard input\n";

@@ -3,18 +3,20 @@ use Rattle.std.proofs.Common.{◌≡◌, ◌⊎◌, inl, inr, ◌≤◌, ◌+◌
 use Rattle.std.specs.Prelude.{IsSome, if◌then◌else◌}
 use Rattle.roff_num.specs.declared.limits.Limits.{Limits}
 use Rattle.roff_run.specs.declared.status.Status.{Status}
+use Rattle.roff_run.specs.Reading.{message_begun}
+use Rattle.roff_run.specs.declared.reading.Reading.{Reading as BeingRead}
+use Rattle.roff_run.specs.declared.reading.Reading.TheVariants.{LineStart, Branch, Braced, Text as InText, Control, Name, Arguments as InArguments, Deciding, StringName, StringText, Skipping, Dropped, Telling, Told, Exiting}
 use Rattle.roff_run.specs.Requests.{PageEvent}
 use Rattle.roff_run.specs.Results.{turn, turns, last_state}
 use Rattle.roff_run.specs.ResultLaws.{EveryRunEnds, StepsLeadToTheLastState, NoOtherStateIsLast}
 use Rattle.roff_run.specs.Run.{State, Leads, initial, moved, performing, step_with, step, after}
 use Rattle.roff_scan.specs.Input.{Ahead, ByteAhead, FreeAhead, EndAhead, DoAhead, cost, item_taken, counting}
 use Rattle.roff_scan.specs.Tape.{Tape, Item, Gives, OneByte, OneNote, front, behind_front}
-use Rattle.roff_run.specs.TurnsToCome.{endings_of, free_ahead}
+use Rattle.roff_run.specs.TurnsToCome.{begun, endings_of, free_ahead}
 use Rattle.roff_run.proofs.HalfCounts.{some_ending}
-use Rattle.roff_run.proofs.Keeping.{begun}
 use Rattle.roff_run.proofs.Leads.{Leads-refl, Leads-trans, Leads-step, after-add}
 use Rattle.roff_run.proofs.PerformedOrStopped.{PerformedOrStopped, Performed, StoppedAt, performed_or_stopped}
-use Rattle.roff_run.proofs.Readings.{ReadsOn, LimitStops, AheadTaken, ByteTaken, NoteTaken, HalfEnds, InputEnds, SourceFails, SourceStops, ReadsOn-reading_on, Behind-byte_taken, Behind-ahead_taken, Behind-half_ends}
+use Rattle.roff_run.proofs.Readings.{ReadsOn, LimitStops, AheadTaken, ByteTaken, NoteTaken, HalfEnds, InputEnds, InputLeft, MessageEnds, MessageTold, RunAborts, SourceFails, SourceStops, ReadsOn-reading_on, Behind-byte_taken, Behind-ahead_taken, Behind-half_ends}
 
 -- a run has ended, or it hasn't
 pub ended_or_not : (o : Option Status) → IsSome o ⊎ (o ≡ None)
@@ -109,6 +111,24 @@ items-behind_front tape item gives =
 fewer_needed : (l : Limits) (n : ℕ) (s t : State) → turns_needed l s ≤ suc n → turns_needed l t + 1 ≤ turns_needed l s → EndsWithin l n t
 fewer_needed l n s t enough fewer = inr (Reading (omega (arith, enough, fewer)))
 
+-- the line of a message needs two turns behind the input's end
+begun-message : (reading : BeingRead) (aborts : Bool) → message_begun reading ≡ Some aborts → begun reading ≡ 2
+begun-message (Telling aborts is_front) other is = refl
+begun-message LineStart aborts is = absurd (cc)
+begun-message Branch aborts is = absurd (cc)
+begun-message Braced aborts is = absurd (cc)
+begun-message (InText line) aborts is = absurd (cc)
+begun-message (Control breaks) aborts is = absurd (cc)
+begun-message (Name breaks first) aborts is = absurd (cc)
+begun-message (InArguments breaks request) aborts is = absurd (cc)
+begun-message (Deciding keeping) aborts is = absurd (cc)
+begun-message (StringName appends) aborts is = absurd (cc)
+begun-message (StringText name appends is_front) aborts is = absurd (cc)
+begun-message (Skipping opened closed behind) aborts is = absurd (cc)
+begun-message Dropped aborts is = absurd (cc)
+begun-message (Told other) aborts is = absurd (cc)
+begun-message Exiting aborts is = absurd (cc)
+
 -- what was read, or how the run ended
 EndsWithin-read : (l : Limits) (n : ℕ) (s t : State) → ReadsOn l s t → turns_needed l s ≤ suc n → EndsWithin l n t
 EndsWithin-read l n s t (LimitStops limit) enough = inl refl
@@ -128,6 +148,12 @@ EndsWithin-read l n s t (HalfEnds first others half is_made) enough =
     let some : 1 ≤ endings_of s.input.half = rw half (omega (arith, some_ending first others)) in
     fewer_needed l n s t enough (omega (arith, read.input.charge, read.input.free, read.input.half, some))
 EndsWithin-read l n s t (InputEnds none half ends is_made) enough = inr (Closing refl (omega (arith, enough)))
+EndsWithin-read l n s t (MessageEnds aborts begins is_made) enough =
+    fewer_needed l n s t enough (omega (arith, begun-message s.reading aborts begins))
+EndsWithin-read l n s t (MessageTold told is_made) enough =
+    let one : begun s.reading ≡ 1 = ap begun told in fewer_needed l n s t enough (omega (arith, one))
+EndsWithin-read l n s t (RunAborts told) enough = inl refl
+EndsWithin-read l n s t (InputLeft leaves is_made) enough = inr (Closing refl (omega (arith, enough)))
 EndsWithin-read l n s t (SourceFails fails) enough = inl refl
 EndsWithin-read l n s t (SourceStops limit stops) enough = inl refl
 

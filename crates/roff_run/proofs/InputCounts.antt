@@ -7,7 +7,7 @@ use Rattle.roff_num.specs.declared.limit.Limit.TheVariants.{Stack, Depth, Condit
 use Rattle.roff_num.specs.declared.limits.Limits.{Limits}
 use Rattle.roff_scan.specs.Arguments.{held, settled, no_arguments}
 use Rattle.roff_scan.specs.Half.{texts_held}
-use Rattle.roff_scan.specs.Input.{Ahead, ByteAhead, FreeAhead, EndAhead, DoAhead, counting, item_taken, names_added, pushed, depth, results, stored, bytes_ahead, ends_ahead}
+use Rattle.roff_scan.specs.Input.{Ahead, ByteAhead, FreeAhead, EndAhead, DoAhead, counting, item_taken, leaving, names_added, pushed, depth, results, stored, bytes_ahead, ends_ahead}
 use Rattle.roff_scan.specs.Tape.{Answer, Gives, Ends, OneByte, OneNote}
 use Rattle.roff_scan.specs.Unread.{Unread, Shown, taking, taking_answer, answer_behind, input_refusal}
 use Rattle.roff_store.specs.Named.{Named}
@@ -125,6 +125,10 @@ NoMore-interrupted (_) i = NoMore-same i
 -- where the arguments are released
 pub NoMore-released : (i : PageInput) → NoMore (record i { arguments = no_arguments }) i
 NoMore-released i = record { bytes = omega arith; texts = omega arith; results = omega arith; stored = omega arith; names = omega arith; open_texts = omega arith }
+
+-- where nothing stands ahead
+pub NoMore-leaving : (i : PageInput) → NoMore (leaving i) i
+NoMore-leaving i = record { bytes = omega arith; texts = omega arith; results = omega arith; stored = omega arith; names = omega arith; open_texts = omega arith }
 
 -- a limit that a count isn't above is above none that is no more
 pub not_above : (limit before now : ℕ) → now ≤ before → nat_lt limit before ≡ false → nat_lt limit now ≡ false

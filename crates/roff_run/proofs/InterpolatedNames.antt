@@ -22,9 +22,9 @@ use Rattle.roff_scan.specs.declared.half.Surroundings.{Surroundings}
 use Rattle.roff_store.specs.declared.register.Direction.{Direction}
 use Rattle.roff_store.specs.declared.register.Direction.TheVariants.{Up, Down}
 use Rattle.roff_run.specs.declared.reading.Reading.{Reading}
-use Rattle.roff_run.specs.declared.reading.Reading.TheVariants.{LineStart, Branch, Braced, Text as InText, Control, Name as NameOf, Arguments as InArguments, Deciding, StringName, StringText, Skipping, Dropped}
+use Rattle.roff_run.specs.declared.reading.Reading.TheVariants.{LineStart, Branch, Braced, Text as InText, Control, Name as NameOf, Arguments as InArguments, Deciding, StringName, StringText, Skipping, Dropped, Telling, Told, Exiting}
 use Rattle.roff_run.specs.declared.reading.TextLine.{TextLine}
-use Rattle.roff_run.proofs.Interpolation.{AtLast, Behind, FindsAtLast, Fits-IsWithin, FromAhead, FromSource, IsRead, IsRead-itself, Means, Origin, ReadsEscapes, AtBeginning, AtBranch, AtBraced, OnText, OnArguments, OnCondition, OnStringName, OnStringText, ReadsEscapes-reads_escapes, after-escape, ahead_at, going, input_of, interrupted-arguments, is-going, is_no_newline, line_behind, not-first, read_in, settled_for, settled_for-settled_for, settled_input, source_behind, tape_at, taking-reads}
+use Rattle.roff_run.proofs.Interpolation.{AtLast, Behind, FindsAtLast, Fits-IsWithin, FromAhead, FromSource, IsRead, IsRead-itself, Means, Origin, ReadsEscapes, AtBeginning, AtBranch, AtBraced, OnText, OnArguments, OnCondition, OnStringName, OnStringText, OnMessage, ReadsEscapes-reads_escapes, after-escape, ahead_at, going, input_of, interrupted-arguments, is-going, is_no_newline, line_behind, not-first, read_in, settled_for, settled_for-settled_for, settled_input, source_behind, tape_at, taking-reads}
 use Rattle.roff_run.specs.InterpolationLaws.{TakesItems, StandsForItself, IsEscapeOf, Short, Long, ShortString, LongString, OfArgument, reads_text, reads_escapes, reads_in_condition, reads_above, stepped, text_named, with_text_ahead, EscapesReadAsTexts, EscapesOfTheSourceReadAsTexts, EscapesOfTextReadAsTexts}
 use Rattle.roff_run.specs.Laws.{IsWithin}
 use Rattle.roff_run.specs.Reading.{PageInput, Taking, taking, interrupted, fresh_line, asking, name_taking}
@@ -218,6 +218,7 @@ read_in-asks k _ _ i half asks name of (OnArguments breaks request) = refl
 read_in-asks k _ _ i half asks name of (OnCondition keeps) = refl
 read_in-asks k _ _ i half asks name of (OnStringName appends) = refl
 read_in-asks k _ _ i half asks name of (OnStringText string appends is_front) = refl
+read_in-asks k _ _ i half asks name of (OnMessage aborts is_front) = refl
 
 -- a byte that asks for it
 taking-asks : (k : Known) (reading : Reading) (base : Surroundings) (i : PageInput) (b : ℕ) (half : List Half) (asks : NameUse) (name : Option (List ℕ))
@@ -388,6 +389,9 @@ interrupted-reads_text (StringName appends) i is = absurd (cc)
 interrupted-reads_text (StringText name appends is_front) i is = absurd (cc)
 interrupted-reads_text (Skipping opened closed behind) i is = absurd (cc)
 interrupted-reads_text Dropped i is = absurd (cc)
+interrupted-reads_text (Telling aborts is_front) i is = absurd (cc)
+interrupted-reads_text (Told aborts) i is = absurd (cc)
+interrupted-reads_text Exiting i is = absurd (cc)
 
 -- and escapes are read
 reads_escapes-reads_text : (reading : Reading) → reads_text reading ≡ true → reads_escapes reading ≡ true
@@ -403,6 +407,9 @@ reads_escapes-reads_text (StringName appends) is = refl
 reads_escapes-reads_text (StringText name appends is_front) is = refl
 reads_escapes-reads_text (Skipping opened closed behind) is = absurd (cc)
 reads_escapes-reads_text Dropped is = absurd (cc)
+reads_escapes-reads_text (Telling aborts is_front) is = refl
+reads_escapes-reads_text (Told aborts) is = absurd (cc)
+reads_escapes-reads_text Exiting is = absurd (cc)
 
 pub escapes_of_text_read_as_texts : EscapesOfTextReadAsTexts
 escapes_of_text_read_as_texts l s name escape rest is_escape takes reads half ahead within within_read =

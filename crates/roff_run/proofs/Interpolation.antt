@@ -23,17 +23,17 @@ use Rattle.roff_scan.specs.declared.half.Read.TheVariants.{GoesOn}
 use Rattle.roff_scan.specs.declared.half.Surroundings.{Surroundings}
 use Rattle.roff_scan.specs.declared.half.Surroundings.TheVariants.{Text as AboveText, Arguments as AboveArguments, Copy as AboveCopy}
 use Rattle.roff_run.specs.declared.reading.Reading.{Reading}
-use Rattle.roff_run.specs.declared.reading.Reading.TheVariants.{LineStart, Branch, Braced, Text as InText, Control, Name as NameOf, Arguments as InArguments, Deciding, StringName, StringText, Skipping, Dropped}
+use Rattle.roff_run.specs.declared.reading.Reading.TheVariants.{LineStart, Branch, Braced, Text as InText, Control, Name as NameOf, Arguments as InArguments, Deciding, StringName, StringText, Skipping, Dropped, Telling, Told, Exiting}
 use Rattle.roff_run.specs.declared.reading.ShortName.{ShortName}
 use Rattle.roff_run.specs.declared.reading.TextLine.{TextLine}
 use Rattle.roff_run.specs.declared.request.Request.{Request}
 use Rattle.roff_run.specs.declared.status.Status.{Status}
 use Rattle.roff_run.specs.InterpolationLaws.{TakesItems, BytesAheadAreTaken, BytesOfTheSourceAreTaken, StandsForItself, reads_escapes, with_source_behind, cost_of_all, TextsCostTheirBytesAndOne}
 use Rattle.roff_run.specs.Laws.{IsWithin}
-use Rattle.roff_run.specs.Reading.{PageInput, Taking, going_on, taking, kept_taking, beginning_read, text_read, arguments_read_on, condition_read, string_name_read, string_text_read, interrupted}
+use Rattle.roff_run.specs.Reading.{PageInput, due, message_read, Taking, going_on, taking, kept_taking, beginning_read, text_read, arguments_read_on, condition_read, string_name_read, string_text_read, interrupted}
 use Rattle.roff_run.specs.Registers.{AllRegisters, Known}
 use Rattle.roff_run.specs.Requests.{PageEvent}
-use Rattle.roff_run.specs.Run.{State, known, made, byte_taken, front_seen, half_ends, awaited, awaited_of_source, answered, moved, in_front_taken, taking_ahead, taking_byte, taken_as, first_passed, grown, unless_refused, stopped_by, reading_on, step, after}
+use Rattle.roff_run.specs.Run.{State, known, made, byte_taken, front_seen, half_ends, awaited, awaited_of_source, answered, moved, in_front_taken, taking_ahead, taking_byte, taken_as, first_passed, grown, unless_refused, stopped_by, item_read, step, after}
 
 -- where bytes come from: they stand ahead of these items, or in the source in front of this tape
 pub data Origin : Type 0 where
@@ -115,15 +115,15 @@ undecided (Condition part text ∷ rest) seen goes_on = undecided-part part seen
 
 -- so where a byte doesn't end what is half read, nothing decides first
 looks : (l : Limits) (b : ℕ) (s : State) → seen_stays s.input.half (Some b) ≡ false
-    → reading_on l s ≡ (if newline_stays s.input.half then awaited l (seen_ahead s.input.ahead) s else in_front_taken l s.input.ahead s)
+    → item_read l s ≡ (if newline_stays s.input.half then awaited l (seen_ahead s.input.ahead) s else in_front_taken l s.input.ahead s)
 looks l b s is =
     ap (λ (c : Bool). if newline_stays s.input.half then (if c then made l s (half_ends s) else awaited l (seen_ahead s.input.ahead) s) else in_front_taken l s.input.ahead s)
     (undecided s.input.half (Some b) is)
 
 -- the input is read where a byte is ahead
-reading_on-byte : (l : Limits) (b : ℕ) (behind : List (Ahead PageEvent)) (s : State) → s.input.ahead ≡ ByteAhead b ∷ behind
-    → seen_stays s.input.half (Some b) ≡ false → reading_on l s ≡ taking_ahead l (ByteAhead b) behind s
-reading_on-byte l b behind s ahead is =
+item_read-byte : (l : Limits) (b : ℕ) (behind : List (Ahead PageEvent)) (s : State) → s.input.ahead ≡ ByteAhead b ∷ behind
+    → seen_stays s.input.half (Some b) ≡ false → item_read l s ≡ taking_ahead l (ByteAhead b) behind s
+item_read-byte l b behind s ahead is =
     looks l b s is
     ∙ ap (λ (items : List (Ahead PageEvent)). if newline_stays s.input.half then awaited l (seen_ahead items) s else in_front_taken l s.input.ahead s) ahead
     ∙ taken-awaited l (newline_stays s.input.half) b behind s ahead is
@@ -136,12 +136,12 @@ taking_ahead-within l b behind s within =
     ap (λ (c : Bool). if c then stopped_by l Bytes s else done) (le-ltb l.bytes (s.input.charge + 1) (omega arith))
 
 -- a step of a run that takes items
-pub step-TakesItems : (l : Limits) (s : State) → TakesItems s → step l s ≡ reading_on l s
-step-TakesItems l s on = rw (on.going, on.idle, on.not_closing) refl
+pub step-TakesItems : (l : Limits) (s : State) → TakesItems s → step l s ≡ item_read l s
+step-TakesItems l s on = rw (on.going, on.idle, on.not_closing, on.none_due) refl
 
 pub bytes_ahead_are_taken : BytesAheadAreTaken
 bytes_ahead_are_taken l s b behind on ahead is within =
-    step-TakesItems l s on ∙ reading_on-byte l b behind s ahead is ∙ taking_ahead-within l b behind s within
+    step-TakesItems l s on ∙ item_read-byte l b behind s ahead is ∙ taking_ahead-within l b behind s within
 
 -- a byte of the source is taken, whether it is waited for or not
 answered-awaited : (l : Limits) (stays : Bool) (b : ℕ) (s : State) → seen_stays s.input.half (Some b) ≡ false → s.input.ahead ≡ []
@@ -152,9 +152,9 @@ answered-awaited l true b s is none =
 answered-awaited l false b s is none = ap (λ (items : List (Ahead PageEvent)). in_front_taken l items s) none
 
 -- the input is read where a byte of the source comes first
-reading_on-source : (l : Limits) (b : ℕ) (s : State) → s.input.ahead ≡ [] → front s.tape ≡ Gives (OneByte b) → seen_stays s.input.half (Some b) ≡ false
-    → reading_on l s ≡ taking_byte l b s
-reading_on-source l b s none gives is =
+item_read-source : (l : Limits) (b : ℕ) (s : State) → s.input.ahead ≡ [] → front s.tape ≡ Gives (OneByte b) → seen_stays s.input.half (Some b) ≡ false
+    → item_read l s ≡ taking_byte l b s
+item_read-source l b s none gives is =
     looks l b s is
     ∙ ap (λ (items : List (Ahead PageEvent)). if newline_stays s.input.half then awaited l (seen_ahead items) s else in_front_taken l s.input.ahead s) none
     ∙ ap (λ (a : Answer). if newline_stays s.input.half then awaited_of_source l a s else in_front_taken l s.input.ahead s) gives
@@ -170,7 +170,7 @@ taking_byte-within l b s within =
 
 pub bytes_of_the_source_are_taken : BytesOfTheSourceAreTaken
 bytes_of_the_source_are_taken l s b on none gives is within =
-    step-TakesItems l s on ∙ reading_on-source l b s none gives is ∙ taking_byte-within l b s within
+    step-TakesItems l s on ∙ item_read-source l b s none gives is ∙ taking_byte-within l b s within
 
 -- a byte that is read, and doesn't end the line
 abbrev pub IsRead : ℕ → Type 0
@@ -200,6 +200,19 @@ pub data ReadsEscapes : Reading → Surroundings → Type 0 where
   OnCondition : (keeps : Bool) → ReadsEscapes (Deciding keeps) AboveArguments
   OnStringName : (appends : Bool) → ReadsEscapes (StringName appends) AboveArguments
   OnStringText : (name : Option ShortName) (appends is_front : Bool) → ReadsEscapes (StringText name appends is_front) AboveCopy
+  OnMessage : (aborts is_front : Bool) → ReadsEscapes (Telling aborts is_front) AboveCopy
+
+-- there nothing is due
+pub none_due-reads : (reading : Reading) (base : Surroundings) → ReadsEscapes reading base → due reading ≡ None
+none_due-reads _ _ AtBeginning = refl
+none_due-reads _ _ AtBranch = refl
+none_due-reads _ _ AtBraced = refl
+none_due-reads _ _ (OnText line) = refl
+none_due-reads _ _ (OnArguments breaks request) = refl
+none_due-reads _ _ (OnCondition keeps) = refl
+none_due-reads _ _ (OnStringName appends) = refl
+none_due-reads _ _ (OnStringText string appends is_front) = refl
+none_due-reads _ _ (OnMessage aborts is_front) = refl
 
 -- what something reads there, with what is half read then
 abbrev pub read_in : Known → Reading → PageInput → Reads → Taking
@@ -208,6 +221,7 @@ read_in k (InArguments breaks request) i r = arguments_read_on k i breaks reques
 read_in k (Deciding keeps) i r = condition_read k i keeps r
 read_in k (StringName appends) i r = string_name_read k i appends r
 read_in k (StringText name appends is_front) i r = string_text_read k i name appends is_front r
+read_in k (Telling aborts is_front) i r = message_read k i aborts is_front r
 read_in k reading i r = beginning_read k i reading r
 
 -- a byte that isn't dropped
@@ -221,6 +235,7 @@ kept_taking-reads k _ _ i b (OnArguments breaks request) = refl
 kept_taking-reads k _ _ i b (OnCondition keeps) = refl
 kept_taking-reads k _ _ i b (OnStringName appends) = refl
 kept_taking-reads k _ _ i b (OnStringText string appends is_front) = refl
+kept_taking-reads k _ _ i b (OnMessage aborts is_front) = refl
 
 -- a byte that is read
 pub taking-reads : (k : Known) (reading : Reading) (base : Surroundings) (i : PageInput) (b : ℕ) → ReadsEscapes reading base → IsRead b
@@ -250,6 +265,7 @@ read_in-nothing k _ _ i half (OnArguments breaks request) = refl
 read_in-nothing k _ _ i half (OnCondition keeps) = refl
 read_in-nothing k _ _ i half (OnStringName appends) = refl
 read_in-nothing k _ _ i half (OnStringText string appends is_front) = refl
+read_in-nothing k _ _ i half (OnMessage aborts is_front) = refl
 
 -- a byte that finds nothing
 taking-nothing : (k : Known) (reading : Reading) (base : Surroundings) (i : PageInput) (b : ℕ) (half : List Half) → ReadsEscapes reading base
@@ -286,18 +302,18 @@ taken_as-going_on i reading s = ap (λ (m : List ℕ). record s { input = i; rea
 
 -- a step at a byte
 pub step-byte : (l : Limits) (s : State) (reading : Reading) (from : Origin) (b : ℕ) (bytes : List ℕ) (a : Arguments) (half : List Half) (charge line : ℕ) (t : State)
-    → IsRead b → seen_stays half (Some b) ≡ false → charge + 1 ≤ l.bytes → byte_taken b (going s reading from bytes a half (charge + 1) (line_behind from s line)) ≡ t
+    → due reading ≡ None → IsRead b → seen_stays half (Some b) ≡ false → charge + 1 ≤ l.bytes → byte_taken b (going s reading from bytes a half (charge + 1) (line_behind from s line)) ≡ t
     → Fits l t.registers t.input → step l (going s reading from (b ∷ bytes) a half charge line) ≡ t
-step-byte l s reading (FromAhead rest) b bytes a half charge line t read goes within is fits =
+step-byte l s reading (FromAhead rest) b bytes a half charge line t none_due read goes within is fits =
     let before : State = going s reading (FromAhead rest) (b ∷ bytes) a half charge line in
-    bytes_ahead_are_taken l before b (map ByteAhead bytes ++ rest) (record { going = refl; not_closing = refl; idle = refl }) refl
+    bytes_ahead_are_taken l before b (map ByteAhead bytes ++ rest) (record { going = refl; not_closing = refl; idle = refl; none_due = none_due }) refl
     goes (omega arith)
     ∙ ap (made l before) is ∙ made-Fits l before t fits
-step-byte l s reading (FromSource tape) b bytes a half charge line t read goes within is fits =
+step-byte l s reading (FromSource tape) b bytes a half charge line t none_due read goes within is fits =
     let before : State = going s reading (FromSource tape) (b ∷ bytes) a half charge line in
     let behind : State = going s reading (FromSource tape) bytes a half (charge + 1) (s.input.newlines + 1) in
     let plain : (b == newline) ≡ false = not-second (is_dropped b) (b == newline) read in
-    bytes_of_the_source_are_taken l before b (record { going = refl; not_closing = refl; idle = refl }) refl refl goes (omega arith)
+    bytes_of_the_source_are_taken l before b (record { going = refl; not_closing = refl; idle = refl; none_due = none_due }) refl refl goes (omega arith)
     ∙ ap (λ (c : Bool). made l before (byte_taken b (record behind { input = record behind.input { newlines = if c then s.input.newlines + 1 else s.input.newlines } }))) plain
     ∙ ap (made l before) is ∙ made-Fits l before t fits
 
@@ -332,7 +348,7 @@ after-finds l s reading base from a line found behind _ _ charge total t on same
     let one : charge + 1 ≡ total = sum in
     let is : byte_taken b (going s reading from [] a half (charge + 1) line) ≡ t =
     ap (λ (c : ℕ). byte_taken b (going s reading from [] a half c line)) one ∙ means half b read reads in
-    step-byte l s reading from b [] a half charge line t read goes_on (omega arith)
+    step-byte l s reading from b [] a half charge line t (none_due-reads reading base on) read goes_on (omega arith)
     (ap (λ (n : ℕ). byte_taken b (going s reading from [] a half (charge + 1) n)) stays ∙ is) fits_behind
 after-finds l s reading base from a line found behind _ _ charge total t on same stays (Behind half other b others read goes_on reads as_many last) sum within fits means fits_behind =
     let next : State = going s reading from others a other (charge + 1) line in
@@ -342,7 +358,7 @@ after-finds l s reading base from a line found behind _ _ charge total t on same
     ∙ ap (λ (there : Arguments). taken_as (going_on (record next.input { arguments = there }) reading) before) same
     ∙ taken_as-going_on next.input reading before in
     let fits_there : Fits l s.registers next.input = Fits-behind l s.registers s from b others a a half other charge (charge + 1) line line refl as_many fits in
-    ap (after l (length others)) (step-byte l s reading from b others a half charge line next read goes_on (omega arith)
+    ap (after l (length others)) (step-byte l s reading from b others a half charge line next (none_due-reads reading base on) read goes_on (omega arith)
     (ap (λ (n : ℕ). byte_taken b (going s reading from others a half (charge + 1) n)) stays ∙ is) fits_there)
     ∙ after-finds l s reading base from a line found behind other others (charge + 1) total t on same stays last (omega arith) within fits_there means fits_behind
 
@@ -357,6 +373,7 @@ settled_for-settled_for _ _ a (OnArguments breaks request) = settled-only_kept a
 settled_for-settled_for _ _ a (OnCondition keeps) = refl
 settled_for-settled_for _ _ a (OnStringName appends) = settled-only_kept a
 settled_for-settled_for _ _ a (OnStringText string appends is_front) = refl
+settled_for-settled_for _ _ a (OnMessage aborts is_front) = refl
 
 -- and hold as many bytes
 held-settled_for : (reading : Reading) (base : Surroundings) (a : Arguments) → ReadsEscapes reading base → held (settled_for reading a) ≡ held a
@@ -368,6 +385,7 @@ held-settled_for _ _ a (OnArguments breaks request) = held-only_kept-settled a
 held-settled_for _ _ a (OnCondition keeps) = refl
 held-settled_for _ _ a (OnStringName appends) = held-only_kept-settled a
 held-settled_for _ _ a (OnStringText string appends is_front) = refl
+held-settled_for _ _ a (OnMessage aborts is_front) = refl
 
 -- the steps at an escape, where a backslash begins one
 pub after-escape : (l : Limits) (s : State) (reading : Reading) (base : Surroundings) (from : Origin) (a : Arguments)
@@ -388,7 +406,7 @@ after-escape l s reading base from a found half behind bytes charge line t on go
     let fits_there : Fits l s.registers begun.input =
     Fits-behind l s.registers s from backslash bytes a there half (Backslash ∷ half) charge (charge + 1) line next
     (held-settled_for reading base a on) refl fits in
-    ap (after l (length bytes)) (step-byte l s reading from backslash bytes a half charge line begun refl goes_on (omega arith) is fits_there)
+    ap (after l (length bytes)) (step-byte l s reading from backslash bytes a half charge line begun (none_due-reads reading base on) refl goes_on (omega arith) is fits_there)
     ∙ after-finds l s reading base from there next found behind (Backslash ∷ half) bytes (charge + 1) (charge + length (backslash ∷ bytes)) t
     on (settled_for-settled_for reading base a on) (line_behind-again from s line)
     last (omega arith) within fits_there means fits_behind
@@ -417,6 +435,7 @@ interrupted-arguments _ _ i (OnArguments breaks request) = refl
 interrupted-arguments _ _ i (OnCondition keeps) = refl
 interrupted-arguments _ _ i (OnStringName appends) = refl
 interrupted-arguments _ _ i (OnStringText string appends is_front) = refl
+interrupted-arguments _ _ i (OnMessage aborts is_front) = refl
 
 -- a state within the limits is within those that a step looks at
 pub Fits-IsWithin : (l : Limits) (s : State) → IsWithin l s → Fits l s.registers s.input
@@ -433,6 +452,9 @@ ReadsEscapes-reads_escapes (InArguments breaks request) is = (AboveArguments, On
 ReadsEscapes-reads_escapes (Deciding keeps) is = (AboveArguments, OnCondition keeps)
 ReadsEscapes-reads_escapes (StringName appends) is = (AboveArguments, OnStringName appends)
 ReadsEscapes-reads_escapes (StringText name appends is_front) is = (AboveCopy, OnStringText name appends is_front)
+ReadsEscapes-reads_escapes (Telling aborts is_front) is = (AboveCopy, OnMessage aborts is_front)
+ReadsEscapes-reads_escapes (Told aborts) is = absurd (cc)
+ReadsEscapes-reads_escapes Exiting is = absurd (cc)
 ReadsEscapes-reads_escapes (Control breaks) is = absurd (cc)
 ReadsEscapes-reads_escapes (NameOf breaks first) is = absurd (cc)
 ReadsEscapes-reads_escapes (Skipping opened closed behind) is = absurd (cc)

@@ -27,26 +27,21 @@ use Rattle.roff_scan.specs.declared.half.Surroundings.{Surroundings}
 use Rattle.roff_scan.specs.declared.half.Surroundings.TheVariants.{Text as AboveText, Arguments as AboveArguments, Copy as AboveCopy}
 use Rattle.roff_store.specs.declared.register.Direction.{Direction}
 use Rattle.roff_run.specs.declared.reading.Reading.{Reading}
-use Rattle.roff_run.specs.declared.reading.Reading.TheVariants.{LineStart, Branch, Braced, Text as InText, Control, Name, Arguments as InArguments, Deciding, StringName, StringText, Skipping, Dropped}
+use Rattle.roff_run.specs.declared.reading.Reading.TheVariants.{LineStart, Branch, Braced, Text as InText, Control, Name, Arguments as InArguments, Deciding, StringName, StringText, Skipping, Dropped, Telling, Told, Exiting}
 use Rattle.roff_run.specs.declared.reading.ShortName.{ShortName}
 use Rattle.roff_run.specs.declared.reading.TextLine.{TextLine}
 use Rattle.roff_run.specs.declared.request.LineReading.{LineReading}
-use Rattle.roff_run.specs.declared.request.LineReading.TheVariants.{ByArguments, ByCondition, ByElse, ByString}
+use Rattle.roff_run.specs.declared.request.LineReading.TheVariants.{ByArguments, ByCondition, ByElse, ByLastLine, ByMessage, ByString}
 use Rattle.roff_run.specs.declared.request.Request.{Request}
-use Rattle.roff_run.specs.Reading.{PageInput, Taking, fresh_line, glyph_taking, blank_taking, text_taking, escape_meant, escape_taking, character_printed, character_taking, asking, measuring, name_taking, settling, line_begun, first_taking, first_escape, beginning_found, text_found, unit_found, no_unit_found, arguments_found, skipping_taking, branch_of, branch_taking, is_so, decided, kept_if, condition_found, condition_read, reads_else, dropped_taking, ends_name, line_taking, name_ended_taking, behind_name, name_whole_taking, kept_taking, interrupted, taking, half_ended, end_taking, going_on, calling_all, ended_by, name_bytes, arguments_given, first_name, holding, name_read, string_begun, string_emptied, string_entered, string_grown, string_line_ended, string_name_behind, string_name_found, string_name_or_text, string_name_unit, string_text_found, string_unit}
+use Rattle.roff_run.specs.Reading.{PageInput, Taking, fresh_line, glyph_taking, blank_taking, text_taking, escape_meant, escape_taking, character_printed, character_taking, asking, measuring, name_taking, settling, line_begun, first_taking, first_escape, beginning_found, text_found, unit_found, no_unit_found, arguments_found, message_found, message_unit, reading_behind, skipping_taking, branch_of, branch_taking, is_so, decided, kept_if, condition_found, reads_else, dropped_taking, ends_name, line_taking, name_ended_taking, behind_name, name_whole_taking, kept_taking, interrupted, taking, half_ended, end_taking, going_on, calling_all, ended_by, name_bytes, arguments_given, first_name, holding, name_read, string_begun, string_emptied, string_entered, string_grown, string_line_ended, string_name_behind, string_name_found, string_name_or_text, string_name_unit, string_text_found, string_unit, condition_read}
 use Rattle.roff_scan.specs.Arguments.{no_arguments}
 use Rattle.roff_scan.specs.Input.{body_named, calling, calling_on}
 use Rattle.roff_store.specs.TextCalls.{Call, PushOpen, Enter}
 use Rattle.roff_store.specs.Texts.{newest}
 use Rattle.roff_run.specs.Registers.{Known, known_behind, step_changes, text_of_register}
 use Rattle.roff_run.specs.Requests.{Effect, PageEvent, row_of, request_effect, request_named}
-use Rattle.roff_run.specs.TurnsToCome.{endings_of, free_ahead}
+use Rattle.roff_run.specs.TurnsToCome.{begun, endings_of, free_ahead}
 use Rattle.roff_run.proofs.HalfCounts.{Falls, Leaves, freed_endings, endings-byte_read, endings-reading_ended}
-
--- what a name's first byte is good for: behind the name a condition may begin, which ends in two turns
-abbrev pub begun : Reading → ℕ
-begun (Name breaks first) = 1
-begun (_) = 0
 
 -- an input behind another, in which this is read: of the same counts, with as many free bytes ahead, and no more than so
 -- many endings to come
@@ -154,6 +149,9 @@ Stays-first_taking i (Skipping opened closed behind) b = Stays-line_begun i b
 Stays-first_taking i (StringName appends) b = Stays-line_begun i b
 Stays-first_taking i (StringText name appends is_front) b = Stays-line_begun i b
 Stays-first_taking i Dropped b = Stays-line_begun i b
+Stays-first_taking i (Telling aborts is_front) b = Stays-line_begun i b
+Stays-first_taking i (Told aborts) b = Stays-line_begun i b
+Stays-first_taking i Exiting b = Stays-line_begun i b
 
 -- an escape there
 Stays-first_escape : (i : PageInput) (reading : Reading) (b : ℕ) → Stays i (first_escape i reading b)
@@ -169,6 +167,9 @@ Stays-first_escape i (Skipping opened closed behind) b = Stays-escape_taking i f
 Stays-first_escape i (StringName appends) b = Stays-escape_taking i fresh_line b
 Stays-first_escape i (StringText name appends is_front) b = Stays-escape_taking i fresh_line b
 Stays-first_escape i Dropped b = Stays-escape_taking i fresh_line b
+Stays-first_escape i (Telling aborts is_front) b = Stays-escape_taking i fresh_line b
+Stays-first_escape i (Told aborts) b = Stays-escape_taking i fresh_line b
+Stays-first_escape i Exiting b = Stays-escape_taking i fresh_line b
 
 -- a byte of a branch that is skipped
 Stays-skipping_taking : (i : PageInput) (opened closed : ℕ) (behind : Bool) (b : ℕ) → Stays i (skipping_taking i opened closed behind b)
@@ -313,18 +314,29 @@ Alike-calling_all [] j i alike = alike
 Alike-calling_all (call ∷ calls) j i alike =
     Alike-calling_all calls (calling call j) i (record { charge = alike.charge; newlines = alike.newlines; line = alike.line; ahead = alike.ahead; half = alike.half })
 
-Keeps-ended_by : (most : ℕ) (i j : PageInput) (old : Reading) (effect : Effect) → Keeps most i j old → KeepsBy most i (ended_by j effect)
-Keeps-ended_by most i j old effect keeps =
+-- behind a request's line no name is read
+unnamed-reading_behind : (line : LineReading) → begun (reading_behind line) ≡ 0
+unnamed-reading_behind ByArguments = refl
+unnamed-reading_behind (ByCondition keeping) = refl
+unnamed-reading_behind ByElse = refl
+unnamed-reading_behind ByLastLine = refl
+unnamed-reading_behind (ByMessage aborts) = refl
+unnamed-reading_behind (ByString appends) = refl
+
+-- the end of a request's line
+Keeps-ended_by : (most : ℕ) (i j : PageInput) (old : Reading) (request : Request) (effect : Effect) → Keeps most i j old → KeepsBy most i (ended_by j request effect)
+Keeps-ended_by most i j old request effect keeps =
     let released : PageInput = record j { arguments = no_arguments } in
-    Keeps-alike most i j old (calling_all effect.calls released) LineStart keeps
-    (Alike-calling_all effect.calls released j (record { charge = refl; newlines = refl; line = refl; ahead = refl; half = refl })) refl
+    Keeps-alike most i j old (calling_all effect.calls released) (reading_behind (row_of request).line) keeps
+    (Alike-calling_all effect.calls released j (record { charge = refl; newlines = refl; line = refl; ahead = refl; half = refl }))
+    (unnamed-reading_behind (row_of request).line)
 
 -- a unit of a line of arguments
 Keeps-unit_found : (most : ℕ) (k : Known) (i j : PageInput) (breaks : Bool) (request : Request) (unit : CopyUnit) → Keeps most i j (InArguments breaks request)
     → KeepsBy most i (unit_found k j breaks request unit)
 Keeps-unit_found most k i j breaks request (Byte b) keeps =
     Keeps-if most i (b == newline) _ _
-    (Keeps-ended_by most i j (InArguments breaks request) (request_effect k breaks request (arguments_given j)) keeps)
+    (Keeps-ended_by most i j (InArguments breaks request) request (request_effect k breaks request (arguments_given j)) keeps)
     (record { charge = keeps.charge; newlines = keeps.newlines; line = keeps.line; free = keeps.free; half = keeps.half })
 Keeps-unit_found most k i j breaks request (Kept b) keeps =
     record { charge = keeps.charge; newlines = keeps.newlines; line = keeps.line; free = keeps.free; half = keeps.half }
@@ -460,6 +472,31 @@ Keeps-string_text_found most k i j name appends is_front (Measures width) keeps 
 Keeps-string_text_found most k i j name appends is_front (Tells remark) keeps = Keeps-no_unit_found most k i j (StringText name appends is_front) (Tells remark) keeps
 Keeps-string_text_found most k i j name appends is_front (Decides decision freed) keeps = Keeps-no_unit_found most k i j (StringText name appends is_front) (Decides decision freed) keeps
 
+-- a unit of a message's text
+Keeps-message_unit : (most : ℕ) (i j : PageInput) (aborts is_front : Bool) (unit : CopyUnit) → Keeps most i j (Telling aborts is_front)
+    → KeepsBy most i (message_unit j aborts is_front unit)
+Keeps-message_unit most i j aborts is_front (Byte b) keeps =
+    Keeps-if most i (b == newline) _ _
+    (record { charge = keeps.charge; newlines = keeps.newlines; line = keeps.line; free = keeps.free; half = omega (arith, keeps.half) })
+    (Keeps-if most i (is_front && b == blank) _ _
+    (record { charge = keeps.charge; newlines = keeps.newlines; line = keeps.line; free = keeps.free; half = keeps.half })
+    (record { charge = keeps.charge; newlines = keeps.newlines; line = keeps.line; free = keeps.free; half = keeps.half }))
+Keeps-message_unit most i j aborts is_front (Kept b) keeps =
+    record { charge = keeps.charge; newlines = keeps.newlines; line = keeps.line; free = keeps.free; half = keeps.half }
+
+-- what was found of it
+Keeps-message_found : (most : ℕ) (k : Known) (i j : PageInput) (aborts is_front : Bool) (found : Read) → Keeps most i j (Telling aborts is_front)
+    → KeepsBy most i (message_found k j aborts is_front found)
+Keeps-message_found most k i j aborts is_front (GivesUnit unit) keeps = Keeps-message_unit most i j aborts is_front unit keeps
+Keeps-message_found most k i j aborts is_front (Escape b) keeps = Keeps-message_unit most i j aborts is_front (Kept b) keeps
+Keeps-message_found most k i j aborts is_front GoesOn keeps = Keeps-no_unit_found most k i j (Telling aborts is_front) GoesOn keeps
+Keeps-message_found most k i j aborts is_front (Asks purpose text) keeps = Keeps-no_unit_found most k i j (Telling aborts is_front) (Asks purpose text) keeps
+Keeps-message_found most k i j aborts is_front (Holds unit) keeps = Keeps-no_unit_found most k i j (Telling aborts is_front) (Holds unit) keeps
+Keeps-message_found most k i j aborts is_front (Motion columns remark) keeps = Keeps-no_unit_found most k i j (Telling aborts is_front) (Motion columns remark) keeps
+Keeps-message_found most k i j aborts is_front (Measures width) keeps = Keeps-no_unit_found most k i j (Telling aborts is_front) (Measures width) keeps
+Keeps-message_found most k i j aborts is_front (Tells remark) keeps = Keeps-no_unit_found most k i j (Telling aborts is_front) (Tells remark) keeps
+Keeps-message_found most k i j aborts is_front (Decides decision freed) keeps = Keeps-no_unit_found most k i j (Telling aborts is_front) (Decides decision freed) keeps
+
 -- the first byte of a branch
 Keeps-branch_taking : (less most : ℕ) (k : Known) (i j : PageInput) (old : Reading) (so : Bool) (b : ℕ) → Keeps less i j old → less + 1 ≤ most
     → KeepsBy most i (branch_taking k j so b)
@@ -527,6 +564,13 @@ Keeps-read base i old reading b unnamed =
     let read : Leaves (endings_of i.half + 1) (byte_read base i.half b) = endings-byte_read base i.half b in
     Keeps-with_half _ _ i i old reading (byte_read base i.half b).1 (KeepsTwoMore-same i old) (omega (arith, read, unnamed))
 
+-- the same where what is read stays
+Keeps-same_reading : (base : Surroundings) (i : PageInput) (reading : Reading) (b : ℕ)
+    → KeepsTwoMore i reading (record i { half = (byte_read base i.half b).1 }) reading
+Keeps-same_reading base i reading b =
+    let read : Leaves (endings_of i.half + 1) (byte_read base i.half b) = endings-byte_read base i.half b in
+    Keeps-with_half _ _ i i reading reading (byte_read base i.half b).1 (KeepsTwoMore-same i reading) (omega (arith, read))
+
 -- the first byte of a condition, which may begin an escape
 Keeps-condition_read : (k : Known) (i : PageInput) (breaks : Bool) (first : ℕ) (keeping : Bool) (b : ℕ)
     → TwoMore i (Name breaks first) (condition_read k i keeping (byte_read AboveArguments (choosing i).half b))
@@ -547,6 +591,12 @@ Keeps-line_taking k i breaks first request (ByCondition keeping) b =
     (Keeps-condition_read k i breaks first keeping b)
 Keeps-line_taking k i breaks first request (ByString appends) b =
     Keeps-string_name_found _ k i _ appends (byte_read AboveArguments i.half b).0 (Keeps-read AboveArguments i (Name breaks first) (StringName appends) b refl)
+Keeps-line_taking k i breaks first request ByLastLine b =
+    Keeps-arguments_found _ k i _ breaks request (byte_read AboveArguments i.half b).0 (Keeps-read AboveArguments i (Name breaks first) (InArguments breaks request) b refl)
+Keeps-line_taking k i breaks first request (ByMessage aborts) b =
+    let read : Leaves (endings_of i.half + 1) (byte_read AboveCopy i.half b) = endings-byte_read AboveCopy i.half b in
+    Keeps-message_found _ k i (record i { half = (byte_read AboveCopy i.half b).1 }) aborts true (byte_read AboveCopy i.half b).0
+    (Keeps-with_half _ _ i i (Name breaks first) (Telling aborts true) (byte_read AboveCopy i.half b).1 (KeepsTwoMore-same i (Name breaks first)) (omega (arith, read)))
 Keeps-line_taking k i breaks first request ByElse b =
     Keeps-branch_taking (endings_of i.half + begun (Name breaks first)) _ k i (without_last i) (Name breaks first) (reads_else (kept_last i)) b
     (record { charge = refl; newlines = refl; line = refl; free = refl; half = omega arith }) (omega arith)
@@ -565,6 +615,8 @@ Keeps-behind_name i breaks first request ByArguments = Keeps-unnamed _ i i (Name
 Keeps-behind_name i breaks first request (ByCondition keeping) =
     record { charge = refl; newlines = refl; line = refl; free = refl; half = omega arith }
 Keeps-behind_name i breaks first request (ByString appends) = Keeps-unnamed _ i i (Name breaks first) _ (KeepsTwoMore-same i (Name breaks first)) refl
+Keeps-behind_name i breaks first request ByLastLine = Keeps-unnamed _ i i (Name breaks first) _ (KeepsTwoMore-same i (Name breaks first)) refl
+Keeps-behind_name i breaks first request (ByMessage aborts) = record { charge = refl; newlines = refl; line = refl; free = refl; half = omega arith }
 Keeps-behind_name i breaks first request ByElse =
     record { charge = refl; newlines = refl; line = refl; free = refl; half = omega (arith, unnamed-branch_of (reads_else (kept_last i))) }
 
@@ -601,6 +653,10 @@ Keeps-kept_taking k (StringText name appends is_front) i b =
     (Keeps-read AboveCopy i (StringText name appends is_front) (StringText name appends is_front) b refl)
 Keeps-kept_taking k (Skipping opened closed behind) i b = TwoMore-stays i (Skipping opened closed behind) _ (Stays-skipping_taking i opened closed behind b)
 Keeps-kept_taking k Dropped i b = TwoMore-stays i Dropped _ (Stays-dropped_taking i b)
+Keeps-kept_taking k (Telling aborts is_front) i b =
+    Keeps-message_found _ k i _ aborts is_front (byte_read AboveCopy i.half b).0 (Keeps-same_reading AboveCopy i (Telling aborts is_front) b)
+Keeps-kept_taking k (Told aborts) i b = KeepsTwoMore-same i (Told aborts)
+Keeps-kept_taking k Exiting i b = KeepsTwoMore-same i Exiting
 
 -- what isn't a byte of the line
 pub Keeps-interrupted : (reading : Reading) (i : PageInput) → KeepsTwoMore i reading (interrupted reading i) reading
@@ -616,6 +672,9 @@ Keeps-interrupted (StringName appends) i = record { charge = refl; newlines = re
 Keeps-interrupted (StringText name appends is_front) i = KeepsTwoMore-same i (StringText name appends is_front)
 Keeps-interrupted (Skipping opened closed behind) i = KeepsTwoMore-same i (Skipping opened closed behind)
 Keeps-interrupted Dropped i = KeepsTwoMore-same i Dropped
+Keeps-interrupted (Telling aborts is_front) i = KeepsTwoMore-same i (Telling aborts is_front)
+Keeps-interrupted (Told aborts) i = KeepsTwoMore-same i (Told aborts)
+Keeps-interrupted Exiting i = KeepsTwoMore-same i Exiting
 
 -- a byte
 pub Keeps-taking : (k : Known) (reading : Reading) (i : PageInput) (b : ℕ) → TwoMore i reading (taking k reading i b)
@@ -663,6 +722,10 @@ Keeps-half_ended k (StringText name appends is_front) i first others is =
     Keeps-string_text_found _ k i _ name appends is_front (reading_ended AboveCopy i.half).0 (Keeps-ended AboveCopy i (StringText name appends is_front) first others is)
 Keeps-half_ended k (Skipping opened closed behind) i first others is = Keeps-ended AboveText i (Skipping opened closed behind) first others is
 Keeps-half_ended k Dropped i first others is = Keeps-ended AboveText i Dropped first others is
+Keeps-half_ended k (Telling aborts is_front) i first others is =
+    Keeps-message_found _ k i _ aborts is_front (reading_ended AboveCopy i.half).0 (Keeps-ended AboveCopy i (Telling aborts is_front) first others is)
+Keeps-half_ended k (Told aborts) i first others is = Keeps-ended AboveText i (Told aborts) first others is
+Keeps-half_ended k Exiting i first others is = Keeps-ended AboveText i Exiting first others is
 
 -- the end of the input
 pub Keeps-end_taking : (k : Known) (reading : Reading) (i : PageInput) → TwoMore i reading (end_taking k reading i)
@@ -678,3 +741,6 @@ Keeps-end_taking k (StringName appends) i = Keeps-kept_taking k (StringName appe
 Keeps-end_taking k (StringText name appends is_front) i = Keeps-kept_taking k (StringText name appends is_front) i newline
 Keeps-end_taking k (Skipping opened closed behind) i = Keeps-kept_taking k (Skipping opened closed behind) i newline
 Keeps-end_taking k Dropped i = Keeps-kept_taking k Dropped i newline
+Keeps-end_taking k (Telling aborts is_front) i = Keeps-kept_taking k (Telling aborts is_front) i newline
+Keeps-end_taking k (Told aborts) i = Keeps-kept_taking k (Told aborts) i newline
+Keeps-end_taking k Exiting i = Keeps-kept_taking k Exiting i newline

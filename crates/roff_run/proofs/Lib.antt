@@ -32,6 +32,7 @@ pub mod Interpolation
 pub mod InterpolatedNames
 pub mod WidthLaws
 pub mod QuotedArguments
+pub mod MessageLaws
 pub mod Printing
 pub mod FirstNames
 pub mod HalfCounts

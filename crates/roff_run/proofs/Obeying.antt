@@ -17,15 +17,14 @@ use Rattle.roff_store.specs.TextCalls.{Call}
 use Rattle.roff_run.specs.Output.{PageHistory, text_of}
 use Rattle.roff_run.specs.Reader.State.{ReaderState}
 use Rattle.roff_run.specs.Reader.Taken.{ChangedTo, PageUnread, Refused, TakesAs, Took, behind_changes}
-use Rattle.roff_run.specs.Reading.{PageInput, arguments_given, calling_all, ended_by, line_ended}
+use Rattle.roff_run.specs.Reading.{PageInput, arguments_given, calling_all, ended_by, line_ended, reading_behind}
 use Rattle.roff_run.specs.Registers.{AllRegisters, Change, Remove, changed_by_all}
 use Rattle.roff_run.specs.Registers.Capped.{Capped, is_past_cap, with_change}
 use Rattle.roff_run.specs.Request.Coded.{calls_of, changes_of, effect_of}
-use Rattle.roff_run.specs.Requests.{Effect, request_effect}
+use Rattle.roff_run.specs.Requests.{Effect, request_effect, row_of}
 use Rattle.roff_run.specs.Run.{counts_in, first_passed, known_at}
 use Rattle.roff_run.specs.declared.message.Message.{Message}
 use Rattle.roff_run.specs.declared.reader.Meaning.{Meaning}
-use Rattle.roff_run.specs.declared.reading.Reading.TheVariants.{LineStart}
 use Rattle.roff_run.specs.declared.request.Request.{Request}
 use Rattle.roff_run.specs.declared.request.effects.Effect.{Effect as CodedEffect}
 use Rattle.roff_run.proofs.FewerNames.{NoMore-calls}
@@ -83,7 +82,7 @@ pub TakesAs-obeyed : (env : Env) (old new : ReaderState) (before mid change behi
     → mid ≡ line_finished before → Obeys env old.registers.all mid breaks request e
     → ChangedTo (changes_of (texts_read mid) e.changes) old.registers new.registers
     → change ≡ called (calls_of (texts_read mid) e.changes) mid → behind ≡ released change
-    → new.reading ≡ LineStart → m.message ≡ e.message → m.events ≡ e.events
+    → new.reading ≡ reading_behind (row_of request).line → m.message ≡ e.message → m.events ≡ e.events
     → TakesAs (λ k. line_ended k before.input breaks request) env old new before behind (Ok m)
 TakesAs-obeyed env old new before mid change behind breaks request e m finishes obeying changed calls releases begins says means = record {
   takes = λ cap h stands ready.
@@ -105,7 +104,7 @@ TakesAs-obeyed env old new before mid change behind breaks request e m finishes 
       let input : behind ≡ record before { input = ended } =
       releases ∙ ap released calls ∙ ap (λ (u : PageUnread). released (called (calls_of (texts_read u) e.changes) u)) finishes
       ∙ released-called (calls_of (arguments_given i) e.changes) before in
-      subst (λ (effect : Effect). Took (ended_by i effect) old.registers new before behind m) (obeys.effect_is cap h stands)
+      subst (λ (effect : Effect). Took (ended_by i request effect) old.registers new before behind m) (obeys.effect_is cap h stands)
       (record {
         became = record {
           input = input;
@@ -135,6 +134,6 @@ TakesAs-not_obeyed env old new before mid behind breaks request e limit finishes
       let many : nat_lt before.limits.names (length (changed_by_all changes old.registers.all).named) ≡ true =
       few_behind changes old.registers before true ready.cap past in
       let ended : PageInput = calling_all (calls_of (arguments_given i) e.changes) (record i { arguments = no_arguments }) in
-      subst (λ (effect : Effect). first_passed before.limits (counts_in (changed_by_all effect.changes old.registers.all) (ended_by i effect).input) ≡ Some limit) (obeys.effect_is cap h stands)
+      subst (λ (effect : Effect). first_passed before.limits (counts_in (changed_by_all effect.changes old.registers.all) (ended_by i request effect).input) ≡ Some limit) (obeys.effect_is cap h stands)
       (ap (λ (many : Bool). if many then Some Names else input_refusal before.limits ended) many ∙ ap (λ (l : Limit). Some l) (sym refused.limit_is));
 }

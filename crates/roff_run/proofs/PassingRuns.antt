@@ -34,7 +34,7 @@ step-passed : (l : Limits) (s : State) (tape : Tape) (b : ℕ) (bytes : List ℕ
 step-passed l s tape b bytes input on plain within passes =
     let before : State = run_at s tape (b ∷ bytes) input in
     let done : State = run_at s tape bytes (counting b input) in
-    bytes_of_the_source_are_taken l before b (record { going = on.going; not_closing = on.not_closing; idle = on.idle }) plain.none_ahead refl
+    bytes_of_the_source_are_taken l before b (record { going = on.going; not_closing = on.not_closing; idle = on.idle; none_due = on.none_due }) plain.none_ahead refl
     (ap (λ (half : List Half). seen_stays half (Some b)) plain.none_half) (omega (arith, within))
     ∙ ap (λ (t : Taking). made l before (taken_as t done)) (passes _ (counting b input))
     ∙ ap (made l before) (taken_as-going_on (counting b input) s.reading done)

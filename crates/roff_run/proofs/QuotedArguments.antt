@@ -53,7 +53,7 @@ arguments_given-with_kept i a =
 
 -- what the end of the line does
 abbrev line_taken : Known → Bool → Request → PageInput → List (List ℕ) → Taking
-line_taken k breaks request i as_given = ended_by (record i { half = [] }) (request_effect k breaks request as_given)
+line_taken k breaks request i as_given = ended_by (record i { half = [] }) request (request_effect k breaks request as_given)
 
 -- nothing is meant behind an effect
 both-none : (t : Taking) → joined t (going_on t.input t.reading) ≡ t
@@ -113,4 +113,4 @@ requests_get_quoted_arguments k breaks request i arguments half none themselves 
     ap (λ (j : PageInput). taking_all k (InArguments breaks request) j (quoted_line arguments ++ newline ∷ [])) (sym input)
     ∙ taking_all-arguments k breaks request i no_arguments (quoted_line arguments) (itself-quoted_line arguments themselves)
     ∙ ap (λ (texts : List (List ℕ)). line_taken k breaks request i (kept texts)) (quoted_arguments_read_back arguments)
-    ∙ ap (λ (h : List Half). ended_by (record i { half = h }) (request_effect k breaks request (kept arguments))) (sym half)
+    ∙ ap (λ (h : List Half). ended_by (record i { half = h }) request (request_effect k breaks request (kept arguments))) (sym half)

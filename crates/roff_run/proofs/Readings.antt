@@ -13,11 +13,16 @@ use Rattle.roff_scan.specs.Tape.{Answer, OneByte, OneNote, Ended, Failed, Stoppe
 use Rattle.roff_scan.specs.Unread.{Sighted, SeesByte, SeesNothing, SeesNote, SeesEnding, seen_ahead}
 use Rattle.roff_scan.specs.Half.{Half}
 use Rattle.roff_run.specs.Requests.{PageEvent}
-use Rattle.roff_run.specs.Run.{waiting, State, known, ending_as, ending_with, stopped_by, passes_bytes, first_passed, unless_refused, grown, made, moved, byte_taken, half_ends, end_met, ahead_taken, taking_ahead, taking_byte, ending_input, answered, in_front_taken, front_seen, awaited_of_source, awaited, reading_on}
+use Rattle.roff_run.specs.Reading.{due, message_begun}
+use Rattle.roff_run.specs.declared.reading.Due.{Due}
+use Rattle.roff_run.specs.declared.reading.Due.TheVariants.{Leaves, Tells as TellsText}
+use Rattle.roff_run.specs.declared.reading.Reading.{Reading}
+use Rattle.roff_run.specs.declared.reading.Reading.TheVariants.{LineStart, Branch, Braced, Text as InText, Control, Name, Arguments as InArguments, Deciding, StringName, StringText, Skipping, Dropped, Telling, Told, Exiting}
+use Rattle.roff_run.specs.Run.{waiting, State, known, ending_as, ending_with, stopped_by, passes_bytes, first_passed, unless_refused, grown, made, moved, byte_taken, half_ends, end_met, ahead_taken, taking_ahead, taking_byte, ending_input, answered, in_front_taken, front_seen, awaited_of_source, awaited, item_read, input_ended, message_told, aborted, input_left, reading_by, reading_on}
 use Rattle.roff_run.specs.declared.message.Message.TheVariants.{ReadFailed}
 use Rattle.roff_run.specs.declared.status.Status.TheVariants.{Device, Limit as Limited}
-use Rattle.roff_run.specs.TurnsToCome.{endings_of}
-use Rattle.roff_run.proofs.Keeping.{Keeps, begun, KeepsTwoMore-same, Keeps-taking, Keeps-interrupted, Keeps-half_ended}
+use Rattle.roff_run.specs.TurnsToCome.{begun, endings_of}
+use Rattle.roff_run.proofs.Keeping.{Keeps, KeepsTwoMore-same, Keeps-taking, Keeps-interrupted, Keeps-half_ended}
 
 -- no count passes its limit in a state
 abbrev pub IsMade : Limits → State → Type 0
@@ -35,6 +40,10 @@ behind_byte b s = byte_taken b (moved (record s { input = counting b s.input }))
 abbrev pub behind_note : List ℕ → State → State
 behind_note message s = moved (record s { messages = s.messages ++ message })
 
+-- behind the end of a message's line with the input
+abbrev pub message_ends : Bool → State → State
+message_ends aborts s = input_ended (Some aborts) s
+
 -- what a step came to
 pub data ReadsOn (l : Limits) (s : State) : State → Type 0 where
   -- a limit stopped the run
@@ -51,6 +60,14 @@ pub data ReadsOn (l : Limits) (s : State) : State → Type 0 where
   HalfEnds : (first : Half) (others : List Half) → s.input.half ≡ first ∷ others → IsMade l (half_ends s) → ReadsOn l s (half_ends s)
   -- the input ended, with nothing half read
   InputEnds : s.input.ahead ≡ [] → s.input.half ≡ [] → front s.tape ≡ Ends Ended → IsMade l (end_met s) → ReadsOn l s (end_met s)
+  -- it ended in the line of a message
+  MessageEnds : (aborts : Bool) → message_begun s.reading ≡ Some aborts → IsMade l (message_ends aborts s) → ReadsOn l s (message_ends aborts s)
+  -- a message was told
+  MessageTold : s.reading ≡ Told false → IsMade l (message_told s) → ReadsOn l s (message_told s)
+  -- a message ended the run
+  RunAborts : s.reading ≡ Told true → ReadsOn l s (aborted s)
+  -- the input was left
+  InputLeft : s.reading ≡ Exiting → IsMade l (end_met (input_left s)) → ReadsOn l s (end_met (input_left s))
   -- the source failed
   SourceFails : front s.tape ≡ Ends Failed → ReadsOn l s (ending_with Device ReadFailed s)
   -- a limit of the source's own stopped the run
@@ -87,10 +104,16 @@ ReadsOn-taking_byte l b s none gives =
     ReadsOn-if l s (passes_bytes l s.input) _ _ (λ passes. LimitStops Bytes)
     (λ goes. ReadsOn-made l s (behind_byte b s) (ByteTaken b none gives (within l.bytes (s.input.charge + 1) goes)))
 
+-- the end of the input, with nothing half read
+ReadsOn-input_ended : (l : Limits) (message : Option Bool) (s : State) → s.input.ahead ≡ [] → s.input.half ≡ [] → front s.tape ≡ Ends Ended → message_begun s.reading ≡ message
+    → ReadsOn l s (made l s (input_ended message s))
+ReadsOn-input_ended l None s none half ends is = ReadsOn-made l s (end_met s) (InputEnds none half ends)
+ReadsOn-input_ended l (Some aborts) s none half ends is = ReadsOn-made l s (message_ends aborts s) (MessageEnds aborts is)
+
 -- the end of the input
 ReadsOn-ending_input : (l : Limits) (half : List Half) (s : State) → s.input.ahead ≡ [] → s.input.half ≡ half → front s.tape ≡ Ends Ended
     → ReadsOn l s (ending_input l half s)
-ReadsOn-ending_input l [] s none is ends = ReadsOn-made l s (end_met s) (InputEnds none is ends)
+ReadsOn-ending_input l [] s none is ends = ReadsOn-input_ended l (message_begun s.reading) s none is ends refl
 ReadsOn-ending_input l (first ∷ others) s none is ends = ReadsOn-made l s (half_ends s) (HalfEnds first others is)
 
 -- the source answered
@@ -145,8 +168,55 @@ by_half l s (first ∷ others) is =
     (λ stays. ReadsOn-waiting l s first others is) (λ taken. ReadsOn-in_front_taken l s.input.ahead s refl)
 
 -- one item of the input, or how it ends
+ReadsOn-item_read : (l : Limits) (s : State) → ReadsOn l s (item_read l s)
+ReadsOn-item_read l s = by_half l s s.input.half refl
+
+-- a message is due where its line has ended
+told_where_due : (reading : Reading) (aborts : Bool) → due reading ≡ Some (TellsText aborts) → reading ≡ Told aborts
+told_where_due (Told aborts) other is = cc
+told_where_due LineStart aborts is = absurd (cc)
+told_where_due Branch aborts is = absurd (cc)
+told_where_due Braced aborts is = absurd (cc)
+told_where_due (InText line) aborts is = absurd (cc)
+told_where_due (Control breaks) aborts is = absurd (cc)
+told_where_due (Name breaks first) aborts is = absurd (cc)
+told_where_due (InArguments breaks request) aborts is = absurd (cc)
+told_where_due (Deciding keeping) aborts is = absurd (cc)
+told_where_due (StringName appends) aborts is = absurd (cc)
+told_where_due (StringText name appends is_front) aborts is = absurd (cc)
+told_where_due (Skipping opened closed behind) aborts is = absurd (cc)
+told_where_due Dropped aborts is = absurd (cc)
+told_where_due (Telling other is_front) aborts is = absurd (cc)
+told_where_due Exiting aborts is = absurd (cc)
+
+-- and the input is left behind the last line
+pub left_where_due : (reading : Reading) → due reading ≡ Some Leaves → reading ≡ Exiting
+left_where_due Exiting is = refl
+left_where_due LineStart is = absurd (cc)
+left_where_due Branch is = absurd (cc)
+left_where_due Braced is = absurd (cc)
+left_where_due (InText line) is = absurd (cc)
+left_where_due (Control breaks) is = absurd (cc)
+left_where_due (Name breaks first) is = absurd (cc)
+left_where_due (InArguments breaks request) is = absurd (cc)
+left_where_due (Deciding keeping) is = absurd (cc)
+left_where_due (StringName appends) is = absurd (cc)
+left_where_due (StringText name appends is_front) is = absurd (cc)
+left_where_due (Skipping opened closed behind) is = absurd (cc)
+left_where_due Dropped is = absurd (cc)
+left_where_due (Telling aborts is_front) is = absurd (cc)
+left_where_due (Told aborts) is = absurd (cc)
+
+-- what is due comes first
+ReadsOn-reading_by : (l : Limits) (what : Option Due) (s : State) → due s.reading ≡ what → ReadsOn l s (reading_by l what s)
+ReadsOn-reading_by l None s is = ReadsOn-item_read l s
+ReadsOn-reading_by l (Some (TellsText false)) s is = ReadsOn-made l s (message_told s) (MessageTold (told_where_due s.reading false is))
+ReadsOn-reading_by l (Some (TellsText true)) s is = RunAborts (told_where_due s.reading true is)
+ReadsOn-reading_by l (Some Leaves) s is = ReadsOn-made l s (end_met (input_left s)) (InputLeft (left_where_due s.reading is))
+
+-- what is due, or one item of the input, or how it ends
 pub ReadsOn-reading_on : (l : Limits) (s : State) → ReadsOn l s (reading_on l s)
-ReadsOn-reading_on l s = by_half l s s.input.half refl
+ReadsOn-reading_on l s = ReadsOn-reading_by l (due s.reading) s refl
 
 -- a state behind what was read of an item: the input is changed by reading alone, and what isn't read stays
 pub record Behind (most : ℕ) (s t : State) : Type 0 where

@@ -11,10 +11,10 @@ use Rattle.roff_num.specs.declared.limits.Limits.{Limits}
 use Rattle.roff_run.specs.Laws.{IsWithin, NoLimitIsPassed}
 use Rattle.roff_run.specs.Output.{PageHistory, text_of}
 use Rattle.roff_run.specs.Requests.{PageEvent, Text, Space}
-use Rattle.roff_run.specs.Run.{State, known, counts, first_passed, refusal, initial, grown, moved, step_with, step, after}
+use Rattle.roff_run.specs.Run.{State, known, counts, first_passed, refusal, initial, grown, input_left, moved, step_with, step, after}
 use Rattle.roff_run.proofs.Keeping.{Keeps-end_taking}
 use Rattle.roff_run.proofs.PerformedOrStopped.{PerformedOrStopped, Performed, StoppedAt, performed_or_stopped}
-use Rattle.roff_run.proofs.Readings.{IsMade, ReadsOn, LimitStops, AheadTaken, ByteTaken, NoteTaken, HalfEnds, InputEnds, SourceFails, SourceStops, ReadsOn-reading_on, Behind-byte_taken, Behind-ahead_taken, Behind-half_ends, within}
+use Rattle.roff_run.proofs.Readings.{IsMade, ReadsOn, LimitStops, AheadTaken, ByteTaken, NoteTaken, HalfEnds, InputEnds, InputLeft, MessageEnds, MessageTold, RunAborts, SourceFails, SourceStops, ReadsOn-reading_on, Behind-byte_taken, Behind-ahead_taken, Behind-half_ends, within}
 use Rattle.roff_scan.specs.Input.{counting, item_taken}
 
 -- a state of the same input, registers and history
@@ -91,6 +91,11 @@ IsWithin-read l s t (HalfEnds first others half is_made) is =
     IsWithin-made l s t (rw (Behind-half_ends s first others half).input.charge is.bytes) refl is_made is
 IsWithin-read l s t (InputEnds none half ends is_made) is =
     IsWithin-made l s t (rw (Keeps-end_taking (known s) s.reading s.input).charge is.bytes) refl is_made is
+IsWithin-read l s t (MessageEnds aborts begins is_made) is = IsWithin-made l s t is.bytes refl is_made is
+IsWithin-read l s t (MessageTold told is_made) is = IsWithin-made l s t is.bytes refl is_made is
+IsWithin-read l s t (RunAborts told) is = IsWithin-same l s t refl refl refl is
+IsWithin-read l s t (InputLeft leaves is_made) is =
+    IsWithin-made l s t (rw (Keeps-end_taking (known (input_left s)) s.reading (input_left s).input).charge is.bytes) refl is_made is
 IsWithin-read l s t (SourceFails fails) is = IsWithin-same l s t refl refl refl is
 IsWithin-read l s t (SourceStops limit stops) is = IsWithin-same l s t refl refl refl is
 

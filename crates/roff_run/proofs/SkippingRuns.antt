@@ -1,5 +1,5 @@
 -- Runs pass over skipped branches that stand in the source.
-use Rattle.std.proofs.Common.{◌≡◌, ℕ, ◌+◌, ◌≤◌, true, false, List, [], ◌∷◌, ◌++◌, length, Some, refl, ap, sym, subst, ◌∙◌, arith, append_assoc}
+use Rattle.std.proofs.Common.{◌≡◌, ℕ, ◌+◌, ◌≤◌, true, false, List, [], ◌∷◌, ◌++◌, length, None, Some, refl, ap, sym, subst, ◌∙◌, arith, append_assoc}
 use Rattle.std.specs.Prelude.{map}
 use Rattle.std.proofs.lemmas.List.{append-nil, length-append}
 use Rattle.std.proofs.lemmas.List.Elements.{All-head, All-tail}
@@ -14,7 +14,7 @@ use Rattle.roff_run.proofs.Skipping.{skipped_behind, taking-goes_on, taking-ends
 use Rattle.roff_run.specs.ConditionLaws.{is_whole, escapes_among, MayEnd, AreKept, RunsPassOverSkippedBranches}
 use Rattle.roff_run.specs.InterpolationLaws.{TakesItems}
 use Rattle.roff_run.specs.Laws.{IsWithin}
-use Rattle.roff_run.specs.Reading.{PageInput, Taking, going_on, most_braces, taking}
+use Rattle.roff_run.specs.Reading.{PageInput, Taking, due, going_on, most_braces, taking}
 use Rattle.roff_run.specs.Run.{State, known_at, made, taken_as, step, after}
 use Rattle.roff_run.specs.declared.reading.Reading.{Reading}
 use Rattle.roff_run.specs.declared.reading.Reading.TheVariants.{LineStart, Skipping}
@@ -41,14 +41,14 @@ IsPlain-counting l s input b plain few =
 
 -- a step at a byte that means nothing
 step-counting : (l : Limits) (s : State) (tape : Tape) (b : ℕ) (bytes : List ℕ) (input : PageInput) (reading there : Reading)
-    → TakesItems s → IsPlain l s input → input.charge + 1 ≤ l.bytes
+    → TakesItems s → due reading ≡ None → IsPlain l s input → input.charge + 1 ≤ l.bytes
     → taking (known_at s.history s.registers (counting b input)) reading (counting b input) b ≡ going_on (counting b input) there
     → step l (run_at s tape (b ∷ bytes) input reading) ≡ run_at s tape bytes (counting b input) there
-step-counting l s tape b bytes input reading there on plain within is =
+step-counting l s tape b bytes input reading there on none_due plain within is =
     let before : State = run_at s tape (b ∷ bytes) input reading in
     let taken : State = run_at s tape bytes (counting b input) reading in
     let done : State = run_at s tape bytes (counting b input) there in
-    bytes_of_the_source_are_taken l before b (record { going = on.going; not_closing = on.not_closing; idle = on.idle }) plain.none_ahead refl
+    bytes_of_the_source_are_taken l before b (record { going = on.going; not_closing = on.not_closing; idle = on.idle; none_due = none_due }) plain.none_ahead refl
     (ap (λ (half : List Half). seen_stays half (Some b)) plain.none_half) (omega (arith, within))
     ∙ ap (λ (t : Taking). made l before (taken_as t taken)) is
     ∙ ap (made l before) (taken_as-going_on (counting b input) there taken)
@@ -64,7 +64,7 @@ after-skips : (l : Limits) (s : State) (tape : Tape) (done bytes : List ℕ) (in
 after-skips l s tape done [] input on plain within none are_kept few whole braces =
     let same : done ++ [] ≡ done = append-nil done in
     let i : PageInput = counting newline input in
-    step-counting l s tape newline [] input (skipped_behind done) LineStart on plain within
+    step-counting l s tape newline [] input (skipped_behind done) LineStart on refl plain within
     (taking-ends (known_at s.history s.registers i) i done (subst (λ (all : List ℕ). is_whole all ≡ true) same whole)
     (subst (λ (all : List ℕ). escapes_among 123 all ≤ escapes_among 125 all) same braces))
 after-skips l s tape done (b ∷ bytes) input on plain within none are_kept few whole braces =
@@ -73,7 +73,7 @@ after-skips l s tape done (b ∷ bytes) input on plain within none are_kept few 
     let same : done ++ b ∷ bytes ≡ there ++ bytes = sym (append_assoc done (b ∷ []) bytes) in
     let i : PageInput = counting b input in
     ap (after l (length others))
-    (step-counting l s tape b others input (skipped_behind done) (skipped_behind there) on plain (omega (arith, within))
+    (step-counting l s tape b others input (skipped_behind done) (skipped_behind there) on refl plain (omega (arith, within))
     (taking-goes_on (known_at s.history s.registers i) i done b (All-head (λ c. is_dropped c ≡ false) b others are_kept)
     (none (b ∷ []) bytes refl) (omega (arith, few))))
     ∙ after-skips l s tape there bytes i on (IsPlain-counting l s input b plain (omega (arith, within))) (omega (arith, within))

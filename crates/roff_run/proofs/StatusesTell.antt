@@ -1,11 +1,14 @@
 -- What each status says of a run.
 --
 -- Each function f of the run has its lemma IsTold-f here, with a line for each of its cases.
-use Rattle.std.proofs.Common.{◌≡◌, inl, inr, ℕ, zero, suc, Bool, true, false, List, [], ◌∷◌, Option, Some, None, refl, sym, ◌∙◌, subst}
+use Rattle.std.proofs.Common.{◌≡◌, ◌⊎◌, ap, inl, inr, ℕ, zero, suc, Bool, true, false, List, [], ◌∷◌, Option, Some, None, refl, sym, ◌∙◌, subst}
 use Rattle.std.specs.Prelude.{if◌then◌else◌}
 use Rattle.roff_num.specs.declared.limits.Limits.{Limits}
 use Rattle.roff_run.specs.Requests.{PageEvent}
-use Rattle.roff_run.specs.Run.{State, initial, step_with, step, after}
+use Rattle.roff_run.specs.Reading.{end_taking}
+use Rattle.roff_run.specs.declared.reading.Reading.{Reading}
+use Rattle.roff_run.specs.declared.reading.Reading.TheVariants.{Exiting}
+use Rattle.roff_run.specs.Run.{State, initial, input_left, known, step_with, step, after}
 use Rattle.roff_run.specs.Results.{last_state}
 use Rattle.roff_run.specs.Statuses.{HasMet, Tells, EachStatusTells}
 use Rattle.roff_run.specs.declared.status.Status.{Status}
@@ -13,12 +16,13 @@ use Rattle.roff_scan.specs.Input.{item_taken}
 use Rattle.roff_scan.specs.Tape.{Tape, Item, Ending, Ends, Ended, Failed, Stopped, front}
 use Rattle.roff_run.proofs.Endings.{at_last_state, ended_or_not, step-ended, step-going}
 use Rattle.roff_run.proofs.PerformedOrStopped.{PerformedOrStopped, Performed, StoppedAt, performed_or_stopped}
-use Rattle.roff_run.proofs.Readings.{ReadsOn, LimitStops, AheadTaken, ByteTaken, NoteTaken, HalfEnds, InputEnds, SourceFails, SourceStops, ReadsOn-reading_on, Behind, Behind-ahead_taken}
+use Rattle.roff_run.proofs.Readings.{ReadsOn, LimitStops, AheadTaken, ByteTaken, NoteTaken, HalfEnds, InputEnds, InputLeft, MessageEnds, MessageTold, RunAborts, SourceFails, SourceStops, ReadsOn-reading_on, Behind, Behind-ahead_taken}
 
--- what is known of a run while it goes on: it has no last message yet, and where it is closing it met the end
+-- what is known of a run while it goes on: it has no last message yet, and where it is closing it met the end, or left its
+-- input
 pub record GoesOn (s : State) : Type 0 where
   pub quiet : s.last_message ≡ []
-  pub closing : s.is_closing ≡ true → HasMet Ended s.tape
+  pub closing : s.is_closing ≡ true → HasMet Ended s.tape ⊎ (s.reading ≡ Exiting)
 
 -- what is known of a run as it ended, if it did
 abbrev TellsSo : Limits → Option Status → State → Type 0
@@ -71,7 +75,12 @@ IsTold-read l s t (ByteTaken b none gives charge is_made) going quiet is_open = 
 IsTold-read l s t (NoteTaken message gives) going quiet is_open = IsTold-going l t going (GoesOn-open t quiet is_open)
 IsTold-read l s t (HalfEnds first others half is_made) going quiet is_open = IsTold-going l t going (GoesOn-open t quiet is_open)
 IsTold-read l s t (InputEnds none half ends is_made) going quiet is_open =
-    IsTold-going l t going (record { quiet = quiet; closing = λ closing. HasMet-front s.tape.items s.tape.ending Ended ends })
+    IsTold-going l t going (record { quiet = quiet; closing = λ closing. inl (HasMet-front s.tape.items s.tape.ending Ended ends) })
+IsTold-read l s t (MessageEnds aborts begins is_made) going quiet is_open = IsTold-going l t going (GoesOn-open t quiet is_open)
+IsTold-read l s t (MessageTold told is_made) going quiet is_open = IsTold-going l t going (GoesOn-open t quiet is_open)
+IsTold-read l s t (RunAborts told) going quiet is_open = (told, refl)
+IsTold-read l s t (InputLeft leaves is_made) going quiet is_open =
+    IsTold-going l t going (record { quiet = quiet; closing = λ closing. inr (ap (λ (r : Reading). (end_taking (known (input_left s)) r (input_left s).input).reading) leaves) })
 IsTold-read l s t (SourceFails fails) going quiet is_open = (HasMet-front s.tape.items s.tape.ending Failed fails, refl)
 IsTold-read l s t (SourceStops limit stops) going quiet is_open = inl (HasMet-front s.tape.items s.tape.ending (Stopped limit) stops, quiet)
 

@@ -13,8 +13,11 @@ use Rattle.roff_scan.specs.Tape.{Answer, Gives, Ends, OneByte, OneNote, Ended, F
 use Rattle.roff_scan.specs.Unread.{Sighted, SeesByte, SeesNothing, SeesNote, SeesEnding, seen_ahead}
 use Rattle.roff_scan.specs.Half.{Half}
 use Rattle.roff_run.specs.Laws.{OnlyCuts}
+use Rattle.roff_run.specs.Reading.{due, message_begun}
+use Rattle.roff_run.specs.declared.reading.Due.{Due}
+use Rattle.roff_run.specs.declared.reading.Due.TheVariants.{Leaves, Tells as TellsText}
 use Rattle.roff_run.specs.Requests.{PageEvent}
-use Rattle.roff_run.specs.Run.{waiting, State, passes_bytes, performing, refusal, first_passed, unless_refused, grown, made, moved, byte_taken, half_ends, end_met, ahead_taken, taking_ahead, taking_byte, ending_input, answered, in_front_taken, front_seen, awaited_of_source, awaited, reading_on, step_with, step}
+use Rattle.roff_run.specs.Run.{waiting, State, passes_bytes, performing, refusal, first_passed, unless_refused, grown, made, moved, byte_taken, half_ends, end_met, ahead_taken, taking_ahead, taking_byte, ending_input, answered, in_front_taken, front_seen, awaited_of_source, awaited, item_read, input_ended, message_told, input_left, reading_by, step_with, step}
 use Rattle.roff_run.proofs.Beginnings.{IsBeginning-same, IsBeginning-append, IsBeginning-trans}
 
 -- a state of the same history and messages
@@ -65,6 +68,19 @@ OnlyCuts-half_ends s = OnlyCuts-message s _ _ refl refl
 pub OnlyCuts-end_met : (s : State) → OnlyCuts s (end_met s)
 OnlyCuts-end_met s = OnlyCuts-message s _ _ refl refl
 
+-- with nothing half read
+pub OnlyCuts-input_ended : (message : Option Bool) (s : State) → OnlyCuts s (input_ended message s)
+OnlyCuts-input_ended None s = OnlyCuts-end_met s
+OnlyCuts-input_ended (Some aborts) s = OnlyCuts-message s _ _ refl refl
+
+-- a message is told
+pub OnlyCuts-message_told : (s : State) → OnlyCuts s (message_told s)
+OnlyCuts-message_told s = OnlyCuts-message s _ _ refl refl
+
+-- the input is left
+pub OnlyCuts-input_left : (s : State) → OnlyCuts s (end_met (input_left s))
+OnlyCuts-input_left s = OnlyCuts-message s _ _ refl refl
+
 -- an item ahead was taken
 pub OnlyCuts-ahead_taken : (item : Ahead PageEvent) (s : State) → OnlyCuts s (ahead_taken item s)
 OnlyCuts-ahead_taken (ByteAhead b) s = OnlyCuts-message s _ _ refl refl
@@ -99,7 +115,7 @@ OnlyCuts-taking_byte l b s =
 
 -- the end of the input
 pub OnlyCuts-ending_input : (l : Limits) (half : List Half) (s : State) → OnlyCuts s (ending_input l half s)
-OnlyCuts-ending_input l [] s = OnlyCuts-made l s _ (OnlyCuts-end_met s)
+OnlyCuts-ending_input l [] s = OnlyCuts-made l s _ (OnlyCuts-input_ended (message_begun s.reading) s)
 OnlyCuts-ending_input l (first ∷ others) s = OnlyCuts-made l s _ (OnlyCuts-half_ends s)
 
 -- the source answered
@@ -142,14 +158,21 @@ OnlyCuts-waiting l s =
     OnlyCuts-if (decides_now s.input.half) (OnlyCuts-made l s _ (OnlyCuts-half_ends s)) (OnlyCuts-awaited l (seen_ahead s.input.ahead) s)
 
 -- one item of the input
-pub OnlyCuts-reading_on : (l : Limits) (s : State) → OnlyCuts s (reading_on l s)
-OnlyCuts-reading_on l s =
+pub OnlyCuts-item_read : (l : Limits) (s : State) → OnlyCuts s (item_read l s)
+OnlyCuts-item_read l s =
     OnlyCuts-if (newline_stays s.input.half) (OnlyCuts-waiting l s) (OnlyCuts-in_front_taken l s.input.ahead s)
+
+-- what is due
+pub OnlyCuts-reading_by : (l : Limits) (what : Option Due) (s : State) → OnlyCuts s (reading_by l what s)
+OnlyCuts-reading_by l None s = OnlyCuts-item_read l s
+OnlyCuts-reading_by l (Some (TellsText false)) s = OnlyCuts-made l s _ (OnlyCuts-message_told s)
+OnlyCuts-reading_by l (Some (TellsText true)) s = OnlyCuts-same s _ refl refl
+OnlyCuts-reading_by l (Some Leaves) s = OnlyCuts-made l s _ (OnlyCuts-input_left s)
 
 -- a step of a run that hasn't ended
 pub OnlyCuts-step_with : (l : Limits) (es : List PageEvent) (s : State) → OnlyCuts s (step_with l es s)
 OnlyCuts-step_with l (e ∷ rest) s = OnlyCuts-performing l e rest s
-OnlyCuts-step_with l [] s = OnlyCuts-if s.is_closing (OnlyCuts-same s _ refl refl) (OnlyCuts-reading_on l s)
+OnlyCuts-step_with l [] s = OnlyCuts-if s.is_closing (OnlyCuts-same s _ refl refl) (OnlyCuts-reading_by l (due s.reading) s)
 
 -- a step
 pub OnlyCuts-step : (l : Limits) (s : State) → OnlyCuts s (step l s)

@@ -19,12 +19,15 @@ use Rattle.roff_scan.specs.Unread.{Sighted, SeesByte, SeesNothing, SeesNote, See
 use Rattle.roff_scan.specs.Half.{Half}
 use Rattle.roff_run.specs.Laws.{OnlyCuts, over}
 use Rattle.roff_run.specs.Limits.{AreWithin}
+use Rattle.roff_run.specs.Reading.{due, message_begun}
+use Rattle.roff_run.specs.declared.reading.Due.{Due}
+use Rattle.roff_run.specs.declared.reading.Due.TheVariants.{Leaves, Tells as TellsText}
 use Rattle.roff_run.specs.Requests.{PageEvent}
-use Rattle.roff_run.specs.Run.{waiting, State, ending_with, counts, first_passed, unless_refused, stopped_by, passes_bytes, performing, grown, made, half_ends, taking_ahead, taking_byte, ending_input, answered, in_front_taken, front_seen, awaited_of_source, awaited, reading_on, step_with, step, after}
+use Rattle.roff_run.specs.Run.{waiting, State, ending_with, counts, first_passed, unless_refused, stopped_by, passes_bytes, performing, grown, made, half_ends, taking_ahead, taking_byte, ending_input, answered, in_front_taken, front_seen, awaited_of_source, awaited, item_read, input_ended, reading_by, step_with, step, after}
 use Rattle.roff_run.specs.declared.message.Message.TheVariants.{ReadFailed}
 use Rattle.roff_run.specs.declared.status.Status.{Status}
 use Rattle.roff_run.specs.declared.status.Status.TheVariants.{Device, Limit as Limited}
-use Rattle.roff_run.proofs.StepsAppend.{OnlyCuts-same, OnlyCuts-event, OnlyCuts-trans, OnlyCuts-if, OnlyCuts-unless_refused, OnlyCuts-made, OnlyCuts-half_ends, OnlyCuts-end_met, ahead_done, OnlyCuts-ahead_done, byte_done, OnlyCuts-byte_done, OnlyCuts-answered, OnlyCuts-awaited_of_source, OnlyCuts-step}
+use Rattle.roff_run.proofs.StepsAppend.{OnlyCuts-same, OnlyCuts-event, OnlyCuts-trans, OnlyCuts-if, OnlyCuts-unless_refused, OnlyCuts-made, OnlyCuts-half_ends, OnlyCuts-end_met, OnlyCuts-input_ended, OnlyCuts-message_told, OnlyCuts-input_left, ahead_done, OnlyCuts-ahead_done, byte_done, OnlyCuts-byte_done, OnlyCuts-answered, OnlyCuts-awaited_of_source, OnlyCuts-step}
 
 -- what passes a larger limit passes a smaller one
 abbrev pub IsMonotone : (Limits → Bool) → Type 0
@@ -144,9 +147,14 @@ module _ (Beside : Tape → Tape → Type 0) (IsCause : Status → Type 0) where
         (OnlyCuts-made large (over tape s) _ appends)
         (Cut-made s (byte_done b s) _ tape (behind_front tape) beside beside_next refl appends)
 
+    -- both meet the end of the input, with nothing half read
+    pub Cut-input_ended : (message : Option Bool) (s : State) (tape : Tape) → Beside s.tape tape → Cut (made small s (input_ended message s)) (made large (over tape s) (input_ended message (over tape s)))
+    Cut-input_ended None s tape beside = Cut-made s _ _ tape tape beside beside refl (OnlyCuts-end_met (over tape s))
+    Cut-input_ended (Some aborts) s tape beside = Cut-made s _ _ tape tape beside beside refl (OnlyCuts-input_ended (Some aborts) (over tape s))
+
     -- both meet the end of the input
     pub Cut-ending_input : (half : List Half) (s : State) (tape : Tape) → Beside s.tape tape → Cut (ending_input small half s) (ending_input large half (over tape s))
-    Cut-ending_input [] s tape beside = Cut-made s _ _ tape tape beside beside refl (OnlyCuts-end_met (over tape s))
+    Cut-ending_input [] s tape beside = Cut-input_ended (message_begun s.reading) s tape beside
     Cut-ending_input (first ∷ others) s tape beside = Cut-half_ends s tape beside
 
     -- both sources give the same answer
@@ -209,14 +217,21 @@ module _ (Beside : Tape → Tape → Type 0) (IsCause : Status → Type 0) where
         Cut-if (decides_now s.input.half) (Cut-half_ends s tape beside) (Cut-awaited (seen_ahead s.input.ahead) s tape beside)
 
     -- both go on reading
-    pub Cut-reading_on : (s : State) (tape : Tape) → Beside s.tape tape → Cut (reading_on small s) (reading_on large (over tape s))
-    Cut-reading_on s tape beside =
+    pub Cut-item_read : (s : State) (tape : Tape) → Beside s.tape tape → Cut (item_read small s) (item_read large (over tape s))
+    Cut-item_read s tape beside =
         Cut-if (newline_stays s.input.half) (Cut-waiting s tape beside) (Cut-in_front_taken s.input.ahead s tape beside)
+
+    -- both do what is due first
+    pub Cut-reading_by : (what : Option Due) (s : State) (tape : Tape) → Beside s.tape tape → Cut (reading_by small what s) (reading_by large what (over tape s))
+    Cut-reading_by None s tape beside = Cut-item_read s tape beside
+    Cut-reading_by (Some (TellsText false)) s tape beside = Cut-made s _ _ tape tape beside beside refl (OnlyCuts-message_told (over tape s))
+    Cut-reading_by (Some (TellsText true)) s tape beside = Same tape beside refl
+    Cut-reading_by (Some Leaves) s tape beside = Cut-made s _ _ tape tape beside beside refl (OnlyCuts-input_left (over tape s))
 
     -- both make a step, and haven't ended
     pub Cut-step_with : (es : List PageEvent) (s : State) (tape : Tape) → Beside s.tape tape → Cut (step_with small es s) (step_with large es (over tape s))
     Cut-step_with (e ∷ rest) s tape beside = Cut-performing e rest s tape beside
-    Cut-step_with [] s tape beside = Cut-if s.is_closing (Same tape beside refl) (Cut-reading_on s tape beside)
+    Cut-step_with [] s tape beside = Cut-if s.is_closing (Same tape beside refl) (Cut-reading_by (due s.reading) s tape beside)
 
     -- both make a step from the same state
     pub Cut-step_over : (s : State) (tape : Tape) → Beside s.tape tape → Cut (step small s) (step large (over tape s))

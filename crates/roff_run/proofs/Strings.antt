@@ -6,7 +6,7 @@ use Rattle.std.proofs.lemmas.Bool.{cases_Bool, eqb-true}
 use Rattle.roff_lines.specs.declared.env.Env.{Env}
 use Rattle.roff_num.specs.declared.limit.Limit.{Limit}
 use Rattle.roff_scan.specs.Half.{unit_bytes}
-use Rattle.roff_scan.specs.Input.{adding, calling, texts_of}
+use Rattle.roff_scan.specs.Input.{adding, calling, holding_plain, texts_of}
 use Rattle.roff_store.specs.Named.{entry_of}
 use Rattle.roff_store.specs.TextCalls.{Set}
 use Rattle.roff_store.specs.Texts.{Entry, Body as BodyOfName, Request as RequestOfName, has_body, is_body, kind_given, kind_of}
@@ -19,13 +19,13 @@ use Rattle.roff_scan.specs.declared.half.Read.{Read}
 use Rattle.roff_scan.specs.declared.half.Read.TheVariants.{GoesOn, Unit as OneUnit, Holds, Escape, Asks, Motion, Measures, Tells, Decides}
 use Rattle.roff_run.specs.Reader.State.{ReaderState}
 use Rattle.roff_run.specs.Reader.Taken.{InputBecame, IsInputNow, IsReady, PageUnread, TakesAs}
-use Rattle.roff_run.specs.Reading.{PageInput, Taking, going_on, name_bytes, name_read, no_unit_found, settling, string_emptied, string_grown, string_name_found, string_name_or_text, string_name_unit, string_text_found, string_unit}
+use Rattle.roff_run.specs.Reading.{PageInput, Taking, going_on, message_unit, name_bytes, name_read, no_unit_found, settling, string_emptied, string_grown, string_name_found, string_name_or_text, string_name_unit, string_text_found, string_unit}
 use Rattle.roff_run.specs.Registers.{Known}
 use Rattle.roff_run.specs.Registers.Capped.{Capped}
 use Rattle.roff_run.specs.declared.message.Message.{Message}
 use Rattle.roff_run.specs.declared.reader.Meaning.{Meaning}
 use Rattle.roff_run.specs.declared.reading.Reading.{Reading}
-use Rattle.roff_run.specs.declared.reading.Reading.TheVariants.{StringName, StringText}
+use Rattle.roff_run.specs.declared.reading.Reading.TheVariants.{StringName, StringText, Telling}
 use Rattle.roff_run.specs.declared.reading.ShortName.{ShortName}
 use Rattle.roff_run.proofs.InputCounts.{NoMore, first_passed-few_names, input_refusal-no_more}
 use Rattle.roff_run.proofs.TakesAs.{Takes-elsewhere, few_names, passed_none, passed_one}
@@ -136,6 +136,17 @@ string_unit-grown i name appends true (Byte b) no_newline no_blank no_quote =
     let blank : (b == 32) ≡ false = other b 32 (λ is. no_blank (ap (λ (c : ℕ). Byte c) is) refl) in
     let quote : (b == 34) ≡ false = other b 34 (λ is. no_quote (ap (λ (c : ℕ). Byte c) is) refl) in
     rw (newline, blank, quote) refl
+
+-- a unit of a message's text that isn't dropped in front, and doesn't end it
+pub message_unit-held : (i : PageInput) (aborts is_front : Bool) (unit : CopyUnit) → (unit ≡ Byte 10 → ⊥) → (unit ≡ Byte 32 → is_front ≡ true → ⊥)
+    → going_on (holding_plain unit i) (Telling aborts false) ≡ message_unit i aborts is_front unit
+message_unit-held i aborts is_front (Kept b) no_newline no_blank = refl
+message_unit-held i aborts false (Byte b) no_newline no_blank =
+    let newline : (b == 10) ≡ false = other b 10 (λ is. no_newline (ap (λ (c : ℕ). Byte c) is)) in rw newline refl
+message_unit-held i aborts true (Byte b) no_newline no_blank =
+    let newline : (b == 10) ≡ false = other b 10 (λ is. no_newline (ap (λ (c : ℕ). Byte c) is)) in
+    let blank : (b == 32) ≡ false = other b 32 (λ is. no_blank (ap (λ (c : ℕ). Byte c) is) refl) in
+    rw (newline, blank) refl
 
 -- a string with a name grows by what is added
 pub InputBecame-grown : (name : Option ShortName) (unit : CopyUnit) (before behind : PageUnread) (result : Result (Unit {0}) Limit) → is_some name ≡ true

@@ -24,7 +24,7 @@ use Rattle.roff_store.specs.declared.register.Register.{Register}
 use Rattle.roff_run.specs.Output.{PageHistory, text_of}
 use Rattle.roff_run.specs.Reader.State.{ReaderState}
 use Rattle.roff_run.specs.Reader.Taken.{IsReady, PageUnread, Takes, TakesAs, Took}
-use Rattle.roff_run.specs.Reading.{PageInput, Taking, arguments_found, end_taking, escape_taking, first_escape, first_taking, fresh_line, going_on, half_ended, interpolating, interrupted, kept_taking, line_begun, line_taking, meaning_events, no_unit_found, settling, taking}
+use Rattle.roff_run.specs.Reading.{PageInput, Taking, arguments_found, end_taking, escape_taking, first_escape, first_taking, fresh_line, going_on, half_ended, interpolating, interrupted, kept_taking, line_begun, line_taking, meaning_events, message_found, no_unit_found, settling, taking}
 use Rattle.roff_run.specs.Registers.{AllRegisters, Known, changed_by_all, is_page, is_read_only, known_behind, step_changes, step_messages, stepped_page, text_of_register}
 use Rattle.roff_run.specs.Registers.Capped.{Capped}
 use Rattle.roff_run.specs.Registers.Coded.{known_of}
@@ -33,7 +33,7 @@ use Rattle.roff_run.specs.Run.{counts_in, first_passed, known_at}
 use Rattle.roff_run.specs.declared.message.Message.{Message}
 use Rattle.roff_run.specs.declared.reader.Meaning.{Meaning}
 use Rattle.roff_run.specs.declared.reading.Reading.{Reading}
-use Rattle.roff_run.specs.declared.reading.Reading.TheVariants.{StringName, StringText, LineStart, Branch, Braced, Text as InText, Control, Name, Arguments as InArguments, Deciding, Skipping, Dropped}
+use Rattle.roff_run.specs.declared.reading.Reading.TheVariants.{StringName, StringText, LineStart, Branch, Braced, Text as InText, Control, Name, Arguments as InArguments, Deciding, Skipping, Dropped, Telling, Told, Exiting}
 use Rattle.roff_run.specs.declared.reading.ShortName.{ShortName}
 use Rattle.roff_run.specs.declared.reading.TextLine.{TextLine}
 use Rattle.roff_run.specs.declared.reading.TextStep.{TextStep}
@@ -356,6 +356,9 @@ first_taking-any i (Deciding keeps) b in_branch in_brace = refl
 first_taking-any i (Skipping opened closed behind) b in_branch in_brace = refl
 first_taking-any i (StringName appends) b in_branch in_brace = refl
 first_taking-any i (StringText name appends is_front) b in_branch in_brace = refl
+first_taking-any i (Telling aborts is_front) b in_branch in_brace = refl
+first_taking-any i (Told aborts) b in_branch in_brace = refl
+first_taking-any i Exiting b in_branch in_brace = refl
 first_taking-any i Dropped b in_branch in_brace = refl
 
 -- and so it is with an escape
@@ -374,6 +377,9 @@ first_escape-any i (Deciding keeps) b in_branch in_brace = refl
 first_escape-any i (Skipping opened closed behind) b in_branch in_brace = refl
 first_escape-any i (StringName appends) b in_branch in_brace = refl
 first_escape-any i (StringText name appends is_front) b in_branch in_brace = refl
+first_escape-any i (Telling aborts is_front) b in_branch in_brace = refl
+first_escape-any i (Told aborts) b in_branch in_brace = refl
+first_escape-any i Exiting b in_branch in_brace = refl
 first_escape-any i Dropped b in_branch in_brace = refl
 
 -- by whether a byte is dropped
@@ -394,6 +400,9 @@ end_taking-newline k (Deciding keeps) i begun = refl
 end_taking-newline k (Skipping opened closed behind) i begun = refl
 end_taking-newline k (StringName appends) i begun = refl
 end_taking-newline k (StringText name appends is_front) i begun = refl
+end_taking-newline k (Telling aborts is_front) i begun = refl
+end_taking-newline k (Told aborts) i begun = refl
+end_taking-newline k Exiting i begun = refl
 end_taking-newline k Dropped i begun = refl
 
 -- behind a request's name anything but a unit is no byte of an argument
@@ -409,20 +418,36 @@ arguments_found-no_unit k i breaks request (Measures width) no_unit no_escape = 
 arguments_found-no_unit k i breaks request (Tells remark) no_unit no_escape = refl
 arguments_found-no_unit k i breaks request (Decides decision freed) no_unit no_escape = refl
 
+-- of a message's text anything but a unit is none
+pub message_found-no_unit : (k : Known) (i : PageInput) (aborts is_front : Bool) (found : Read) → ((unit : CopyUnit) → found ≡ OneUnit unit → ⊥)
+    → ((b : ℕ) → found ≡ Escape b → ⊥) → no_unit_found k i (Telling aborts is_front) found ≡ message_found k i aborts is_front found
+message_found-no_unit k i aborts is_front (OneUnit unit) no_unit no_escape = absurd (no_unit unit refl)
+message_found-no_unit k i aborts is_front (Escape b) no_unit no_escape = absurd (no_escape b refl)
+message_found-no_unit k i aborts is_front GoesOn no_unit no_escape = refl
+message_found-no_unit k i aborts is_front (Holds unit) no_unit no_escape = refl
+message_found-no_unit k i aborts is_front (Asks purpose name) no_unit no_escape = refl
+message_found-no_unit k i aborts is_front (Motion columns remark) no_unit no_escape = refl
+message_found-no_unit k i aborts is_front (Measures width) no_unit no_escape = refl
+message_found-no_unit k i aborts is_front (Tells remark) no_unit no_escape = refl
+message_found-no_unit k i aborts is_front (Decides decision freed) no_unit no_escape = refl
+
 -- where nothing of what is half read is kept when it ends
 pub half_ended-dropped : (k : Known) (r : Reading) (i : PageInput) → (r ≡ LineStart → ⊥) → (r ≡ Branch → ⊥) → (r ≡ Braced → ⊥) → ((line : TextLine) → r ≡ InText line → ⊥)
     → ((breaks : Bool) (request : Request) → r ≡ InArguments breaks request → ⊥) → ((keeps : Bool) → r ≡ Deciding keeps → ⊥)
     → ((appends : Bool) → r ≡ StringName appends → ⊥) → ((name : Option ShortName) (appends is_front : Bool) → r ≡ StringText name appends is_front → ⊥)
-    → going_on (with_half (reading_ended AboveText i.half).1 i) r ≡ half_ended k r i
-half_ended-dropped k LineStart i begun no_branch no_brace no_text no_arguments no_condition no_name no_string = absurd (begun refl)
-half_ended-dropped k Branch i begun no_branch no_brace no_text no_arguments no_condition no_name no_string = absurd (no_branch refl)
-half_ended-dropped k Braced i begun no_branch no_brace no_text no_arguments no_condition no_name no_string = absurd (no_brace refl)
-half_ended-dropped k (InText line) i begun no_branch no_brace no_text no_arguments no_condition no_name no_string = absurd (no_text line refl)
-half_ended-dropped k (Control breaks) i begun no_branch no_brace no_text no_arguments no_condition no_name no_string = refl
-half_ended-dropped k (Name breaks first) i begun no_branch no_brace no_text no_arguments no_condition no_name no_string = refl
-half_ended-dropped k (InArguments breaks request) i begun no_branch no_brace no_text no_arguments no_condition no_name no_string = absurd (no_arguments breaks request refl)
-half_ended-dropped k (Deciding keeps) i begun no_branch no_brace no_text no_arguments no_condition no_name no_string = absurd (no_condition keeps refl)
-half_ended-dropped k (Skipping opened closed behind) i begun no_branch no_brace no_text no_arguments no_condition no_name no_string = refl
-half_ended-dropped k (StringName appends) i begun no_branch no_brace no_text no_arguments no_condition no_name no_string = absurd (no_name appends refl)
-half_ended-dropped k (StringText name appends is_front) i begun no_branch no_brace no_text no_arguments no_condition no_name no_string = absurd (no_string name appends is_front refl)
-half_ended-dropped k Dropped i begun no_branch no_brace no_text no_arguments no_condition no_name no_string = refl
+    → ((aborts is_front : Bool) → r ≡ Telling aborts is_front → ⊥) → going_on (with_half (reading_ended AboveText i.half).1 i) r ≡ half_ended k r i
+half_ended-dropped k LineStart i begun no_branch no_brace no_text no_arguments no_condition no_name no_string no_message = absurd (begun refl)
+half_ended-dropped k Branch i begun no_branch no_brace no_text no_arguments no_condition no_name no_string no_message = absurd (no_branch refl)
+half_ended-dropped k Braced i begun no_branch no_brace no_text no_arguments no_condition no_name no_string no_message = absurd (no_brace refl)
+half_ended-dropped k (InText line) i begun no_branch no_brace no_text no_arguments no_condition no_name no_string no_message = absurd (no_text line refl)
+half_ended-dropped k (Control breaks) i begun no_branch no_brace no_text no_arguments no_condition no_name no_string no_message = refl
+half_ended-dropped k (Name breaks first) i begun no_branch no_brace no_text no_arguments no_condition no_name no_string no_message = refl
+half_ended-dropped k (InArguments breaks request) i begun no_branch no_brace no_text no_arguments no_condition no_name no_string no_message = absurd (no_arguments breaks request refl)
+half_ended-dropped k (Deciding keeps) i begun no_branch no_brace no_text no_arguments no_condition no_name no_string no_message = absurd (no_condition keeps refl)
+half_ended-dropped k (Skipping opened closed behind) i begun no_branch no_brace no_text no_arguments no_condition no_name no_string no_message = refl
+half_ended-dropped k (StringName appends) i begun no_branch no_brace no_text no_arguments no_condition no_name no_string no_message = absurd (no_name appends refl)
+half_ended-dropped k (StringText name appends is_front) i begun no_branch no_brace no_text no_arguments no_condition no_name no_string no_message = absurd (no_string name appends is_front refl)
+half_ended-dropped k (Telling aborts is_front) i begun no_branch no_brace no_text no_arguments no_condition no_name no_string no_message = absurd (no_message aborts is_front refl)
+half_ended-dropped k (Told aborts) i begun no_branch no_brace no_text no_arguments no_condition no_name no_string no_message = refl
+half_ended-dropped k Exiting i begun no_branch no_brace no_text no_arguments no_condition no_name no_string no_message = refl
+half_ended-dropped k Dropped i begun no_branch no_brace no_text no_arguments no_condition no_name no_string no_message = refl

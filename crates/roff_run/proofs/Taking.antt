@@ -11,7 +11,7 @@ use Rattle.roff_run.specs.Laws.{IsWithin}
 use Rattle.roff_run.specs.Reading.{PageInput}
 use Rattle.roff_run.specs.Requests.{PageEvent}
 use Rattle.roff_run.specs.Results.{last_state}
-use Rattle.roff_run.specs.Run.{State, initial, known, moved, step_with, step, after}
+use Rattle.roff_run.specs.Run.{State, initial, input_left, known, moved, step_with, step, after}
 use Rattle.roff_run.specs.Taken.{bytes_of, newlines_in, line_of_last, Takes, EachItemIsTakenOnce, EachRunLeavesItsRest}
 use Rattle.roff_scan.specs.Bytes.{newline}
 use Rattle.roff_scan.specs.Input.{Ahead, counting, item_taken}
@@ -19,7 +19,7 @@ use Rattle.roff_scan.specs.Tape.{Tape, Item, Ending, OneByte, OneNote, Gives, fr
 use Rattle.roff_run.proofs.Endings.{at_last_state}
 use Rattle.roff_run.proofs.Keeping.{Keeps-end_taking}
 use Rattle.roff_run.proofs.PerformedOrStopped.{PerformedOrStopped, Performed, StoppedAt, performed_or_stopped}
-use Rattle.roff_run.proofs.Readings.{ReadsOn, LimitStops, AheadTaken, ByteTaken, NoteTaken, HalfEnds, InputEnds, SourceFails, SourceStops, ReadsOn-reading_on, Behind, Behind-byte_taken, Behind-ahead_taken, Behind-half_ends, behind_note}
+use Rattle.roff_run.proofs.Readings.{ReadsOn, LimitStops, AheadTaken, ByteTaken, NoteTaken, HalfEnds, InputEnds, InputLeft, MessageEnds, MessageTold, RunAborts, SourceFails, SourceStops, ReadsOn-reading_on, Behind, Behind-byte_taken, Behind-ahead_taken, Behind-half_ends, behind_note}
 use Rattle.roff_run.proofs.RunsStayWithin.{no_limit_is_passed}
 
 -- the bytes of two lists of items
@@ -135,6 +135,12 @@ Takes-read tape l s t (NoteTaken message gives) takes = Takes-note tape message 
 Takes-read tape l s t (HalfEnds first others half is_made) takes = Takes-behind tape _ s t (Behind-half_ends s first others half) takes
 Takes-read tape l s t (InputEnds none half ends is_made) takes =
     let read = Keeps-end_taking (known s) s.reading s.input in
+    Takes-same tape s t refl (rw read.charge (omega arith)) read.newlines read.line takes
+Takes-read tape l s t (MessageEnds aborts begins is_made) takes = Takes-unread tape s t refl refl takes
+Takes-read tape l s t (MessageTold told is_made) takes = Takes-same tape s t refl (omega arith) refl refl takes
+Takes-read tape l s t (RunAborts told) takes = Takes-unread tape s t refl refl takes
+Takes-read tape l s t (InputLeft leaves is_made) takes =
+    let read = Keeps-end_taking (known (input_left s)) s.reading (input_left s).input in
     Takes-same tape s t refl (rw read.charge (omega arith)) read.newlines read.line takes
 Takes-read tape l s t (SourceFails fails) takes = Takes-unread tape s t refl refl takes
 Takes-read tape l s t (SourceStops limit stops) takes = Takes-unread tape s t refl refl takes

@@ -12,10 +12,9 @@ use Rattle.roff_run.specs.Reading.{PageInput, half_ended, taking as byte_taking}
 use Rattle.roff_run.specs.Registers.{Known}
 use Rattle.roff_run.specs.Requests.{PageEvent}
 use Rattle.roff_run.specs.declared.reading.Reading.{Reading}
-use Rattle.roff_run.specs.declared.reading.Reading.TheVariants.{StringName, StringText, LineStart, Branch, Braced, Text as InText, Control, Name, Arguments as InArguments, Deciding, Skipping, Dropped}
-use Rattle.roff_run.specs.TurnsToCome.{endings_of, turns_within, turns_to_come}
+use Rattle.roff_run.specs.TurnsToCome.{begun, endings_of, turns_within, turns_to_come}
 use Rattle.roff_run.proofs.HalfCounts.{some_ending}
-use Rattle.roff_run.proofs.Keeping.{KeepsTwoMore, begun, Keeps-taking, Keeps-half_ended}
+use Rattle.roff_run.proofs.Keeping.{KeepsTwoMore, Keeps-taking, Keeps-half_ended}
 
 -- a call took a byte, the end of a text, or an event
 abbrev pub IsTaken : Shown PageEvent → Type 0
@@ -59,59 +58,30 @@ falls-taking (item ∷ items) a i looked v =
 pub turns_to_come-taking : (a : Answer) (u : Unread PageEvent) → IsTaken (taking a u).0 → turns_to_come (taking a u).1 + 4 ≤ turns_to_come u
 turns_to_come-taking a u taken = falls-taking u.input.ahead a u.input u.looked u taken
 
--- a name's first byte is kept for one ending at most
-begun-one : (reading : Reading) → begun reading ≤ 1
-begun-one LineStart = omega arith
-begun-one Branch = omega arith
-begun-one Braced = omega arith
-begun-one (InText line) = omega arith
-begun-one (Control breaks) = omega arith
-begun-one (Name breaks first) = omega arith
-begun-one (InArguments breaks request) = omega arith
-begun-one (Deciding keeping) = omega arith
-begun-one (Skipping opened closed behind) = omega arith
-begun-one (StringName appends) = omega arith
-begun-one (StringText name appends is_front) = omega arith
-begun-one Dropped = omega arith
-
--- so what keeps the input's counts, and leaves two endings more to come, leaves three turns more at most
-turns-three_more : (bytes : ℕ) (i j : PageInput) (old reading : Reading) → KeepsTwoMore i old j reading → turns_within bytes j ≤ turns_within bytes i + 3
-turns-three_more bytes i j old reading keeps = omega (arith, keeps.charge, keeps.free, keeps.half, begun-one old)
+-- what keeps the input's counts, and leaves two endings more to come, leaves two turns more at most
+turns-two_more : (bytes : ℕ) (i j : PageInput) (old reading : Reading) → KeepsTwoMore i old j reading
+    → turns_within bytes j + begun reading ≤ turns_within bytes i + begun old + 2
+turns-two_more bytes i j old reading keeps = omega (arith, keeps.charge, keeps.free, keeps.half)
 
 -- and so does a byte
 pub turns_within-byte : (bytes : ℕ) (k : Known) (reading : Reading) (i : PageInput) (b : ℕ)
-    → turns_within bytes (byte_taking k reading i b).input ≤ turns_within bytes i + 3
-turns_within-byte bytes k reading i b = turns-three_more bytes i _ reading _ (Keeps-taking k reading i b)
+    → turns_within bytes (byte_taking k reading i b).input + begun (byte_taking k reading i b).reading ≤ turns_within bytes i + begun reading + 2
+turns_within-byte bytes k reading i b = turns-two_more bytes i _ reading _ (Keeps-taking k reading i b)
 
 -- what is half read where a newline stays
 pub length-newline_stays : (half : List Half) → newline_stays half ≡ true → 1 ≤ length half
 length-newline_stays [] stays = cc
 length-newline_stays (first ∷ rest) stays = omega arith
 
--- where what is half read ends, a name goes on
-begun-half_ended : (k : Known) (reading : Reading) (i : PageInput) → begun reading ≤ begun (half_ended k reading i).reading
-begun-half_ended k LineStart i = omega arith
-begun-half_ended k Branch i = omega arith
-begun-half_ended k Braced i = omega arith
-begun-half_ended k (InText line) i = omega arith
-begun-half_ended k (Control breaks) i = omega arith
-begun-half_ended k (Name breaks first) i = omega arith
-begun-half_ended k (InArguments breaks request) i = omega arith
-begun-half_ended k (Deciding keeping) i = omega arith
-begun-half_ended k (Skipping opened closed behind) i = omega arith
-begun-half_ended k (StringName appends) i = omega arith
-begun-half_ended k (StringText name appends is_front) i = omega arith
-begun-half_ended k Dropped i = omega arith
-
--- and a turn fewer is to come
+-- where what is half read ends, a turn fewer is to come
 ended : (bytes : ℕ) (k : Known) (reading : Reading) (i : PageInput) (half : List Half) → i.half ≡ half → 1 ≤ length half
-    → turns_within bytes (half_ended k reading i).input + 1 ≤ turns_within bytes i
+    → turns_within bytes (half_ended k reading i).input + begun (half_ended k reading i).reading + 1 ≤ turns_within bytes i + begun reading
 ended bytes k reading i [] is some = omega (arith, some)
 ended bytes k reading i (first ∷ others) is some =
     let keeps = Keeps-half_ended k reading i first others is in
     let some : 1 ≤ endings_of i.half = rw is (omega (arith, some_ending first others)) in
-    omega (arith, keeps.charge, keeps.free, keeps.half, some, begun-half_ended k reading i)
+    omega (arith, keeps.charge, keeps.free, keeps.half, some)
 
 pub turns_within-half_ended : (bytes : ℕ) (k : Known) (reading : Reading) (i : PageInput) → 1 ≤ length i.half
-    → turns_within bytes (half_ended k reading i).input + 1 ≤ turns_within bytes i
+    → turns_within bytes (half_ended k reading i).input + begun (half_ended k reading i).reading + 1 ≤ turns_within bytes i + begun reading
 turns_within-half_ended bytes k reading i some = ended bytes k reading i i.half refl some

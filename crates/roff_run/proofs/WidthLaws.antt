@@ -24,17 +24,17 @@ use Rattle.roff_scan.specs.Unread.{seen_ahead}
 use Rattle.roff_scan.specs.declared.half.Read.TheVariants.{GoesOn, Measures}
 use Rattle.roff_scan.specs.declared.half.Surroundings.{Surroundings}
 use Rattle.roff_scan.specs.declared.half.Surroundings.TheVariants.{Text as AboveText, Arguments as AboveArguments, Copy as AboveCopy}
-use Rattle.roff_run.proofs.Interpolation.{Fits-IsWithin, FindsAtLast, AtLast, Behind, FromAhead, FromSource, IsRead, IsRead-itself, Means, Origin, ReadsEscapes, AtBeginning, AtBranch, AtBraced, OnText, OnArguments, OnCondition, OnStringName, OnStringText, ReadsEscapes-reads_escapes, after-escape, ahead_at, going, input_of, interrupted-arguments, is-going, is_no_newline, line_behind, not-first, not-second, read_in, settled_for, settled_for-settled_for, settled_input, source_behind, step-byte, tape_at, taken_as-going_on, taking-reads, made-Fits, step-TakesItems}
+use Rattle.roff_run.proofs.Interpolation.{Fits-IsWithin, FindsAtLast, AtLast, Behind, FromAhead, FromSource, IsRead, IsRead-itself, Means, Origin, ReadsEscapes, AtBeginning, AtBranch, AtBraced, OnText, OnArguments, OnCondition, OnStringName, OnStringText, OnMessage, ReadsEscapes-reads_escapes, after-escape, ahead_at, going, input_of, interrupted-arguments, is-going, is_no_newline, line_behind, not-first, not-second, read_in, settled_for, settled_for-settled_for, settled_input, source_behind, step-byte, tape_at, taken_as-going_on, taking-reads, made-Fits, none_due-reads, step-TakesItems}
 use Rattle.roff_run.specs.InterpolationLaws.{TakesItems, StandsForItself, reads_escapes}
 use Rattle.roff_run.specs.Laws.{IsWithin}
 use Rattle.roff_run.specs.Output.{text_of}
 use Rattle.roff_run.specs.Reading.{PageInput, Taking, measuring, taking, half_ended}
 use Rattle.roff_run.specs.Registers.{Known}
 use Rattle.roff_run.specs.Requests.{PageEvent}
-use Rattle.roff_run.specs.Run.{State, after, first_passed, known, step, taken_as, answered, awaited, awaited_of_source, ending_input, half_ends, in_front_taken, made, reading_on}
+use Rattle.roff_run.specs.Run.{State, after, first_passed, known, step, taken_as, answered, awaited, awaited_of_source, ending_input, half_ends, in_front_taken, made, item_read}
 use Rattle.roff_run.specs.WidthLaws.{MayDelimit, IsPlain, text_units, width_escape, measures_texts, with_width_ahead, WidthsReadAsDigits, WidthsOfTheSourceReadAsDigits, MeasuredTextsReadAsDigits, MeasuredTextsOfTheSourceReadAsDigits, MotionsAreAsLongAsTheirColumns, MotionsCountInTheLine, EndsText, NewlineAhead, NewlineOfTheSource, EndOfTheSource, WidthsEndWithTheirLine}
 use Rattle.roff_run.specs.declared.reading.Reading.{Reading}
-use Rattle.roff_run.specs.declared.reading.Reading.TheVariants.{LineStart, Branch, Braced, Text as InText, Control, Name as NameOf, Arguments as InArguments, Deciding, StringName, StringText, Skipping, Dropped}
+use Rattle.roff_run.specs.declared.reading.Reading.TheVariants.{LineStart, Branch, Braced, Text as InText, Control, Name as NameOf, Arguments as InArguments, Deciding, StringName, StringText, Skipping, Dropped, Telling, Told, Exiting}
 
 -- a width was measured where escapes are read
 read_in-measures : (k : Known) (reading : Reading) (base : Surroundings) (i : PageInput) (half : List Half) (width : ℕ) → ReadsEscapes reading base
@@ -47,6 +47,7 @@ read_in-measures k _ _ i half width (OnArguments breaks request) = refl
 read_in-measures k _ _ i half width (OnCondition keeps) = refl
 read_in-measures k _ _ i half width (OnStringName appends) = refl
 read_in-measures k _ _ i half width (OnStringText string appends is_front) = refl
+read_in-measures k _ _ i half width (OnMessage aborts is_front) = refl
 
 -- a byte that ends a text that is measured
 taking-measures : (k : Known) (reading : Reading) (base : Surroundings) (i : PageInput) (b width : ℕ) (half : List Half) → ReadsEscapes reading base
@@ -114,7 +115,7 @@ step-delimiter l s reading base from a d width is_deep half charge line on may w
     let is : width_from from width half 1 (going s reading from (d ∷ []) a text charge line) ≡ t =
     width_from-measured s reading base from (d ∷ []) a text half charge 1 line width on in
     let within_t : IsWithin l t = subst (IsWithin l) is within_read in
-    step-byte l s reading from d [] a text charge line t may (not-second (is_dropped d) (d == newline) may) within_t.bytes
+    step-byte l s reading from d [] a text charge line t (none_due-reads reading base on) may (not-second (is_dropped d) (d == newline) may) within_t.bytes
     (means-measures s reading base from a (charge + 1) next width half on text d may (byte_read-delimiter base d width is_deep half))
     (Fits-IsWithin l t within_t)
     ∙ sym is
@@ -152,6 +153,7 @@ half_ended-reads k _ _ i (OnArguments breaks request) = refl
 half_ended-reads k _ _ i (OnCondition keeps) = refl
 half_ended-reads k _ _ i (OnStringName appends) = refl
 half_ended-reads k _ _ i (OnStringText string appends is_front) = refl
+half_ended-reads k _ _ i (OnMessage aborts is_front) = refl
 
 -- the end of a text that is measured
 half_ended-measures : (k : Known) (reading : Reading) (base : Surroundings) (i : PageInput) (delimiter : Option ℕ) (width : ℕ) (is_deep : Bool) (half : List Half)
@@ -163,18 +165,18 @@ half_ended-measures k reading base i delimiter width is_deep half on measures =
     ∙ read_in-measures k reading base i half width on
 
 -- where it ends so, its end is the step
-reading_on-ends : (l : Limits) (s : State) (delimiter : Option ℕ) (width : ℕ) (is_deep : Bool) (half : List Half) → EndsText s
-    → s.input.half ≡ Width delimiter width is_deep ∷ half → reading_on l s ≡ made l s (half_ends s)
-reading_on-ends l s delimiter width is_deep half (NewlineAhead rest ahead) measures =
+item_read-ends : (l : Limits) (s : State) (delimiter : Option ℕ) (width : ℕ) (is_deep : Bool) (half : List Half) → EndsText s
+    → s.input.half ≡ Width delimiter width is_deep ∷ half → item_read l s ≡ made l s (half_ends s)
+item_read-ends l s delimiter width is_deep half (NewlineAhead rest ahead) measures =
     ap (λ (h : List Half). if newline_stays h then (if decides_now h then made l s (half_ends s) else awaited l (seen_ahead s.input.ahead) s) else in_front_taken l s.input.ahead s) measures
     ∙ ap (λ (items : List (Ahead PageEvent)). awaited l (seen_ahead items) s) ahead
     ∙ ap (λ (h : List Half). if seen_stays h (Some newline) then made l s (half_ends s) else in_front_taken l s.input.ahead s) measures
-reading_on-ends l s delimiter width is_deep half (NewlineOfTheSource ahead gives) measures =
+item_read-ends l s delimiter width is_deep half (NewlineOfTheSource ahead gives) measures =
     ap (λ (h : List Half). if newline_stays h then (if decides_now h then made l s (half_ends s) else awaited l (seen_ahead s.input.ahead) s) else in_front_taken l s.input.ahead s) measures
     ∙ ap (λ (items : List (Ahead PageEvent)). awaited l (seen_ahead items) s) ahead
     ∙ ap (λ (a : Answer). awaited_of_source l a s) gives
     ∙ ap (λ (h : List Half). if seen_stays h (Some newline) then made l s (half_ends s) else in_front_taken l s.input.ahead s) measures
-reading_on-ends l s delimiter width is_deep half (EndOfTheSource ahead ends) measures =
+item_read-ends l s delimiter width is_deep half (EndOfTheSource ahead ends) measures =
     ap (λ (h : List Half). if newline_stays h then (if decides_now h then made l s (half_ends s) else awaited l (seen_ahead s.input.ahead) s) else in_front_taken l s.input.ahead s) measures
     ∙ ap (λ (items : List (Ahead PageEvent)). awaited l (seen_ahead items) s) ahead
     ∙ ap (λ (a : Answer). awaited_of_source l a s) ends
@@ -192,7 +194,7 @@ widths_end_with_their_line l s delimiter width is_deep half ends takes reads mea
     ∙ taken_as-going_on (pushing (decimal width) (settled_input s.reading half s.input)) s.reading s
     ∙ ap (λ (c : ℕ). let t : State = record s { input = pushing (decimal width) (record (settled_input s.reading half s.input) { charge = c }) } in t) (omega arith)
     ∙ sym (with_width_ahead-arguments width half 0 s.input.ahead s on.0 on.1) in
-    step-TakesItems l s takes ∙ reading_on-ends l s delimiter width is_deep half ends measures
+    step-TakesItems l s takes ∙ item_read-ends l s delimiter width is_deep half ends measures
     ∙ ap (made l s) is ∙ made-Fits l s read (Fits-IsWithin l read within_read)
 
 -- a width that grows by some bytes
@@ -246,6 +248,9 @@ reads_escapes-measures_texts (StringName appends) is = refl
 reads_escapes-measures_texts (StringText name appends is_front) is = absurd (cc)
 reads_escapes-measures_texts (Skipping opened closed behind) is = absurd (cc)
 reads_escapes-measures_texts Dropped is = absurd (cc)
+reads_escapes-measures_texts (Telling aborts is_front) is = absurd (cc)
+reads_escapes-measures_texts (Told aborts) is = absurd (cc)
+reads_escapes-measures_texts Exiting is = absurd (cc)
 
 -- above a text line and above arguments widths are read, but not where a string's text is copied
 reads_widths-above : (reading : Reading) (base : Surroundings) → ReadsEscapes reading base → measures_texts reading ≡ true → reads_widths base ≡ true
@@ -257,6 +262,7 @@ reads_widths-above _ _ (OnArguments breaks request) reads = refl
 reads_widths-above _ _ (OnCondition keeps) reads = refl
 reads_widths-above _ _ (OnStringName appends) reads = refl
 reads_widths-above _ _ (OnStringText string appends is_front) reads = absurd (cc)
+reads_widths-above _ _ (OnMessage aborts is_front) reads = absurd (cc)
 
 -- `w`
 byte_read-w : (base : Surroundings) → reads_widths base ≡ true → byte_read base (Backslash ∷ []) 119 ≡ (GoesOn, Width None 0 false ∷ [])

@@ -15,23 +15,24 @@ use Rattle.roff_scan.specs.Tape.{Tape, Gives, OneByte, front, items_then}
 use Rattle.roff_store.specs.declared.register.Direction.{Direction}
 use Rattle.roff_run.specs.Laws.{IsWithin}
 use Rattle.roff_run.specs.Messages.{message_lines}
-use Rattle.roff_run.specs.Reading.{PageInput, interrupted}
+use Rattle.roff_run.specs.Reading.{PageInput, due, interrupted}
 use Rattle.roff_run.specs.Registers.{Known, StepBy, changed_by, step_messages, text_of_register}
 use Rattle.roff_run.specs.Requests.{PageEvent}
-use Rattle.roff_run.specs.Run.{State, known, made, byte_taken, moved, answered, reading_on, step, after}
+use Rattle.roff_run.specs.Run.{State, known, made, byte_taken, moved, answered, item_read, step, after}
 use Rattle.roff_run.specs.declared.reading.Reading.{Reading}
-use Rattle.roff_run.specs.declared.reading.Reading.TheVariants.{LineStart, Branch, Braced, Text as InText, Control, Name, Arguments as InArguments, Deciding, StringName, StringText, Skipping, Dropped}
+use Rattle.roff_run.specs.declared.reading.Reading.TheVariants.{LineStart, Branch, Braced, Text as InText, Control, Name, Arguments as InArguments, Deciding, StringName, StringText, Skipping, Dropped, Telling, Told, Exiting}
 
--- a run takes items: it hasn't ended and isn't about to, and there is nothing to do first
+-- a run takes items: it hasn't ended and isn't about to, and there is nothing to do first, and nothing due
 pub record TakesItems (s : State) : Type 0 where
   pub going : s.ended ≡ None
   pub not_closing : s.is_closing ≡ false
   pub idle : s.to_do ≡ []
+  pub none_due : due s.reading ≡ None
 
 -- where nothing is ahead and nothing is half read, the unread input is the source's tape
 abbrev pub UnreadInputIsTheTape : Type 0
 UnreadInputIsTheTape =
-    (l : Limits) (s : State) → s.input.ahead ≡ [] → s.input.half ≡ [] → reading_on l s ≡ answered l (front s.tape) s
+    (l : Limits) (s : State) → s.input.ahead ≡ [] → s.input.half ≡ [] → item_read l s ≡ answered l (front s.tape) s
 
 -- and a step of a run that takes items is what the tape's front says
 abbrev pub StepsFollowTheTape : Type 0
@@ -79,9 +80,12 @@ reads_text (StringName appends) = false
 reads_text (StringText name appends is_front) = false
 reads_text (Skipping opened closed behind) = false
 reads_text Dropped = false
+reads_text (Telling aborts is_front) = false
+reads_text (Told aborts) = false
+reads_text Exiting = false
 
--- whether escapes are read: those of text, those among a request's arguments, those of conditions, and those of a string's
--- name and text
+-- whether escapes are read: those of text, those among a request's arguments, those of conditions, those of a string's
+-- name and text, and those of a message's text
 abbrev pub reads_escapes : Reading → Bool
 reads_escapes LineStart = true
 reads_escapes Branch = true
@@ -95,6 +99,9 @@ reads_escapes (StringName appends) = true
 reads_escapes (StringText name appends is_front) = true
 reads_escapes (Skipping opened closed behind) = false
 reads_escapes Dropped = false
+reads_escapes (Telling aborts is_front) = true
+reads_escapes (Told aborts) = false
+reads_escapes Exiting = false
 
 -- whether a backslash of a condition begins an escape: not where it delimits texts, nor once the condition is read
 abbrev pub reads_in_condition : ConditionPart → Bool

@@ -18,6 +18,7 @@ pub mod InterpolationLaws
 pub mod ConditionLaws
 pub mod WidthLaws
 pub mod Quoting
+pub mod MessageLaws
 pub mod ResultLaws
 pub mod Taken
 pub mod Statuses

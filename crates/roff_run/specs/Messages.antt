@@ -1,5 +1,5 @@
 -- The messages of a run.
-use Rattle.std.specs.Prelude.{ℕ, List, [], ◌∷◌, ◌++◌, codes, decimal, Option, Some, None}
+use Rattle.std.specs.Prelude.{ℕ, Bool, true, false, List, [], ◌∷◌, ◌++◌, codes, decimal, Option, Some, None}
 use Rattle.roff_num.specs.LimitNames.{limit_name}
 use Rattle.roff_run.specs.declared.message.Message.{Message}
 use Rattle.roff_run.specs.declared.message.Message.TheVariants.{LimitReached, BadNumber, BadFormat, BackwardMotion, LeftOut, UnknownCharacter, ReadFailed, WriteFailed}
@@ -37,6 +37,16 @@ message_text WriteFailed = codes "write failed"
 -- a message as it is written: the command, the line of the input, what it says, and a newline
 abbrev pub message_line : ℕ → Message → List ℕ
 message_line line message = codes "nroff: line " ++ decimal line ++ codes ": " ++ message_text message ++ newline ∷ []
+
+-- what is told of the text of a message: one without a byte that aborts the run is `User Abort`
+abbrev pub text_told : Bool → List ℕ → List ℕ
+text_told true [] = codes "User Abort"
+text_told true (b ∷ text) = b ∷ text
+text_told false text = text
+
+-- the same as it is written: bare, and a newline
+abbrev pub told_line : Bool → List ℕ → List ℕ
+told_line aborts text = text_told aborts text ++ newline ∷ []
 
 -- messages of one line, in order
 abbrev pub message_lines : ℕ → List Message → List ℕ

@@ -38,4 +38,4 @@ RequestsGetQuotedArguments =
     (k : Known) (breaks : Bool) (request : Request) (i : PageInput) (arguments : List (List ℕ)) →
     i.half ≡ [] → i.arguments ≡ no_arguments → All (All StandsForItself) arguments →
     taking_all k (InArguments breaks request) i (quoted_line arguments ++ newline ∷ [])
-    ≡ ended_by i (request_effect k breaks request (kept arguments))
+    ≡ ended_by i request (request_effect k breaks request (kept arguments))

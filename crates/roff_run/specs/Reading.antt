@@ -9,7 +9,7 @@ use Rattle.roff_scan.specs.Characters.{character}
 use Rattle.roff_scan.specs.Escapes.{escape_of}
 use Rattle.roff_scan.specs.Half.{unit_bytes}
 use Rattle.roff_scan.specs.Halves.{Reads, byte_read, reading_ended}
-use Rattle.roff_scan.specs.Input.{Input, pushing, holding_text, choosing, keeping, kept_last, without_last, texts_of, calling, body_named, adding, entering}
+use Rattle.roff_scan.specs.Input.{Input, pushing, holding_plain, holding_text, choosing, keeping, kept_last, without_last, texts_of, calling, body_named, adding, entering}
 use Rattle.roff_scan.specs.declared.escapes.Escape.{Escape as Kind}
 use Rattle.roff_scan.specs.declared.escapes.Escape.TheVariants.{Prints, Blank, NoWidth, Brace, LeftOut as IsLeftOut, Text as BeginsText}
 use Rattle.roff_scan.specs.declared.escapes.NameUse.{NameUse}
@@ -29,13 +29,15 @@ use Rattle.roff_store.specs.Texts.{Body, has_body}
 use Rattle.roff_run.specs.Messages.{character_name, remark_message, remark_messages}
 use Rattle.roff_run.specs.declared.message.Message.{Message}
 use Rattle.roff_run.specs.declared.message.Message.TheVariants.{LeftOut, UnknownCharacter}
+use Rattle.roff_run.specs.declared.reading.Due.{Due}
+use Rattle.roff_run.specs.declared.reading.Due.TheVariants.{Leaves, Tells as TellsText}
 use Rattle.roff_run.specs.declared.reading.Reading.{Reading}
-use Rattle.roff_run.specs.declared.reading.Reading.TheVariants.{LineStart, Branch, Braced, Text as InText, Control, Name, Arguments as InArguments, Deciding, StringName, StringText, Skipping, Dropped}
+use Rattle.roff_run.specs.declared.reading.Reading.TheVariants.{LineStart, Branch, Braced, Text as InText, Control, Name, Arguments as InArguments, Deciding, StringName, StringText, Skipping, Dropped, Telling, Told, Exiting}
 use Rattle.roff_run.specs.declared.reading.ShortName.{ShortName}
 use Rattle.roff_run.specs.declared.reading.TextLine.{TextLine}
 use Rattle.roff_run.specs.declared.request.Request.{Request}
 use Rattle.roff_run.specs.declared.request.LineReading.{LineReading}
-use Rattle.roff_run.specs.declared.request.LineReading.TheVariants.{ByArguments, ByCondition, ByElse, ByString}
+use Rattle.roff_run.specs.declared.request.LineReading.TheVariants.{ByArguments, ByCondition, ByElse, ByLastLine, ByMessage, ByString}
 use Rattle.roff_run.specs.Registers.{Known, is_page_odd, known_behind, step_changes, step_messages, text_of_register}
 use Rattle.roff_run.specs.Requests.{PageEvent, Text, Space, Effect, doing, saying, row_of, request_named, request_effect}
 
@@ -284,13 +286,23 @@ abbrev pub calling_all : List Call → PageInput → PageInput
 calling_all [] i = i
 calling_all (call ∷ calls) i = calling_all calls (calling call i)
 
--- a line has ended, and its request means this: its arguments are released, and what names stand for changes so
-abbrev pub ended_by : PageInput → Effect → Taking
-ended_by i effect = record { input = calling_all effect.calls (record i { arguments = no_arguments }); reading = LineStart; effect = effect }
+-- what is read behind a request's line, by how that is read: behind the last one nothing is
+abbrev pub reading_behind : LineReading → Reading
+reading_behind ByLastLine = Exiting
+reading_behind (_) = LineStart
+
+-- the line of a request has ended, and the request means this: its arguments are released, and what names stand for
+-- changes so
+abbrev pub ended_by : PageInput → Request → Effect → Taking
+ended_by i request effect = record {
+  input = calling_all effect.calls (record i { arguments = no_arguments });
+  reading = reading_behind (row_of request).line;
+  effect = effect;
+}
 
 -- the end of a request's line: the request is obeyed
 abbrev pub line_ended : Known → PageInput → Bool → Request → Taking
-line_ended k i breaks request = ended_by i (request_effect k breaks request (arguments_given i))
+line_ended k i breaks request = ended_by i request (request_effect k breaks request (arguments_given i))
 
 -- a unit behind a request's name is held; a newline ends the line
 abbrev pub unit_found : Known → PageInput → Bool → Request → CopyUnit → Taking
@@ -408,6 +420,24 @@ string_text_found k i name appends is_front found = no_unit_found k i (StringTex
 abbrev pub string_text_read : Known → PageInput → Option ShortName → Bool → Bool → Reads → Taking
 string_text_read k i name appends is_front r = string_text_found k (record i { half = r.1 }) name appends is_front r.0
 
+-- a unit of a message's text: in front of it blanks are dropped; a newline ends it
+abbrev pub message_unit : PageInput → Bool → Bool → CopyUnit → Taking
+message_unit i aborts is_front (Byte b) =
+    if b == newline then going_on i (Told aborts)
+    else if is_front && b == blank then going_on i (Telling aborts true)
+    else going_on (holding_plain (Byte b) i) (Telling aborts false)
+message_unit i aborts is_front (Kept b) = going_on (holding_plain (Kept b) i) (Telling aborts false)
+
+-- what was found of it
+abbrev pub message_found : Known → PageInput → Bool → Bool → Read → Taking
+message_found k i aborts is_front (Unit unit) = message_unit i aborts is_front unit
+message_found k i aborts is_front (Escape b) = message_unit i aborts is_front (Kept b)
+message_found k i aborts is_front found = no_unit_found k i (Telling aborts is_front) found
+
+-- what something reads of it, with what is half read then
+abbrev pub message_read : Known → PageInput → Bool → Bool → Reads → Taking
+message_read k i aborts is_front r = message_found k (record i { half = r.1 }) aborts is_front r.0
+
 -- a byte of a branch that is skipped, in which so many braces were opened and closed: one behind a backslash belongs to
 -- that, and a newline ends the branch unless more were opened
 abbrev pub skipping_taking : PageInput → ℕ → ℕ → Bool → ℕ → Taking
@@ -474,6 +504,8 @@ abbrev pub line_taking : Known → PageInput → Bool → Request → LineReadin
 line_taking k i breaks request ByArguments b = arguments_read_on k i breaks request (byte_read AboveArguments i.half b)
 line_taking k i breaks request (ByCondition keeps) b = condition_begun k i keeps b
 line_taking k i breaks request (ByString appends) b = string_name_read k i appends (byte_read AboveArguments i.half b)
+line_taking k i breaks request ByLastLine b = arguments_read_on k i breaks request (byte_read AboveArguments i.half b)
+line_taking k i breaks request (ByMessage aborts) b = message_read k i aborts true (byte_read AboveCopy i.half b)
 line_taking k i breaks request ByElse b = branch_taking k (without_last i) (reads_else (kept_last i)) b
 
 -- a byte behind a name that it doesn't belong to: the line of an unknown name is dropped
@@ -489,6 +521,8 @@ abbrev pub behind_name : PageInput → Bool → Request → LineReading → Taki
 behind_name i breaks request ByArguments = going_on i (InArguments breaks request)
 behind_name i breaks request (ByCondition keeps) = going_on (choosing i) (Deciding keeps)
 behind_name i breaks request (ByString appends) = going_on i (StringName appends)
+behind_name i breaks request ByLastLine = going_on i (InArguments breaks request)
+behind_name i breaks request (ByMessage aborts) = going_on i (Telling aborts true)
 behind_name i breaks request ByElse = going_on (without_last i) (branch_of (reads_else (kept_last i)))
 
 -- the last byte of a name of two bytes
@@ -517,6 +551,9 @@ kept_taking k (StringName appends) i b = string_name_read k i appends (byte_read
 kept_taking k (StringText name appends is_front) i b = string_text_read k i name appends is_front (byte_read AboveCopy i.half b)
 kept_taking k (Skipping opened closed behind) i b = skipping_taking i opened closed behind b
 kept_taking k Dropped i b = dropped_taking i b
+kept_taking k (Telling aborts is_front) i b = message_read k i aborts is_front (byte_read AboveCopy i.half b)
+kept_taking k (Told aborts) i b = going_on i (Told aborts)
+kept_taking k Exiting i b = going_on i Exiting
 
 -- what isn't a byte of the line: no quote follows the quote before it
 abbrev pub interrupted : Reading → PageInput → PageInput
@@ -542,7 +579,28 @@ half_ended k (InArguments breaks request) i = arguments_read_on k i breaks reque
 half_ended k (Deciding keeps) i = condition_read k i keeps (reading_ended AboveArguments i.half)
 half_ended k (StringName appends) i = string_name_read k i appends (reading_ended AboveArguments i.half)
 half_ended k (StringText name appends is_front) i = string_text_read k i name appends is_front (reading_ended AboveCopy i.half)
+half_ended k (Telling aborts is_front) i = message_read k i aborts is_front (reading_ended AboveCopy i.half)
 half_ended k reading i = going_on (record i { half = (reading_ended AboveText i.half).1 }) reading
+
+-- What is due before anything more is taken, by what is read: a message whose line has ended is told, and may abort the
+-- run; behind the line of `.ex` the input is left.
+abbrev pub due : Reading → Option Due
+due (Told aborts) = Some (TellsText aborts)
+due Exiting = Some Leaves
+due (_) = None
+
+-- whether the text of a message is read, and then whether it aborts the run
+abbrev pub message_begun : Reading → Option Bool
+message_begun (Telling aborts is_front) = Some aborts
+message_begun (_) = None
+
+-- the line of a message ends where the input does
+abbrev pub message_ended : PageInput → Bool → Taking
+message_ended i aborts = going_on i (Told aborts)
+
+-- the text of a message, as it was read
+abbrev pub message_text_read : PageInput → List ℕ
+message_text_read i = reverse i.arguments.begun
 
 -- the end of the input: an unfinished line ends as by a newline
 abbrev pub end_taking : Known → Reading → PageInput → Taking

@@ -7,9 +7,9 @@ pub use Rattle.roff_run.specs.declared.event.PageEvent.{PageEvent}
 pub use Rattle.roff_run.specs.declared.event.PageEvent.TheVariants.{Text, Space}
 pub use Rattle.roff_run.specs.Registers.{Known}
 use Rattle.roff_run.specs.declared.request.LineReading.{LineReading}
-use Rattle.roff_run.specs.declared.request.LineReading.TheVariants.{ByArguments, ByCondition, ByElse, ByString}
+use Rattle.roff_run.specs.declared.request.LineReading.TheVariants.{ByArguments, ByCondition, ByElse, ByLastLine, ByMessage, ByString}
 use Rattle.roff_run.specs.declared.request.Request.{Request}
-use Rattle.roff_run.specs.declared.request.Request.TheVariants.{Adjust, AppendString, AssignFormat, Break, DefineString, Else, Fill, If, IfElse, Indent, LineLength, NoAdjust, NoFill, NumberRegister, RemoveNames, RemoveRegisters, Rename, Space as SpaceDown, WithoutEffect, LeftOut}
+use Rattle.roff_run.specs.declared.request.Request.TheVariants.{Abort, Adjust, AppendString, AssignFormat, Break, DefineString, Else, Exit, Fill, If, IfElse, Indent, LineLength, NoAdjust, NoFill, NumberRegister, RemoveNames, RemoveRegisters, Rename, Space as SpaceDown, TellMessage, WithoutEffect, LeftOut}
 pub use Rattle.roff_run.specs.Requests.Effects.{Effect, doing, saying, Done, Ignored, Does, nothing, setting, left_out, meant_by}
 use Rattle.roff_run.specs.Requests.Adjustment.{adjust}
 use Rattle.roff_run.specs.Requests.Spacing.{space_down}
@@ -40,12 +40,14 @@ always done known as_given = done
 
 -- the table, in the order of the names, and beside each request the number of its section
 abbrev pub row_of : Request → Row
+row_of Abort = row (codes "ab") (ByMessage true) false (always nothing)  -- section 20
 row_of Adjust = row (codes "ad") ByArguments false (λ known. adjust)  -- section 4
 row_of AssignFormat = row (codes "af") ByArguments false (λ known. assign_format)  -- section 8
 row_of AppendString = row (codes "as") (ByString true) false (always nothing)  -- section 7
 row_of Break = row (codes "br") ByArguments true (always nothing)  -- section 4
 row_of DefineString = row (codes "ds") (ByString false) false (always nothing)  -- section 7
 row_of Else = row (codes "el") ByElse false (always nothing)  -- section 16
+row_of Exit = row (codes "ex") ByLastLine false (always nothing)  -- section 18
 row_of Fill = row (codes "fi") ByArguments true (always (setting (Filling true)))  -- section 4
 row_of IfElse = row (codes "ie") (ByCondition true) false (always nothing)  -- section 16
 row_of If = row (codes "if") (ByCondition false) false (always nothing)  -- section 16
@@ -58,6 +60,7 @@ row_of RemoveNames = row (codes "rm") ByArguments false (λ known. remove_names)
 row_of Rename = row (codes "rn") ByArguments false (λ known. rename)  -- section 7
 row_of RemoveRegisters = row (codes "rr") ByArguments false (λ known. remove_registers)  -- section 8
 row_of SpaceDown = row (codes "sp") ByArguments true (λ known. space_down)  -- section 5
+row_of TellMessage = row (codes "tm") (ByMessage false) false (always nothing)  -- section 20
 row_of (WithoutEffect name) = row name ByArguments false (always nothing)
 row_of (LeftOut name) = row name ByArguments false (always (left_out name))
 
@@ -85,8 +88,8 @@ names_left_out =
 -- the requests that are built, in the order of their names
 abbrev pub built : List Request
 built =
-    Adjust ∷ AssignFormat ∷ AppendString ∷ Break ∷ DefineString ∷ Else ∷ Fill ∷ IfElse ∷ If ∷ Indent ∷ LineLength ∷ NoAdjust
-    ∷ NoFill ∷ NumberRegister ∷ RemoveNames ∷ Rename ∷ RemoveRegisters ∷ SpaceDown ∷ []
+    Abort ∷ Adjust ∷ AssignFormat ∷ AppendString ∷ Break ∷ DefineString ∷ Else ∷ Exit ∷ Fill ∷ IfElse ∷ If ∷ Indent
+    ∷ LineLength ∷ NoAdjust ∷ NoFill ∷ NumberRegister ∷ RemoveNames ∷ Rename ∷ RemoveRegisters ∷ SpaceDown ∷ TellMessage ∷ []
 
 -- those that do nothing, or nothing but say that they are left out
 abbrev pub others : List Request

@@ -9,21 +9,24 @@ use Rattle.roff_num.specs.declared.limit.Limit.{Limit}
 use Rattle.roff_num.specs.declared.limit.Limit.TheVariants.{Bytes, Names, Stack, Depth, Line, Conditions, Store, Diversions}
 use Rattle.roff_num.specs.declared.limits.Limits.{Limits}
 use Rattle.roff_scan.specs.Halves.{decides_now, newline_stays, seen_stays}
-use Rattle.roff_scan.specs.Input.{Ahead, ByteAhead, FreeAhead, EndAhead, DoAhead, initial_input, names_added, pushed, depth, results, stored, cost, item_taken, counting}
+use Rattle.roff_scan.specs.Input.{Ahead, ByteAhead, FreeAhead, EndAhead, DoAhead, initial_input, names_added, pushed, depth, results, stored, cost, item_taken, counting, leaving}
 use Rattle.roff_scan.specs.Tape.{Tape, Answer, OneByte, OneNote, Ended, Failed, Stopped, Gives, Ends, front, behind_front}
 use Rattle.roff_scan.specs.Unread.{Unread, Sighted, SeesByte, SeesNothing, SeesNote, SeesEnding, seen_ahead}
+use Rattle.roff_scan.specs.Arguments.{no_arguments}
 use Rattle.roff_scan.specs.Half.{Half}
-use Rattle.roff_run.specs.Messages.{message_line, message_lines}
+use Rattle.roff_run.specs.Messages.{message_line, message_lines, told_line}
 use Rattle.roff_run.specs.Output.{PageHistory, text_of, written}
-use Rattle.roff_run.specs.Reading.{PageInput, Taking, taking, half_ended, end_taking, interrupted}
+use Rattle.roff_run.specs.Reading.{PageInput, Taking, taking, half_ended, end_taking, interrupted, due, message_begun, message_ended, message_text_read}
 use Rattle.roff_run.specs.Registers.{AllRegisters, Known, no_registers, changed_by_all}
 use Rattle.roff_run.specs.Requests.{PageEvent, Text, Space, Effect, first_entries, requests}
 use Rattle.roff_run.specs.declared.message.Message.{Message}
 use Rattle.roff_run.specs.declared.message.Message.TheVariants.{LimitReached, ReadFailed}
+use Rattle.roff_run.specs.declared.reading.Due.{Due}
+use Rattle.roff_run.specs.declared.reading.Due.TheVariants.{Leaves, Tells as TellsText}
 use Rattle.roff_run.specs.declared.reading.Reading.{Reading}
 use Rattle.roff_run.specs.declared.reading.Reading.TheVariants.{LineStart}
 use Rattle.roff_run.specs.declared.status.Status.{Status}
-use Rattle.roff_run.specs.declared.status.Status.TheVariants.{Done, Device, Limit as Limited}
+use Rattle.roff_run.specs.declared.status.Status.TheVariants.{Aborted, Done, Device, Limit as Limited}
 
 -- a state of the run
 pub record State : Type 0 where
@@ -166,6 +169,27 @@ half_ends s = taken_as (half_ended (known s) s.reading s.input) s
 abbrev pub end_met : State → State
 end_met s = taken_as (end_taking (known s) s.reading s.input) (record s { is_closing = true; to_do = Text WordEnd ∷ Text Break ∷ [] })
 
+-- with nothing half read the end of the input is met, unless a message is read: then its line ends first
+abbrev pub input_ended : Option Bool → State → State
+input_ended None s = end_met s
+input_ended (Some aborts) s = taken_as (message_ended s.input aborts) s
+
+-- a message is told, and its text is released
+abbrev pub message_told : State → State
+message_told s = record s {
+  input = record s.input { arguments = no_arguments };
+  reading = LineStart;
+  messages = s.messages ++ told_line false (message_text_read s.input);
+}
+
+-- a message ended the run
+abbrev pub aborted : State → State
+aborted s = record s { ended = Some Aborted; last_message = told_line true (message_text_read s.input) }
+
+-- what stands ahead of the source is dropped
+abbrev pub input_left : State → State
+input_left s = record s { input = leaving s.input }
+
 -- an item ahead of the source was taken: a byte is read, and an event that was put back is to be performed
 abbrev pub ahead_taken : Ahead PageEvent → State → State
 ahead_taken (ByteAhead b) s = byte_taken b s
@@ -187,7 +211,7 @@ taking_byte l b s =
 
 -- the end of the input: what is half read ends first, one after another
 abbrev pub ending_input : Limits → List Half → State → State
-ending_input l [] s = made l s (end_met s)
+ending_input l [] s = made l s (input_ended (message_begun s.reading) s)
 ending_input l (first ∷ others) s = made l s (half_ends s)
 
 -- the source was asked, with nothing ahead of it, and answered this. At the limit a byte is looked at and not taken.
@@ -229,8 +253,19 @@ abbrev pub waiting : Limits → State → State
 waiting l s = if decides_now s.input.half then made l s (half_ends s) else awaited l (seen_ahead s.input.ahead) s
 
 -- one item of the input, or how it ends
+abbrev pub item_read : Limits → State → State
+item_read l s = if newline_stays s.input.half then waiting l s else in_front_taken l s.input.ahead s
+
+-- what is due comes first: a message is told, or ends the run; or the input is left, and its end is met
+abbrev pub reading_by : Limits → Option Due → State → State
+reading_by l None s = item_read l s
+reading_by l (Some (TellsText false)) s = made l s (message_told s)
+reading_by l (Some (TellsText true)) s = aborted s
+reading_by l (Some Leaves) s = made l s (end_met (input_left s))
+
+-- what is due, or one item of the input, or how it ends
 abbrev pub reading_on : Limits → State → State
-reading_on l s = if newline_stays s.input.half then waiting l s else in_front_taken l s.input.ahead s
+reading_on l s = reading_by l (due s.reading) s
 
 -- one step of a run that hasn't ended: the first of the events to do, the end, or an item
 abbrev pub step_with : Limits → List PageEvent → State → State

@@ -1,13 +1,15 @@
 -- What each status says of a run that ended with it.
-use Rattle.std.specs.Prelude.{◌≡◌, ◌⊎◌, [], Some}
+use Rattle.std.specs.Prelude.{◌≡◌, ◌⊎◌, true, [], Some}
 use Rattle.roff_num.specs.LimitValues.{value_of}
 use Rattle.roff_num.specs.declared.limits.Limits.{Limits}
-use Rattle.roff_run.specs.Messages.{message_line}
+use Rattle.roff_run.specs.Messages.{message_line, told_line}
+use Rattle.roff_run.specs.Reading.{message_text_read}
 use Rattle.roff_run.specs.Results.{last_state, status_of}
 use Rattle.roff_run.specs.Run.{State}
 use Rattle.roff_run.specs.declared.message.Message.TheVariants.{LimitReached, ReadFailed}
 use Rattle.roff_run.specs.declared.status.Status.{Status}
-use Rattle.roff_run.specs.declared.status.Status.TheVariants.{Done, Device, Limit as Limited}
+use Rattle.roff_run.specs.declared.status.Status.TheVariants.{Aborted, Done, Device, Limit as Limited}
+use Rattle.roff_run.specs.declared.reading.Reading.TheVariants.{Exiting, Told}
 use Rattle.roff_scan.specs.Tape.{Tape, Ending, Ended, Failed, Stopped}
 
 -- no item of a tape is left, and its items end so
@@ -15,11 +17,13 @@ pub record HasMet (ending : Ending) (rest : Tape) : Type 0 where
   pub items : rest.items ≡ []
   pub ends : rest.ending ≡ ending
 
--- Done: the end of the input was met, and no message says so. A fault: that of the source was met, and the last
+-- Done: the end of the input was met, or the line of an `.ex` has ended, and no message says so. Aborted: the line of an
+-- `.ab` has ended, and the last message is its text. A fault: that of the source was met, and the last
 -- message says so. A limit: one of the source's own was met, which has no message here; or one of the run, and
 -- then the last message names it with its value.
 abbrev pub Tells : Limits → Status → State → Type 0
-Tells l Done s = HasMet Ended s.tape × (s.last_message ≡ [])
+Tells l Done s = (HasMet Ended s.tape ⊎ (s.reading ≡ Exiting)) × (s.last_message ≡ [])
+Tells l Aborted s = (s.reading ≡ Told true) × (s.last_message ≡ told_line true (message_text_read s.input))
 Tells l Device s = HasMet Failed s.tape × (s.last_message ≡ message_line s.input.line ReadFailed)
 Tells l (Limited limit) s =
     (HasMet (Stopped limit) s.tape × (s.last_message ≡ []))

@@ -6,6 +6,8 @@ use Rattle.roff_scan.specs.Unread.{Unread}
 use Rattle.roff_scan.specs.declared.half.ConditionPart.TheVariants.{Decided}
 use Rattle.roff_run.specs.Reading.{PageInput}
 use Rattle.roff_run.specs.Requests.{PageEvent}
+use Rattle.roff_run.specs.declared.reading.Reading.{Reading}
+use Rattle.roff_run.specs.declared.reading.Reading.TheVariants.{Name, Telling, Told}
 
 -- the bytes ahead that cost nothing
 abbrev pub free_ahead : List (Ahead PageEvent) → ℕ
@@ -23,7 +25,15 @@ endings_of (Condition (Decided decision None) text ∷ rest) = endings_of rest +
 endings_of (Condition part text ∷ rest) = endings_of rest + 2
 endings_of (half ∷ rest) = endings_of rest + 1
 
--- what falls with each turn, within so many bytes: each item is paid for or free, and may begin three endings
+-- What is read may need turns of its own: behind a name's first byte a condition may begin, which ends in two turns; a
+-- message's line ends where the input does, and then the message is told.
+abbrev pub begun : Reading → ℕ
+begun (Name breaks first) = 1
+begun (Telling aborts is_front) = 2
+begun (Told aborts) = 1
+begun (_) = 0
+
+-- what falls with each turn beside that, within so many bytes: each item is paid for or free, and may begin three endings
 abbrev pub turns_within : ℕ → PageInput → ℕ
 turns_within bytes i = 4 * (bytes - i.charge) + 4 * free_ahead i.ahead + endings_of i.half
 

@@ -11,10 +11,11 @@ ghost use Rattle.roff_run.specs.Requests.Effects.{Ignored, changing, naming};
 ghost use Rattle.roff_run.specs.Requests.Lengths.{length_set};
 ghost use Rattle.roff_run.specs.Requests.Numbering.{number, remove_registers, set_register};
 ghost use Rattle.roff_num.specs.declared.limit.Limit.TheVariants.{Bytes, Depth, Line, Names, Stack};
-ghost use Rattle.roff_run.specs.declared.status.Status.TheVariants.{Done, Device, Limit as Limited};
+ghost use Rattle.roff_run.specs.declared.status.Status.TheVariants.{Aborted, Done, Device, Limit as Limited};
 ghost use Rattle.roff_run.specs.Laws.{LimitsOnlyCut, SameUntilALimit, FailingOnlyCuts, SameUntilTheFault, NoLimitIsPassed, StepsOnlyAppend};
 ghost use Rattle.roff_run.specs.ResultLaws.{EveryRunEnds, StepsLeadToTheLastState, NoOtherStateIsLast, LimitsCutResults, SameResultWithoutALimit, FailingCutsResults, SameResultBeforeTheFault, EachStateIsABeginning};
 ghost use Rattle.roff_run.specs.Statuses.{EachStatusTells};
+ghost use Rattle.roff_run.specs.MessageLaws.{MessagesAreTheirTexts};
 ghost use Rattle.roff_run.specs.Taken.{EachItemIsTakenOnce, EachRunLeavesItsRest};
 ghost use Rattle.roff_run.specs.RequestLaws.{EachIsListedOnce, EachIsNamed, EachNameHasTwoBytes, LeftOutOnlySaysSo, WithoutEffectDoesNothing};
 ghost use Rattle.roff_run.specs.Rows.{gives, formatted, formatted_within, formatted_with, formatted_failing};
@@ -207,4 +208,21 @@ pub fn escape_rows()
     ensures no_strings_yet { formatted (codes "\\*x.br\na\\$1b\n") ≡ gives (codes "ab\n") [] Done }
     ensures comment_in_a_name { formatted (codes "\\(em\\(e\\\" m\n")
         ≡ gives (codes "--\n") (codes "nroff: line 1: unknown character: e\n") Done }
+{}
+
+/// What the definitions give on worked rows of messages of the input, and of its end.
+pub fn message_rows()
+    ensures told { formatted (codes ".tm hi\n") ≡ gives [] (codes "hi\n") Done }
+    ensures told_at_the_end { formatted (codes "a\n.tm  \"b c")
+        ≡ gives (codes "a\n") (codes "\"b c\n") Done }
+    ensures empty_line { formatted (codes ".tm\n") ≡ gives [] (codes "\n") Done }
+    ensures aborted { formatted (codes "ab\n.ab stop\n") ≡ gives [] (codes "stop\n") Aborted }
+    ensures user_abort { formatted (codes "a\n.ab") ≡ gives [] (codes "User Abort\n") Aborted }
+    ensures left { formatted (codes ".pl 1\na\n.ex b\nc\n") ≡ gives (codes "a\n") [] Done }
+{}
+
+/// A line of a message that has no escape, and no byte that is dropped, tells its text: without the
+/// blanks in front, and with its quotes.
+pub fn messages()
+    ensures { MessagesAreTheirTexts }
 {}

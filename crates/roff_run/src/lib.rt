@@ -18,4 +18,5 @@ mod status;
 pub use event::{Events, PageEvent};
 pub use message::{CharacterName, Message, MessageLine};
 pub use reader::{Meaning, Reader, first_unread};
+pub use reading::Due;
 pub use status::Status;

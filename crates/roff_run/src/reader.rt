@@ -1,6 +1,6 @@
 //! Reading: what each item of the input means, before it is done.
 
-ghost use Rattle.std.specs.Prelude.{◌≡◌, ◌≢◌, ◌≤◌, ℕ, List, [], ◌∷◌, None, Some, true, IfOk, IfSome, Ok, length, reverse, slice_get};
+ghost use Rattle.std.specs.Prelude.{◌≡◌, ◌≢◌, ◌≤◌, ℕ, List, [], ◌∷◌, None, Some, false, true, IfOk, IfSome, Ok, length, reverse, slice_get};
 ghost use Rattle.std.specs.Option.{option_copied};
 ghost use Rattle.roff_lines.specs.declared.event.Event.TheVariants.{Gap, Print, WordEnd};
 ghost use Rattle.roff_lines.specs.declared.glyph.Glyph.TheVariants.{Printed};
@@ -8,11 +8,11 @@ ghost use Rattle.roff_run.specs.Requests.{Text};
 ghost use Rattle.roff_scan.specs.declared.arguments.Place.TheVariants.{BehindQuote};
 ghost use Rattle.roff_scan.specs.declared.half.CopyUnit.TheVariants.{Byte};
 ghost use Rattle.roff_run.specs.Registers.{Known as KnownOf};
-ghost use Rattle.roff_run.specs.Clauses.{AllRegisters, Changed, calling_all, calls_of, name_in, removals, Env, LineStart, NameOf, PageHistory, PageInput, PageUnread, Passes, Remove, Stands, TakesAs, arguments_found, asking, beginning_found, behind_name, changed_by, changes_of, condition_begun, condition_found, decided, effect_of, end_taking, first_escape, first_taking, fresh_reader, going_on, meaning_events, half_ended, holding, holding_text, interpolating, interrupted, is_passed, is_so, kept_taking, known_at, known_of, first_unread, line_taking, request_named, line_begun, line_ended, listed, row_of, measuring, name_ended_taking, name_taking, names_given, no_unit_found, putting_nothing, register_named, request_effect, taking, telling, text_found, text_of, unit_found, value_in_force, InputBecame, arguments_given, first_name, name_read, putting_string, string_begun, string_emptied, string_entered, string_grown, string_line_ended, string_name_behind, string_name_found, string_name_or_text, string_name_unit, string_text_found, string_unit};
+ghost use Rattle.roff_run.specs.Clauses.{AllRegisters, Changed, calling_all, calls_of, name_in, removals, Env, LineStart, NameOf, Telling, PageHistory, PageInput, PageUnread, Passes, Remove, Stands, TakesAs, arguments_found, asking, beginning_found, behind_name, changed_by, changes_of, condition_found, decided, effect_of, end_taking, first_escape, first_taking, fresh_reader, going_on, meaning_events, half_ended, holding, holding_text, interpolating, interrupted, is_passed, is_so, kept_taking, known_at, known_of, first_unread, line_taking, request_named, line_begun, line_ended, listed, row_of, measuring, name_ended_taking, name_taking, names_given, no_unit_found, putting_nothing, register_named, request_effect, taking, telling, text_found, text_of, unit_found, value_in_force, InputBecame, arguments_given, first_name, name_read, putting_string, string_begun, string_emptied, string_entered, string_grown, string_line_ended, string_name_behind, string_name_found, string_name_or_text, string_name_unit, string_text_found, string_unit, due, holding_plain, message_begun, message_ended, message_found, message_unit, condition_begun};
 
 use crate::event::{Events, PageEvent};
 use crate::message::Message;
-use crate::reading::{Reading, ShortName, TextLine, TextStep, ends_name};
+use crate::reading::{Due, Reading, ShortName, TextLine, TextStep, ends_name};
 use crate::registers::{Facts, RunRegisters};
 use crate::request::{
     Changes, Effect, Given, Known, LineReading, Request, name_given, register_named,
@@ -94,8 +94,9 @@ impl Reader {
     /// of the branch.
     #[inline(always)]
     pub fn passes_over(&self) -> Option<bool>
-        ensures { IfSome result (λ within_block. (b : ℕ) → is_passed within_block b ≡ true
+        ensures passes { IfSome result (λ within_block. (b : ℕ) → is_passed within_block b ≡ true
             → Passes self.now.reading b) }
+        ensures none_due { IfSome result (λ within_block. due self.now.reading ≡ None) }
     {
         match self.reading {
             Reading::Dropped => Some(false),
@@ -184,6 +185,12 @@ impl Reader {
                 behind,
             } => Ok(self.read_on(Reading::behind_skipped(opened, closed, behind, byte))),
             Reading::Dropped => Ok(self.read_on(Reading::behind_dropped(byte))),
+            Reading::Telling { aborts, is_front } => {
+                let read = unread.read_byte(Surroundings::Copy, byte);
+                self.read_message(aborts, is_front, read, env, unread)
+            }
+            Reading::Told { aborts } => Ok(self.read_on(Reading::Told { aborts })),
+            Reading::Exiting => Ok(self.read_on(Reading::Exiting)),
         }
     }
 
@@ -233,6 +240,10 @@ impl Reader {
                 let found = unread.end_reading(Surroundings::Copy);
                 self.read_string(name, appends, is_front, found, env, unread)
             }
+            Reading::Telling { aborts, is_front } => {
+                let found = unread.end_reading(Surroundings::Copy);
+                self.read_message(aborts, is_front, found, env, unread)
+            }
             _ => {
                 let _ = unread.end_reading(Surroundings::Text);
                 Ok(Meaning::nothing())
@@ -257,6 +268,36 @@ impl Reader {
             Reading::LineStart => Ok(Meaning::nothing()),
             _ => self.read_kept(b'\n', env, unread),
         }
+    }
+
+    /// What is due before anything more is taken.
+    #[inline(always)]
+    pub fn due(&self) -> Option<Due>
+        ensures { result ≡ due self.now.reading }
+    {
+        self.reading.due()
+    }
+
+    /// Whether the text of a message is read, and then whether it aborts the run.
+    pub fn message_begun(&self) -> Option<bool>
+        ensures { result ≡ message_begun self.now.reading }
+    {
+        self.reading.message_begun()
+    }
+
+    /// The line of a message ends where the input does.
+    pub fn end_message(&mut self, aborts: bool) -> Meaning
+        ensures { (env : Env) (u : PageUnread)
+            → TakesAs (λ k. message_ended u.input aborts) env self.old self.new u u (Ok result) }
+    {
+        self.read_on(Reading::Told { aborts })
+    }
+
+    /// A line begins.
+    pub fn begin_next_line(&mut self)
+        ensures { self.new ≡ record self.old { reading = LineStart } }
+    {
+        self.reading = Reading::LineStart;
     }
 
     /// Something that isn't a byte of the line stands in front: no quote follows the quote before it.
@@ -473,6 +514,14 @@ impl Reader {
                 let found = unread.read_byte(Surroundings::Arguments, byte);
                 self.read_string_name(appends, found, env, unread)
             }
+            LineReading::ByLastLine => {
+                let found = unread.read_byte(Surroundings::Arguments, byte);
+                self.read_arguments(breaks, request, found, env, unread)
+            }
+            LineReading::ByMessage { aborts } => {
+                let read = unread.read_byte(Surroundings::Copy, byte);
+                self.read_message(aborts, true, read, env, unread)
+            }
             LineReading::ByElse => {
                 let so = unread.take_kept() == Some(false);
                 self.begin_branch(so, Some(byte), env, unread)
@@ -518,6 +567,11 @@ impl Reader {
                 Reading::Deciding { keeps }
             }
             LineReading::ByString { appends } => Reading::StringName { appends },
+            LineReading::ByLastLine => Reading::Arguments { breaks, request },
+            LineReading::ByMessage { aborts } => Reading::Telling {
+                aborts,
+                is_front: true,
+            },
             LineReading::ByElse => Reading::branch(unread.take_kept() == Some(false)),
         };
         self.read_on(reading)
@@ -820,6 +874,70 @@ impl Reader {
         }
     }
 
+    /// Something of a message's text.
+    fn read_message(
+        &mut self,
+        aborts: bool,
+        is_front: bool,
+        found: Read,
+        env: &Env,
+        unread: &mut Unread<PageEvent>,
+    ) -> Result<Meaning, Limit>
+        ensures { TakesAs (λ k. message_found k unread.old.input aborts is_front found)
+            env.now self.old self.new unread.old unread.new result }
+    {
+        match found {
+            Read::Unit(unit) => self.read_unit_of_message(aborts, is_front, unit, unread),
+            Read::Escape(byte) => {
+                self.read_unit_of_message(aborts, is_front, CopyUnit::Kept(byte), unread)
+            }
+            _ => {
+                let reading = Reading::Telling { aborts, is_front };
+                self.read_in_arguments(reading, found, env, unread)
+            }
+        }
+    }
+
+    /// A unit of a message's text: in front of it blanks are dropped; a newline ends it.
+    fn read_unit_of_message(
+        &mut self,
+        aborts: bool,
+        is_front: bool,
+        unit: CopyUnit,
+        unread: &mut Unread<PageEvent>,
+    ) -> Result<Meaning, Limit>
+        ensures { (env : Env)
+            → TakesAs (λ k. message_unit unread.old.input aborts is_front unit)
+            env self.old self.new unread.old unread.new result }
+    {
+        match unit {
+            CopyUnit::Byte(b'\n') => Ok(self.read_on(Reading::Told { aborts })),
+            CopyUnit::Byte(b' ') if is_front => Ok(self.read_on(Reading::Telling {
+                aborts,
+                is_front: true,
+            })),
+            _ => self.hold_plain(unit, aborts, unread),
+        }
+    }
+
+    /// A unit of a message's text is held.
+    fn hold_plain(
+        &mut self,
+        unit: CopyUnit,
+        aborts: bool,
+        unread: &mut Unread<PageEvent>,
+    ) -> Result<Meaning, Limit>
+        ensures { (env : Env)
+            → TakesAs (λ k. going_on (holding_plain unit unread.old.input) (Telling aborts false))
+            env self.old self.new unread.old unread.new result }
+    {
+        unread.hold_plain(unit)?;
+        Ok(self.read_on(Reading::Telling {
+            aborts,
+            is_front: false,
+        }))
+    }
+
     /// A unit of an argument is held, and this is read on.
     fn hold(
         &mut self,
@@ -956,8 +1074,9 @@ impl Reader {
         unread.finish_arguments();
         let effect = self.effect(breaks, request, env, unread);
         self.change(effect.changes, unread)?;
+        let behind = Reading::behind_line(request.row().line);
         unread.begin_arguments();
-        self.reading = Reading::LineStart;
+        self.reading = behind;
         Ok(Meaning {
             message: effect.message,
             events: effect.events,

@@ -3,7 +3,7 @@
 ghost use Rattle.std.specs.Prelude.{◌≡◌, ℕ, ◌≤◌, ◌+◌, ◌++◌, ◌∷◌, [], length, map, true, min};
 ghost use Rattle.roff_lines.specs.declared.event.Event.TheVariants.{Gap, Print, WordEnd};
 ghost use Rattle.roff_lines.specs.declared.glyph.Glyph.TheVariants.{Printed};
-ghost use Rattle.roff_run.specs.Reading.{PageInput, name_bytes, short_name, branch_of, counted_if, going_on, kept_taking, dropped_taking, skipping_taking, ends_name, brace_taking, character_taking, escape_taking, fresh_line, glyph_taking, glyphs_taking, blank_taking, leading_blank_events, leading_glyph, left_out_taking, meaning_events, most_leading, motion_taking, other_taking, taking, told_taking, text_line_end, text_taking};
+ghost use Rattle.roff_run.specs.Reading.{PageInput, due, message_begun, name_bytes, reading_behind, short_name, branch_of, counted_if, going_on, kept_taking, dropped_taking, skipping_taking, ends_name, brace_taking, character_taking, escape_taking, fresh_line, glyph_taking, glyphs_taking, blank_taking, leading_blank_events, leading_glyph, left_out_taking, meaning_events, most_leading, motion_taking, other_taking, taking, told_taking, text_line_end, text_taking};
 ghost use Rattle.std.specs.Option.{option_to_list};
 ghost use Rattle.roff_run.specs.Messages.{remark_messages};
 ghost use Rattle.roff_run.specs.Requests.{Text};
@@ -16,7 +16,7 @@ mod tests;
 
 use crate::event::{Events, PageEvent};
 use crate::message::{CharacterName, Message};
-use crate::request::Request;
+use crate::request::{LineReading, Request};
 use roff_lines::{Event, Glyph};
 use roff_num::Name;
 use roff_scan::{Escape, Remark, TextUse, character, escape_of, is_silent};
@@ -72,6 +72,29 @@ pub(crate) enum Reading {
     },
     /// A line that is dropped.
     Dropped,
+    /// The text of a message, which may abort the run, and whether it is in front of it.
+    Telling {
+        aborts: bool,
+        is_front: bool,
+    },
+    /// The line of a message has ended; its text is held still.
+    Told {
+        aborts: bool,
+    },
+    /// The line behind which nothing is read has ended.
+    Exiting,
+}
+
+/// What is due before anything more is taken.
+#[derive(Clone, Copy, Debug, PartialEq, Eq)]
+pub enum Due {
+    /// The text of a message is told.
+    Tells {
+        /// Whether that ends the run.
+        aborts: bool,
+    },
+    /// The input is left.
+    Leaves,
 }
 
 /// A name of one or two bytes.
@@ -116,6 +139,42 @@ impl Reading {
                 closed: 0,
                 behind: false,
             }
+        }
+    }
+
+    /// What is read behind a request's line, by how that is read.
+    pub(crate) fn behind_line(line: LineReading) -> Reading
+        ensures { result ≡ reading_behind line }
+    {
+        match line {
+            LineReading::ByLastLine => Reading::Exiting,
+            LineReading::ByArguments => Reading::LineStart,
+            LineReading::ByCondition { .. } => Reading::LineStart,
+            LineReading::ByElse => Reading::LineStart,
+            LineReading::ByMessage { .. } => Reading::LineStart,
+            LineReading::ByString { .. } => Reading::LineStart,
+        }
+    }
+
+    /// What is due before anything more is taken.
+    #[inline(always)]
+    pub(crate) fn due(self) -> Option<Due>
+        ensures { result ≡ due self }
+    {
+        match self {
+            Reading::Told { aborts } => Some(Due::Tells { aborts }),
+            Reading::Exiting => Some(Due::Leaves),
+            _ => None,
+        }
+    }
+
+    /// Whether the text of a message is read, and then whether it aborts the run.
+    pub(crate) fn message_begun(self) -> Option<bool>
+        ensures { result ≡ message_begun self }
+    {
+        match self {
+            Reading::Telling { aborts, .. } => Some(aborts),
+            _ => None,
         }
     }
 

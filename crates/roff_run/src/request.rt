@@ -14,7 +14,7 @@ mod spacing;
 #[cfg(test)]
 mod tests;
 
-use LineReading::{ByArguments, ByCondition, ByElse, ByString};
+use LineReading::{ByArguments, ByCondition, ByElse, ByLastLine, ByMessage, ByString};
 use Request::{LeftOut, WithoutEffect};
 pub(crate) use effects::{Changes, Done, Effect, Known};
 pub(crate) use numbering::{name_given, register_named};
@@ -23,6 +23,8 @@ use roff_lines::Param;
 /// A request.
 #[derive(Clone, Copy, Debug, PartialEq, Eq)]
 pub(crate) enum Request {
+    /// `ab`: a message, and the end of the run.
+    Abort,
     /// `ad`: adjusting on, in a mode.
     Adjust,
     /// `as`: a string is appended to.
@@ -35,6 +37,8 @@ pub(crate) enum Request {
     DefineString,
     /// `el`: the other branch of a condition.
     Else,
+    /// `ex`: the end of all input.
+    Exit,
     /// `fi`: filling on.
     Fill,
     /// `if`: a condition.
@@ -59,6 +63,8 @@ pub(crate) enum Request {
     Rename,
     /// `sp`: blank lines.
     Space,
+    /// `tm`: a message.
+    TellMessage,
     /// One of this name that is read without effect.
     WithoutEffect([u8; 2]),
     /// One of this name that is left out, and says so.
@@ -77,6 +83,13 @@ pub(crate) enum LineReading {
     },
     /// As the other branch of the condition whose result was kept last.
     ByElse,
+    /// As arguments, and nothing behind it is read.
+    ByLastLine,
+    /// As the text of a message.
+    ByMessage {
+        /// Whether it aborts the run.
+        aborts: bool,
+    },
     /// As the name of a string and its text.
     ByString {
         /// Whether the text is put behind the string.
@@ -104,13 +117,15 @@ pub(crate) struct Row {
 }
 
 /// The requests that are built, in the order of their names.
-static BUILT: [Request; 18] = [
+static BUILT: [Request; 21] = [
+    Request::Abort,
     Request::Adjust,
     Request::AssignFormat,
     Request::AppendString,
     Request::Break,
     Request::DefineString,
     Request::Else,
+    Request::Exit,
     Request::Fill,
     Request::IfElse,
     Request::If,
@@ -123,6 +138,7 @@ static BUILT: [Request; 18] = [
     Request::Rename,
     Request::RemoveRegisters,
     Request::Space,
+    Request::TellMessage,
 ];
 
 /// The names of those that are read without effect.
@@ -150,7 +166,7 @@ static LEFT_OUT: [[u8; 2]; 24] = [
 
 impl Request {
     /// How many there are.
-    pub(crate) const COUNT: u16 = 57;
+    pub(crate) const COUNT: u16 = 60;
 
     /// The request of this place in the table, if there is one.
     pub(crate) fn numbered(number: usize) -> Option<Request>
@@ -172,12 +188,14 @@ impl Request {
         ensures { result ≡ coded_row self }
     {
         match self {
+            Request::Abort => Row { name: *b"ab", line: ByMessage { aborts: true }, breaks: false },
             Request::Adjust => Row { name: *b"ad", line: ByArguments, breaks: false },
             Request::AssignFormat => Row { name: *b"af", line: ByArguments, breaks: false },
             Request::AppendString => Row { name: *b"as", line: ByString { appends: true }, breaks: false },
             Request::Break => Row { name: *b"br", line: ByArguments, breaks: true },
             Request::DefineString => Row { name: *b"ds", line: ByString { appends: false }, breaks: false },
             Request::Else => Row { name: *b"el", line: ByElse, breaks: false },
+            Request::Exit => Row { name: *b"ex", line: ByLastLine, breaks: false },
             Request::Fill => Row { name: *b"fi", line: ByArguments, breaks: true },
             Request::IfElse => Row { name: *b"ie", line: ByCondition { keeps: true }, breaks: false },
             Request::If => Row { name: *b"if", line: ByCondition { keeps: false }, breaks: false },
@@ -190,6 +208,7 @@ impl Request {
             Request::Rename => Row { name: *b"rn", line: ByArguments, breaks: false },
             Request::RemoveRegisters => Row { name: *b"rr", line: ByArguments, breaks: false },
             Request::Space => Row { name: *b"sp", line: ByArguments, breaks: true },
+            Request::TellMessage => Row { name: *b"tm", line: ByMessage { aborts: false }, breaks: false },
             WithoutEffect(name) => Row { name, line: ByArguments, breaks: false },
             LeftOut(name) => Row { name, line: ByArguments, breaks: false },
         }
@@ -211,12 +230,14 @@ impl Request {
             → done_of as_given result ≡ (row_of self).does k as_given }
     {
         match self {
+            Request::Abort => Done::nothing(),
             Request::Adjust => adjustment::adjust(given.first),
             Request::AssignFormat => numbering::assign_format(given.first, given.second),
             Request::AppendString => Done::nothing(),
             Request::Break => Done::nothing(),
             Request::DefineString => Done::nothing(),
             Request::Else => Done::nothing(),
+            Request::Exit => Done::nothing(),
             Request::Fill => Done::setting(Param::Filling(true)),
             Request::IfElse => Done::nothing(),
             Request::If => Done::nothing(),
@@ -229,6 +250,7 @@ impl Request {
             Request::Rename => naming::rename(given.first, given.second),
             Request::RemoveRegisters => Done::changing(Changes::RemoveGiven),
             Request::Space => spacing::space_down(given.first),
+            Request::TellMessage => Done::nothing(),
             WithoutEffect(_) => Done::nothing(),
             LeftOut(name) => Done::left_out(name),
         }

@@ -9,6 +9,8 @@ pub enum Status {
     Done,
     /// At a fault of the source or of a sink.
     Device,
+    /// At the request that aborts it.
+    Aborted,
     /// At a limit.
     Limit(Limit),
 }

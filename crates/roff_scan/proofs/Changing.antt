@@ -6,7 +6,7 @@ use Rattle.roff_num.specs.declared.limit.Limit.{Limit}
 use Rattle.roff_num.specs.declared.limit.Limit.TheVariants.{Stack, Depth, Store, Names}
 use Rattle.roff_scan.specs.Arguments.{Arguments, held}
 use Rattle.roff_scan.specs.Half.{Half, texts_held}
-use Rattle.roff_scan.specs.Input.{Input, EndAhead, pushed, depth, results, pushing, freeing, with_arguments, with_half, bytes_ahead, names_added, stored}
+use Rattle.roff_scan.specs.Input.{Input, EndAhead, pushed, depth, results, pushing, freeing, leaving, with_arguments, with_half, bytes_ahead, names_added, stored}
 use Rattle.roff_scan.specs.Unread.{Unread, IsWithin, changing, unless_passed}
 use Rattle.roff_scan.proofs.KeptArguments.{held-only_kept}
 use Rattle.roff_scan.proofs.Counts.{bytes_ahead-bytes, ends_ahead-bytes, bytes_ahead-frees, ends_ahead-frees}
@@ -136,6 +136,43 @@ module _ {E : Type 0} (u : Unread E) (a : Arguments) where
 
       pub IsWithin-holding : IsWithin (record u { input = with_arguments a u.input })
       IsWithin-holding = IsWithin-with_arguments within held_within
+
+-- a text of the line, of which one unit more is held
+module _ {E : Type 0} (u : Unread E) (a : Arguments) (bytes more : ℕ) (counted : bytes ≡ pushed u.input) (longer : held a ≡ held u.input.arguments + more) where
+  -- one that doesn't fit is refused
+  pub plain_past_stack : u.limits.stack - bytes < more → changing (record u.input { arguments = a }) u ≡ (Err Stack, u)
+  plain_past_stack above = changing_past_stack u (record u.input { arguments = a }) (omega (arith, above, counted, longer))
+
+  module _ (within : IsWithin u) (fits : more ≤ u.limits.stack - bytes) where
+    pub IsWithin-plain : IsWithin (record u { input = record u.input { arguments = a } })
+    IsWithin-plain = record {
+      charge = within.charge;
+      newlines = within.newlines;
+      pushed = omega (arith, fits, counted, longer, within.pushed);
+      depth = within.depth;
+      results = within.results;
+      stored = within.stored;
+      names = within.names;
+      making = within.making;
+    }
+
+    -- and one that fits is held
+    pub plain_within : changing (record u.input { arguments = a }) u ≡ (Ok tt, record u { input = record u.input { arguments = a } })
+    plain_within =
+        changing_within u (record u.input { arguments = a }) IsWithin-plain.pushed within.depth within.results within.stored within.names within.making
+
+-- where nothing stands ahead
+pub IsWithin-leaving : {E : Type 0} (u : Unread E) → IsWithin u → IsWithin (record u { input = leaving u.input })
+IsWithin-leaving u within = record {
+  charge = within.charge;
+  newlines = within.newlines;
+  pushed = omega (arith, within.pushed);
+  depth = omega arith;
+  results = within.results;
+  stored = within.stored;
+  names = within.names;
+  making = within.making;
+}
 
 -- where no more is held of texts between delimiters
 pub IsWithin-with_half :

@@ -73,6 +73,11 @@ abbrev pub with_unit : Arguments → CopyUnit → Arguments
 with_unit a (Byte b) = with_argument_byte a b
 with_unit a (Kept b) = with_kept a b
 
+-- the arguments behind a unit of a text in which nothing separates or quotes
+abbrev pub with_plain : Arguments → CopyUnit → Arguments
+with_plain a (Byte b) = with_byte a InPlain b
+with_plain a (Kept b) = with_byte (with_byte a InPlain backslash) InPlain b
+
 -- the bytes of some texts
 abbrev pub total_length : List (List ℕ) → ℕ
 total_length [] = 0

@@ -3,7 +3,7 @@
 -- Pushed texts, each with its end, and events put back stand ahead of the source's items in one list. Beside it the input
 -- has what names stand for, whose bodies are pushed, and the texts that are being made of it.
 use Rattle.std.specs.Prelude.{ℕ, ◌+◌, ◌-◌, ◌*◌, Bool, true, false, List, [], ◌∷◌, ◌++◌, drop, length, map, Option, Some, None, if◌then◌else◌, ◌==◌}
-use Rattle.roff_scan.specs.Arguments.{Arguments, no_arguments, only_kept, held}
+use Rattle.roff_scan.specs.Arguments.{Arguments, no_arguments, only_kept, held, with_plain}
 use Rattle.roff_scan.specs.Bytes.{newline}
 use Rattle.roff_scan.specs.Half.{Half, Condition, texts_held, text_held}
 use Rattle.roff_scan.specs.declared.half.ConditionPart.TheVariants.{Choice}
@@ -130,6 +130,10 @@ putting_back event i = record i { ahead = DoAhead event ∷ i.ahead }
 abbrev pub freeing : {E : Type 0} → List ℕ → Input E → Input E
 freeing bytes i = record i { ahead = map FreeAhead bytes ++ i.ahead }
 
+-- all that stands ahead is dropped
+abbrev pub leaving : {E : Type 0} → Input E → Input E
+leaving i = record i { ahead = [] }
+
 -- what an item ahead costs
 abbrev pub cost : {E : Type 0} → Ahead E → ℕ
 cost (ByteAhead b) = 1
@@ -183,6 +187,10 @@ without_arguments i = record i { arguments = no_arguments }
 -- these arguments were read: of those that are whole only the ones to be kept are there
 abbrev pub with_arguments : {E : Type 0} → Arguments → Input E → Input E
 with_arguments a i = record i { arguments = only_kept a }
+
+-- one unit more is held of a line's text, in which nothing separates or quotes
+abbrev pub holding_plain : {E : Type 0} → CopyUnit → Input E → Input E
+holding_plain unit i = record i { arguments = with_plain i.arguments unit }
 
 -- one unit more is held of the text between delimiters that is being read
 abbrev pub holding_text : {E : Type 0} → CopyUnit → Input E → Input E

@@ -2,7 +2,7 @@
 
 ghost use Rattle.std.specs.Prelude.{◌≡◌, ℕ, ◌+◌, ◌<◌, ◌≤◌, ◌∷◌, ◌++◌, length, reverse, slice_get, IfOk, ◌==◌};
 ghost use Rattle.std.specs.Option.{option_copied};
-ghost use Rattle.roff_scan.specs.Arguments.{Arguments, no_arguments, with_unit, with_argument_byte, with_kept, with_byte, with_whole, settled, finished, held, kept, in_argument};
+ghost use Rattle.roff_scan.specs.Arguments.{Arguments, no_arguments, with_unit, with_argument_byte, with_kept, with_plain, with_byte, with_whole, settled, finished, held, kept, in_argument};
 ghost use Rattle.roff_scan.specs.ArgumentTexts.Ends.{is_kept, last_end, EndWithin, EndWithin-prop};
 
 use crate::half::CopyUnit;
@@ -142,6 +142,21 @@ impl ArgumentTexts {
         }
     }
 
+    /// One unit more of a text in which nothing separates or quotes.
+    pub(crate) fn take_plain(&mut self, unit: CopyUnit)
+        requires { held (with_plain self.old.arguments unit) ≤ self.old.room }
+        ensures { self.new
+            ≡ record self.old { arguments = with_plain self.old.arguments unit } }
+    {
+        match unit {
+            CopyUnit::Byte(byte) => self.push(byte, Place::InPlain),
+            CopyUnit::Kept(byte) => {
+                self.push(b'\\', Place::InPlain);
+                self.push(byte, Place::InPlain);
+            }
+        }
+    }
+
     /// What follows is no quote: an argument within quotes whose last quote was read is whole.
     pub(crate) fn settle(&mut self)
         ensures value { self.new ≡ keeping self.old (settled self.old.arguments) }
@@ -173,6 +188,14 @@ impl ArgumentTexts {
             bytes: self.bytes.as_slice(),
             ends: self.ends.as_slice(),
         }
+    }
+
+    /// The argument that is being read, as far as it is.
+    pub(crate) fn begun(&self) -> &[u8]
+        ensures { result.now ≡ reverse self.now.arguments.begun }
+    {
+        let start = last_end(self.ends.as_slice()) as usize;
+        self.bytes.as_slice().split_at(start).1
     }
 
     /// One byte more of the line.
@@ -255,6 +278,16 @@ impl<'a> ArgumentList<'a> {
             }
             None => None,
         }
+    }
+}
+
+/// How many bytes a unit has.
+pub(crate) fn bytes_of(unit: CopyUnit) -> usize
+    ensures { (a : Arguments) → held (with_plain a unit) ≡ held a + result }
+{
+    match unit {
+        CopyUnit::Byte(_) => 1,
+        CopyUnit::Kept(_) => 2,
     }
 }
 

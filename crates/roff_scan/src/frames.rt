@@ -192,6 +192,15 @@ impl<E: Copy> Frames<E> {
         }
     }
 
+    /// Drops all that stands ahead.
+    pub(crate) fn clear(&mut self)
+        ensures { self.new ≡ record self.old { ahead = [] } }
+    {
+        while !self.is_empty() {
+            let _ = self.take();
+        }
+    }
+
     /// What is seen in front, behind any ends of texts; nothing where only those are there.
     pub(crate) fn seen(&self) -> Option<Sight>
         ensures { option_map sighted result ≡ seen_ahead self.now.ahead }

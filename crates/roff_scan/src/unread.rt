@@ -7,9 +7,9 @@ ghost use Rattle.roff_store.specs.Texts.{entry_given, kind_given, kind_of};
 ghost use Rattle.roff_scan.specs.Halves.{byte_read, decides_now, reading_ended, newline_stays, seen_stays};
 ghost use Rattle.std.specs.Prelude.{reverse, true, false, not, ◌≡◌, ◌==◌, ◌+◌, ◌<◌, ◌≤◌, length, None, option_map, IfOk, IfSome};
 ghost use Rattle.roff_scan.specs.Tape.{Answer, OneByte, OneNote, Gives, Failed, Rises};
-ghost use Rattle.roff_scan.specs.Input.{is_none_ahead, counting, choosing, keeping, kept_last, without_last, events_ahead, frees_ahead, most_events, most_frees, holding_text, pushed, depth, pushing, putting_back, freeing, with_arguments, without_arguments, adding, body_named, calling, dropping, entering};
+ghost use Rattle.roff_scan.specs.Input.{is_none_ahead, counting, choosing, keeping, kept_last, leaving, without_last, events_ahead, frees_ahead, most_events, most_frees, holding_plain, holding_text, pushed, depth, pushing, putting_back, freeing, with_arguments, without_arguments, adding, body_named, calling, dropping, entering};
 
-use crate::arguments::{ArgumentList, ArgumentTexts};
+use crate::arguments::{ArgumentList, ArgumentTexts, bytes_of};
 use crate::bytes::{newlines_among, passed_len};
 use crate::frames::Frames;
 use crate::half::{CopyUnit, Read, Surroundings};
@@ -397,6 +397,14 @@ impl<E: Copy> Unread<E> {
         self.frames.free(bytes);
     }
 
+    /// Drops all that stands ahead of the source. That costs nothing.
+    pub fn leave(&mut self)
+        ensures change { self.new ≡ record self.old { input = leaving self.old.input } }
+        ensures within { IsWithin self.new }
+    {
+        self.frames.clear();
+    }
+
     /// Whether something is half read.
     pub fn is_half_read(&self) -> bool
         ensures { result ≡ not (length self.now.input.half == 0) }
@@ -519,6 +527,30 @@ impl<E: Copy> Unread<E> {
         }
         self.arguments.take(unit);
         Ok(())
+    }
+
+    /// Holds one unit more of a line's text, in which nothing separates or quotes.
+    ///
+    /// # Errors
+    ///
+    /// [`Limit::Stack`] if its bytes don't fit.
+    pub fn hold_plain(&mut self, unit: CopyUnit) -> Result<(), Limit>
+        ensures change { (result, self.new)
+            ≡ changing (holding_plain unit self.old.input) self.old }
+        ensures within { IsWithin self.new }
+    {
+        if bytes_of(unit) > self.limits.stack as usize - self.pushed() {
+            return Err(Limit::Stack);
+        }
+        self.arguments.take_plain(unit);
+        Ok(())
+    }
+
+    /// The argument that is being read, as far as it is.
+    pub fn begun(&self) -> &[u8]
+        ensures { result.now ≡ reverse self.now.input.arguments.begun }
+    {
+        self.arguments.begun()
     }
 
     /// What follows on the line is no quote: behind one within quotes the argument is whole.

@@ -3,7 +3,7 @@ use Rattle.std.specs.Prelude.{ℕ, Bool, true, false}
 use Rattle.roff_run.specs.declared.status.Status.{Status}
 use Rattle.roff_run.specs.declared.status.Status.TheVariants as status
 use Rattle.roff_tools.specs.declared.exit.Exit.{Exit}
-use Rattle.roff_tools.specs.declared.exit.Exit.TheVariants.{Done, NotStarted, DeviceFailed, LimitReached}
+use Rattle.roff_tools.specs.declared.exit.Exit.TheVariants.{Done, NotStarted, DeviceFailed, LimitReached, Aborted}
 
 -- the status that the program exits with
 abbrev pub exit_number : Exit → ℕ
@@ -11,11 +11,13 @@ exit_number Done = 0
 exit_number NotStarted = 1
 exit_number DeviceFailed = 2
 exit_number LimitReached = 3
+exit_number Aborted = 4
 
 -- how the program ends after a run that ended so
 abbrev pub exit_after : Status → Exit
 exit_after status.Done = Done
 exit_after status.Device = DeviceFailed
+exit_after status.Aborted = Aborted
 exit_after (status.Limit limit) = LimitReached
 
 -- how it ends once its output is flushed, or that failed: where nothing was written, nothing is lost
@@ -25,3 +27,4 @@ exit_flushed NotStarted false = NotStarted
 exit_flushed Done false = DeviceFailed
 exit_flushed DeviceFailed false = DeviceFailed
 exit_flushed LimitReached false = DeviceFailed
+exit_flushed Aborted false = DeviceFailed

@@ -16,6 +16,8 @@ pub enum Exit {
     DeviceFailed,
     /// A limit ended the run.
     LimitReached,
+    /// A request aborted the run.
+    Aborted,
 }
 
 impl Exit {
@@ -26,6 +28,7 @@ impl Exit {
         match status {
             Status::Done => Exit::Done,
             Status::Device => Exit::DeviceFailed,
+            Status::Aborted => Exit::Aborted,
             Status::Limit(_) => Exit::LimitReached,
         }
     }
@@ -39,6 +42,7 @@ impl Exit {
             Exit::NotStarted => 1,
             Exit::DeviceFailed => 2,
             Exit::LimitReached => 3,
+            Exit::Aborted => 4,
         }
     }
 }

@@ -24,7 +24,7 @@ where
     R: Env + Files + Input + AllocGlobal,
     O: Write + Drop,
     E: Write + Drop,
-    ensures { exit_status result ≤ 3 }
+    ensures { exit_status result ≤ 4 }
 {
     let mut err = WriteSink::new(stderr);
     let exit = match BufWriter::new(rt.alloc(), stdout) {

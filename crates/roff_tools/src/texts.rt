@@ -57,7 +57,8 @@ macro_rules! help_end {
             "  0  done\n",
             "  1  wrong command line, a file that cannot be opened, or no memory to start\n",
             "  2  reading or writing failed\n",
-            "  3  a limit was reached"
+            "  3  a limit was reached\n",
+            "  4  the request .ab ended the run"
         )
     };
 }

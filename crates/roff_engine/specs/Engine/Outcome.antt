@@ -1,11 +1,11 @@
 -- How a run of the code stands to the run of the definition.
 use Rattle.std.specs.Prelude.{◌≡◌, ◌⊎◌, ℕ, ◌≤◌, List, ◌++◌, Option, Some, None}
 use Rattle.std.specs.Io.KnownBytes.{Appends}
-use Rattle.roff_num.specs.declared.limit.Limit.{Limit}
 use Rattle.roff_num.specs.declared.limits.Limits.{Limits}
 use Rattle.roff_scan.specs.Tape.{Tape, Item, Rises, Took, behind_front, items_then}
 use Rattle.roff_run.specs.declared.status.Status.{Status}
-use Rattle.roff_run.specs.declared.status.Status.TheVariants.{Device, Limit as Limited}
+use Rattle.roff_run.specs.declared.status.Status.TheVariants.{Aborted, Done, Device, Limit as Limited}
+use Rattle.roff_run.specs.declared.reading.Reading.TheVariants.{Exiting}
 use Rattle.roff_run.specs.declared.message.Message.TheVariants.{WriteFailed}
 use Rattle.roff_run.specs.Messages.{message_line}
 use Rattle.roff_run.specs.Run.{State, Leads, initial, step, output, reported}
@@ -46,13 +46,26 @@ pub record Reaches (l : Limits) (t : Tape) (before now : Seen) (s : State) : Typ
   pub messages : Appends before.err.contents now.err.contents (reported s)
   pub faults : NoFewerFaults before now
 
--- The run ended by itself, with all of it written and reported, and left the tape of its last state; at a limit
--- perhaps without the item in front, which was looked at. If by a fault, the source's: its count rose.
+-- a run that ended so, in this state, may have looked at the item in front: a limit stopped it, or it was aborted, or it
+-- left its input
+abbrev pub MayHaveLooked : Status → State → Type 0
+MayHaveLooked Done s = s.reading ≡ Exiting
+MayHaveLooked Device s = ⊥
+MayHaveLooked Aborted s = Unit {0}
+MayHaveLooked (Limited limit) s = Unit {0}
+
+-- what is left behind the last state of a run that ended so: its tape, perhaps without an item that was looked at
+abbrev pub IsRest : Status → Tape → State → Type 0
+IsRest status left s = (left ≡ s.tape) ⊎ (MayHaveLooked status s × (left ≡ behind_front s.tape))
+
+-- The run ended by itself, with all of it written and reported, and left the tape of its last state; where it didn't
+-- come to its source's end perhaps without the item in front, which was looked at. If by a fault, the source's: its count
+-- rose.
 pub record Completes (l : Limits) (t left : Tape) (status : Status) (before now : Seen) : Type 0 where
   pub state : State
   pub reaches : Reaches l t before now state
   pub ended : state.ended ≡ Some status
-  pub rest : (left ≡ state.tape) ⊎ ((limit : Limit) × (status ≡ Limited limit) × (left ≡ behind_front state.tape))
+  pub rest : IsRest status left state
   pub fault : status ≡ Device → Rises before.failures now.failures
 
 -- The output failed in the step that the run made from this state: what was written begins with the text

@@ -1,5 +1,5 @@
 -- How far a run of the code has come, as a run of the definition.
-use Rattle.std.specs.Prelude.{◌≡◌, ◌⊎◌, ℕ, ◌+◌, ◌<◌, ◌≤◌, true, false, List, [], ◌∷◌, None, OnOk, Result, Ok, Err}
+use Rattle.std.specs.Prelude.{◌≡◌, ◌⊎◌, ℕ, ◌+◌, ◌<◌, ◌≤◌, true, false, List, [], ◌∷◌, length, None, Some, IsSome, OnOk, Result, Ok, Err}
 use Rattle.std.specs.Io.KnownBytes.{Appends}
 use Rattle.roff_num.specs.declared.limit.Limit.{Limit}
 use Rattle.roff_num.specs.declared.limits.Limits.{Limits}
@@ -16,9 +16,13 @@ use Rattle.roff_engine.specs.Engine.Outcome.{Seen, NoFewerFaults, IsLeftOf, Reac
 use Rattle.roff_engine.specs.Formatter.Performing.{Opens, going}
 use Rattle.roff_run.specs.Reader.State.{fresh_reader}
 use Rattle.roff_run.specs.Reader.Taken.{IsReady, PageUnread}
-use Rattle.roff_run.specs.TurnsToCome.{turns_to_come}
+use Rattle.roff_run.specs.TurnsToCome.{begun, turns_to_come}
+use Rattle.roff_run.specs.Reading.{due, message_begun}
+use Rattle.roff_run.specs.declared.reading.Reading.{Reading}
+use Rattle.roff_run.specs.declared.reading.Reading.TheVariants.{Exiting}
+use Rattle.roff_scan.specs.Half.{Half}
 use Rattle.roff_run.specs.Output.{PageHistory, text_of}
-use Rattle.roff_run.specs.Run.{State, end_met, first_unread, half_ends, step, stopped_by, reported}
+use Rattle.roff_run.specs.Run.{State, first_unread, half_ends, input_ended, step, stopped_by, reported}
 
 -- the state of a run that reads on, where the source still gives this tape
 abbrev pub state_at : Tape → Coded → PageHistory → List ℕ → State
@@ -27,7 +31,15 @@ state_at tape run h messages =
 
 -- the end of the input: what is half read ends first, one after another
 abbrev pub input_ends : State → State
-input_ends s = elim s.input.half [ [] ↦ end_met s | first ∷ others ↦ half_ends s ]
+input_ends s = elim s.input.half [ [] ↦ input_ended (message_begun s.reading) s | first ∷ others ↦ half_ends s ]
+
+-- something is half read where the input ends, or a message is
+abbrev pub IsEnded : List Half → Reading → Type 0
+IsEnded half reading = (1 ≤ length half) ⊎ IsSome (message_begun reading)
+
+-- how many turns are to come of a run at the most
+abbrev pub turns_left : Coded → ℕ
+turns_left run = turns_to_come run.unread + begun run.formatter.reader.reading
 
 -- a step of the definition does this from the state that the run of the code is at
 abbrev pub StepDoes : (State → State) → Tape → Coded → PageHistory → List ℕ → Type 0
@@ -97,12 +109,14 @@ pub record TookFrom (t tape : Tape) (start now : Seen) (line : ℕ) (does : Stat
   pub rest : IsLeftOf tape from.tape
 
 -- The code did what is to be done with an item that it took, or has ended: for each state from which a step of the
--- definition leads to that. Where it goes on, the input is the definition's.
+-- definition leads to that. Where it goes on, the input and what is read are the definition's.
 pub record Acts (line : ℕ) (does : State → State) (old new : Coded) (now behind : Seen) (r : Result (Unit {0}) Status) : Type 0 where
   pub limits : new.limits ≡ old.limits
   pub acts : (t tape : Tape) (start : Seen) (from : State) → TookFrom t tape start now line does from old → Continues t tape start behind r new
   pub input : (t tape : Tape) (start : Seen) (from : State) → (took : TookFrom t tape start now line does from old)
       → OnOk r (new.unread.input ≡ (does (state_at tape old took.history took.messages)).input)
+  pub reading : (t tape : Tape) (start : Seen) (from : State) → (took : TookFrom t tape start now line does from old)
+      → OnOk r (new.formatter.reader.reading ≡ (does (state_at tape old took.history took.messages)).reading)
 
 -- nothing is half read, and the source is asked for what stands in front
 abbrev pub AsksFirst : PageUnread → Type 0
@@ -110,7 +124,19 @@ AsksFirst u = (u.input.half ≡ []) × (asks_to_take u ≡ true)
 
 -- the run asks its source next, or there is a tape that the source may give
 abbrev pub HasTape : Coded → (Tape → Type 0) → Type 0
-HasTape run gives = AsksFirst run.unread ⊎ ((tape : Tape) × gives tape)
+HasTape run gives = (AsksFirst run.unread × (due run.formatter.reader.reading ≡ None)) ⊎ ((tape : Tape) × gives tape)
+
+-- a run may end where nothing was looked at that it doesn't take, or it leaves its input
+abbrev pub MayEnd : Coded → Type 0
+MayEnd run = (run.unread.looked ≡ None) ⊎ (run.formatter.reader.reading ≡ Exiting)
+
+-- What is due was done: the run goes on where nothing is, or has ended. Where nothing was due it stays.
+pub record Settles (old new : Coded) (now behind : Seen) (r : Result (Unit {0}) Status) : Type 0 where
+  pub limits : new.limits ≡ old.limits
+  pub idle : due old.formatter.reader.reading ≡ None → (r ≡ Ok tt) × (new ≡ old)
+  pub settles : (t tape : Tape) (start : Seen) → IsAt t tape start now old → Continues t tape start behind r new
+  pub none_due : OnOk r (due new.formatter.reader.reading ≡ None)
+  pub turns : OnOk r (turns_left new ≤ turns_left old)
 
 -- The run took items of its source, and goes on or has ended, whatever the source may still give, where a step of the
 -- definition does this; it goes on only so many times, and each message of the source's is one.
@@ -122,7 +148,7 @@ pub record TurnsBy (does : State → State) (gave gives : Tape → Type 0) (note
   pub turns : (t tape : Tape) (start : Seen) → gives tape → (at : IsAt t (items_then taken tape) start now old)
       → StepDoes does (items_then taken tape) old at.history at.messages → Continues t tape start behind r new
   pub falls : (t tape : Tape) (start : Seen) → gives tape → (at : IsAt t (items_then taken tape) start now old)
-      → StepDoes does (items_then taken tape) old at.history at.messages → OnOk r (turns_to_come new.unread + notes < turns_to_come old.unread + noted)
+      → StepDoes does (items_then taken tape) old at.history at.messages → OnOk r (turns_left new + notes < turns_left old + noted)
 
 -- The run took items of its source, and goes on behind them, whatever the source may still give; no more turns are to come.
 pub record GoesPast (gave gives : Tape → Type 0) (noted notes : ℕ) (old new : Coded) (now behind : Seen) : Type 0 where
@@ -131,7 +157,7 @@ pub record GoesPast (gave gives : Tape → Type 0) (noted notes : ℕ) (old new 
   pub before : (tape : Tape) → gives tape → gave (items_then taken tape)
   pub some : HasTape old gave → HasTape new gives
   pub past : (t tape : Tape) (start : Seen) → gives tape → IsAt t (items_then taken tape) start now old → IsAt t tape start behind new
-  pub turns : turns_to_come new.unread + notes ≤ turns_to_come old.unread + noted
+  pub turns : turns_left new + notes ≤ turns_left old + noted
 
 -- The run of the code has come so far, over a source that might have given the tapes `old` and may now give
 -- the tapes `new`: it took items, and whatever may still come, it is at its place in the run over all of these.

@@ -9,7 +9,7 @@ use std::process::Abort;
 type Row = (&'static [&'static str], u8, &'static str, &'static str);
 
 /// Which files are read.
-static FILE_ROWS: [Row; 23] = [
+static FILE_ROWS: [Row; 27] = [
     (&["roff", "nroff"], 0, "standard input\n", ""),
     (&["roff", "nroff", "-"], 0, "standard input\n", ""),
     (&["roff", "nroff", "one"], 0, "one\n", ""),
@@ -59,6 +59,20 @@ static FILE_ROWS: [Row; 23] = [
         "",
     ),
     (&["roff", "nroff", "empty"], 0, "", ""),
+    (&["roff", "nroff", "aborting"], 4, "ab\n", "no more\n"),
+    (
+        &["roff", "nroff", "one", "aborting", "two"],
+        4,
+        "one\nab\n",
+        "no more\n",
+    ),
+    (&["roff", "nroff", "leaving"], 0, "ab\n", "so far\n"),
+    (
+        &["roff", "nroff", "one", "leaving", "two"],
+        0,
+        "one\nab\n",
+        "so far\n",
+    ),
     (
         &["roff", "nroff", "begun", "empty", "ended"],
         0,

@@ -24,6 +24,7 @@ Exit status:
   1  wrong command line, a file that cannot be opened, or no memory to start
   2  reading or writing failed
   3  a limit was reached
+  4  the request .ab ended the run
 ";
 
 pub const NROFF_HELP: &str = "\
@@ -61,6 +62,7 @@ Exit status:
   1  wrong command line, a file that cannot be opened, or no memory to start
   2  reading or writing failed
   3  a limit was reached
+  4  the request .ab ended the run
 ";
 
 pub const NO_COMMAND: &str = "\

@@ -1,6 +1,6 @@
 use Rattle.std.proofs.Common.{[], ◌∙◌, arith}
 use Rattle.roff_engine.proofs.Passing.{come-past}
-use Rattle.roff_engine.proofs.WholeRuns.{HasTape-fresh, fewer_to_come, goes_on, has_ended, starts}
+use Rattle.roff_engine.proofs.WholeRuns.{HasTape-fresh, fewer_to_come, goes_on, has_ended, settled, settled_end, starts}
 use Rattle.roff_engine.proofs.engine.Engine.format.Goals as goal
 
 pub loop-status-init : goal.loop-status-init
@@ -18,18 +18,30 @@ pub returns-in-Err : goal.returns-in-Err
 returns-in-Err g c =
     let before = c.loop-status.invariant in
     let past = c.pass_over.ensures _ _ in
-    has_ended _ _ _ _ _ _ _ (come-past _ _ _ _ _ _ _ before.come past) _ c.in-Err.status (past.limits ∙ before.limits) c.in-Err.ensures
+    settled_end _ _ _ _ _ (come-past _ _ _ _ _ _ _ before.come past) _ c.in-Err.status (past.limits ∙ before.limits) (c.in-Err.ensures _)
+
+pub returns-in-Err-turn : goal.returns-in-Err-turn
+returns-in-Err-turn g c =
+    let before = c.loop-status.invariant in
+    let past = c.pass_over.ensures _ _ in
+    let settles = c.in_default.ensures _ in
+    has_ended _ _ _ _ _ _ _ (settled _ _ _ _ _ (come-past _ _ _ _ _ _ _ before.come past) settles) _ c.in-Err-turn.status (settles.limits ∙ (past.limits ∙ before.limits)) c.in-Err-turn.ensures
+
+pub turn-requires : goal.turn-requires
+turn-requires g c = (c.in_default.ensures 0).none_due
 
 pub loop-status-preserved : goal.loop-status-preserved
 loop-status-preserved g c =
     let before = c.loop-status.invariant in
-    let past = c.pass_over.ensures _ _ in record {
-      come = goes_on _ _ _ _ _ _ _ (come-past _ _ _ _ _ _ _ before.come past) c.in_default.ensures;
-      limits = c.in_default.ensures.limits ∙ (past.limits ∙ before.limits);
+    let past = c.pass_over.ensures _ _ in
+    let settles = c.in_default.ensures _ in record {
+      come = goes_on _ _ _ _ _ _ _ (settled _ _ _ _ _ (come-past _ _ _ _ _ _ _ before.come past) settles) c.in_default-turn.ensures;
+      limits = c.in_default-turn.ensures.limits ∙ (settles.limits ∙ (past.limits ∙ before.limits));
     }
 
 pub loop-status-smaller : goal.loop-status-smaller
 loop-status-smaller g c =
     let past = c.pass_over.ensures _ _ in
-    let fewer = fewer_to_come _ _ _ _ _ _ _ (come-past _ _ _ _ _ _ _ c.loop-status.invariant.come past) c.in_default.ensures in
-    omega (arith, fewer, past.turns)
+    let settles = c.in_default.ensures _ in
+    let fewer = fewer_to_come _ _ _ _ _ _ _ (settled _ _ _ _ _ (come-past _ _ _ _ _ _ _ c.loop-status.invariant.come past) settles) c.in_default-turn.ensures in
+    omega (arith, fewer, settles.turns, past.turns)

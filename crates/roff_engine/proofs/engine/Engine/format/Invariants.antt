@@ -1,7 +1,6 @@
 use Rattle.std.proofs.Common.{◌≡◌, ◌+◌}
 use Rattle.roff_engine.specs.Engine.Outcome.{seen}
-use Rattle.roff_engine.specs.Running.Turning.{HasCome}
-use Rattle.roff_run.specs.TurnsToCome.{turns_to_come}
+use Rattle.roff_engine.specs.Running.Turning.{HasCome, turns_left}
 use Rattle.roff_engine.proofs.engine.Engine.format.Given as goal
 
 abbrev pub invariant-loop-status : goal.invariant-loop-status
@@ -13,4 +12,4 @@ invariant-loop-status g l = record {
 }
 
 abbrev pub decreases-loop-status : goal.decreases-loop-status
-decreases-loop-status g l = turns_to_come l.running.unread + g.S.ByteSource.notes l.source
+decreases-loop-status g l = turns_left l.running + g.S.ByteSource.notes l.source

@@ -25,7 +25,7 @@ returns-in-Note g c =
 pub returns-in-SourceEnd : goal.returns-in-SourceEnd
 returns-in-SourceEnd g c =
     let shown = c.in-SourceEnd.ensures in
-    front_ended c.args.self.now _ _ _ _ _ _ shown.failures shown.notes c.end_input.new.self _ _ shown.takes (λ none. c.end_input.ensures.acts none _) c.end_input.ensures.half
+    front_ended c.args.self.now _ _ _ _ _ _ shown.failures shown.notes c.end_input.new.self _ _ shown.takes (λ none. c.end_input.ensures.acts none _) c.end_input.ensures.some
 
 pub returns-in-Fault : goal.returns-in-Fault
 returns-in-Fault g c =

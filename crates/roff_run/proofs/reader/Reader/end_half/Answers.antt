@@ -4,8 +4,8 @@ use Rattle.roff_scan.proofs.TextsHeld.{texts_held-reading_ended}
 use Rattle.roff_scan.specs.Input.{with_half}
 use Rattle.roff_scan.specs.declared.half.Surroundings.TheVariants.{Text as AboveText, Arguments as AboveArguments, Copy as AboveCopy}
 use Rattle.roff_run.specs.Reader.State.{ReaderState}
-use Rattle.roff_run.specs.Reading.{arguments_found, beginning_found, condition_found, string_name_found, string_text_found, going_on, half_ended, text_found}
-use Rattle.roff_run.specs.declared.reading.Reading.TheVariants.{StringName, StringText, Arguments as InArguments, Branch, Braced, Deciding, LineStart, Text as InText}
+use Rattle.roff_run.specs.Reading.{arguments_found, beginning_found, condition_found, string_name_found, string_text_found, going_on, half_ended, message_found, text_found}
+use Rattle.roff_run.specs.declared.reading.Reading.TheVariants.{StringName, StringText, Arguments as InArguments, Branch, Braced, Deciding, LineStart, Text as InText, Telling}
 use Rattle.roff_run.proofs.TakesAs.{TakesAs-as, TakesAs-meant, TakesAs-read, TakesAs-where, half_ended-dropped}
 use Rattle.roff_run.proofs.reader.Reader.end_half.Goals as goal
 
@@ -110,6 +110,20 @@ returns-in-StringText c =
     (TakesAs-read (λ k i found. string_text_found k i name appends is_front found) (reading_ended AboveCopy u.input.half) env old done.new.self u read.new.self done.new.unread
     read.result done.result read.ensures.reading (texts_held-reading_ended AboveCopy u.input.half) done.ensures)
 
+pub returns-in-Telling : goal.returns-in-Telling
+returns-in-Telling c =
+    let env = c.args.env.now in
+    let old = c.args.self.now in
+    let u = c.args.unread.now in
+    let aborts = c.in-Telling.aborts in
+    let is_front = c.in-Telling.is_front in
+    let done = c.read_message in
+    let read = c.end_reading-found-in-Telling in
+    let is : old.reading ≡ Telling aborts is_front = search rules in
+    TakesAs-where (λ k r. half_ended k r u.input) (Telling aborts is_front) env old done.new.self u done.new.unread done.result is
+    (TakesAs-read (λ k i found. message_found k i aborts is_front found) (reading_ended AboveCopy u.input.half) env old done.new.self u read.new.self done.new.unread
+    read.result done.result read.ensures.reading (texts_held-reading_ended AboveCopy u.input.half) done.ensures)
+
 pub returns-in_default : goal.returns-in_default
 returns-in_default c =
     let env = c.args.env.now in
@@ -124,7 +138,8 @@ returns-in_default c =
     (λ k. half_ended-dropped k old.reading u.input (λ is. others.not-LineStart (same ∙ is)) (λ is. others.not-Branch (same ∙ is)) (λ is. others.not-Braced (same ∙ is))
     (λ line is. others.not-Text line (same ∙ is)) (λ breaks request is. others.not-Arguments breaks request (same ∙ is))
     (λ keeps is. others.not-Deciding keeps (same ∙ is)) (λ appends is. others.not-StringName appends (same ∙ is))
-    (λ name appends is_front is. others.not-StringText name appends is_front (same ∙ is)))
+    (λ name appends is_front is. others.not-StringText name appends is_front (same ∙ is))
+    (λ aborts is_front is. others.not-Telling aborts is_front (same ∙ is)))
     (TakesAs-read (λ k i found. going_on i old.reading) read env old old u mid mid c.end_reading.result (Ok m) c.end_reading.ensures.reading
     (texts_held-reading_ended AboveText u.input.half)
     (TakesAs-meant (λ k. going_on mid.input old.reading) old.reading [] env old old mid m (λ k. refl) refl c.nothing.ensures.message c.nothing.ensures.events))

@@ -1,8 +1,9 @@
-use Rattle.std.proofs.Common.{◌≡◌, Err, refl, rules, subst, sym}
+use Rattle.std.proofs.Common.{◌≡◌, ◌∙◌, Err, ap, refl, rules, subst, sym}
 use Rattle.roff_run.specs.Reader.State.{ReaderState}
 use Rattle.roff_run.specs.Reader.Taken.{ChangedTo}
 use Rattle.roff_run.specs.Request.Coded.{changes_of}
-use Rattle.roff_run.specs.declared.reading.Reading.TheVariants.{LineStart}
+use Rattle.roff_run.specs.Reading.{reading_behind}
+use Rattle.roff_run.specs.declared.request.Row.{Row}
 use Rattle.roff_run.proofs.Obeying.{Obeys, TakesAs-obeyed, TakesAs-not_obeyed, texts_read}
 use Rattle.roff_run.proofs.reader.Reader.obey.Goals as goal
 
@@ -23,9 +24,10 @@ returns c =
     let u = c.args.unread.now in
     let mid = c.finish_arguments.new.self in
     let obeys : Obeys env c.args.self.now.registers.all mid c.args.breaks c.args.request c.effect-effect.result = record { effect_is = c.effect-effect.ensures } in
-    let set : ReaderState = record { reading = LineStart; registers = c.self.inside.registers } in
+    let set : ReaderState = record { reading = c.behind_line-behind.result; registers = c.self.inside.registers } in
     let changed : ChangedTo (changes_of (texts_read mid) c.effect-effect.result.changes) c.args.self.now.registers set.registers =
     subst (λ (s : ReaderState). ChangedTo (changes_of (texts_read mid) c.effect-effect.result.changes) c.args.self.now.registers s.registers) (sym c.self.view_is)
     c.in_ok-change.ensures.changed in
     TakesAs-obeyed env c.args.self.now set u mid c.change.new.unread c.begin_arguments.new.self c.args.breaks c.args.request c.effect-effect.result _
-    c.finish_arguments.ensures.change obeys changed c.in_ok-change.ensures.called c.begin_arguments.ensures.change refl refl refl
+    c.finish_arguments.ensures.change obeys changed c.in_ok-change.ensures.called c.begin_arguments.ensures.change
+    (c.behind_line-behind.ensures ∙ ap (λ (r : Row). reading_behind r.line) c.row.ensures) refl refl

@@ -1,13 +1,13 @@
-use Rattle.std.proofs.Common.{◌≡◌, Bool, rules, refl, subst}
+use Rattle.std.proofs.Common.{◌≡◌, Bool, true, rules, refl, subst}
 use Rattle.roff_scan.specs.Halves.{byte_read}
-use Rattle.roff_scan.specs.Input.{kept_last, without_last}
-use Rattle.roff_scan.specs.declared.half.Surroundings.TheVariants.{Arguments as AboveArguments}
+use Rattle.roff_scan.specs.Input.{choosing, kept_last, with_half, without_last}
+use Rattle.roff_scan.specs.declared.half.Surroundings.TheVariants.{Arguments as AboveArguments, Copy as AboveCopy}
 use Rattle.roff_scan.proofs.TextsHeld.{texts_held-byte_read}
 use Rattle.roff_run.specs.Reader.Taken.{PageUnread, TakesAs}
-use Rattle.roff_run.specs.Reading.{arguments_found, branch_taking, line_taking, reads_else, string_name_found}
+use Rattle.roff_run.specs.Reading.{arguments_found, branch_taking, condition_found, line_taking, message_found, reads_else, string_name_found}
 use Rattle.roff_run.specs.Requests.{row_of}
-use Rattle.roff_run.specs.declared.request.LineReading.TheVariants.{ByArguments, ByCondition, ByElse, ByString}
-use Rattle.roff_run.proofs.TakesAs.{NoMore-without_last, TakesAs-less, TakesAs-line, TakesAs-read}
+use Rattle.roff_run.specs.declared.request.LineReading.TheVariants.{ByArguments, ByCondition, ByElse, ByLastLine, ByMessage, ByString}
+use Rattle.roff_run.proofs.TakesAs.{NoMore-choosing, NoMore-without_last, TakesAs-less, TakesAs-line, TakesAs-read}
 use Rattle.roff_run.proofs.reader.Reader.read_first.Goals as goal
 
 pub returns-in-ByArguments : goal.returns-in-ByArguments
@@ -40,6 +40,37 @@ returns-in-ByString c =
     TakesAs-line (ByString appends) breaks request b env old done.new.self u done.new.unread done.result line
     (TakesAs-read (λ k i found. string_name_found k i appends found) (byte_read AboveArguments u.input.half b) env old done.new.self u read.new.self done.new.unread
     read.result done.result read.ensures.reading (texts_held-byte_read AboveArguments b u.input.half) done.ensures)
+
+pub returns-in-ByLastLine : goal.returns-in-ByLastLine
+returns-in-ByLastLine c =
+    let env = c.args.env.now in
+    let old = c.args.self.now in
+    let u = c.args.unread.now in
+    let b = c.args.byte in
+    let breaks = c.args.breaks in
+    let request = c.args.request in
+    let read = c.read_byte-found-in-ByLastLine in
+    let done = c.read_arguments-in-ByLastLine in
+    let line : (row_of request).line ≡ ByLastLine = search rules in
+    TakesAs-line ByLastLine breaks request b env old done.new.self u done.new.unread done.result line
+    (TakesAs-read (λ k i found. arguments_found k i breaks request found) (byte_read AboveArguments u.input.half b) env old done.new.self u read.new.self done.new.unread
+    read.result done.result read.ensures.reading (texts_held-byte_read AboveArguments b u.input.half) done.ensures)
+
+pub returns-in-ByMessage : goal.returns-in-ByMessage
+returns-in-ByMessage c =
+    let env = c.args.env.now in
+    let old = c.args.self.now in
+    let u = c.args.unread.now in
+    let b = c.args.byte in
+    let breaks = c.args.breaks in
+    let request = c.args.request in
+    let aborts = c.in-ByMessage.aborts in
+    let read = c.read_byte-read in
+    let done = c.read_message in
+    let line : (row_of request).line ≡ ByMessage aborts = search rules in
+    TakesAs-line (ByMessage aborts) breaks request b env old done.new.self u done.new.unread done.result line
+    (TakesAs-read (λ k i found. message_found k i aborts true found) (byte_read AboveCopy u.input.half b) env old done.new.self u read.new.self done.new.unread
+    read.result done.result read.ensures.reading (texts_held-byte_read AboveCopy b u.input.half) done.ensures)
 
 pub returns-in-ByCondition : goal.returns-in-ByCondition
 returns-in-ByCondition c =

@@ -1,9 +1,9 @@
-use Rattle.std.proofs.Common.{◌≡◌, [], Ok, rules}
+use Rattle.std.proofs.Common.{◌≡◌, [], Ok, refl, rules}
 use Rattle.roff_scan.specs.Halves.{byte_read}
 use Rattle.roff_scan.specs.declared.half.Surroundings.TheVariants.{Text as AboveText, Arguments as AboveArguments, Copy as AboveCopy}
 use Rattle.roff_scan.proofs.TextsHeld.{texts_held-byte_read}
-use Rattle.roff_run.specs.Reading.{arguments_found, beginning_found, condition_found, string_name_found, string_text_found, kept_taking, text_found}
-use Rattle.roff_run.specs.declared.reading.Reading.TheVariants.{StringName, StringText, Arguments as InArguments, Branch, Braced, Control, Deciding, Dropped, LineStart, Name, Skipping, Text as InText}
+use Rattle.roff_run.specs.Reading.{arguments_found, beginning_found, condition_found, string_name_found, string_text_found, kept_taking, message_found, text_found}
+use Rattle.roff_run.specs.declared.reading.Reading.TheVariants.{StringName, StringText, Arguments as InArguments, Branch, Braced, Control, Deciding, Dropped, LineStart, Name, Skipping, Text as InText, Telling, Told, Exiting}
 use Rattle.roff_run.proofs.TakesAs.{TakesAs-meant, TakesAs-read, TakesAs-where}
 use Rattle.roff_run.proofs.reader.Reader.read_kept.Goals as goal
 
@@ -149,3 +149,40 @@ returns-in-Dropped c =
     TakesAs-where (λ k r. kept_taking k r u.input c.args.byte) Dropped env old done.new.self u u (Ok done.result) is
     (TakesAs-meant (λ k. kept_taking k Dropped u.input c.args.byte) c.behind_dropped.result [] env old done.new.self u done.result
     (λ k. c.behind_dropped.ensures u.input) done.ensures.reading done.ensures.message done.ensures.events)
+
+pub returns-in-Telling : goal.returns-in-Telling
+returns-in-Telling c =
+    let env = c.args.env.now in
+    let old = c.args.self.now in
+    let u = c.args.unread.now in
+    let aborts = c.in-Telling.aborts in
+    let is_front = c.in-Telling.is_front in
+    let done = c.read_message in
+    let read = c.read_byte-read in
+    let is : old.reading ≡ Telling aborts is_front = search rules in
+    TakesAs-where (λ k r. kept_taking k r u.input c.args.byte) (Telling aborts is_front) env old done.new.self u done.new.unread done.result is
+    (TakesAs-read (λ k i found. message_found k i aborts is_front found) (byte_read AboveCopy u.input.half c.args.byte) env old done.new.self u read.new.self done.new.unread
+    read.result done.result read.ensures.reading (texts_held-byte_read AboveCopy c.args.byte u.input.half) done.ensures)
+
+pub returns-in-Told : goal.returns-in-Told
+returns-in-Told c =
+    let env = c.args.env.now in
+    let old = c.args.self.now in
+    let u = c.args.unread.now in
+    let place = Told c.in-Told.aborts in
+    let is : old.reading ≡ place = search rules in
+    let done = c.read_on-in-Told in
+    TakesAs-where (λ k r. kept_taking k r u.input c.args.byte) place env old done.new.self u u (Ok done.result) is
+    (TakesAs-meant (λ k. kept_taking k place u.input c.args.byte) place [] env old done.new.self u done.result
+    (λ k. refl) done.ensures.reading done.ensures.message done.ensures.events)
+
+pub returns-in-Exiting : goal.returns-in-Exiting
+returns-in-Exiting c =
+    let env = c.args.env.now in
+    let old = c.args.self.now in
+    let u = c.args.unread.now in
+    let is : old.reading ≡ Exiting = search rules in
+    let done = c.read_on-in-Exiting in
+    TakesAs-where (λ k r. kept_taking k r u.input c.args.byte) Exiting env old done.new.self u u (Ok done.result) is
+    (TakesAs-meant (λ k. kept_taking k Exiting u.input c.args.byte) Exiting [] env old done.new.self u done.result
+    (λ k. refl) done.ensures.reading done.ensures.message done.ensures.events)

@@ -1,0 +1,20 @@
+use Rattle.roff_scan.specs.Unread.Kept.{kept_by}
+use Rattle.roff_scan.proofs.Changing.{IsWithin-leaving}
+use Rattle.roff_scan.proofs.unread.Unread.leave.Goals as goal
+
+pub invariant_of-self : goal.invariant_of-self
+invariant_of-self g c =
+    record {
+      bytes = rw c.clear.ensures c.self.invariant.bytes;
+      texts = rw c.clear.ensures c.self.invariant.texts;
+      arguments = c.self.invariant.arguments;
+      held = c.self.invariant.held;
+      small = c.self.invariant.small;
+      store = rw c.clear.ensures c.self.invariant.store;
+      once = rw c.clear.ensures c.self.invariant.once;
+      results = c.self.invariant.results;
+      within = rw c.clear.ensures (IsWithin-leaving (kept_by c.self.inside) c.self.invariant.within);
+    }
+
+pub returns-clause-within : goal.returns-clause-within
+returns-clause-within g c = (invariant_of-self g c).within
