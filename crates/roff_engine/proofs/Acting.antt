@@ -24,12 +24,12 @@ use Rattle.roff_engine.specs.Sinks.{Sunk}
 use Rattle.roff_run.specs.Output.{PageHistory, text_of}
 use Rattle.roff_run.specs.Reader.State.{ReaderState}
 use Rattle.roff_run.specs.Reader.Taken.{Became, IsReady, PageUnread}
-use Rattle.roff_run.specs.Reading.{PageInput, Taking, arguments_read_on, beginning_read, condition_read, going_on, half_ended, interrupted, message_begun, message_read, settling, string_name_read, string_text_read, text_read}
+use Rattle.roff_run.specs.Reading.{call_read, definition_read, PageInput, Taking, arguments_read_on, beginning_read, condition_read, going_on, half_ended, interrupted, message_begun, message_read, settling, string_name_read, string_text_read, text_read}
 use Rattle.roff_run.specs.Registers.{AllRegisters, Known}
 use Rattle.roff_run.specs.Run.{State, initial, ahead_taken, counts_in, ending_as, half_ends, input_ended, known_at, made, step, taken_as, unless_refused, first_passed, grown}
 use Rattle.roff_run.specs.declared.event.PageEvent.{PageEvent}
 use Rattle.roff_run.specs.declared.reading.Reading.{Reading}
-use Rattle.roff_run.specs.declared.reading.Reading.TheVariants.{LineStart, Branch, Braced, Text as InText, Control, Name, Arguments as InArguments, Deciding, StringName, StringText, Skipping, Dropped, Telling, Told, Exiting}
+use Rattle.roff_run.specs.declared.reading.Reading.TheVariants.{LineStart, Branch, Braced, Text as InText, Control, Name, Arguments as InArguments, Deciding, StringName, StringText, Skipping, Dropped, Telling, Told, Exiting, Calling, Defining}
 use Rattle.roff_run.specs.declared.status.Status.{Status}
 use Rattle.roff_run.specs.declared.status.Status.TheVariants.{Done}
 use Rattle.roff_run.proofs.InputCounts.{pushed-settling}
@@ -284,8 +284,12 @@ line-nothing_ended k (Deciding keeping) i none =
     subst (λ (half : List Half). (condition_read k i keeping (reading_ended AboveArguments half)).input.line ≡ i.line) (sym none) refl
 line-nothing_ended k (StringName appends) i none =
     subst (λ (half : List Half). (string_name_read k i appends (reading_ended AboveArguments half)).input.line ≡ i.line) (sym none) refl
+line-nothing_ended k (Calling name) i none =
+    subst (λ (half : List Half). (call_read k i name (reading_ended AboveArguments half)).input.line ≡ i.line) (sym none) refl
 line-nothing_ended k (StringText name appends is_front) i none =
     subst (λ (half : List Half). (string_text_read k i name appends is_front (reading_ended AboveCopy half)).input.line ≡ i.line) (sym none) refl
+line-nothing_ended k (Defining name appends end matched) i none =
+    subst (λ (half : List Half). (definition_read k i name appends end matched (reading_ended AboveCopy half)).input.line ≡ i.line) (sym none) refl
 line-nothing_ended k (Telling aborts is_front) i none =
     subst (λ (half : List Half). (message_read k i aborts is_front (reading_ended AboveCopy half)).input.line ≡ i.line) (sym none) refl
 line-nothing_ended k (Told aborts) i none = refl
@@ -305,9 +309,9 @@ line-half_ended k reading i =
 -- nothing that is counted grows where no quote follows the quote before
 counts_in-settling : (rs : AllRegisters) (i : PageInput) → counts_in rs (settling i) ≡ counts_in rs i
 counts_in-settling rs i =
-    let others : List (Limit × ℕ) =
-    (Depth, depth i) ∷ (Diversions, length i.open_texts - 1) ∷ (Store, stored i) ∷ (Names, names_added i) ∷ (Conditions, results i) ∷ [] in
-    ap (λ bytes. (Names, length rs.named) ∷ (Stack, bytes) ∷ others) (pushed-settling i)
+    let first : List (Limit × ℕ) → List (Limit × ℕ) = λ rest.
+    (Names, length rs.named) ∷ (Diversions, length i.open_texts - 1) ∷ (Store, stored i) ∷ (Names, names_added i) ∷ rest in
+    ap (λ bytes. first ((Stack, bytes) ∷ (Depth, depth i) ∷ (Conditions, results i) ∷ [])) (pushed-settling i)
 
 -- nor where something that isn't a byte of the line has come
 counts_in-interrupted : (rs : AllRegisters) (reading : Reading) (i : PageInput) → counts_in rs (interrupted reading i) ≡ counts_in rs i
@@ -319,8 +323,10 @@ counts_in-interrupted rs (Control breaks) i = refl
 counts_in-interrupted rs (Name breaks byte) i = refl
 counts_in-interrupted rs (InArguments breaks request) i = counts_in-settling rs i
 counts_in-interrupted rs (StringName appends) i = counts_in-settling rs i
+counts_in-interrupted rs (Calling name) i = counts_in-settling rs i
 counts_in-interrupted rs (Deciding keeping) i = refl
 counts_in-interrupted rs (StringText name appends is_front) i = refl
+counts_in-interrupted rs (Defining name appends end matched) i = refl
 counts_in-interrupted rs (Telling aborts is_front) i = refl
 counts_in-interrupted rs (Told aborts) i = refl
 counts_in-interrupted rs Exiting i = refl

@@ -2,7 +2,7 @@
 use Rattle.std.proofs.Common.{◌≡◌, ◌⊎◌, inl, inr, ℕ, ◌+◌, ◌≤◌, Bool, true, false, List, [], ◌∷◌, Option, Some, None, refl, sym, subst, arith}
 use Rattle.std.specs.Prelude.{nat_lt, is_none, ◌&&◌}
 use Rattle.roff_scan.specs.Halves.{decides_now}
-use Rattle.roff_scan.specs.Input.{Ahead, ByteAhead, FreeAhead, EndAhead, DoAhead, cost, item_taken}
+use Rattle.roff_scan.specs.Input.{Ahead, ByteAhead, FreeAhead, EndAhead, ReturnAhead, DoAhead, cost, item_taken}
 use Rattle.roff_scan.specs.Tape.{Tape, Item, Answer, OneByte, OneNote, Gives, Ends, items_then}
 use Rattle.roff_scan.specs.Unread.{Asked, Shown, Sighted, SeesByte, SeesNothing, SeesNote, SeesEnding, asks_to_take, asks_to_look, answer_behind, looked_then, shown_ahead, looking, looking_past, seen_ahead, taking, taking_answer}
 use Rattle.roff_engine.specs.Engine.Outcome.{IsLeftOf}
@@ -75,6 +75,7 @@ turns-item : (item : Ahead PageEvent) (items : List (Ahead PageEvent)) (bytes : 
 turns-item (ByteAhead b) items bytes i = omega arith
 turns-item (FreeAhead b) items bytes i = omega arith
 turns-item EndAhead items bytes i = omega arith
+turns-item ReturnAhead items bytes i = omega arith
 turns-item (DoAhead event) items bytes i = omega arith
 
 turns-answer : (a : Answer) (u : PageUnread) → NoMoreTurns u (taking_answer a u)
@@ -151,6 +152,7 @@ no_ending_ahead : (item : Ahead PageEvent) → IsEnding (shown_ahead item) → �
 no_ending_ahead (ByteAhead b) is = is
 no_ending_ahead (FreeAhead b) is = is
 no_ending_ahead EndAhead is = is
+no_ending_ahead ReturnAhead is = is
 no_ending_ahead (DoAhead event) is = is
 
 ends-byte : (b : ℕ) (u : PageUnread) (taken : List Item) → TakesEnding u taken (taking_answer (Gives (OneByte b)) u)
@@ -184,6 +186,7 @@ no_ending_seen [] sight is ending = cc
 no_ending_seen (ByteAhead b ∷ items) sight is ending = let same : SeesByte b ≡ sight = cc in subst IsEndingSeen (sym same) ending
 no_ending_seen (FreeAhead b ∷ items) sight is ending = let same : SeesByte b ≡ sight = cc in subst IsEndingSeen (sym same) ending
 no_ending_seen (EndAhead ∷ items) sight is ending = no_ending_seen items sight is ending
+no_ending_seen (ReturnAhead ∷ items) sight is ending = no_ending_seen items sight is ending
 no_ending_seen (DoAhead event ∷ items) sight is ending = let same : SeesNothing ≡ sight = cc in subst IsEndingSeen (sym same) ending
 
 ends-looking : (sight : Option Sighted) (a : Answer) (i : PageInput) (looked : Option ℕ) (v : PageUnread)

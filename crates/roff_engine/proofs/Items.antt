@@ -10,6 +10,7 @@ use Rattle.roff_run.specs.declared.status.Status.{Status}
 use Rattle.roff_run.specs.declared.status.Status.TheVariants.{Device, Limit as Limited}
 use Rattle.roff_run.specs.Messages.{message_line}
 use Rattle.roff_run.specs.Reader.Taken.{IsReady, PageUnread}
+use Rattle.roff_run.specs.Reading.{behind_return}
 use Rattle.roff_run.specs.Registers.Capped.{Capped}
 use Rattle.roff_run.specs.Run.{State, counts_in, ending_as, ending_with, first_passed, initial, made, output, reported, step, stopped_by, unless_refused}
 use Rattle.roff_engine.specs.declared.running.Running.{Running as Coded}
@@ -35,6 +36,12 @@ Reaches-failures l t start old failures out err s more reached = record {
 -- the run of the code with this unread input
 abbrev pub moved : Coded → PageUnread → Coded
 moved run left = record run { unread = left }
+
+-- the same where the end of a body was taken that a line called
+abbrev pub returned : Coded → PageUnread → Coded
+returned run left = record (moved run left) {
+  formatter = record run.formatter { reader = record run.formatter.reader { reading = behind_return run.formatter.reader.reading } };
+}
 
 -- behind a call that raises no count, no count is above its limit
 pub ready_behind : {gave gives : Tape → Type 0} {taken : List Item} (r : Capped) (u left : PageUnread) → Leaves gave gives u left taken
@@ -93,6 +100,25 @@ module _ {gave gives : Tape → Type 0} {old : Coded} {left : PageUnread} {taken
         messages = at.messages;
         reaches = record {
           comes = Leads-to old.limits (initial t) from behind reached.comes there;
+          text = reached.text;
+          messages = reached.messages;
+          faults = reached.faults;
+        };
+        stands = at.stands;
+        ready = ready_behind old.formatter.reader.registers old.unread left leaves at.ready;
+        limits = leaves.limits ∙ at.limits;
+      }
+
+  -- the end of a body that a line called is only taken, and a line may begin behind it
+  pub return_passed : step old.limits from ≡ made old.limits from (record behind { reading = behind_return behind.reading })
+      → IsAt t tape start (seen failures out err) (returned old left)
+  return_passed goes =
+      let done : State = record behind { reading = behind_return behind.reading } in
+      let there : step old.limits from ≡ done = goes ∙ ap (λ r. unless_refused old.limits r from done) allowed in record {
+        history = at.history;
+        messages = at.messages;
+        reaches = record {
+          comes = Leads-to old.limits (initial t) from done reached.comes there;
           text = reached.text;
           messages = reached.messages;
           faults = reached.faults;

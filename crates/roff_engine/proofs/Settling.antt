@@ -58,10 +58,6 @@ reported-message : (aborts : Bool) (tape : Tape) (run : Coded) (h : PageHistory)
 reported-message true tape run h ms = refl
 reported-message false tape run h ms = append-nil (ms ++ told_line false (message_text_read run.unread.input))
 
-output-message : (aborts : Bool) (s : State) → output (behind_message aborts s) ≡ output s
-output-message true s = refl
-output-message false s = refl
-
 tape-message : (aborts : Bool) (s : State) → (behind_message aborts s).tape ≡ s.tape
 tape-message true s = refl
 tape-message false s = refl

@@ -5,7 +5,7 @@ use Rattle.roff_num.specs.declared.limit.Limit.{Limit}
 use Rattle.roff_num.specs.declared.limits.Limits.{Limits}
 use Rattle.roff_scan.specs.Input.{DoAhead}
 use Rattle.roff_scan.specs.Tape.{Tape, Item, Ended, Failed, Stopped, Rises, items_then}
-use Rattle.roff_scan.specs.Unread.{Shown, ShowsByte, ShowsEnd, ShowsDo, ShowsNote, ShowsEnding, ShowsRefusal, asks_to_take, taking}
+use Rattle.roff_scan.specs.Unread.{Shown, ShowsByte, ShowsEnd, ShowsReturn, ShowsDo, ShowsNote, ShowsEnding, ShowsRefusal, asks_to_take, taking}
 use Rattle.roff_scan.specs.Unread.Calls.{Takes}
 use Rattle.roff_scan.specs.Half.{Half}
 use Rattle.roff_run.specs.declared.event.PageEvent.{PageEvent}
@@ -17,7 +17,7 @@ use Rattle.roff_run.specs.Output.{PageHistory}
 use Rattle.roff_run.specs.Reader.Taken.{PageUnread}
 use Rattle.roff_run.specs.Reading.{PageInput, interrupted, message_begun}
 use Rattle.roff_run.specs.declared.reading.Reading.{Reading}
-use Rattle.roff_run.specs.declared.reading.Reading.TheVariants.{LineStart, Branch, Braced, Text as InText, Control, Name, Arguments as InArguments, Deciding, StringName, StringText, Skipping, Dropped, Telling, Told, Exiting}
+use Rattle.roff_run.specs.declared.reading.Reading.TheVariants.{LineStart, Branch, Braced, Text as InText, Control, Name, Arguments as InArguments, Deciding, StringName, StringText, Skipping, Dropped, Telling, Told, Exiting, Calling, Defining}
 use Rattle.roff_run.specs.Run.{State, ahead_taken, byte_taken, ending_input, half_ends, in_front_taken, input_ended, known, made}
 use Rattle.roff_run.specs.TurnsToCome.{begun, turns_to_come, turns_within}
 use Rattle.roff_engine.specs.declared.halt.Halt.TheVariants.{Refused}
@@ -26,8 +26,9 @@ use Rattle.roff_engine.specs.Engine.Outcome.{Seen, Outcome, seen}
 use Rattle.roff_engine.specs.Running.Turning.{Acts, AsksFirst, Continues, Halts, HasTape, IsAt, IsEnded, StepDoes, TookFrom, TurnsBy, input_ends, state_at, turns_left}
 use Rattle.roff_engine.specs.Sinks.{Sunk, Puts}
 use Rattle.roff_engine.proofs.Calls.{EndsThere, EndsThere-takes, Leaves, Leaves-takes}
-use Rattle.roff_engine.proofs.Items.{end_passed, moved, note_told, refused, source_failed, source_stopped, took}
+use Rattle.roff_engine.proofs.Items.{end_passed, moved, return_passed, returned, note_told, refused, source_failed, source_stopped, took}
 use Rattle.roff_run.proofs.InFront.{Given-asked, IsEnding, in_front, items_asked, over_unread, over_unread-ending, shown_step}
+use Rattle.roff_run.proofs.Readings.{begun-behind_return}
 use Rattle.roff_run.proofs.TurnsToCome.{IsTaken, turns_to_come-taking, turns_within-byte, turns_within-half_ended}
 
 -- fewer turns are to come of the run that goes on
@@ -128,6 +129,8 @@ message-input_ended bytes (InArguments breaks request) s is some = absurd (cc)
 message-input_ended bytes (Deciding keeping) s is some = absurd (cc)
 message-input_ended bytes (StringName appends) s is some = absurd (cc)
 message-input_ended bytes (StringText name appends is_front) s is some = absurd (cc)
+message-input_ended bytes (Calling name) s is some = absurd (cc)
+message-input_ended bytes (Defining name appends end matched) s is some = absurd (cc)
 message-input_ended bytes (Skipping opened closed behind) s is some = absurd (cc)
 message-input_ended bytes Dropped s is some = absurd (cc)
 message-input_ended bytes (Told aborts) s is some = absurd (cc)
@@ -227,6 +230,15 @@ module _ {gave gives : Tape → Type 0} {left : PageUnread} (old : Coded) (faile
       turned (leaves_front old call) _ noted notes (moved old left) (seen failed out err) (seen failures out err) (Ok tt) refl (λ t tape start may at goes. (
         end_passed (leaves_front old call) failed failures out err more t tape start may at (goes ∙ shown_front old call at.limits tape may at.history at.messages),
         omega (arith, less, falls_front old call tt),
+      ))
+
+  -- the end of a body that a line called
+  pub front_return : Takes gave gives old.unread left ShowsReturn
+      → FrontTurn gave gives noted notes old (returned old left) (seen failed out err) (seen failures out err) (Ok tt)
+  front_return call =
+      turned (leaves_front old call) _ noted notes (returned old left) (seen failed out err) (seen failures out err) (Ok tt) refl (λ t tape start may at goes. (
+        return_passed (leaves_front old call) failed failures out err more t tape start may at (goes ∙ shown_front old call at.limits tape may at.history at.messages),
+        omega (arith, less, falls_front old call tt, begun-behind_return old.formatter.reader.reading),
       ))
 
   -- a message of the source's

@@ -3,7 +3,7 @@
 ghost use Rattle.std.specs.Prelude.{◌≡◌, ℕ, true, [], ◌∷◌, IfOk, IfSome, IsOkUnless, option_map};
 ghost use Rattle.roff_scan.specs.Bytes.{is_passed};
 ghost use Rattle.roff_run.specs.Reading.{Passes};
-ghost use Rattle.roff_engine.specs.Clauses.{option_to_list, finished_of, fresh_reader, Stands, Gap, Print, WordEnd, LineEnd, Break, message_lines, finished_bytes, DoesMeaning, DoesTaking, PerformsOnly, closing_events, sinks, due, end_taking, half_ended, interrupted, message_begun, message_ended, taking, LineStart, Text, Space, Puts, Sunk};
+ghost use Rattle.roff_engine.specs.Clauses.{option_to_list, finished_of, fresh_reader, Stands, Gap, Print, WordEnd, LineEnd, Break, message_lines, finished_bytes, DoesMeaning, DoesTaking, PerformsOnly, closing_events, sinks, due, end_taking, half_ended, interrupted, message_begun, message_ended, taking, LineStart, Text, Space, Puts, Sunk, behind_return};
 
 use crate::block::Block;
 use crate::halt::Halt;
@@ -59,6 +59,17 @@ impl Formatter {
             ≡ record unread.old { input = interrupted self.now.reader.reading unread.old.input } }
     {
         self.reader.interrupt(unread);
+    }
+
+    /// The end of a body that a line called was taken.
+    pub(crate) fn end_call(&mut self)
+        ensures { self.new ≡ record self.old {
+          reader = record self.old.reader {
+            reading = behind_return self.old.reader.reading;
+          };
+        } }
+    {
+        self.reader.end_call();
     }
 
     /// Takes a byte that was taken of the unread input.

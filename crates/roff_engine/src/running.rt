@@ -208,6 +208,10 @@ impl Running {
         match self.unread.take(source) {
             Item::Byte(byte) => self.take(byte, line, out, err),
             Item::End => Ok(()),
+            Item::Return => {
+                self.formatter.end_call();
+                Ok(())
+            }
             Item::Do(event) => self.perform(event, line, out, err),
             Item::Note(note) => tell_note(&note, err),
             Item::SourceEnd => self.end_input(out, err),

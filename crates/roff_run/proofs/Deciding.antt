@@ -127,11 +127,11 @@ first_passed-keeping : (l : Limits) (rs : AllRegisters) (so : Bool) (i : PageInp
     → first_passed l (counts_in rs i) ≡ Some limit → first_passed l (counts_in rs (keeping so i)) ≡ Some limit
 first_passed-keeping l rs so i limit passed =
     unless_first limit Names _ _ (nat_lt l.names (length rs.named))
-    (unless_first limit Stack _ _ (nat_lt l.stack (pushed i))
-    (unless_first limit Depth _ _ (nat_lt l.depth (depth i))
     (unless_first limit Diversions _ _ (nat_lt l.diversions (length i.open_texts - 1))
     (unless_first limit Store _ _ (nat_lt l.store (stored i))
     (unless_first limit Names _ _ (nat_lt l.names (names_added i))
+    (unless_first limit Stack _ _ (nat_lt l.stack (pushed i))
+    (unless_first limit Depth _ _ (nat_lt l.depth (depth i))
     (results_more limit l.conditions (results i) (results (keeping so i)) (nat_lt l.conditions (results i)) refl (omega arith))))))) passed
 
 -- the limit that a taking would pass, if it would pass one

@@ -5,12 +5,12 @@ use Rattle.roff_num.specs.declared.limits.Limits.{Limits}
 use Rattle.roff_run.specs.declared.status.Status.{Status}
 use Rattle.roff_run.specs.Reading.{message_begun}
 use Rattle.roff_run.specs.declared.reading.Reading.{Reading as BeingRead}
-use Rattle.roff_run.specs.declared.reading.Reading.TheVariants.{LineStart, Branch, Braced, Text as InText, Control, Name, Arguments as InArguments, Deciding, StringName, StringText, Skipping, Dropped, Telling, Told, Exiting}
+use Rattle.roff_run.specs.declared.reading.Reading.TheVariants.{LineStart, Branch, Braced, Text as InText, Control, Name, Arguments as InArguments, Deciding, StringName, StringText, Skipping, Dropped, Telling, Told, Exiting, Calling, Defining}
 use Rattle.roff_run.specs.Requests.{PageEvent}
 use Rattle.roff_run.specs.Results.{turn, turns, last_state}
 use Rattle.roff_run.specs.ResultLaws.{EveryRunEnds, StepsLeadToTheLastState, NoOtherStateIsLast}
 use Rattle.roff_run.specs.Run.{State, Leads, initial, moved, performing, step_with, step, after}
-use Rattle.roff_scan.specs.Input.{Ahead, ByteAhead, FreeAhead, EndAhead, DoAhead, cost, item_taken, counting}
+use Rattle.roff_scan.specs.Input.{Ahead, ByteAhead, FreeAhead, EndAhead, ReturnAhead, DoAhead, cost, item_taken, counting}
 use Rattle.roff_scan.specs.Tape.{Tape, Item, Gives, OneByte, OneNote, front, behind_front}
 use Rattle.roff_run.specs.TurnsToCome.{begun, endings_of, free_ahead}
 use Rattle.roff_run.proofs.HalfCounts.{some_ending}
@@ -97,6 +97,7 @@ charged_or_free : (item : Ahead PageEvent) (behind : List (Ahead PageEvent)) →
 charged_or_free (ByteAhead b) behind = omega arith
 charged_or_free (FreeAhead b) behind = omega arith
 charged_or_free EndAhead behind = omega arith
+charged_or_free ReturnAhead behind = omega arith
 charged_or_free (DoAhead event) behind = omega arith
 
 -- what a tape gives goes from its items
@@ -124,6 +125,8 @@ begun-message (InArguments breaks request) aborts is = absurd (cc)
 begun-message (Deciding keeping) aborts is = absurd (cc)
 begun-message (StringName appends) aborts is = absurd (cc)
 begun-message (StringText name appends is_front) aborts is = absurd (cc)
+begun-message (Calling name) aborts is = absurd (cc)
+begun-message (Defining name appends end matched) aborts is = absurd (cc)
 begun-message (Skipping opened closed behind) aborts is = absurd (cc)
 begun-message Dropped aborts is = absurd (cc)
 begun-message (Told other) aborts is = absurd (cc)

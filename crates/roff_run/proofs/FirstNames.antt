@@ -50,7 +50,7 @@ none_passed l count bytes names =
     let none : (limit : ℕ) → nat_lt limit 0 ≡ false = λ limit. le-ltb limit 0 (omega arith) in
     let few_bytes : nat_lt l.store (stored (input_at count)) ≡ false = le-ltb l.store (stored (input_at count)) (omega (arith, bytes)) in
     let few_names : nat_lt l.names (names_added (input_at count)) ≡ false = le-ltb l.names (names_added (input_at count)) (omega (arith, names)) in
-    rw (none l.stack, none l.depth, none l.diversions, few_bytes, few_names, none l.conditions) refl
+    rw (none l.diversions, few_bytes, few_names, none l.stack, none l.depth, none l.conditions) refl
 
 -- so the next one gets its name
 pub names_next : (l : Limits) (count : ℕ) (request : Request) → slice_get requests count ≡ Some request

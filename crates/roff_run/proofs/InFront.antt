@@ -4,11 +4,11 @@ use Rattle.std.proofs.Common.{◌≡◌, ℕ, ◌+◌, Bool, true, false, List, 
 use Rattle.std.specs.Prelude.{nat_lt, ◌&&◌, is_none, if◌then◌else◌}
 use Rattle.roff_num.specs.declared.limits.Limits.{Limits}
 use Rattle.roff_scan.specs.Halves.{seen_stays}
-use Rattle.roff_scan.specs.Input.{Ahead, ByteAhead, FreeAhead, EndAhead, DoAhead, cost, item_taken}
+use Rattle.roff_scan.specs.Input.{Ahead, ByteAhead, FreeAhead, EndAhead, ReturnAhead, DoAhead, cost, item_taken}
 use Rattle.roff_scan.specs.Tape.{Tape, Item, Answer, Gives, Ends, OneByte, OneNote, Ending, Ended, Failed, Stopped, front, behind_front, items_then, only, Took}
-use Rattle.roff_scan.specs.Unread.{Unread, Shown, ShowsByte, ShowsEnd, ShowsDo, ShowsNote, ShowsEnding, ShowsRefusal, taking, taking_ahead, taking_answer, looked_then, answer_behind, asks_to_take, shown_ahead, Sighted, SeesByte, SeesNothing, SeesNote, SeesEnding, seen_ahead, looking, looking_at, looking_past, asks_to_look, Asked}
+use Rattle.roff_scan.specs.Unread.{Unread, Shown, ShowsByte, ShowsEnd, ShowsReturn, ShowsDo, ShowsNote, ShowsEnding, ShowsRefusal, taking, taking_ahead, taking_answer, looked_then, answer_behind, asks_to_take, shown_ahead, Sighted, SeesByte, SeesNothing, SeesNote, SeesEnding, seen_ahead, looking, looking_at, looking_past, asks_to_look, Asked}
 use Rattle.roff_run.proofs.InputCounts.{one_of}
-use Rattle.roff_run.specs.Reading.{PageInput, interrupted}
+use Rattle.roff_run.specs.Reading.{PageInput, behind_return, interrupted}
 use Rattle.roff_run.specs.Requests.{PageEvent}
 use Rattle.roff_run.specs.Run.{front_seen, State, made, byte_taken, ending_input, ending_with, ending_as, stopped_by, in_front_taken, answered, ahead_taken, half_ends, awaited, awaited_of_source}
 use Rattle.roff_run.specs.declared.message.Message.TheVariants.{ReadFailed}
@@ -24,6 +24,7 @@ ending_step l (Stopped limit) from = ending_as (Limited limit) from
 abbrev pub shown_step : Limits → Shown PageEvent → State → State → State
 shown_step l (ShowsByte b) from behind = made l from (byte_taken b behind)
 shown_step l ShowsEnd from behind = made l from behind
+shown_step l ShowsReturn from behind = made l from (record behind { reading = behind_return behind.reading })
 shown_step l (ShowsDo e) from behind = made l from (record behind { input = interrupted behind.reading behind.input; to_do = e ∷ [] })
 shown_step l (ShowsNote message) from behind = record behind { messages = behind.messages ++ message }
 shown_step l (ShowsEnding ending) from behind = ending_step l ending from
@@ -86,6 +87,7 @@ module _ (l limits : Limits) (i : PageInput) (tape : Tape) (s : State) (cap : li
   allowed_shown looked (ByteAhead b) behind = refl
   allowed_shown looked (FreeAhead b) behind = refl
   allowed_shown looked EndAhead behind = refl
+  allowed_shown looked ReturnAhead behind = refl
   allowed_shown looked (DoAhead e) behind = refl
 
   -- an item ahead
@@ -158,6 +160,7 @@ limits-taking a u = limits-taking_of u.input.ahead a u.input u.looked u.limits
 abbrev pub IsEnding : Shown PageEvent → Type 0
 IsEnding (ShowsByte b) = ⊥
 IsEnding ShowsEnd = ⊥
+IsEnding ShowsReturn = ⊥
 IsEnding (ShowsDo event) = ⊥
 IsEnding (ShowsNote message) = ⊥
 IsEnding (ShowsEnding ending) = Unit {0}
@@ -167,6 +170,7 @@ no_ending_ahead : (item : Ahead PageEvent) → IsEnding (shown_ahead item) → �
 no_ending_ahead (ByteAhead b) is = is
 no_ending_ahead (FreeAhead b) is = is
 no_ending_ahead EndAhead is = is
+no_ending_ahead ReturnAhead is = is
 no_ending_ahead (DoAhead event) is = is
 
 -- what a call leaves that shows an ending
@@ -220,6 +224,7 @@ seen-ahead [] = tt
 seen-ahead (ByteAhead b ∷ items) = tt
 seen-ahead (FreeAhead b ∷ items) = tt
 seen-ahead (EndAhead ∷ items) = seen-ahead items
+seen-ahead (ReturnAhead ∷ items) = seen-ahead items
 seen-ahead (DoAhead event ∷ items) = tt
 
 -- what a look shows and leaves, where a step leads to this state

@@ -1,13 +1,13 @@
 -- What the calls of the unread input leave of the counts that limits are on.
 use Rattle.std.proofs.Common.{◌≡◌, ℕ, ◌+◌, ◌-◌, ◌≤◌, Bool, true, false, List, [], ◌∷◌, length, Option, Some, None, refl, sym, subst, ap, ◌∙◌, arith}
-use Rattle.std.specs.Prelude.{nat_lt, sum_by, if◌then◌else◌}
+use Rattle.std.specs.Prelude.{drop, nat_le, nat_lt, sum_by, if◌then◌else◌}
 use Rattle.std.proofs.lemmas.Bool.{le-ltb, ltb-false}
 use Rattle.roff_num.specs.declared.limit.Limit.{Limit}
 use Rattle.roff_num.specs.declared.limit.Limit.TheVariants.{Stack, Depth, Conditions, Names, Store, Diversions}
 use Rattle.roff_num.specs.declared.limits.Limits.{Limits}
 use Rattle.roff_scan.specs.Arguments.{held, settled, no_arguments}
 use Rattle.roff_scan.specs.Half.{texts_held}
-use Rattle.roff_scan.specs.Input.{Ahead, ByteAhead, FreeAhead, EndAhead, DoAhead, counting, item_taken, leaving, names_added, pushed, depth, results, stored, bytes_ahead, ends_ahead}
+use Rattle.roff_scan.specs.Input.{Ahead, ByteAhead, FreeAhead, EndAhead, ReturnAhead, DoAhead, counting, item_taken, leaving, names_added, pushed, depth, results, stored, bytes_ahead, ends_ahead, calls_behind, kept_behind, kept_below, live_bytes}
 use Rattle.roff_scan.specs.Tape.{Answer, Gives, Ends, OneByte, OneNote}
 use Rattle.roff_scan.specs.Unread.{Unread, Shown, taking, taking_answer, answer_behind, input_refusal}
 use Rattle.roff_store.specs.Named.{Named}
@@ -18,7 +18,7 @@ use Rattle.roff_run.specs.Registers.{AllRegisters}
 use Rattle.roff_run.specs.Requests.{PageEvent}
 use Rattle.roff_run.specs.Run.{first_passed, counts_in}
 use Rattle.roff_run.specs.declared.reading.Reading.{Reading}
-use Rattle.roff_run.specs.declared.reading.Reading.TheVariants.{Arguments as InArguments, StringName}
+use Rattle.roff_run.specs.declared.reading.Reading.TheVariants.{Arguments as InArguments, StringName, Calling}
 
 -- of either part of a test it holds
 pub one_of : {A : Type 0} (P : A → Type 0) (c : Bool) (x y : A) → P x → P y → P (if c then x else y)
@@ -44,18 +44,17 @@ names_added-same : (now before : PageInput) → now.names ≡ before.names → n
 names_added-same now before names first_names =
     ap (λ (names : Named Entry). length names - now.first_names) names ∙ ap (λ (first : ℕ). length before.names - first) first_names
 
--- by the items ahead alone
-by_ahead : (now before : PageInput) → now.arguments ≡ before.arguments → now.half ≡ before.half → now.kept ≡ before.kept → now.names ≡ before.names
+-- by what stands ahead, the calls of bodies and the results that are kept alone
+by_ahead : (now before : PageInput) → now.arguments ≡ before.arguments → now.half ≡ before.half → now.names ≡ before.names
     → now.first_names ≡ before.first_names → now.open_texts ≡ before.open_texts → bytes_ahead now.ahead ≤ bytes_ahead before.ahead
-    → ends_ahead now.ahead ≤ ends_ahead before.ahead → NoMore now before
-by_ahead now before same same_half same_kept names first_names open_texts bytes texts =
+    → ends_ahead now.ahead ≤ ends_ahead before.ahead → live_bytes now.calls ≤ live_bytes before.calls → length now.kept ≤ length before.kept → NoMore now before
+by_ahead now before same same_half names first_names open_texts bytes texts calls kept =
     let held_same : held now.arguments ≡ held before.arguments = ap held same in
     let half_same : texts_held now.half ≡ texts_held before.half = ap texts_held same_half in
-    let results_same : length now.kept ≡ length before.kept = ap (λ (kept : List Bool). length kept) same_kept in
     let texts_same : length now.open_texts ≡ length before.open_texts = ap (λ (texts : List (List ℕ)). length texts) open_texts in
     let stored_same = stored-same now before names open_texts in
     let names_same = names_added-same now before names first_names in
-    record { bytes = omega arith; texts = texts; results = omega arith; stored = omega arith; names = omega arith; open_texts = omega arith }
+    record { bytes = omega arith; texts = texts; results = kept; stored = omega arith; names = omega arith; open_texts = omega arith }
 
 -- what changes nothing there
 pub NoMore-same : (i : PageInput) → NoMore i i
@@ -77,25 +76,55 @@ bytes_behind : (item : Ahead PageEvent) (items : List (Ahead PageEvent)) → byt
 bytes_behind (ByteAhead b) items = omega arith
 bytes_behind (FreeAhead b) items = omega arith
 bytes_behind EndAhead items = omega arith
+bytes_behind ReturnAhead items = omega arith
 bytes_behind (DoAhead event) items = omega arith
 
 ends_behind : (item : Ahead PageEvent) (items : List (Ahead PageEvent)) → ends_ahead items ≤ ends_ahead (item ∷ items)
 ends_behind (ByteAhead b) items = omega arith
 ends_behind (FreeAhead b) items = omega arith
 ends_behind EndAhead items = omega arith
+ends_behind ReturnAhead items = omega arith
 ends_behind (DoAhead event) items = omega arith
 
+-- a call that is over has no arguments more
+live_bytes-drop : (calls : List (List (List ℕ))) → live_bytes (drop 1 calls) ≤ live_bytes calls
+live_bytes-drop [] = omega arith
+live_bytes-drop (arguments ∷ calls) = omega arith
+
+calls_behind-fewer : (item : Ahead PageEvent) (calls : List (List (List ℕ))) → live_bytes (calls_behind item calls) ≤ live_bytes calls
+calls_behind-fewer (ByteAhead b) calls = omega arith
+calls_behind-fewer (FreeAhead b) calls = omega arith
+calls_behind-fewer EndAhead calls = omega arith
+calls_behind-fewer ReturnAhead calls = live_bytes-drop calls
+calls_behind-fewer (DoAhead event) calls = omega arith
+
+-- nor have results that were kept in it been kept
+kept_below-fewer : (calls : ℕ) (kept : List (Bool × ℕ)) → length (kept_below calls kept) ≤ length kept
+kept_below-fewer calls [] = omega arith
+kept_below-fewer calls (result ∷ others) =
+    let fewer = kept_below-fewer calls others in
+    one_of (λ (left : List (Bool × ℕ)). length left ≤ length (result ∷ others)) (nat_le calls result.1) (kept_below calls others) (result ∷ others)
+    (omega (arith, fewer)) (omega arith)
+
+kept_behind-fewer : (item : Ahead PageEvent) (calls : List (List (List ℕ))) (kept : List (Bool × ℕ)) → length (kept_behind item calls kept) ≤ length kept
+kept_behind-fewer (ByteAhead b) calls kept = omega arith
+kept_behind-fewer (FreeAhead b) calls kept = omega arith
+kept_behind-fewer EndAhead calls kept = omega arith
+kept_behind-fewer ReturnAhead calls kept = kept_below-fewer (length calls) kept
+kept_behind-fewer (DoAhead event) calls kept = omega arith
+
 pub NoMore-item_taken : (item : Ahead PageEvent) (items : List (Ahead PageEvent)) (i : PageInput) → i.ahead ≡ item ∷ items → NoMore (item_taken item items i) i
-NoMore-item_taken item items i ahead = by_ahead (item_taken item items i) i refl refl refl refl refl refl
+NoMore-item_taken item items i ahead = by_ahead (item_taken item items i) i refl refl refl refl refl
     (subst (λ (all : List (Ahead PageEvent)). bytes_ahead items ≤ bytes_ahead all) (sym ahead) (bytes_behind item items))
     (subst (λ (all : List (Ahead PageEvent)). ends_ahead items ≤ ends_ahead all) (sym ahead) (ends_behind item items))
+    (calls_behind-fewer item i.calls) (kept_behind-fewer item i.calls i.kept)
 
 -- what a call leaves counts for no more
 abbrev LeavesNoMore : PageInput → Shown PageEvent × Unread PageEvent → Type 0
 LeavesNoMore i call = NoMore call.1.input i
 
 NoMore-answer : (a : Answer) (u : Unread PageEvent) → LeavesNoMore u.input (taking_answer a u)
-NoMore-answer (Gives (OneByte b)) u = one_of (LeavesNoMore u.input) _ _ _ (NoMore-same u.input) (by_ahead (counting b u.input) u.input refl refl refl refl refl refl (omega arith) (omega arith))
+NoMore-answer (Gives (OneByte b)) u = one_of (LeavesNoMore u.input) _ _ _ (NoMore-same u.input) (by_ahead (counting b u.input) u.input refl refl refl refl refl (omega arith) (omega arith) (omega arith) (omega arith))
 NoMore-answer (Gives (OneNote message)) u = NoMore-same u.input
 NoMore-answer (Ends ending) u = NoMore-same u.input
 
@@ -112,7 +141,7 @@ NoMore-taking a u = NoMore-taking_of u.input.ahead a u.input u.looked u.limits
 
 -- where no quote follows, as many bytes are held
 pub pushed-settling : (i : PageInput) → pushed (settling i) ≡ pushed i
-pushed-settling i = ap (λ n. bytes_ahead i.ahead + n + texts_held i.half) (held-only_kept (settled i.arguments) ∙ held-settled i.arguments)
+pushed-settling i = ap (λ n. bytes_ahead i.ahead + n + texts_held i.half + live_bytes i.calls) (held-only_kept (settled i.arguments) ∙ held-settled i.arguments)
 
 pub NoMore-settling : (i : PageInput) → NoMore (settling i) i
 NoMore-settling i = record { bytes = omega (arith, pushed-settling i); texts = omega arith; results = omega arith; stored = omega arith; names = omega arith; open_texts = omega arith }
@@ -120,6 +149,7 @@ NoMore-settling i = record { bytes = omega (arith, pushed-settling i); texts = o
 pub NoMore-interrupted : (reading : Reading) (i : PageInput) → NoMore (interrupted reading i) i
 NoMore-interrupted (InArguments breaks request) i = NoMore-settling i
 NoMore-interrupted (StringName appends) i = NoMore-settling i
+NoMore-interrupted (Calling name) i = NoMore-settling i
 NoMore-interrupted (_) i = NoMore-same i
 
 -- where the arguments are released
@@ -128,7 +158,7 @@ NoMore-released i = record { bytes = omega arith; texts = omega arith; results =
 
 -- where nothing stands ahead
 pub NoMore-leaving : (i : PageInput) → NoMore (leaving i) i
-NoMore-leaving i = record { bytes = omega arith; texts = omega arith; results = omega arith; stored = omega arith; names = omega arith; open_texts = omega arith }
+NoMore-leaving i = record { bytes = omega arith; texts = omega arith; results = kept_below-fewer 1 i.kept; stored = omega arith; names = omega arith; open_texts = omega arith }
 
 -- a limit that a count isn't above is above none that is no more
 pub not_above : (limit before now : ℕ) → now ≤ before → nat_lt limit before ≡ false → nat_lt limit now ≡ false
@@ -146,22 +176,23 @@ first_not x rest false passes none = none
 -- where the counts are no more, no limit refuses what none refused
 pub input_refusal-no_more : (l : Limits) (now before : PageInput) → NoMore now before → input_refusal l before ≡ None → input_refusal l now ≡ None
 input_refusal-no_more l now before less none =
-    let behind_names : Option Limit = if nat_lt l.conditions (results before) then Some Conditions else None in
-    let behind_bytes : Option Limit = if nat_lt l.names (names_added before) then Some Names else behind_names in
-    let behind_making : Option Limit = if nat_lt l.store (stored before) then Some Store else behind_bytes in
-    let behind_depth : Option Limit = if nat_lt l.diversions (length before.open_texts - 1) then Some Diversions else behind_making in
-    let stack = neither Stack (if nat_lt l.depth (depth before) then Some Depth else behind_depth) (nat_lt l.stack (pushed before)) none in
-    let texts = neither Depth behind_depth (nat_lt l.depth (depth before)) stack.1 in
-    let making = neither Diversions behind_making (nat_lt l.diversions (length before.open_texts - 1)) texts.1 in
-    let bytes = neither Store behind_bytes (nat_lt l.store (stored before)) making.1 in
-    let names = neither Names behind_names (nat_lt l.names (names_added before)) bytes.1 in
-    let kept = neither Conditions None (nat_lt l.conditions (results before)) names.1 in
+    let behind_depth : Option Limit = if nat_lt l.conditions (results before) then Some Conditions else None in
+    let behind_bytes : Option Limit = if nat_lt l.depth (depth before) then Some Depth else behind_depth in
+    let behind_names : Option Limit = if nat_lt l.stack (pushed before) then Some Stack else behind_bytes in
+    let behind_stored : Option Limit = if nat_lt l.names (names_added before) then Some Names else behind_names in
+    let behind_making : Option Limit = if nat_lt l.store (stored before) then Some Store else behind_stored in
+    let making = neither Diversions behind_making (nat_lt l.diversions (length before.open_texts - 1)) none in
+    let store = neither Store behind_stored (nat_lt l.store (stored before)) making.1 in
+    let names = neither Names behind_names (nat_lt l.names (names_added before)) store.1 in
+    let bytes = neither Stack behind_bytes (nat_lt l.stack (pushed before)) names.1 in
+    let texts = neither Depth behind_depth (nat_lt l.depth (depth before)) bytes.1 in
+    let kept = neither Conditions None (nat_lt l.conditions (results before)) texts.1 in
     let fewer : length now.open_texts - 1 ≤ length before.open_texts - 1 = omega (arith, less.open_texts) in
-    first_not Stack _ _ (not_above l.stack (pushed before) (pushed now) less.bytes stack.0)
-    (first_not Depth _ _ (not_above l.depth (depth before) (depth now) less.texts texts.0)
-    (first_not Diversions _ _ (not_above l.diversions (length before.open_texts - 1) (length now.open_texts - 1) fewer making.0)
-    (first_not Store _ _ (not_above l.store (stored before) (stored now) less.stored bytes.0)
+    first_not Diversions _ _ (not_above l.diversions (length before.open_texts - 1) (length now.open_texts - 1) fewer making.0)
+    (first_not Store _ _ (not_above l.store (stored before) (stored now) less.stored store.0)
     (first_not Names _ _ (not_above l.names (names_added before) (names_added now) less.names names.0)
+    (first_not Stack _ _ (not_above l.stack (pushed before) (pushed now) less.bytes bytes.0)
+    (first_not Depth _ _ (not_above l.depth (depth before) (depth now) less.texts texts.0)
     (first_not Conditions None _ (not_above l.conditions (results before) (results now) less.results kept.0) refl)))))
 
 -- where the names are within their limit, the others decide

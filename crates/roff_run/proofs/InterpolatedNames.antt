@@ -22,9 +22,9 @@ use Rattle.roff_scan.specs.declared.half.Surroundings.{Surroundings}
 use Rattle.roff_store.specs.declared.register.Direction.{Direction}
 use Rattle.roff_store.specs.declared.register.Direction.TheVariants.{Up, Down}
 use Rattle.roff_run.specs.declared.reading.Reading.{Reading}
-use Rattle.roff_run.specs.declared.reading.Reading.TheVariants.{LineStart, Branch, Braced, Text as InText, Control, Name as NameOf, Arguments as InArguments, Deciding, StringName, StringText, Skipping, Dropped, Telling, Told, Exiting}
+use Rattle.roff_run.specs.declared.reading.Reading.TheVariants.{LineStart, Branch, Braced, Text as InText, Control, Name as NameOf, Arguments as InArguments, Deciding, StringName, StringText, Skipping, Dropped, Telling, Told, Exiting, Calling, Defining}
 use Rattle.roff_run.specs.declared.reading.TextLine.{TextLine}
-use Rattle.roff_run.proofs.Interpolation.{AtLast, Behind, FindsAtLast, Fits-IsWithin, FromAhead, FromSource, IsRead, IsRead-itself, Means, Origin, ReadsEscapes, AtBeginning, AtBranch, AtBraced, OnText, OnArguments, OnCondition, OnStringName, OnStringText, OnMessage, ReadsEscapes-reads_escapes, after-escape, ahead_at, going, input_of, interrupted-arguments, is-going, is_no_newline, line_behind, not-first, read_in, settled_for, settled_for-settled_for, settled_input, source_behind, tape_at, taking-reads}
+use Rattle.roff_run.proofs.Interpolation.{AtLast, Behind, FindsAtLast, Fits-IsWithin, FromAhead, FromSource, IsRead, IsRead-itself, Means, Origin, ReadsEscapes, AtBeginning, AtBranch, AtBraced, OnText, OnArguments, OnCondition, OnStringName, OnCall, OnStringText, OnDefinition, OnMessage, ReadsEscapes-reads_escapes, after-escape, ahead_at, going, input_of, interrupted-arguments, is-going, is_no_newline, line_behind, not-first, read_in, settled_for, settled_for-settled_for, settled_input, source_behind, tape_at, taking-reads}
 use Rattle.roff_run.specs.InterpolationLaws.{TakesItems, StandsForItself, IsEscapeOf, Short, Long, ShortString, LongString, OfArgument, reads_text, reads_escapes, reads_in_condition, reads_above, stepped, text_named, with_text_ahead, EscapesReadAsTexts, EscapesOfTheSourceReadAsTexts, EscapesOfTextReadAsTexts}
 use Rattle.roff_run.specs.Laws.{IsWithin}
 use Rattle.roff_run.specs.Reading.{PageInput, Taking, taking, interrupted, fresh_line, asking, name_taking}
@@ -217,7 +217,9 @@ read_in-asks k _ _ i half asks name of (OnText line) = name_taking-Interpolates 
 read_in-asks k _ _ i half asks name of (OnArguments breaks request) = refl
 read_in-asks k _ _ i half asks name of (OnCondition keeps) = refl
 read_in-asks k _ _ i half asks name of (OnStringName appends) = refl
+read_in-asks k _ _ i half asks name of (OnCall string) = refl
 read_in-asks k _ _ i half asks name of (OnStringText string appends is_front) = refl
+read_in-asks k _ _ i half asks name of (OnDefinition string appends end matched) = refl
 read_in-asks k _ _ i half asks name of (OnMessage aborts is_front) = refl
 
 -- a byte that asks for it
@@ -386,7 +388,9 @@ interrupted-reads_text (Control breaks) i is = absurd (cc)
 interrupted-reads_text (NameOf breaks first) i is = absurd (cc)
 interrupted-reads_text (Deciding keeps) i is = absurd (cc)
 interrupted-reads_text (StringName appends) i is = absurd (cc)
+interrupted-reads_text (Calling name) i is = absurd (cc)
 interrupted-reads_text (StringText name appends is_front) i is = absurd (cc)
+interrupted-reads_text (Defining name appends end matched) i is = absurd (cc)
 interrupted-reads_text (Skipping opened closed behind) i is = absurd (cc)
 interrupted-reads_text Dropped i is = absurd (cc)
 interrupted-reads_text (Telling aborts is_front) i is = absurd (cc)
@@ -404,7 +408,9 @@ reads_escapes-reads_text (Control breaks) is = absurd (cc)
 reads_escapes-reads_text (NameOf breaks first) is = absurd (cc)
 reads_escapes-reads_text (Deciding keeps) is = refl
 reads_escapes-reads_text (StringName appends) is = refl
+reads_escapes-reads_text (Calling name) is = refl
 reads_escapes-reads_text (StringText name appends is_front) is = refl
+reads_escapes-reads_text (Defining name appends end matched) is = refl
 reads_escapes-reads_text (Skipping opened closed behind) is = absurd (cc)
 reads_escapes-reads_text Dropped is = absurd (cc)
 reads_escapes-reads_text (Telling aborts is_front) is = refl

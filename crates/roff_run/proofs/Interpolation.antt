@@ -23,14 +23,14 @@ use Rattle.roff_scan.specs.declared.half.Read.TheVariants.{GoesOn}
 use Rattle.roff_scan.specs.declared.half.Surroundings.{Surroundings}
 use Rattle.roff_scan.specs.declared.half.Surroundings.TheVariants.{Text as AboveText, Arguments as AboveArguments, Copy as AboveCopy}
 use Rattle.roff_run.specs.declared.reading.Reading.{Reading}
-use Rattle.roff_run.specs.declared.reading.Reading.TheVariants.{LineStart, Branch, Braced, Text as InText, Control, Name as NameOf, Arguments as InArguments, Deciding, StringName, StringText, Skipping, Dropped, Telling, Told, Exiting}
+use Rattle.roff_run.specs.declared.reading.Reading.TheVariants.{LineStart, Branch, Braced, Text as InText, Control, Name as NameOf, Arguments as InArguments, Deciding, StringName, StringText, Skipping, Dropped, Telling, Told, Exiting, Calling, Defining}
 use Rattle.roff_run.specs.declared.reading.ShortName.{ShortName}
 use Rattle.roff_run.specs.declared.reading.TextLine.{TextLine}
 use Rattle.roff_run.specs.declared.request.Request.{Request}
 use Rattle.roff_run.specs.declared.status.Status.{Status}
 use Rattle.roff_run.specs.InterpolationLaws.{TakesItems, BytesAheadAreTaken, BytesOfTheSourceAreTaken, StandsForItself, reads_escapes, with_source_behind, cost_of_all, TextsCostTheirBytesAndOne}
 use Rattle.roff_run.specs.Laws.{IsWithin}
-use Rattle.roff_run.specs.Reading.{PageInput, due, message_read, Taking, going_on, taking, kept_taking, beginning_read, text_read, arguments_read_on, condition_read, string_name_read, string_text_read, interrupted}
+use Rattle.roff_run.specs.Reading.{PageInput, call_read, definition_read, due, message_read, Taking, going_on, taking, kept_taking, beginning_read, text_read, arguments_read_on, condition_read, string_name_read, string_text_read, interrupted}
 use Rattle.roff_run.specs.Registers.{AllRegisters, Known}
 use Rattle.roff_run.specs.Requests.{PageEvent}
 use Rattle.roff_run.specs.Run.{State, known, made, byte_taken, front_seen, half_ends, awaited, awaited_of_source, answered, moved, in_front_taken, taking_ahead, taking_byte, taken_as, first_passed, grown, unless_refused, stopped_by, item_read, step, after}
@@ -199,7 +199,10 @@ pub data ReadsEscapes : Reading → Surroundings → Type 0 where
   OnArguments : (breaks : Bool) (request : Request) → ReadsEscapes (InArguments breaks request) AboveArguments
   OnCondition : (keeps : Bool) → ReadsEscapes (Deciding keeps) AboveArguments
   OnStringName : (appends : Bool) → ReadsEscapes (StringName appends) AboveArguments
+  OnCall : (name : ShortName) → ReadsEscapes (Calling name) AboveArguments
   OnStringText : (name : Option ShortName) (appends is_front : Bool) → ReadsEscapes (StringText name appends is_front) AboveCopy
+  OnDefinition : (name : Option ShortName) (appends : Bool) (end : Option ShortName) (matched : Option ℕ)
+      → ReadsEscapes (Defining name appends end matched) AboveCopy
   OnMessage : (aborts is_front : Bool) → ReadsEscapes (Telling aborts is_front) AboveCopy
 
 -- there nothing is due
@@ -211,7 +214,9 @@ none_due-reads _ _ (OnText line) = refl
 none_due-reads _ _ (OnArguments breaks request) = refl
 none_due-reads _ _ (OnCondition keeps) = refl
 none_due-reads _ _ (OnStringName appends) = refl
+none_due-reads _ _ (OnCall string) = refl
 none_due-reads _ _ (OnStringText string appends is_front) = refl
+none_due-reads _ _ (OnDefinition string appends end matched) = refl
 none_due-reads _ _ (OnMessage aborts is_front) = refl
 
 -- what something reads there, with what is half read then
@@ -220,7 +225,9 @@ read_in k (InText line) i r = text_read k i line r
 read_in k (InArguments breaks request) i r = arguments_read_on k i breaks request r
 read_in k (Deciding keeps) i r = condition_read k i keeps r
 read_in k (StringName appends) i r = string_name_read k i appends r
+read_in k (Calling name) i r = call_read k i name r
 read_in k (StringText name appends is_front) i r = string_text_read k i name appends is_front r
+read_in k (Defining name appends end matched) i r = definition_read k i name appends end matched r
 read_in k (Telling aborts is_front) i r = message_read k i aborts is_front r
 read_in k reading i r = beginning_read k i reading r
 
@@ -234,7 +241,9 @@ kept_taking-reads k _ _ i b (OnText line) = refl
 kept_taking-reads k _ _ i b (OnArguments breaks request) = refl
 kept_taking-reads k _ _ i b (OnCondition keeps) = refl
 kept_taking-reads k _ _ i b (OnStringName appends) = refl
+kept_taking-reads k _ _ i b (OnCall string) = refl
 kept_taking-reads k _ _ i b (OnStringText string appends is_front) = refl
+kept_taking-reads k _ _ i b (OnDefinition string appends end matched) = refl
 kept_taking-reads k _ _ i b (OnMessage aborts is_front) = refl
 
 -- a byte that is read
@@ -248,6 +257,7 @@ taking-reads k reading base i b on read =
 abbrev pub settled_for : Reading → Arguments → Arguments
 settled_for (InArguments breaks request) a = only_kept (settled a)
 settled_for (StringName appends) a = only_kept (settled a)
+settled_for (Calling name) a = only_kept (settled a)
 settled_for (_) a = a
 
 -- the input where this is half read, and no quote follows
@@ -264,7 +274,9 @@ read_in-nothing k _ _ i half (OnText line) = refl
 read_in-nothing k _ _ i half (OnArguments breaks request) = refl
 read_in-nothing k _ _ i half (OnCondition keeps) = refl
 read_in-nothing k _ _ i half (OnStringName appends) = refl
+read_in-nothing k _ _ i half (OnCall string) = refl
 read_in-nothing k _ _ i half (OnStringText string appends is_front) = refl
+read_in-nothing k _ _ i half (OnDefinition string appends end matched) = refl
 read_in-nothing k _ _ i half (OnMessage aborts is_front) = refl
 
 -- a byte that finds nothing
@@ -372,7 +384,9 @@ settled_for-settled_for _ _ a (OnText line) = refl
 settled_for-settled_for _ _ a (OnArguments breaks request) = settled-only_kept a
 settled_for-settled_for _ _ a (OnCondition keeps) = refl
 settled_for-settled_for _ _ a (OnStringName appends) = settled-only_kept a
+settled_for-settled_for _ _ a (OnCall string) = settled-only_kept a
 settled_for-settled_for _ _ a (OnStringText string appends is_front) = refl
+settled_for-settled_for _ _ a (OnDefinition string appends end matched) = refl
 settled_for-settled_for _ _ a (OnMessage aborts is_front) = refl
 
 -- and hold as many bytes
@@ -384,7 +398,9 @@ held-settled_for _ _ a (OnText line) = refl
 held-settled_for _ _ a (OnArguments breaks request) = held-only_kept-settled a
 held-settled_for _ _ a (OnCondition keeps) = refl
 held-settled_for _ _ a (OnStringName appends) = held-only_kept-settled a
+held-settled_for _ _ a (OnCall string) = held-only_kept-settled a
 held-settled_for _ _ a (OnStringText string appends is_front) = refl
+held-settled_for _ _ a (OnDefinition string appends end matched) = refl
 held-settled_for _ _ a (OnMessage aborts is_front) = refl
 
 -- the steps at an escape, where a backslash begins one
@@ -434,7 +450,9 @@ interrupted-arguments _ _ i (OnText line) = refl
 interrupted-arguments _ _ i (OnArguments breaks request) = refl
 interrupted-arguments _ _ i (OnCondition keeps) = refl
 interrupted-arguments _ _ i (OnStringName appends) = refl
+interrupted-arguments _ _ i (OnCall string) = refl
 interrupted-arguments _ _ i (OnStringText string appends is_front) = refl
+interrupted-arguments _ _ i (OnDefinition string appends end matched) = refl
 interrupted-arguments _ _ i (OnMessage aborts is_front) = refl
 
 -- a state within the limits is within those that a step looks at
@@ -451,7 +469,9 @@ ReadsEscapes-reads_escapes (InText line) is = (AboveText, OnText line)
 ReadsEscapes-reads_escapes (InArguments breaks request) is = (AboveArguments, OnArguments breaks request)
 ReadsEscapes-reads_escapes (Deciding keeps) is = (AboveArguments, OnCondition keeps)
 ReadsEscapes-reads_escapes (StringName appends) is = (AboveArguments, OnStringName appends)
+ReadsEscapes-reads_escapes (Calling name) is = (AboveArguments, OnCall name)
 ReadsEscapes-reads_escapes (StringText name appends is_front) is = (AboveCopy, OnStringText name appends is_front)
+ReadsEscapes-reads_escapes (Defining name appends end matched) is = (AboveCopy, OnDefinition name appends end matched)
 ReadsEscapes-reads_escapes (Telling aborts is_front) is = (AboveCopy, OnMessage aborts is_front)
 ReadsEscapes-reads_escapes (Told aborts) is = absurd (cc)
 ReadsEscapes-reads_escapes Exiting is = absurd (cc)

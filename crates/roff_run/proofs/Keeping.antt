@@ -3,13 +3,13 @@
 -- Each function f of reading has its lemma here, with a line for each of its cases: Stays-f where it leaves the input,
 -- and else Keeps-f.
 use Rattle.std.proofs.Common.{◌≡◌, ℕ, ◌+◌, ◌-◌, ◌≤◌, Bool, true, false, List, [], ◌∷◌, ◌++◌, map, Option, Some, None, refl, ap, sym, subst, ◌∙◌, arith}
-use Rattle.std.specs.Prelude.{◌&&◌, ◌||◌, decimal, nat_le, if◌then◌else◌, ◌==◌}
+use Rattle.std.specs.Prelude.{◌&&◌, ◌||◌, decimal, length, nat_le, if◌then◌else◌, ◌==◌}
 use Rattle.roff_lines.specs.declared.glyph.Glyph.TheVariants.{Printed}
 use Rattle.roff_scan.specs.Bytes.{tab, newline, blank, apostrophe, quote, dot, backslash, is_silent, is_dropped}
 use Rattle.roff_scan.specs.Characters.{character}
 use Rattle.roff_scan.specs.Escapes.{escape_of}
 use Rattle.roff_scan.specs.Halves.{byte_read, reading_ended}
-use Rattle.roff_scan.specs.Input.{Ahead, ByteAhead, EndAhead, choosing, holding_text, kept_last, without_last}
+use Rattle.roff_scan.specs.Input.{Ahead, ByteAhead, EndAhead, ReturnAhead, arguments_given, arguments_live, beginning_line, called_text, choosing, holding_text, kept_last, without_last}
 use Rattle.roff_scan.specs.declared.escapes.Escape.{Escape as Kind}
 use Rattle.roff_scan.specs.declared.escapes.Escape.TheVariants.{Prints, Blank, NoWidth, Nothing as GivesNothing, Brace, LeftOut as IsLeftOut, Comment as BeginsComment, Size as BeginsSize, Name as BeginsName, Text as BeginsText, Width as BeginsWidth}
 use Rattle.roff_scan.specs.declared.escapes.NameUse.{NameUse}
@@ -27,21 +27,30 @@ use Rattle.roff_scan.specs.declared.half.Surroundings.{Surroundings}
 use Rattle.roff_scan.specs.declared.half.Surroundings.TheVariants.{Text as AboveText, Arguments as AboveArguments, Copy as AboveCopy}
 use Rattle.roff_store.specs.declared.register.Direction.{Direction}
 use Rattle.roff_run.specs.declared.reading.Reading.{Reading}
-use Rattle.roff_run.specs.declared.reading.Reading.TheVariants.{LineStart, Branch, Braced, Text as InText, Control, Name, Arguments as InArguments, Deciding, StringName, StringText, Skipping, Dropped, Telling, Told, Exiting}
+use Rattle.roff_run.specs.declared.reading.Reading.TheVariants.{LineStart, Branch, Braced, Text as InText, Control, Name, Arguments as InArguments, Deciding, StringName, StringText, Skipping, Dropped, Telling, Told, Exiting, Calling, Defining}
 use Rattle.roff_run.specs.declared.reading.ShortName.{ShortName}
 use Rattle.roff_run.specs.declared.reading.TextLine.{TextLine}
 use Rattle.roff_run.specs.declared.request.LineReading.{LineReading}
-use Rattle.roff_run.specs.declared.request.LineReading.TheVariants.{ByArguments, ByCondition, ByElse, ByLastLine, ByMessage, ByString}
+use Rattle.roff_run.specs.declared.request.LineReading.TheVariants.{ByArguments, ByCondition, ByElse, ByLastLine, ByMessage, ByString, ByLines}
+use Rattle.roff_run.specs.declared.request.LinesFor.{LinesFor}
+use Rattle.roff_run.specs.declared.request.LinesFor.TheVariants.{Macro, Nobody}
+use Rattle.roff_run.specs.declared.request.Called.{Called}
+use Rattle.roff_run.specs.declared.request.Called.TheVariants.{Request as ARequest, Body as ABody, Nothing as Unknown}
+use Rattle.roff_run.specs.declared.definition.DefinitionLine.{DefinitionLine}
+use Rattle.roff_run.specs.declared.definition.DefinitionLine.TheVariants.{MayBeLast, IsLast, IsText}
+use Rattle.roff_run.specs.Definitions.{end_mark, ends_mark, front_of, line_from, matched_behind}
+use Rattle.roff_run.specs.ShortNames.{name_at, name_bytes, name_or_none}
 use Rattle.roff_run.specs.declared.request.Request.{Request}
-use Rattle.roff_run.specs.Reading.{PageInput, Taking, fresh_line, glyph_taking, blank_taking, text_taking, escape_meant, escape_taking, character_printed, character_taking, asking, measuring, name_taking, settling, line_begun, first_taking, first_escape, beginning_found, text_found, unit_found, no_unit_found, arguments_found, message_found, message_unit, reading_behind, skipping_taking, branch_of, branch_taking, is_so, decided, kept_if, condition_found, reads_else, dropped_taking, ends_name, line_taking, name_ended_taking, behind_name, name_whole_taking, kept_taking, interrupted, taking, half_ended, end_taking, going_on, calling_all, ended_by, name_bytes, arguments_given, first_name, holding, name_read, string_begun, string_emptied, string_entered, string_grown, string_line_ended, string_name_behind, string_name_found, string_name_or_text, string_name_unit, string_text_found, string_unit, condition_read}
+use Rattle.roff_run.specs.Reading.{PageInput, Taking, fresh_line, glyph_taking, blank_taking, text_taking, escape_meant, escape_taking, character_printed, character_taking, argument_named, asking, measuring, name_taking, settling, line_begun, first_taking, first_escape, beginning_found, text_found, unit_found, no_unit_found, arguments_ended, arguments_found, message_found, message_unit, reading_behind, skipping_taking, branch_of, branch_taking, is_so, decided, kept_if, condition_found, reads_else, dropped_taking, ends_name, line_taking, called_taking, name_ended_taking, behind_called, behind_name, kept_taking, interrupted, taking, half_ended, end_taking, going_on, calling_all, ended_by, holding, holding_call, name_read, string_begun, string_emptied, string_entered, string_grown, string_line_ended, string_name_behind, string_name_found, string_name_or_text, string_name_unit, string_text_found, string_unit, lines_begun, definition_begun, definition_named, definition_dropped, definition_grown, behind_definition, definition_unit, definition_line, definition_found, call_unit, call_found, condition_begun}
 use Rattle.roff_scan.specs.Arguments.{no_arguments}
 use Rattle.roff_scan.specs.Input.{body_named, calling, calling_on}
-use Rattle.roff_store.specs.TextCalls.{Call, PushOpen, Enter}
+use Rattle.roff_store.specs.TextCalls.{Call, DropOpen, PushOpen, Enter}
 use Rattle.roff_store.specs.Texts.{newest}
 use Rattle.roff_run.specs.Registers.{Known, known_behind, step_changes, text_of_register}
-use Rattle.roff_run.specs.Requests.{Effect, PageEvent, row_of, request_effect, request_named}
+use Rattle.roff_run.specs.Requests.{Effect, PageEvent, called_by, row_of, request_effect}
 use Rattle.roff_run.specs.TurnsToCome.{begun, endings_of, free_ahead}
 use Rattle.roff_run.proofs.HalfCounts.{Falls, Leaves, freed_endings, endings-byte_read, endings-reading_ended}
+use Rattle.roff_run.proofs.MarkEnds.{ends-line_from, ends_mark-begins_nothing}
 
 -- an input behind another, in which this is read: of the same counts, with as many free bytes ahead, and no more than so
 -- many endings to come
@@ -152,6 +161,8 @@ Stays-first_taking i Dropped b = Stays-line_begun i b
 Stays-first_taking i (Telling aborts is_front) b = Stays-line_begun i b
 Stays-first_taking i (Told aborts) b = Stays-line_begun i b
 Stays-first_taking i Exiting b = Stays-line_begun i b
+Stays-first_taking i (Calling name) b = Stays-line_begun i b
+Stays-first_taking i (Defining name appends end matched) b = Stays-line_begun i b
 
 -- an escape there
 Stays-first_escape : (i : PageInput) (reading : Reading) (b : ℕ) → Stays i (first_escape i reading b)
@@ -170,6 +181,8 @@ Stays-first_escape i Dropped b = Stays-escape_taking i fresh_line b
 Stays-first_escape i (Telling aborts is_front) b = Stays-escape_taking i fresh_line b
 Stays-first_escape i (Told aborts) b = Stays-escape_taking i fresh_line b
 Stays-first_escape i Exiting b = Stays-escape_taking i fresh_line b
+Stays-first_escape i (Calling name) b = Stays-escape_taking i fresh_line b
+Stays-first_escape i (Defining name appends end matched) b = Stays-escape_taking i fresh_line b
 
 -- a byte of a branch that is skipped
 Stays-skipping_taking : (i : PageInput) (opened closed : ℕ) (behind : Bool) (b : ℕ) → Stays i (skipping_taking i opened closed behind b)
@@ -195,6 +208,11 @@ unnamed-branch_of false = refl
 free_ahead-pushed : (text : List ℕ) (items : List (Ahead PageEvent)) → free_ahead (map ByteAhead text ++ EndAhead ∷ items) ≡ free_ahead items
 free_ahead-pushed [] items = refl
 free_ahead-pushed (b ∷ text) items = free_ahead-pushed text items
+
+-- nor is one of a body that a line calls
+free_ahead-called : (text : List ℕ) (items : List (Ahead PageEvent)) → free_ahead (map ByteAhead text ++ ReturnAhead ∷ items) ≡ free_ahead items
+free_ahead-called [] items = refl
+free_ahead-called (b ∷ text) items = free_ahead-called text items
 
 -- nor is one of a register's text
 free_ahead-register : (k : Known) (step : Option Direction) (name : List ℕ) (items : List (Ahead PageEvent))
@@ -244,7 +262,8 @@ Keeps-asking most k i j reading (Register step) (Some name) keeps =
     record { charge = keeps.charge; newlines = keeps.newlines; line = keeps.line; free = free_ahead-register k step name j.ahead ∙ keeps.free; half = keeps.half }
 Keeps-asking most k i j reading OfText (Some name) keeps =
     record { charge = keeps.charge; newlines = keeps.newlines; line = keeps.line; free = free_ahead-pushed (body_named name j) j.ahead ∙ keeps.free; half = keeps.half }
-Keeps-asking most k i j reading Argument (Some name) keeps = record { charge = keeps.charge; newlines = keeps.newlines; line = keeps.line; free = keeps.free; half = keeps.half }
+Keeps-asking most k i j reading Argument (Some name) keeps =
+    record { charge = keeps.charge; newlines = keeps.newlines; line = keeps.line; free = free_ahead-pushed (argument_named name (arguments_live j)) j.ahead ∙ keeps.free; half = keeps.half }
 Keeps-asking most k i j reading Character (Some name) keeps = record { charge = keeps.charge; newlines = keeps.newlines; line = keeps.line; free = keeps.free; half = keeps.half }
 Keeps-asking most k i j reading Font (Some name) keeps = record { charge = keeps.charge; newlines = keeps.newlines; line = keeps.line; free = keeps.free; half = keeps.half }
 Keeps-asking most k i j reading (NameLeftOut b) (Some name) keeps = record { charge = keeps.charge; newlines = keeps.newlines; line = keeps.line; free = keeps.free; half = keeps.half }
@@ -308,11 +327,62 @@ Keeps-alike most i j old n reading keeps alike unnamed = record {
   half = let same : endings_of n.half ≡ endings_of j.half = ap endings_of alike.half in omega (arith, keeps.half, same, unnamed);
 }
 
--- so do calls on what names stand for
+-- and where no more turns of its own are needed
+Keeps-no_more : (most : ℕ) (i j : PageInput) (old : Reading) (n : PageInput) (reading : Reading) → Keeps most i j old → Alike n j → begun reading ≤ begun old
+    → Keeps most i n reading
+Keeps-no_more most i j old n reading keeps alike few = record {
+  charge = alike.charge ∙ keeps.charge;
+  newlines = alike.newlines ∙ keeps.newlines;
+  line = alike.line ∙ keeps.line;
+  free = ap free_ahead alike.ahead ∙ keeps.free;
+  half = let same : endings_of n.half ≡ endings_of j.half = ap endings_of alike.half in omega (arith, keeps.half, same, few);
+}
+
+-- calls on what names stand for leave an input alike
 Alike-calling_all : (calls : List Call) (j i : PageInput) → Alike j i → Alike (calling_all calls j) i
 Alike-calling_all [] j i alike = alike
 Alike-calling_all (call ∷ calls) j i alike =
     Alike-calling_all calls (calling call j) i (record { charge = alike.charge; newlines = alike.newlines; line = alike.line; ahead = alike.ahead; half = alike.half })
+
+-- so do calls on texts
+Alike-calling_on : (call : ℕ → Call) (id : Option ℕ) (i : PageInput) → Alike (calling_on call id i) i
+Alike-calling_on call None i = Alike-same i
+Alike-calling_on call (Some id) i = record { charge = refl; newlines = refl; line = refl; ahead = refl; half = refl }
+
+Alike-string_begun : (name : Option ShortName) (i : PageInput) → Alike (string_begun name i) i
+Alike-string_begun None i = record { charge = refl; newlines = refl; line = refl; ahead = refl; half = refl }
+Alike-string_begun (Some name) i = record { charge = refl; newlines = refl; line = refl; ahead = refl; half = refl }
+
+Alike-string_grown : (name : Option ShortName) (unit : CopyUnit) (i : PageInput) → Alike (string_grown name unit i) i
+Alike-string_grown None unit i = Alike-same i
+Alike-string_grown (Some name) unit i = Alike-calling_on (λ id. PushOpen id (unit_bytes unit)) (newest i.open_texts) i
+
+Alike-string_entered : (name : Option ShortName) (appends : Bool) (i : PageInput) → Alike (string_entered name appends i) i
+Alike-string_entered None appends i = Alike-same i
+Alike-string_entered (Some name) appends i = Alike-calling_on (λ id. Enter id (name_bytes name) appends) (newest i.open_texts) i
+
+Alike-if : (c : Bool) (i j n : PageInput) → Alike i n → Alike j n → Alike (if c then i else j) n
+Alike-if true i j n first second = first
+Alike-if false i j n first second = second
+
+Alike-string_emptied : (name : Option ShortName) (appends : Bool) (i : PageInput) → Alike (string_emptied name appends i) i
+Alike-string_emptied None appends i = Alike-same i
+Alike-string_emptied (Some name) appends i =
+    Alike-if _ i _ i (Alike-same i) (record { charge = refl; newlines = refl; line = refl; ahead = refl; half = refl })
+
+Alike-definition_grown : (name : Option ShortName) (bytes : List ℕ) (i : PageInput) → Alike (definition_grown name bytes i) i
+Alike-definition_grown None bytes i = Alike-same i
+Alike-definition_grown (Some name) bytes i = Alike-calling_on (λ id. PushOpen id bytes) (newest i.open_texts) i
+
+Alike-definition_dropped : (name : Option ShortName) (i : PageInput) → Alike (definition_dropped name i) i
+Alike-definition_dropped None i = Alike-same i
+Alike-definition_dropped (Some name) i = Alike-calling_on (λ id. DropOpen id) (newest i.open_texts) i
+
+-- and so does a unit of a call
+Alike-holding_call : (unit : CopyUnit) (i : PageInput) → Alike (holding_call unit i) i
+Alike-holding_call unit i =
+    Alike-if (nat_le 9 (length i.arguments.whole)) i (holding unit i) i (Alike-same i)
+    (record { charge = refl; newlines = refl; line = refl; ahead = refl; half = refl })
 
 -- behind a request's line no name is read
 unnamed-reading_behind : (line : LineReading) → begun (reading_behind line) ≡ 0
@@ -322,6 +392,7 @@ unnamed-reading_behind ByElse = refl
 unnamed-reading_behind ByLastLine = refl
 unnamed-reading_behind (ByMessage aborts) = refl
 unnamed-reading_behind (ByString appends) = refl
+unnamed-reading_behind (ByLines lines) = refl
 
 -- the end of a request's line
 Keeps-ended_by : (most : ℕ) (i j : PageInput) (old : Reading) (request : Request) (effect : Effect) → Keeps most i j old → KeepsBy most i (ended_by j request effect)
@@ -331,12 +402,50 @@ Keeps-ended_by most i j old request effect keeps =
     (Alike-calling_all effect.calls released j (record { charge = refl; newlines = refl; line = refl; ahead = refl; half = refl }))
     (unnamed-reading_behind (row_of request).line)
 
+-- a definition begins
+Keeps-definition_begun : (most : ℕ) (i j : PageInput) (breaks : Bool) (request : Request) (name : Option ShortName) (appends : Bool) (end : Option ShortName)
+    → Keeps most i j (InArguments breaks request) → KeepsBy most i (definition_begun j name appends end)
+Keeps-definition_begun most i j breaks request name appends end keeps =
+    Keeps-no_more most i j (InArguments breaks request) (string_begun name j) (Defining name appends end (Some 0)) keeps (Alike-string_begun name j) (omega arith)
+
+Keeps-definition_named : (most : ℕ) (i j : PageInput) (breaks : Bool) (request : Request) (appends : Bool) (name : Option (Option ShortName)) (end : Option ShortName)
+    → Keeps most i j (InArguments breaks request) → KeepsBy most i (definition_named j appends name end)
+Keeps-definition_named most i j breaks request appends None end keeps =
+    Keeps-alike most i j (InArguments breaks request) _ LineStart keeps (record { charge = refl; newlines = refl; line = refl; ahead = refl; half = refl }) refl
+Keeps-definition_named most i j breaks request appends (Some None) end keeps =
+    Keeps-alike most i j (InArguments breaks request) _ LineStart keeps (record { charge = refl; newlines = refl; line = refl; ahead = refl; half = refl }) refl
+Keeps-definition_named most i j breaks request appends (Some (Some name)) end keeps =
+    Keeps-definition_begun most i j breaks request (Some name) appends end keeps
+
+Keeps-lines_begun : (most : ℕ) (i j : PageInput) (breaks : Bool) (request : Request) (lines : LinesFor) (as_given : List (List ℕ))
+    → Keeps most i j (InArguments breaks request) → KeepsBy most i (lines_begun j lines as_given)
+Keeps-lines_begun most i j breaks request (Macro appends) as_given keeps =
+    Keeps-definition_named most i j breaks request appends (name_at 0 as_given) (name_or_none (name_at 1 as_given)) keeps
+Keeps-lines_begun most i j breaks request Nobody as_given keeps =
+    Keeps-definition_begun most i j breaks request None false (name_or_none (name_at 0 as_given)) keeps
+
+-- the end of a line of arguments
+Keeps-arguments_ended : (most : ℕ) (k : Known) (i j : PageInput) (breaks : Bool) (request : Request) (line : LineReading) → Keeps most i j (InArguments breaks request)
+    → KeepsBy most i (arguments_ended k j breaks request line)
+Keeps-arguments_ended most k i j breaks request (ByLines lines) keeps = Keeps-lines_begun most i j breaks request lines (arguments_given j) keeps
+Keeps-arguments_ended most k i j breaks request ByArguments keeps =
+    Keeps-ended_by most i j (InArguments breaks request) request (request_effect k breaks request (arguments_given j)) keeps
+Keeps-arguments_ended most k i j breaks request (ByCondition keeping) keeps =
+    Keeps-ended_by most i j (InArguments breaks request) request (request_effect k breaks request (arguments_given j)) keeps
+Keeps-arguments_ended most k i j breaks request ByElse keeps =
+    Keeps-ended_by most i j (InArguments breaks request) request (request_effect k breaks request (arguments_given j)) keeps
+Keeps-arguments_ended most k i j breaks request ByLastLine keeps =
+    Keeps-ended_by most i j (InArguments breaks request) request (request_effect k breaks request (arguments_given j)) keeps
+Keeps-arguments_ended most k i j breaks request (ByMessage aborts) keeps =
+    Keeps-ended_by most i j (InArguments breaks request) request (request_effect k breaks request (arguments_given j)) keeps
+Keeps-arguments_ended most k i j breaks request (ByString appends) keeps =
+    Keeps-ended_by most i j (InArguments breaks request) request (request_effect k breaks request (arguments_given j)) keeps
+
 -- a unit of a line of arguments
 Keeps-unit_found : (most : ℕ) (k : Known) (i j : PageInput) (breaks : Bool) (request : Request) (unit : CopyUnit) → Keeps most i j (InArguments breaks request)
     → KeepsBy most i (unit_found k j breaks request unit)
 Keeps-unit_found most k i j breaks request (Byte b) keeps =
-    Keeps-if most i (b == newline) _ _
-    (Keeps-ended_by most i j (InArguments breaks request) request (request_effect k breaks request (arguments_given j)) keeps)
+    Keeps-if most i (b == newline) _ _ (Keeps-arguments_ended most k i j breaks request (row_of request).line keeps)
     (record { charge = keeps.charge; newlines = keeps.newlines; line = keeps.line; free = keeps.free; half = keeps.half })
 Keeps-unit_found most k i j breaks request (Kept b) keeps =
     record { charge = keeps.charge; newlines = keeps.newlines; line = keeps.line; free = keeps.free; half = keeps.half }
@@ -373,32 +482,6 @@ Keeps-arguments_found most k i j breaks request (Motion columns remark) keeps = 
 Keeps-arguments_found most k i j breaks request (Measures width) keeps = Keeps-settled most k i j (InArguments breaks request) (Measures width) keeps
 Keeps-arguments_found most k i j breaks request (Tells remark) keeps = Keeps-settled most k i j (InArguments breaks request) (Tells remark) keeps
 Keeps-arguments_found most k i j breaks request (Decides decision freed) keeps = Keeps-settled most k i j (InArguments breaks request) (Decides decision freed) keeps
-
--- so do calls on texts
-Alike-calling_on : (call : ℕ → Call) (id : Option ℕ) (i : PageInput) → Alike (calling_on call id i) i
-Alike-calling_on call None i = Alike-same i
-Alike-calling_on call (Some id) i = record { charge = refl; newlines = refl; line = refl; ahead = refl; half = refl }
-
-Alike-string_begun : (name : Option ShortName) (i : PageInput) → Alike (string_begun name i) i
-Alike-string_begun None i = record { charge = refl; newlines = refl; line = refl; ahead = refl; half = refl }
-Alike-string_begun (Some name) i = record { charge = refl; newlines = refl; line = refl; ahead = refl; half = refl }
-
-Alike-string_grown : (name : Option ShortName) (unit : CopyUnit) (i : PageInput) → Alike (string_grown name unit i) i
-Alike-string_grown None unit i = Alike-same i
-Alike-string_grown (Some name) unit i = Alike-calling_on (λ id. PushOpen id (unit_bytes unit)) (newest i.open_texts) i
-
-Alike-string_entered : (name : Option ShortName) (appends : Bool) (i : PageInput) → Alike (string_entered name appends i) i
-Alike-string_entered None appends i = Alike-same i
-Alike-string_entered (Some name) appends i = Alike-calling_on (λ id. Enter id (name_bytes name) appends) (newest i.open_texts) i
-
-Alike-if : (c : Bool) (i j n : PageInput) → Alike i n → Alike j n → Alike (if c then i else j) n
-Alike-if true i j n first second = first
-Alike-if false i j n first second = second
-
-Alike-string_emptied : (name : Option ShortName) (appends : Bool) (i : PageInput) → Alike (string_emptied name appends i) i
-Alike-string_emptied None appends i = Alike-same i
-Alike-string_emptied (Some name) appends i =
-    Alike-if _ i _ i (Alike-same i) (record { charge = refl; newlines = refl; line = refl; ahead = refl; half = refl })
 
 -- a unit of a string's text
 Keeps-string_unit : (most : ℕ) (i j : PageInput) (old : Reading) (name : Option ShortName) (appends is_front : Bool) (unit : CopyUnit) → Keeps most i j old
@@ -438,7 +521,7 @@ Keeps-string_name_or_text most i j old appends unit (Some name) keeps =
 Keeps-string_name_unit : (most : ℕ) (i j : PageInput) (old : Reading) (appends : Bool) (unit : CopyUnit) → Keeps most i j old
     → KeepsBy most i (string_name_unit j appends unit)
 Keeps-string_name_unit most i j old appends (Byte b) keeps =
-    Keeps-if most i (b == newline) _ _ (Keeps-string_line_ended most i j old appends (first_name (arguments_given j)) keeps)
+    Keeps-if most i (b == newline) _ _ (Keeps-string_line_ended most i j old appends (name_at 0 (arguments_given j)) keeps)
     (Keeps-if most i (b == quote) _ _ (Keeps-string_name_or_text most i j old appends (Byte b) (name_read j) keeps)
     (Keeps-string_name_or_text most i (settling j) old appends (Byte b) (name_read (settling j))
     (record { charge = keeps.charge; newlines = keeps.newlines; line = keeps.line; free = keeps.free; half = keeps.half })))
@@ -496,6 +579,39 @@ Keeps-message_found most k i j aborts is_front (Motion columns remark) keeps = K
 Keeps-message_found most k i j aborts is_front (Measures width) keeps = Keeps-no_unit_found most k i j (Telling aborts is_front) (Measures width) keeps
 Keeps-message_found most k i j aborts is_front (Tells remark) keeps = Keeps-no_unit_found most k i j (Telling aborts is_front) (Tells remark) keeps
 Keeps-message_found most k i j aborts is_front (Decides decision freed) keeps = Keeps-no_unit_found most k i j (Telling aborts is_front) (Decides decision freed) keeps
+
+-- a unit behind the name of a body that a line calls
+Keeps-call_unit : (most : ℕ) (i j : PageInput) (name : ShortName) (unit : CopyUnit) → Keeps most i j (Calling name) → KeepsBy most i (call_unit j name unit)
+Keeps-call_unit most i j name (Byte b) keeps =
+    Keeps-if most i (b == newline) _ _
+    (record {
+      charge = keeps.charge;
+      newlines = keeps.newlines;
+      line = keeps.line;
+      free = free_ahead-called (called_text (body_named (name_bytes name) j)) j.ahead ∙ keeps.free;
+      half = keeps.half;
+    })
+    (Keeps-if most i (b == quote) _ _ (Keeps-alike most i j (Calling name) _ (Calling name) keeps (Alike-holding_call (Byte b) j) refl)
+    (Keeps-alike most i (settling j) (Calling name) _ (Calling name)
+    (record { charge = keeps.charge; newlines = keeps.newlines; line = keeps.line; free = keeps.free; half = keeps.half })
+    (Alike-holding_call (Byte b) (settling j)) refl))
+Keeps-call_unit most i j name (Kept b) keeps =
+    Keeps-alike most i (settling j) (Calling name) _ (Calling name)
+    (record { charge = keeps.charge; newlines = keeps.newlines; line = keeps.line; free = keeps.free; half = keeps.half })
+    (Alike-holding_call (Kept b) (settling j)) refl
+
+-- what was found there
+Keeps-call_found : (most : ℕ) (k : Known) (i j : PageInput) (name : ShortName) (found : Read) → Keeps most i j (Calling name)
+    → KeepsBy most i (call_found k j name found)
+Keeps-call_found most k i j name (GivesUnit unit) keeps = Keeps-call_unit most i j name unit keeps
+Keeps-call_found most k i j name (Escape b) keeps = Keeps-call_unit most i j name (Kept b) keeps
+Keeps-call_found most k i j name GoesOn keeps = Keeps-settled most k i j (Calling name) GoesOn keeps
+Keeps-call_found most k i j name (Asks purpose text) keeps = Keeps-settled most k i j (Calling name) (Asks purpose text) keeps
+Keeps-call_found most k i j name (Holds unit) keeps = Keeps-settled most k i j (Calling name) (Holds unit) keeps
+Keeps-call_found most k i j name (Motion columns remark) keeps = Keeps-settled most k i j (Calling name) (Motion columns remark) keeps
+Keeps-call_found most k i j name (Measures width) keeps = Keeps-settled most k i j (Calling name) (Measures width) keeps
+Keeps-call_found most k i j name (Tells remark) keeps = Keeps-settled most k i j (Calling name) (Tells remark) keeps
+Keeps-call_found most k i j name (Decides decision freed) keeps = Keeps-settled most k i j (Calling name) (Decides decision freed) keeps
 
 -- the first byte of a branch
 Keeps-branch_taking : (less most : ℕ) (k : Known) (i j : PageInput) (old : Reading) (so : Bool) (b : ℕ) → Keeps less i j old → less + 1 ≤ most
@@ -558,99 +674,150 @@ TwoMore-stays : (i : PageInput) (old : Reading) (t : Taking) → Stays i t → T
 TwoMore-stays i old t stays = Keeps-stays _ i i old t (KeepsTwoMore-same i old) stays
 
 -- what something reads, with this half read then
-Keeps-read : (base : Surroundings) (i : PageInput) (old reading : Reading) (b : ℕ) → begun reading ≡ 0
-    → KeepsTwoMore i old (record i { half = (byte_read base i.half b).1 }) reading
-Keeps-read base i old reading b unnamed =
-    let read : Leaves (endings_of i.half + 1) (byte_read base i.half b) = endings-byte_read base i.half b in
-    Keeps-with_half _ _ i i old reading (byte_read base i.half b).1 (KeepsTwoMore-same i old) (omega (arith, read, unnamed))
-
--- the same where what is read stays
 Keeps-same_reading : (base : Surroundings) (i : PageInput) (reading : Reading) (b : ℕ)
     → KeepsTwoMore i reading (record i { half = (byte_read base i.half b).1 }) reading
 Keeps-same_reading base i reading b =
     let read : Leaves (endings_of i.half + 1) (byte_read base i.half b) = endings-byte_read base i.half b in
     Keeps-with_half _ _ i i reading reading (byte_read base i.half b).1 (KeepsTwoMore-same i reading) (omega (arith, read))
 
--- the first byte of a condition, which may begin an escape
-Keeps-condition_read : (k : Known) (i : PageInput) (breaks : Bool) (first : ℕ) (keeping : Bool) (b : ℕ)
-    → TwoMore i (Name breaks first) (condition_read k i keeping (byte_read AboveArguments (choosing i).half b))
-Keeps-condition_read k i breaks first keeping b =
-    let half : List Half = (choosing i).half in
-    let read : Leaves (endings_of half + 1) (byte_read AboveArguments half b) = endings-byte_read AboveArguments half b in
-    Keeps-condition_found (endings_of (byte_read AboveArguments half b).1) _ k i (record i { half = (byte_read AboveArguments half b).1 }) keeping (byte_read AboveArguments half b).0
-    (Keeps-with_half _ _ i i (Name breaks first) (Deciding keeping) (byte_read AboveArguments half b).1 (KeepsTwoMore-same i (Name breaks first)) (omega arith)) (omega (arith, read))
+-- a byte that begins so many endings more at the most, behind a name or the line that ends a definition
+module _ (some most : ℕ) (k : Known) (i j : PageInput) (b : ℕ) (keeps : Keeps (endings_of j.half) i j LineStart)
+    (reads : (base : Surroundings) → Leaves (endings_of j.half + some) (byte_read base j.half b)) (few : endings_of j.half + some + 3 ≤ most) where
+  -- what it reads, where this is read
+  Keeps-begins : (base : Surroundings) (reading : Reading) → begun reading ≤ 3 → Keeps most i (record j { half = (byte_read base j.half b).1 }) reading
+  Keeps-begins base reading less =
+      let read : Leaves (endings_of j.half + some) (byte_read base j.half b) = reads base in
+      Keeps-with_half _ most i j LineStart reading (byte_read base j.half b).1 keeps (omega (arith, read, few, less))
 
--- the first byte behind a request's name
-Keeps-line_taking : (k : Known) (i : PageInput) (breaks : Bool) (first : ℕ) (request : Request) (line : LineReading) (b : ℕ)
-    → TwoMore i (Name breaks first) (line_taking k i breaks request line b)
-Keeps-line_taking k i breaks first request ByArguments b =
-    Keeps-arguments_found _ k i _ breaks request (byte_read AboveArguments i.half b).0 (Keeps-read AboveArguments i (Name breaks first) (InArguments breaks request) b refl)
-Keeps-line_taking k i breaks first request (ByCondition keeping) b =
-    Keeps-if _ i (b == newline) _ _
-    (Keeps-condition_found (endings_of i.half) _ k i i keeping (Decides (Is false) (Some b)) (record { charge = refl; newlines = refl; line = refl; free = refl; half = omega arith }) (omega arith))
-    (Keeps-condition_read k i breaks first keeping b)
-Keeps-line_taking k i breaks first request (ByString appends) b =
-    Keeps-string_name_found _ k i _ appends (byte_read AboveArguments i.half b).0 (Keeps-read AboveArguments i (Name breaks first) (StringName appends) b refl)
-Keeps-line_taking k i breaks first request ByLastLine b =
-    Keeps-arguments_found _ k i _ breaks request (byte_read AboveArguments i.half b).0 (Keeps-read AboveArguments i (Name breaks first) (InArguments breaks request) b refl)
-Keeps-line_taking k i breaks first request (ByMessage aborts) b =
-    let read : Leaves (endings_of i.half + 1) (byte_read AboveCopy i.half b) = endings-byte_read AboveCopy i.half b in
-    Keeps-message_found _ k i (record i { half = (byte_read AboveCopy i.half b).1 }) aborts true (byte_read AboveCopy i.half b).0
-    (Keeps-with_half _ _ i i (Name breaks first) (Telling aborts true) (byte_read AboveCopy i.half b).1 (KeepsTwoMore-same i (Name breaks first)) (omega (arith, read)))
-Keeps-line_taking k i breaks first request ByElse b =
-    Keeps-branch_taking (endings_of i.half + begun (Name breaks first)) _ k i (without_last i) (Name breaks first) (reads_else (kept_last i)) b
-    (record { charge = refl; newlines = refl; line = refl; free = refl; half = omega arith }) (omega arith)
+  -- the first byte of a condition, which may begin an escape
+  Keeps-condition_begun : (keeping : Bool) → KeepsBy most i (condition_begun k j keeping b)
+  Keeps-condition_begun keeping =
+      let half : List Half = (choosing j).half in
+      let read : Leaves (endings_of half + 1) (byte_read AboveArguments half b) = endings-byte_read AboveArguments half b in
+      Keeps-if most i (b == newline) _ _
+      (Keeps-condition_found (endings_of j.half) most k i j keeping (Decides (Is false) (Some b))
+      (record { charge = keeps.charge; newlines = keeps.newlines; line = keeps.line; free = keeps.free; half = omega arith }) (omega (arith, few)))
+      (Keeps-condition_found (endings_of (byte_read AboveArguments half b).1) most k i (record j { half = (byte_read AboveArguments half b).1 }) keeping (byte_read AboveArguments half b).0
+      (Keeps-with_half _ _ i j LineStart (Deciding keeping) (byte_read AboveArguments half b).1 keeps (omega arith)) (omega (arith, read, few)))
 
--- a byte behind a name that it doesn't belong to
-Keeps-name_ended_taking : (k : Known) (i : PageInput) (breaks : Bool) (first : ℕ) (name : List ℕ) (b : ℕ) → TwoMore i (Name breaks first) (name_ended_taking k i breaks name b)
-Keeps-name_ended_taking k i breaks first name b =
-    elim (request_named name i.names) as (λ o. TwoMore i (Name breaks first) (elim o as (λ _. Taking) [ None ↦ dropped_taking i b | Some request ↦ line_taking k i breaks request (row_of request).line b ])) [
-      | None ↦ TwoMore-stays i (Name breaks first) _ (Stays-dropped_taking i b)
-      | Some request ↦ Keeps-line_taking k i breaks first request (row_of request).line b
-    ]
+  -- the first byte behind a request's name
+  Keeps-line_taking : (breaks : Bool) (request : Request) (line : LineReading) → KeepsBy most i (line_taking k j breaks request line b)
+  Keeps-line_taking breaks request ByArguments =
+      Keeps-arguments_found most k i _ breaks request (byte_read AboveArguments j.half b).0 (Keeps-begins AboveArguments (InArguments breaks request) (omega arith))
+  Keeps-line_taking breaks request (ByCondition keeping) = Keeps-condition_begun keeping
+  Keeps-line_taking breaks request (ByString appends) =
+      Keeps-string_name_found most k i _ appends (byte_read AboveArguments j.half b).0 (Keeps-begins AboveArguments (StringName appends) (omega arith))
+  Keeps-line_taking breaks request ByLastLine =
+      Keeps-arguments_found most k i _ breaks request (byte_read AboveArguments j.half b).0 (Keeps-begins AboveArguments (InArguments breaks request) (omega arith))
+  Keeps-line_taking breaks request (ByMessage aborts) =
+      Keeps-message_found most k i _ aborts true (byte_read AboveCopy j.half b).0 (Keeps-begins AboveCopy (Telling aborts true) (omega arith))
+  Keeps-line_taking breaks request (ByLines lines) =
+      Keeps-arguments_found most k i _ breaks request (byte_read AboveArguments j.half b).0 (Keeps-begins AboveArguments (InArguments breaks request) (omega arith))
+  Keeps-line_taking breaks request ByElse =
+      Keeps-branch_taking (endings_of j.half) most k i (without_last j) LineStart (reads_else (kept_last j)) b
+      (record { charge = keeps.charge; newlines = keeps.newlines; line = keeps.line; free = keeps.free; half = omega arith }) (omega (arith, few))
+
+  -- a byte behind a name that it doesn't belong to
+  Keeps-called_taking : (breaks : Bool) (called : Called) → KeepsBy most i (called_taking k j breaks called b)
+  Keeps-called_taking breaks (ARequest request) = Keeps-line_taking breaks request (row_of request).line
+  Keeps-called_taking breaks (ABody name) =
+      Keeps-call_found most k i _ name (byte_read AboveArguments j.half b).0 (Keeps-begins AboveArguments (Calling name) (omega arith))
+  Keeps-called_taking breaks Unknown =
+      Keeps-stays most i j LineStart _ (Keeps-with_half _ most i j LineStart LineStart j.half keeps (omega (arith, few))) (Stays-dropped_taking j b)
+
+  Keeps-name_ended_taking : (breaks : Bool) (name : ShortName) → KeepsBy most i (name_ended_taking k j breaks name b)
+  Keeps-name_ended_taking breaks name = Keeps-called_taking breaks (called_by name j.names)
+
+-- the line that ends a definition
+Keeps-behind_definition : (most : ℕ) (k : Known) (i j : PageInput) (end : Option ShortName) (b : ℕ) → ends_mark b ≡ true → Keeps most i j LineStart → 3 ≤ most
+    → KeepsBy most i (behind_definition k j end b)
+Keeps-behind_definition most k i j None b ends keeps few = Keeps-stays most i j LineStart _ keeps (Stays-dropped_taking j b)
+Keeps-behind_definition most k i j (Some name) b ends keeps few =
+    Keeps-name_ended_taking 0 most k i (beginning_line j) b
+    (record { charge = keeps.charge; newlines = keeps.newlines; line = keeps.line; free = keeps.free; half = omega arith })
+    (λ base. ends_mark-begins_nothing base b ends) few true name
+
+-- a unit of a definition's text, where its line is this
+Keeps-definition_unit : (most : ℕ) (k : Known) (i j : PageInput) (name : Option ShortName) (appends : Bool) (end : Option ShortName) (matched : Option ℕ) (front : List ℕ) (unit : CopyUnit)
+    (line : DefinitionLine) → ((b : ℕ) → line ≡ IsLast b → ends_mark b ≡ true) → Keeps most i j (Defining name appends end matched)
+    → KeepsBy most i (definition_unit k j name appends end front unit line)
+Keeps-definition_unit most k i j name appends end matched front unit (MayBeLast more) ends keeps =
+    Keeps-no_more most i j (Defining name appends end matched) j (Defining name appends end (Some more)) keeps (Alike-same j) (omega arith)
+Keeps-definition_unit most k i j name appends end matched front unit (IsLast b) ends keeps =
+    Keeps-behind_definition most k i (string_entered name appends j) end b (ends b refl)
+    (Keeps-alike most i j (Defining name appends end matched) (string_entered name appends j) LineStart keeps (Alike-string_entered name appends j) refl)
+    (omega (arith, keeps.half))
+Keeps-definition_unit most k i j name appends end matched front unit IsText ends keeps =
+    Keeps-no_more most i j (Defining name appends end matched) (definition_grown name (front ++ unit_bytes unit) j) (Defining name appends end (matched_behind unit)) keeps
+    (Alike-definition_grown name (front ++ unit_bytes unit) j) (omega arith)
+
+Keeps-definition_line : (most : ℕ) (k : Known) (i j : PageInput) (name : Option ShortName) (appends : Bool) (end : Option ShortName) (matched : Option ℕ) (unit : CopyUnit)
+    → Keeps most i j (Defining name appends end matched) → KeepsBy most i (definition_line k j name appends end matched unit)
+Keeps-definition_line most k i j name appends end matched unit keeps =
+    Keeps-definition_unit most k i j name appends end matched (front_of (end_mark end) matched) unit (line_from (end_mark end) matched unit)
+    (λ b last. ends-line_from (end_mark end) matched unit b last) keeps
+
+-- what was found of a definition's text
+Keeps-definition_found : (most : ℕ) (k : Known) (i j : PageInput) (name : Option ShortName) (appends : Bool) (end : Option ShortName) (matched : Option ℕ) (found : Read)
+    → Keeps most i j (Defining name appends end matched) → KeepsBy most i (definition_found k j name appends end matched found)
+Keeps-definition_found most k i j name appends end matched (GivesUnit unit) keeps = Keeps-definition_line most k i j name appends end matched unit keeps
+Keeps-definition_found most k i j name appends end matched (Escape b) keeps = Keeps-definition_line most k i j name appends end matched (Kept b) keeps
+Keeps-definition_found most k i j name appends end matched GoesOn keeps = Keeps-no_unit_found most k i j (Defining name appends end matched) GoesOn keeps
+Keeps-definition_found most k i j name appends end matched (Asks purpose text) keeps = Keeps-no_unit_found most k i j (Defining name appends end matched) (Asks purpose text) keeps
+Keeps-definition_found most k i j name appends end matched (Holds unit) keeps = Keeps-no_unit_found most k i j (Defining name appends end matched) (Holds unit) keeps
+Keeps-definition_found most k i j name appends end matched (Motion columns remark) keeps = Keeps-no_unit_found most k i j (Defining name appends end matched) (Motion columns remark) keeps
+Keeps-definition_found most k i j name appends end matched (Measures width) keeps = Keeps-no_unit_found most k i j (Defining name appends end matched) (Measures width) keeps
+Keeps-definition_found most k i j name appends end matched (Tells remark) keeps = Keeps-no_unit_found most k i j (Defining name appends end matched) (Tells remark) keeps
+Keeps-definition_found most k i j name appends end matched (Decides decision freed) keeps = Keeps-no_unit_found most k i j (Defining name appends end matched) (Decides decision freed) keeps
 
 -- what is read behind a request's name
 Keeps-behind_name : (i : PageInput) (breaks : Bool) (first : ℕ) (request : Request) (line : LineReading) → TwoMore i (Name breaks first) (behind_name i breaks request line)
-Keeps-behind_name i breaks first request ByArguments = Keeps-unnamed _ i i (Name breaks first) _ (KeepsTwoMore-same i (Name breaks first)) refl
+Keeps-behind_name i breaks first request ByArguments = record { charge = refl; newlines = refl; line = refl; free = refl; half = omega arith }
 Keeps-behind_name i breaks first request (ByCondition keeping) =
     record { charge = refl; newlines = refl; line = refl; free = refl; half = omega arith }
-Keeps-behind_name i breaks first request (ByString appends) = Keeps-unnamed _ i i (Name breaks first) _ (KeepsTwoMore-same i (Name breaks first)) refl
-Keeps-behind_name i breaks first request ByLastLine = Keeps-unnamed _ i i (Name breaks first) _ (KeepsTwoMore-same i (Name breaks first)) refl
+Keeps-behind_name i breaks first request (ByString appends) = record { charge = refl; newlines = refl; line = refl; free = refl; half = omega arith }
+Keeps-behind_name i breaks first request ByLastLine = record { charge = refl; newlines = refl; line = refl; free = refl; half = omega arith }
 Keeps-behind_name i breaks first request (ByMessage aborts) = record { charge = refl; newlines = refl; line = refl; free = refl; half = omega arith }
+Keeps-behind_name i breaks first request (ByLines lines) = record { charge = refl; newlines = refl; line = refl; free = refl; half = omega arith }
 Keeps-behind_name i breaks first request ByElse =
     record { charge = refl; newlines = refl; line = refl; free = refl; half = omega (arith, unnamed-branch_of (reads_else (kept_last i))) }
 
 -- the last byte of a name
-Keeps-name_whole_taking : (i : PageInput) (breaks : Bool) (first : ℕ) (name : List ℕ) → TwoMore i (Name breaks first) (name_whole_taking i breaks name)
-Keeps-name_whole_taking i breaks first name =
-    elim (request_named name i.names) as (λ o. TwoMore i (Name breaks first) (elim o as (λ _. Taking) [ None ↦ going_on i Dropped | Some request ↦ behind_name i breaks request (row_of request).line ])) [
-      | None ↦ TwoMore-stays i (Name breaks first) (going_on i Dropped) (record { input = refl; unnamed = refl })
-      | Some request ↦ Keeps-behind_name i breaks first request (row_of request).line
-    ]
+Keeps-behind_called : (i : PageInput) (breaks : Bool) (first : ℕ) (called : Called) → TwoMore i (Name breaks first) (behind_called i breaks called)
+Keeps-behind_called i breaks first (ARequest request) = Keeps-behind_name i breaks first request (row_of request).line
+Keeps-behind_called i breaks first (ABody name) = record { charge = refl; newlines = refl; line = refl; free = refl; half = omega arith }
+Keeps-behind_called i breaks first Unknown = record { charge = refl; newlines = refl; line = refl; free = refl; half = omega arith }
 
 -- a byte that isn't dropped
 Keeps-kept_taking : (k : Known) (reading : Reading) (i : PageInput) (b : ℕ) → TwoMore i reading (kept_taking k reading i b)
-Keeps-kept_taking k LineStart i b = Keeps-beginning_found _ k i _ LineStart (byte_read AboveText i.half b).0 (Keeps-read AboveText i LineStart LineStart b refl)
-Keeps-kept_taking k Branch i b = Keeps-beginning_found _ k i _ Branch (byte_read AboveText i.half b).0 (Keeps-read AboveText i Branch Branch b refl)
-Keeps-kept_taking k Braced i b = Keeps-beginning_found _ k i _ Braced (byte_read AboveText i.half b).0 (Keeps-read AboveText i Braced Braced b refl)
-Keeps-kept_taking k (InText line) i b = Keeps-text_found _ k i _ line (byte_read AboveText i.half b).0 (Keeps-read AboveText i (InText line) (InText line) b refl)
+Keeps-kept_taking k LineStart i b = Keeps-beginning_found _ k i _ LineStart (byte_read AboveText i.half b).0 (Keeps-same_reading AboveText i LineStart b)
+Keeps-kept_taking k Branch i b = Keeps-beginning_found _ k i _ Branch (byte_read AboveText i.half b).0 (Keeps-same_reading AboveText i Branch b)
+Keeps-kept_taking k Braced i b = Keeps-beginning_found _ k i _ Braced (byte_read AboveText i.half b).0 (Keeps-same_reading AboveText i Braced b)
+Keeps-kept_taking k (InText line) i b = Keeps-text_found _ k i _ line (byte_read AboveText i.half b).0 (Keeps-same_reading AboveText i (InText line) b)
 Keeps-kept_taking k (Control breaks) i b =
     Keeps-if _ i (b == blank || b == tab) _ _ (KeepsTwoMore-same i (Control breaks))
     (Keeps-if _ i (ends_name b) _ _ (TwoMore-stays i (Control breaks) _ (Stays-dropped_taking i b))
     (record { charge = refl; newlines = refl; line = refl; free = refl; half = omega arith }))
 Keeps-kept_taking k (Name breaks first) i b =
-    Keeps-if _ i (ends_name b) _ _ (Keeps-name_ended_taking k i breaks first (first ∷ []) b) (Keeps-name_whole_taking i breaks first (first ∷ b ∷ []))
+    Keeps-if _ i (ends_name b) _ _
+    (Keeps-name_ended_taking 1 _ k i i b (record { charge = refl; newlines = refl; line = refl; free = refl; half = omega arith })
+    (λ base. endings-byte_read base i.half b) (omega arith) breaks (record { first = first; second = None }))
+    (Keeps-behind_called i breaks first (called_by (record { first = first; second = Some b }) i.names))
 Keeps-kept_taking k (InArguments breaks request) i b =
-    Keeps-arguments_found _ k i _ breaks request (byte_read AboveArguments i.half b).0 (Keeps-read AboveArguments i (InArguments breaks request) (InArguments breaks request) b refl)
+    Keeps-arguments_found _ k i _ breaks request (byte_read AboveArguments i.half b).0 (Keeps-same_reading AboveArguments i (InArguments breaks request) b)
 Keeps-kept_taking k (Deciding keeping) i b =
     let read : Leaves (endings_of i.half + 1) (byte_read AboveArguments i.half b) = endings-byte_read AboveArguments i.half b in
     Keeps-condition_found (endings_of (byte_read AboveArguments i.half b).1) _ k i (record i { half = (byte_read AboveArguments i.half b).1 }) keeping (byte_read AboveArguments i.half b).0
     (Keeps-with_half _ _ i i (Deciding keeping) (Deciding keeping) (byte_read AboveArguments i.half b).1 (KeepsTwoMore-same i (Deciding keeping)) (omega arith)) (omega (arith, read))
 Keeps-kept_taking k (StringName appends) i b =
-    Keeps-string_name_found _ k i _ appends (byte_read AboveArguments i.half b).0 (Keeps-read AboveArguments i (StringName appends) (StringName appends) b refl)
+    Keeps-string_name_found _ k i _ appends (byte_read AboveArguments i.half b).0 (Keeps-same_reading AboveArguments i (StringName appends) b)
 Keeps-kept_taking k (StringText name appends is_front) i b =
     Keeps-string_text_found _ k i _ name appends is_front (byte_read AboveCopy i.half b).0
-    (Keeps-read AboveCopy i (StringText name appends is_front) (StringText name appends is_front) b refl)
+    (Keeps-same_reading AboveCopy i (StringText name appends is_front) b)
+Keeps-kept_taking k (Calling name) i b =
+    Keeps-call_found _ k i _ name (byte_read AboveArguments i.half b).0 (Keeps-same_reading AboveArguments i (Calling name) b)
+Keeps-kept_taking k (Defining name appends end matched) i b =
+    Keeps-definition_found _ k i _ name appends end matched (byte_read AboveCopy i.half b).0 (Keeps-same_reading AboveCopy i (Defining name appends end matched) b)
 Keeps-kept_taking k (Skipping opened closed behind) i b = TwoMore-stays i (Skipping opened closed behind) _ (Stays-skipping_taking i opened closed behind b)
 Keeps-kept_taking k Dropped i b = TwoMore-stays i Dropped _ (Stays-dropped_taking i b)
 Keeps-kept_taking k (Telling aborts is_front) i b =
@@ -670,6 +837,8 @@ Keeps-interrupted (InArguments breaks request) i = record { charge = refl; newli
 Keeps-interrupted (Deciding keeping) i = KeepsTwoMore-same i (Deciding keeping)
 Keeps-interrupted (StringName appends) i = record { charge = refl; newlines = refl; line = refl; free = refl; half = omega arith }
 Keeps-interrupted (StringText name appends is_front) i = KeepsTwoMore-same i (StringText name appends is_front)
+Keeps-interrupted (Calling name) i = record { charge = refl; newlines = refl; line = refl; free = refl; half = omega arith }
+Keeps-interrupted (Defining name appends end matched) i = KeepsTwoMore-same i (Defining name appends end matched)
 Keeps-interrupted (Skipping opened closed behind) i = KeepsTwoMore-same i (Skipping opened closed behind)
 Keeps-interrupted Dropped i = KeepsTwoMore-same i Dropped
 Keeps-interrupted (Telling aborts is_front) i = KeepsTwoMore-same i (Telling aborts is_front)
@@ -720,6 +889,10 @@ Keeps-half_ended k (StringName appends) i first others is =
     Keeps-string_name_found _ k i _ appends (reading_ended AboveArguments i.half).0 (Keeps-ended AboveArguments i (StringName appends) first others is)
 Keeps-half_ended k (StringText name appends is_front) i first others is =
     Keeps-string_text_found _ k i _ name appends is_front (reading_ended AboveCopy i.half).0 (Keeps-ended AboveCopy i (StringText name appends is_front) first others is)
+Keeps-half_ended k (Calling name) i first others is =
+    Keeps-call_found _ k i _ name (reading_ended AboveArguments i.half).0 (Keeps-ended AboveArguments i (Calling name) first others is)
+Keeps-half_ended k (Defining name appends end matched) i first others is =
+    Keeps-definition_found _ k i _ name appends end matched (reading_ended AboveCopy i.half).0 (Keeps-ended AboveCopy i (Defining name appends end matched) first others is)
 Keeps-half_ended k (Skipping opened closed behind) i first others is = Keeps-ended AboveText i (Skipping opened closed behind) first others is
 Keeps-half_ended k Dropped i first others is = Keeps-ended AboveText i Dropped first others is
 Keeps-half_ended k (Telling aborts is_front) i first others is =
@@ -739,6 +912,10 @@ Keeps-end_taking k (InArguments breaks request) i = Keeps-kept_taking k (InArgum
 Keeps-end_taking k (Deciding keeping) i = Keeps-kept_taking k (Deciding keeping) i newline
 Keeps-end_taking k (StringName appends) i = Keeps-kept_taking k (StringName appends) i newline
 Keeps-end_taking k (StringText name appends is_front) i = Keeps-kept_taking k (StringText name appends is_front) i newline
+Keeps-end_taking k (Calling name) i = Keeps-kept_taking k (Calling name) i newline
+Keeps-end_taking k (Defining name appends end matched) i =
+    Keeps-alike _ i i (Defining name appends end matched) (definition_dropped name i) LineStart (KeepsTwoMore-same i (Defining name appends end matched))
+    (Alike-definition_dropped name i) refl
 Keeps-end_taking k (Skipping opened closed behind) i = Keeps-kept_taking k (Skipping opened closed behind) i newline
 Keeps-end_taking k Dropped i = Keeps-kept_taking k Dropped i newline
 Keeps-end_taking k (Telling aborts is_front) i = Keeps-kept_taking k (Telling aborts is_front) i newline

@@ -2,9 +2,12 @@ pub mod Leads
 pub mod Beginnings
 pub mod PerformedOrStopped
 pub mod Readings
+pub mod MarkEnds
 pub mod Keeping
 pub mod StringRefusals
 pub mod Strings
+pub mod DefinitionEnds
+pub mod EndedDefinitions
 pub mod StepsAppend
 pub mod StepsOnlyCut
 pub mod RunsOnlyCut
@@ -39,3 +42,5 @@ pub mod HalfCounts
 pub mod Skipping
 pub mod SkippingRuns
 pub mod PassingRuns
+pub mod CalledBodies
+pub mod BegunDefinitions

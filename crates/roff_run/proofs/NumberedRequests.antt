@@ -22,19 +22,19 @@ module _ {A : Type 0} where
 named_at : (made : List ℕ → Request) (names : List (List ℕ)) (n : ℕ) → n < length names → slice_get (map made names) n ≡ Some (made (get_or names n []))
 named_at made names n less = slice_get-map made names n ∙ ap (option_map made) (slice_get-get_or names n [] less)
 
-pub without_effect_at : (n : ℕ) → 21 ≤ n → n - 21 < 15 → slice_get requests n ≡ Some (WithoutEffect (get_or names_without_effect (n - 21) []))
+pub without_effect_at : (n : ℕ) → 24 ≤ n → n - 24 < 15 → slice_get requests n ≡ Some (WithoutEffect (get_or names_without_effect (n - 24) []))
 without_effect_at n above less =
     slice_get-behind built others n above
-    ∙ slice_get-front (map WithoutEffect names_without_effect) (map LeftOut names_left_out) (n - 21) less
-    ∙ named_at WithoutEffect names_without_effect (n - 21) less
+    ∙ slice_get-front (map WithoutEffect names_without_effect) (map LeftOut names_left_out) (n - 24) less
+    ∙ named_at WithoutEffect names_without_effect (n - 24) less
 
 -- behind both lists
-left_out : (n : ℕ) → 21 ≤ n → 15 ≤ n - 21 → slice_get requests n ≡ slice_get (map LeftOut names_left_out) (n - 21 - 15)
+left_out : (n : ℕ) → 24 ≤ n → 15 ≤ n - 24 → slice_get requests n ≡ slice_get (map LeftOut names_left_out) (n - 24 - 15)
 left_out n above more =
-    slice_get-behind built others n above ∙ slice_get-behind (map WithoutEffect names_without_effect) (map LeftOut names_left_out) (n - 21) more
+    slice_get-behind built others n above ∙ slice_get-behind (map WithoutEffect names_without_effect) (map LeftOut names_left_out) (n - 24) more
 
-pub left_out_at : (n : ℕ) → 21 ≤ n → 15 ≤ n - 21 → n - 21 - 15 < 24 → slice_get requests n ≡ Some (LeftOut (get_or names_left_out (n - 21 - 15) []))
-left_out_at n above more less = left_out n above more ∙ named_at LeftOut names_left_out (n - 21 - 15) less
+pub left_out_at : (n : ℕ) → 24 ≤ n → 15 ≤ n - 24 → n - 24 - 15 < 24 → slice_get requests n ≡ Some (LeftOut (get_or names_left_out (n - 24 - 15) []))
+left_out_at n above more less = left_out n above more ∙ named_at LeftOut names_left_out (n - 24 - 15) less
 
-pub none_at : (n : ℕ) → 21 ≤ n → 15 ≤ n - 21 → 24 ≤ n - 21 - 15 → slice_get requests n ≡ None
-none_at n above more past = left_out n above more ∙ slice_get_past (map LeftOut names_left_out) (n - 21 - 15) past
+pub none_at : (n : ℕ) → 24 ≤ n → 15 ≤ n - 24 → 24 ≤ n - 24 - 15 → slice_get requests n ≡ None
+none_at n above more past = left_out n above more ∙ slice_get_past (map LeftOut names_left_out) (n - 24 - 15) past

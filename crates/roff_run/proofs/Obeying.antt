@@ -8,7 +8,7 @@ use Rattle.roff_lines.specs.declared.env.Env.{Env}
 use Rattle.roff_num.specs.declared.limit.Limit.{Limit}
 use Rattle.roff_num.specs.declared.limit.Limit.TheVariants.{Names}
 use Rattle.roff_scan.specs.Arguments.{finished, no_arguments, only_kept}
-use Rattle.roff_scan.specs.Input.{with_arguments, without_arguments}
+use Rattle.roff_scan.specs.Input.{arguments_given, with_arguments, without_arguments}
 use Rattle.roff_scan.specs.Unread.{input_refusal}
 use Rattle.roff_store.proofs.Calls.{length-without_entry_le}
 use Rattle.roff_store.specs.Named.{without_entry}
@@ -17,7 +17,7 @@ use Rattle.roff_store.specs.TextCalls.{Call}
 use Rattle.roff_run.specs.Output.{PageHistory, text_of}
 use Rattle.roff_run.specs.Reader.State.{ReaderState}
 use Rattle.roff_run.specs.Reader.Taken.{ChangedTo, PageUnread, Refused, TakesAs, Took, behind_changes}
-use Rattle.roff_run.specs.Reading.{PageInput, arguments_given, calling_all, ended_by, line_ended, reading_behind}
+use Rattle.roff_run.specs.Reading.{PageInput, calling_all, ended_by, line_ended, reading_behind}
 use Rattle.roff_run.specs.Registers.{AllRegisters, Change, Remove, changed_by_all}
 use Rattle.roff_run.specs.Registers.Capped.{Capped, is_past_cap, with_change}
 use Rattle.roff_run.specs.Request.Coded.{calls_of, changes_of, effect_of}

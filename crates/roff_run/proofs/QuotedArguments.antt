@@ -1,12 +1,13 @@
 -- Requests get the arguments that are written in quotes.
 use Rattle.std.proofs.Common.{◌≡◌, ℕ, Bool, true, false, List, [], ◌∷◌, ◌++◌, refl, sym, ◌∙◌, ap}
-use Rattle.std.specs.Prelude.{fold, All, ◌||◌, reverse, if◌then◌else◌, ◌==◌}
+use Rattle.std.specs.Prelude.{fold, All, ◌||◌, reverse, if◌then◌else◌, ◌==◌, Option, Some, None}
 use Rattle.std.specs.List.{flat_map}
 use Rattle.std.proofs.lemmas.List.{append-nil, reverse-reverse}
 use Rattle.std.proofs.lemmas.List.Elements.{All-nil, All-cons, All-head, All-tail, All-append}
 use Rattle.roff_scan.proofs.KeptArguments.{only_kept-finished, only_kept-with_unit}
 use Rattle.roff_scan.proofs.QuotedArguments.{quoted_arguments_read_back}
 use Rattle.roff_scan.specs.Arguments.{Arguments, no_arguments, with_argument_byte, finished, arguments_read, kept, only_kept}
+use Rattle.roff_scan.specs.Input.{arguments_given}
 use Rattle.roff_scan.specs.Bytes.{newline, blank, quote, backslash, is_dropped}
 use Rattle.roff_scan.specs.Quoting.{quoted_byte, quoted, quoted_line}
 use Rattle.roff_scan.specs.Halves.{byte_read}
@@ -17,10 +18,15 @@ use Rattle.roff_scan.specs.declared.half.Surroundings.TheVariants.{Arguments as 
 use Rattle.roff_run.proofs.Interpolation.{IsRead, not-first, not-second, IsRead-itself}
 use Rattle.roff_run.specs.declared.reading.Reading.{Reading}
 use Rattle.roff_run.specs.InterpolationLaws.{StandsForItself}
-use Rattle.roff_run.specs.Quoting.{both, taking_all, RequestsGetQuotedArguments}
-use Rattle.roff_run.specs.Reading.{PageInput, Taking, ended_by, taking, kept_taking, arguments_read_on, line_ended, holding, settling, going_on, arguments_given}
+use Rattle.roff_run.specs.Quoting.{both, given_taking, taking_all, RequestsGetQuotedArguments}
+use Rattle.roff_run.specs.Reading.{PageInput, Taking, arguments_ended, definition_named, lines_begun, name_at, name_or_none, taking, kept_taking, arguments_read_on, holding, settling, going_on}
 use Rattle.roff_run.specs.Registers.{Known}
-use Rattle.roff_run.specs.Requests.{request_effect}
+use Rattle.roff_run.specs.Requests.{row_of}
+use Rattle.roff_run.specs.declared.reading.ShortName.{ShortName}
+use Rattle.roff_run.specs.declared.request.LineReading.{LineReading}
+use Rattle.roff_run.specs.declared.request.LineReading.TheVariants.{ByArguments, ByCondition, ByElse, ByLastLine, ByLines, ByMessage, ByString}
+use Rattle.roff_run.specs.declared.request.LinesFor.{LinesFor}
+use Rattle.roff_run.specs.declared.request.LinesFor.TheVariants.{Macro, Nobody}
 use Rattle.roff_run.specs.declared.reading.Reading.TheVariants.{Arguments as InArguments}
 use Rattle.roff_run.specs.declared.request.Request.{Request}
 
@@ -39,7 +45,7 @@ taking-argument k breaks request i a b itself =
     ap (λ (c : Bool). if c then (GoesOn, Backslash ∷ []) else (GivesUnit (Byte b), [])) (not-first (b == backslash) (is_dropped b || b == newline) itself) in
     ap (λ (c : Bool). if c then going_on (settling held) reading else kept_taking k reading held b) (not-first (is_dropped b) (b == newline) read)
     ∙ ap (arguments_read_on k held breaks request) unit
-    ∙ ap (λ (c : Bool). if c then line_ended k held breaks request else going_on (holding (Byte b) held) reading) (not-second (is_dropped b) (b == newline) read)
+    ∙ ap (λ (c : Bool). if c then arguments_ended k held breaks request (row_of request).line else going_on (holding (Byte b) held) reading) (not-second (is_dropped b) (b == newline) read)
     ∙ ap (λ (arguments : Arguments). going_on (record i { half = []; arguments = arguments }) reading) (only_kept-with_unit a (Byte b))
 
 -- what is done by a byte's taking and by those of others
@@ -53,7 +59,32 @@ arguments_given-with_kept i a =
 
 -- what the end of the line does
 abbrev line_taken : Known → Bool → Request → PageInput → List (List ℕ) → Taking
-line_taken k breaks request i as_given = ended_by (record i { half = [] }) request (request_effect k breaks request as_given)
+line_taken k breaks request i as_given = given_taking k breaks request (record i { half = [] }) (row_of request).line as_given
+
+-- lines are defined alike whatever was held
+definition_named-arguments : (i : PageInput) (a : Arguments) (appends : Bool) (named : Option (Option ShortName)) (end : Option ShortName)
+    → definition_named (record i { arguments = a }) appends named end ≡ definition_named i appends named end
+definition_named-arguments i a appends None end = refl
+definition_named-arguments i a appends (Some None) end = refl
+definition_named-arguments i a appends (Some (Some name)) end = refl
+
+lines_begun-arguments : (i : PageInput) (a : Arguments) (lines : LinesFor) (as_given : List (List ℕ))
+    → lines_begun (record i { arguments = a }) lines as_given ≡ lines_begun i lines as_given
+lines_begun-arguments i a (Macro appends) as_given =
+    definition_named-arguments i a appends (name_at 0 as_given) (name_or_none (name_at 1 as_given))
+lines_begun-arguments i a Nobody as_given = refl
+
+arguments_ended-given : (k : Known) (breaks : Bool) (request : Request) (i : PageInput) (a : Arguments) (line : LineReading)
+    → arguments_ended k (with_kept i a) breaks request line
+    ≡ given_taking k breaks request (record i { half = [] }) line (arguments_given (with_kept i a))
+arguments_ended-given k breaks request i a ByArguments = refl
+arguments_ended-given k breaks request i a (ByCondition keeps) = refl
+arguments_ended-given k breaks request i a (ByString appends) = refl
+arguments_ended-given k breaks request i a ByLastLine = refl
+arguments_ended-given k breaks request i a (ByMessage aborts) = refl
+arguments_ended-given k breaks request i a ByElse = refl
+arguments_ended-given k breaks request i a (ByLines lines) =
+    lines_begun-arguments (record i { half = [] }) (only_kept a) lines (arguments_given (with_kept i a))
 
 -- nothing is meant behind an effect
 both-none : (t : Taking) → joined t (going_on t.input t.reading) ≡ t
@@ -64,7 +95,8 @@ taking_all-arguments : (k : Known) (breaks : Bool) (request : Request) (i : Page
     → taking_all k (InArguments breaks request) (with_kept i a) (bytes ++ newline ∷ [])
     ≡ line_taken k breaks request i (kept (arguments_read (fold with_argument_byte a bytes)))
 taking_all-arguments k breaks request i a [] themselves =
-    both-none (line_taken k breaks request i (arguments_given (with_kept i a)))
+    both-none (arguments_ended k (with_kept i a) breaks request (row_of request).line)
+    ∙ arguments_ended-given k breaks request i a (row_of request).line
     ∙ ap (line_taken k breaks request i) (arguments_given-with_kept i a)
 taking_all-arguments k breaks request i a (b ∷ bytes) themselves =
     ap (λ (t : Taking). joined t (taking_all k t.reading t.input (bytes ++ newline ∷ [])))
@@ -113,4 +145,4 @@ requests_get_quoted_arguments k breaks request i arguments half none themselves 
     ap (λ (j : PageInput). taking_all k (InArguments breaks request) j (quoted_line arguments ++ newline ∷ [])) (sym input)
     ∙ taking_all-arguments k breaks request i no_arguments (quoted_line arguments) (itself-quoted_line arguments themselves)
     ∙ ap (λ (texts : List (List ℕ)). line_taken k breaks request i (kept texts)) (quoted_arguments_read_back arguments)
-    ∙ ap (λ (h : List Half). ended_by (record i { half = h }) request (request_effect k breaks request (kept arguments))) (sym half)
+    ∙ ap (λ (h : List Half). given_taking k breaks request (record i { half = h }) (row_of request).line (kept arguments)) (sym half)

@@ -8,16 +8,16 @@ use Rattle.roff_num.specs.declared.limit.Limit.{Limit}
 use Rattle.roff_num.specs.declared.limit.Limit.TheVariants.{Bytes}
 use Rattle.roff_num.specs.declared.limits.Limits.{Limits}
 use Rattle.roff_scan.specs.Halves.{decides_now, seen_stays, newline_stays}
-use Rattle.roff_scan.specs.Input.{Ahead, ByteAhead, FreeAhead, EndAhead, DoAhead, cost, item_taken, counting}
+use Rattle.roff_scan.specs.Input.{Ahead, ByteAhead, FreeAhead, EndAhead, ReturnAhead, DoAhead, cost, item_taken, counting}
 use Rattle.roff_scan.specs.Tape.{Answer, OneByte, OneNote, Ended, Failed, Stopped, Gives, Ends, front}
 use Rattle.roff_scan.specs.Unread.{Sighted, SeesByte, SeesNothing, SeesNote, SeesEnding, seen_ahead}
 use Rattle.roff_scan.specs.Half.{Half}
 use Rattle.roff_run.specs.Requests.{PageEvent}
-use Rattle.roff_run.specs.Reading.{due, message_begun}
+use Rattle.roff_run.specs.Reading.{behind_return, due, message_begun}
 use Rattle.roff_run.specs.declared.reading.Due.{Due}
 use Rattle.roff_run.specs.declared.reading.Due.TheVariants.{Leaves, Tells as TellsText}
 use Rattle.roff_run.specs.declared.reading.Reading.{Reading}
-use Rattle.roff_run.specs.declared.reading.Reading.TheVariants.{LineStart, Branch, Braced, Text as InText, Control, Name, Arguments as InArguments, Deciding, StringName, StringText, Skipping, Dropped, Telling, Told, Exiting}
+use Rattle.roff_run.specs.declared.reading.Reading.TheVariants.{LineStart, Branch, Braced, Text as InText, Control, Name, Arguments as InArguments, Deciding, StringName, StringText, Skipping, Dropped, Telling, Told, Exiting, Calling, Defining}
 use Rattle.roff_run.specs.Run.{waiting, State, known, ending_as, ending_with, stopped_by, passes_bytes, first_passed, unless_refused, grown, made, moved, byte_taken, half_ends, end_met, ahead_taken, taking_ahead, taking_byte, ending_input, answered, in_front_taken, front_seen, awaited_of_source, awaited, item_read, input_ended, message_told, aborted, input_left, reading_by, reading_on}
 use Rattle.roff_run.specs.declared.message.Message.TheVariants.{ReadFailed}
 use Rattle.roff_run.specs.declared.status.Status.TheVariants.{Device, Limit as Limited}
@@ -183,7 +183,9 @@ told_where_due (Name breaks first) aborts is = absurd (cc)
 told_where_due (InArguments breaks request) aborts is = absurd (cc)
 told_where_due (Deciding keeping) aborts is = absurd (cc)
 told_where_due (StringName appends) aborts is = absurd (cc)
+told_where_due (Calling name) aborts is = absurd (cc)
 told_where_due (StringText name appends is_front) aborts is = absurd (cc)
+told_where_due (Defining name appends end matched) aborts is = absurd (cc)
 told_where_due (Skipping opened closed behind) aborts is = absurd (cc)
 told_where_due Dropped aborts is = absurd (cc)
 told_where_due (Telling other is_front) aborts is = absurd (cc)
@@ -201,7 +203,9 @@ left_where_due (Name breaks first) is = absurd (cc)
 left_where_due (InArguments breaks request) is = absurd (cc)
 left_where_due (Deciding keeping) is = absurd (cc)
 left_where_due (StringName appends) is = absurd (cc)
+left_where_due (Calling name) is = absurd (cc)
 left_where_due (StringText name appends is_front) is = absurd (cc)
+left_where_due (Defining name appends end matched) is = absurd (cc)
 left_where_due (Skipping opened closed behind) is = absurd (cc)
 left_where_due Dropped is = absurd (cc)
 left_where_due (Telling aborts is_front) is = absurd (cc)
@@ -238,12 +242,40 @@ Behind-byte_taken b s = record {
   last_message = refl;
 }
 
+-- no turn more is begun behind the end of a called body
+pub begun-behind_return : (reading : Reading) → begun (behind_return reading) ≡ begun reading
+begun-behind_return LineStart = refl
+begun-behind_return Branch = refl
+begun-behind_return Braced = refl
+begun-behind_return (InText line) = refl
+begun-behind_return (Control breaks) = refl
+begun-behind_return (Name breaks first) = refl
+begun-behind_return (InArguments breaks request) = refl
+begun-behind_return (Deciding keeps) = refl
+begun-behind_return (StringName appends) = refl
+begun-behind_return (StringText name appends is_front) = refl
+begun-behind_return (Calling name) = refl
+begun-behind_return (Defining name appends end matched) = refl
+begun-behind_return (Skipping opened closed behind) = refl
+begun-behind_return Dropped = refl
+begun-behind_return (Telling aborts is_front) = refl
+begun-behind_return (Told aborts) = refl
+begun-behind_return Exiting = refl
+
 -- an item ahead of the source
 pub Behind-ahead_taken : (item : Ahead PageEvent) (s : State) → Behind (endings_of s.input.half + begun s.reading + 2) s (ahead_taken item s)
 Behind-ahead_taken (ByteAhead b) s = Behind-byte_taken b s
 Behind-ahead_taken (FreeAhead b) s = Behind-byte_taken b s
 Behind-ahead_taken EndAhead s =
     record { input = KeepsTwoMore-same s.input s.reading; tape = refl; history = refl; is_closing = refl; ended = refl; last_message = refl }
+Behind-ahead_taken ReturnAhead s = record {
+  input = record { charge = refl; newlines = refl; line = refl; free = refl; half = omega (arith, begun-behind_return s.reading) };
+  tape = refl;
+  history = refl;
+  is_closing = refl;
+  ended = refl;
+  last_message = refl;
+}
 Behind-ahead_taken (DoAhead event) s =
     record { input = Keeps-interrupted s.reading s.input; tape = refl; history = refl; is_closing = refl; ended = refl; last_message = refl }
 

@@ -17,7 +17,7 @@ use Rattle.roff_store.specs.declared.register.Register.{Register}
 use Rattle.roff_run.specs.declared.message.Message.{Message}
 use Rattle.roff_run.specs.declared.message.Message.TheVariants.{BadNumber}
 use Rattle.roff_run.specs.declared.registers.Query.{Query}
-use Rattle.roff_run.specs.declared.registers.Query.TheVariants.{Newlines, Indent, LineLength, LastWidth, Filling, LineSpacing, ColumnWidth, Later}
+use Rattle.roff_run.specs.declared.registers.Query.TheVariants.{Newlines, Indent, LineLength, LastWidth, Filling, LineSpacing, ColumnWidth, Arguments, Later}
 use Rattle.roff_run.specs.RegisterLaws.{ValuesReadBack, FormatsReadBack, FormatsStay, UndefinedReadAsZero, ReadingMakesNone, ReadingIsSilent, ReadOnlyStay, ReadOnlyAreLeftAlone, RemovedReadAsZero}
 use Rattle.roff_run.specs.Registers.{AllRegisters, Known, SetTo, FormatAs, Remove, answer, greatest_number, is_page, is_read_only, known_behind, query_of, settable, stepped_page, text_asked}
 
@@ -153,6 +153,7 @@ answer-same LastWidth k rs = refl
 answer-same Filling k rs = refl
 answer-same LineSpacing k rs = refl
 answer-same ColumnWidth k rs = refl
+answer-same Arguments k rs = refl
 answer-same Later k rs = refl
 
 -- nor is its text that of one

@@ -64,15 +64,15 @@ IsWithin-event l e rest s t (StoppedAt limit) is = IsWithin-same l s t refl refl
 IsWithin-made : (l : Limits) (s t : State) → t.input.charge ≤ l.bytes → t.history ≡ s.history → IsMade l t → IsWithin l s → IsWithin l t
 IsWithin-made l s t charge history is_made is =
     let others : AllWithin l (grown t) = counts_within l (grown t) is_made in
-    let texts = others.1.1.1 in
+    let ahead = others.1.1.1.1 in
     record {
       bytes = charge;
-      stack = others.1.0;
-      depth = others.1.1.0;
-      store = texts.1.0;
-      texts = texts.1.1.0;
-      making = omega (arith, texts.0);
-      conditions = texts.1.1.1.0;
+      stack = ahead.0;
+      depth = ahead.1.0;
+      store = others.1.1.0;
+      texts = others.1.1.1.0;
+      making = omega (arith, others.1.0);
+      conditions = ahead.1.1.0;
       names = others.0;
       line = rw history is.line;
     }

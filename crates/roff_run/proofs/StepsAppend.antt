@@ -8,7 +8,7 @@ use Rattle.std.specs.Prelude.{nat_lt, if◌then◌else◌}
 use Rattle.roff_num.specs.declared.limit.Limit.{Limit}
 use Rattle.roff_num.specs.declared.limits.Limits.{Limits}
 use Rattle.roff_scan.specs.Halves.{decides_now, seen_stays, newline_stays}
-use Rattle.roff_scan.specs.Input.{Ahead, ByteAhead, FreeAhead, EndAhead, DoAhead, cost, item_taken, counting}
+use Rattle.roff_scan.specs.Input.{Ahead, ByteAhead, FreeAhead, EndAhead, ReturnAhead, DoAhead, cost, item_taken, counting}
 use Rattle.roff_scan.specs.Tape.{Answer, Gives, Ends, OneByte, OneNote, Ended, Failed, Stopped, front}
 use Rattle.roff_scan.specs.Unread.{Sighted, SeesByte, SeesNothing, SeesNote, SeesEnding, seen_ahead}
 use Rattle.roff_scan.specs.Half.{Half}
@@ -86,6 +86,7 @@ pub OnlyCuts-ahead_taken : (item : Ahead PageEvent) (s : State) → OnlyCuts s (
 OnlyCuts-ahead_taken (ByteAhead b) s = OnlyCuts-message s _ _ refl refl
 OnlyCuts-ahead_taken (FreeAhead b) s = OnlyCuts-message s _ _ refl refl
 OnlyCuts-ahead_taken EndAhead s = OnlyCuts-same s s refl refl
+OnlyCuts-ahead_taken ReturnAhead s = OnlyCuts-same s _ refl refl
 OnlyCuts-ahead_taken (DoAhead e) s = OnlyCuts-same s _ refl refl
 
 -- the state behind an item ahead, if no limit refuses it

@@ -13,7 +13,7 @@ use Rattle.roff_num.specs.declared.limit.Limit.{Limit}
 use Rattle.roff_num.specs.declared.limit.Limit.TheVariants.{Bytes}
 use Rattle.roff_num.specs.declared.limits.Limits.{Limits}
 use Rattle.roff_scan.specs.Halves.{decides_now, seen_stays, newline_stays}
-use Rattle.roff_scan.specs.Input.{Ahead, ByteAhead, FreeAhead, EndAhead, DoAhead, cost}
+use Rattle.roff_scan.specs.Input.{Ahead, ByteAhead, FreeAhead, EndAhead, ReturnAhead, DoAhead, cost}
 use Rattle.roff_scan.specs.Tape.{Tape, Answer, Gives, Ends, OneByte, OneNote, Ended, Failed, Stopped, front, behind_front}
 use Rattle.roff_scan.specs.Unread.{Sighted, SeesByte, SeesNothing, SeesNote, SeesEnding, seen_ahead}
 use Rattle.roff_scan.specs.Half.{Half}
@@ -42,6 +42,7 @@ ahead_done-over : (item : Ahead PageEvent) (behind : List (Ahead PageEvent)) (s 
 ahead_done-over (ByteAhead b) behind s tape = refl
 ahead_done-over (FreeAhead b) behind s tape = refl
 ahead_done-over EndAhead behind s tape = refl
+ahead_done-over ReturnAhead behind s tape = refl
 ahead_done-over (DoAhead e) behind s tape = refl
 
 -- and leaves it
@@ -49,6 +50,7 @@ ahead_done-tape : (item : Ahead PageEvent) (behind : List (Ahead PageEvent)) (s 
 ahead_done-tape (ByteAhead b) behind s = refl
 ahead_done-tape (FreeAhead b) behind s = refl
 ahead_done-tape EndAhead behind s = refl
+ahead_done-tape ReturnAhead behind s = refl
 ahead_done-tape (DoAhead e) behind s = refl
 
 -- a step that a limit refuses, or else the limits behind it

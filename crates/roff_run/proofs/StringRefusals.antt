@@ -10,7 +10,7 @@ use Rattle.roff_num.specs.declared.limit.Limit.TheVariants.{Stack, Depth, Divers
 use Rattle.roff_num.specs.declared.limits.Limits.{Limits}
 use Rattle.roff_scan.specs.Arguments.{Arguments, held, no_arguments, settled_at, with_byte_at, with_unit, with_whole}
 use Rattle.roff_scan.specs.Half.{texts_held, unit_bytes}
-use Rattle.roff_scan.specs.Input.{adding, bytes_ahead, calling, calling_on, depth, names_added, pushed, results, stored}
+use Rattle.roff_scan.specs.Input.{adding, bytes_ahead, calling, calling_on, depth, live_bytes, names_added, pushed, results, stored}
 use Rattle.roff_scan.specs.Unread.{input_refusal}
 use Rattle.roff_scan.specs.declared.arguments.Place.{Place}
 use Rattle.roff_scan.specs.declared.arguments.Place.TheVariants.{Between, InPlain, InQuotes, BehindQuote}
@@ -21,7 +21,8 @@ use Rattle.roff_store.specs.TextCalls.{Open, PushOpen}
 use Rattle.roff_store.specs.Texts.{newest}
 use Rattle.roff_run.specs.Reader.State.{ReaderState}
 use Rattle.roff_run.specs.Reader.Taken.{InputBecame, PageUnread, TakesAs}
-use Rattle.roff_run.specs.Reading.{PageInput, Taking, first_name, going_on, holding, name_read, string_begun, string_grown, string_name_behind, string_unit}
+use Rattle.roff_run.specs.ShortNames.{name_at}
+use Rattle.roff_run.specs.Reading.{PageInput, Taking, going_on, holding, name_read, string_begun, string_grown, string_name_behind, string_unit}
 use Rattle.roff_run.specs.declared.reading.Reading.TheVariants.{StringName, StringText}
 use Rattle.roff_run.specs.declared.reading.ShortName.{ShortName}
 use Rattle.roff_run.proofs.InputCounts.{NoMore, NoMore-released, input_refusal-no_more, not_above, one_of}
@@ -30,25 +31,25 @@ use Rattle.roff_run.proofs.TakesAs.{TakesAs-as}
 
 -- the first of the limits that is passed
 abbrev first_of : Bool → Bool → Bool → Bool → Bool → Bool → Option Limit
-first_of stack depth diversions store names conditions =
-    if stack then Some Stack
-    else if depth then Some Depth
-    else if diversions then Some Diversions
+first_of diversions store names stack depth conditions =
+    if diversions then Some Diversions
     else if store then Some Store
     else if names then Some Names
+    else if stack then Some Stack
+    else if depth then Some Depth
     else if conditions then Some Conditions
     else None
 
--- none of them is
-record NonePassed (stack depth diversions store names conditions : Bool) : Type 0 where
-  stack_not : stack ≡ false
-  depth_not : depth ≡ false
+-- none of them is but for that on diversions
+record NonePassed (store names stack depth conditions : Bool) : Type 0 where
   store_not : store ≡ false
   names_not : names ≡ false
+  stack_not : stack ≡ false
+  depth_not : depth ≡ false
   conditions_not : conditions ≡ false
 
-none_passed : (stack depth diversions store names conditions : Bool) → first_of stack depth diversions store names conditions ≡ None
-    → NonePassed stack depth diversions store names conditions
+none_passed : (diversions store names stack depth conditions : Bool) → first_of diversions store names stack depth conditions ≡ None
+    → NonePassed store names stack depth conditions
 none_passed true b c d e f none = cc
 none_passed false true c d e f none = cc
 none_passed false false true d e f none = cc
@@ -56,20 +57,20 @@ none_passed false false false true e f none = cc
 none_passed false false false false true f none = cc
 none_passed false false false false false true none = cc
 none_passed false false false false false false none =
-    record { stack_not = refl; depth_not = refl; store_not = refl; names_not = refl; conditions_not = refl }
+    record { store_not = refl; names_not = refl; stack_not = refl; depth_not = refl; conditions_not = refl }
 
 -- one of them is, and it isn't another than that on diversions
-diversions_passed : (stack depth diversions store names conditions : Bool) (limit : Limit) → NonePassed stack depth diversions store names conditions
-    → first_of stack depth diversions store names conditions ≡ Some limit → diversions ≡ true
-diversions_passed a b true d e f limit others is = refl
-diversions_passed a b false d e f limit others is =
-    let none : first_of a b false d e f ≡ None =
-    rw (others.stack_not, others.depth_not, others.store_not, others.names_not, others.conditions_not) refl in cc
+diversions_passed : (diversions store names stack depth conditions : Bool) (limit : Limit) → NonePassed store names stack depth conditions
+    → first_of diversions store names stack depth conditions ≡ Some limit → diversions ≡ true
+diversions_passed true b c d e f limit others is = refl
+diversions_passed false b c d e f limit others is =
+    let none : first_of false b c d e f ≡ None =
+    rw (others.store_not, others.names_not, others.stack_not, others.depth_not, others.conditions_not) refl in cc
 
 -- so it is whatever the limits behind it say
-first_of-diversions : (stack depth diversions store names conditions : Bool) → stack ≡ false → depth ≡ false → diversions ≡ true
-    → first_of stack depth diversions store names conditions ≡ Some Diversions
-first_of-diversions a b c d e f stack_not depth_not passed = rw (stack_not, depth_not, passed) refl
+first_of-diversions : (diversions store names stack depth conditions : Bool) → diversions ≡ true
+    → first_of diversions store names stack depth conditions ≡ Some Diversions
+first_of-diversions a b c d e f passed = rw passed refl
 
 -- the input once the argument is released and a text more is in the making
 abbrev begun : PageInput → PageInput
@@ -81,43 +82,35 @@ stored-begun i = let more = sum_by-append (λ (text : List ℕ). length text) i.
 
 -- the others are passed as little as before
 others_not : (l : Limits) (i : PageInput) → input_refusal l i ≡ None
-    → NonePassed (nat_lt l.stack (pushed (begun i))) (nat_lt l.depth (depth (begun i))) (nat_lt l.diversions (length (begun i).open_texts - 1))
-    (nat_lt l.store (stored (begun i))) (nat_lt l.names (names_added (begun i))) (nat_lt l.conditions (results (begun i)))
+    → NonePassed (nat_lt l.store (stored (begun i))) (nat_lt l.names (names_added (begun i))) (nat_lt l.stack (pushed (begun i)))
+    (nat_lt l.depth (depth (begun i))) (nat_lt l.conditions (results (begun i)))
 others_not l i none =
     let before = none_passed _ _ _ _ _ _ none in
     let released = NoMore-released i in
     record {
-      stack_not = not_above l.stack (pushed i) (pushed (begun i)) released.bytes before.stack_not;
-      depth_not = before.depth_not;
       store_not = ap (λ (bytes : ℕ). nat_lt l.store bytes) (stored-begun i) ∙ before.store_not;
       names_not = before.names_not;
+      stack_not = not_above l.stack (pushed i) (pushed (begun i)) released.bytes before.stack_not;
+      depth_not = before.depth_not;
       conditions_not = before.conditions_not;
     }
 
--- bytes put behind a text in the making leave the counts in front of that of stored bytes
-record SameInFront (now before : PageInput) : Type 0 where
-  bytes : pushed now ≡ pushed before
-  texts : depth now ≡ depth before
-  making : length now.open_texts ≡ length before.open_texts
-
-SameInFront-adding : (bytes : List ℕ) (id : Option ℕ) (i : PageInput) → SameInFront (calling_on (λ id. PushOpen id bytes) id i) i
-SameInFront-adding bytes None i = record { bytes = refl; texts = refl; making = refl }
-SameInFront-adding bytes (Some id) i = record { bytes = refl; texts = refl; making = length-set i.open_texts id _ }
+-- bytes put behind a text in the making leave as many of them
+making-adding : (bytes : List ℕ) (id : Option ℕ) (i : PageInput) → length (calling_on (λ id. PushOpen id bytes) id i).open_texts ≡ length i.open_texts
+making-adding bytes None i = refl
+making-adding bytes (Some id) i = length-set i.open_texts id _
 
 -- where no text more may be begun, none is that grows
 refused-grown : (l : Limits) (i : PageInput) (bytes : List ℕ) (limit : Limit) → input_refusal l i ≡ None → input_refusal l (begun i) ≡ Some limit
     → input_refusal l (adding bytes (begun i)) ≡ Some limit
 refused-grown l i bytes limit none is =
-    let others = others_not l i none in
-    let passed = diversions_passed _ _ _ _ _ _ limit others is in
-    let same = SameInFront-adding bytes (newest (begun i).open_texts) (begun i) in
-    let was = first_of-diversions _ _ _ (nat_lt l.store (stored (begun i))) (nat_lt l.names (names_added (begun i)))
-    (nat_lt l.conditions (results (begun i))) others.stack_not others.depth_not passed in
+    let passed = diversions_passed _ _ _ _ _ _ limit (others_not l i none) is in
+    let same = making-adding bytes (newest (begun i).open_texts) (begun i) in
+    let was = first_of-diversions _ (nat_lt l.store (stored (begun i))) (nat_lt l.names (names_added (begun i))) (nat_lt l.stack (pushed (begun i)))
+    (nat_lt l.depth (depth (begun i))) (nat_lt l.conditions (results (begun i))) passed in
     let grown : PageInput = adding bytes (begun i) in
-    first_of-diversions _ _ _ (nat_lt l.store (stored grown)) (nat_lt l.names (names_added grown)) (nat_lt l.conditions (results grown))
-    (ap (λ (n : ℕ). nat_lt l.stack n) same.bytes ∙ others.stack_not)
-    (ap (λ (n : ℕ). nat_lt l.depth n) same.texts ∙ others.depth_not)
-    (ap (λ (n : ℕ). nat_lt l.diversions (n - 1)) same.making ∙ passed)
+    first_of-diversions _ (nat_lt l.store (stored grown)) (nat_lt l.names (names_added grown)) (nat_lt l.stack (pushed grown)) (nat_lt l.depth (depth grown)) (nat_lt l.conditions (results grown))
+    (ap (λ (n : ℕ). nat_lt l.diversions (n - 1)) same ∙ passed)
     ∙ sym was ∙ is
 
 InputBecame-refused_grown : (name : Option ShortName) (unit : CopyUnit) (before behind : PageUnread) (limit : Limit)
@@ -173,7 +166,7 @@ NoneOrAsMany-unit a (Byte b) none apart =
 NoneOrAsMany-unit a (Kept b) none apart = inl (settled-none a.place a none (apart (λ is. cc)))
 
 -- without a first name there is no text
-no_texts : (texts : List (List ℕ)) → first_name texts ≡ None → length texts ≡ 0
+no_texts : (texts : List (List ℕ)) → name_at 0 texts ≡ None → length texts ≡ 0
 no_texts [] none = refl
 no_texts (text ∷ texts) none = cc
 
@@ -188,7 +181,7 @@ none_whole i none = empty i.arguments.whole (sym (length-reverse i.arguments.who
 NoMore-held : (i : PageInput) (unit : CopyUnit) → held (with_unit i.arguments unit) ≡ held i.arguments → NoMore (holding unit i) i
 NoMore-held i unit same =
     let bytes : pushed (holding unit i) ≡ pushed i =
-    ap (λ n. bytes_ahead i.ahead + n + texts_held i.half) (held-only_kept (with_unit i.arguments unit) ∙ same) in
+    ap (λ n. bytes_ahead i.ahead + n + texts_held i.half + live_bytes i.calls) (held-only_kept (with_unit i.arguments unit) ∙ same) in
     record { bytes = omega (arith, bytes); texts = omega arith; results = omega arith; stored = omega arith; names = omega arith; open_texts = omega arith }
 
 -- no name is whole behind a unit that a limit refuses

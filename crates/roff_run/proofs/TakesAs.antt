@@ -33,7 +33,7 @@ use Rattle.roff_run.specs.Run.{counts_in, first_passed, known_at}
 use Rattle.roff_run.specs.declared.message.Message.{Message}
 use Rattle.roff_run.specs.declared.reader.Meaning.{Meaning}
 use Rattle.roff_run.specs.declared.reading.Reading.{Reading}
-use Rattle.roff_run.specs.declared.reading.Reading.TheVariants.{StringName, StringText, LineStart, Branch, Braced, Text as InText, Control, Name, Arguments as InArguments, Deciding, Skipping, Dropped, Telling, Told, Exiting}
+use Rattle.roff_run.specs.declared.reading.Reading.TheVariants.{StringName, StringText, LineStart, Branch, Braced, Text as InText, Control, Name, Arguments as InArguments, Deciding, Skipping, Dropped, Telling, Told, Exiting, Calling, Defining}
 use Rattle.roff_run.specs.declared.reading.ShortName.{ShortName}
 use Rattle.roff_run.specs.declared.reading.TextLine.{TextLine}
 use Rattle.roff_run.specs.declared.reading.TextStep.{TextStep}
@@ -67,9 +67,9 @@ pub NoMore-choosing : (i : PageInput) → NoMore (choosing i) i
 NoMore-choosing i = NoMore-with_half (choosing i).half i (omega arith)
 
 -- where the newest result is taken
-fewer_kept : (kept : List Bool) → length (drop 1 kept) ≤ length kept
+fewer_kept : (kept : List (Bool × ℕ)) → length (drop 1 kept) ≤ length kept
 fewer_kept [] = omega arith
-fewer_kept (so ∷ kept) = omega arith
+fewer_kept (result ∷ kept) = omega arith
 
 pub NoMore-without_last : (i : PageInput) → NoMore (without_last i) i
 NoMore-without_last i =
@@ -132,15 +132,22 @@ TakesAs-settled t env old new before mid behind result settles takes =
           (moved.takes cap h stands (record { cap = ready.cap; within = within }));
     }
 
--- what is taken once the input is another one, of no more counts and as many newlines
+-- of as many newlines and the same calls the same is known
+known_at-same : (h : PageHistory) (rs : AllRegisters) (now before : PageInput) → now.newlines ≡ before.newlines → now.calls ≡ before.calls
+    → known_at h rs now ≡ known_at h rs before
+known_at-same h rs now before newlines calls =
+    ap (λ (lines : ℕ). known_at h rs (record now { newlines = lines })) newlines
+    ∙ ap (λ (calls : List (List (List ℕ))). known_at h rs (record now { newlines = before.newlines; calls = calls })) calls
+
+-- what is taken once the input is another one, of no more counts, as many newlines and the same calls
 pub TakesAs-less : (i : PageInput) (t : Known → Taking) (env : Env) (old new : ReaderState) (before behind : PageUnread) (result : Result Meaning Limit)
-    → NoMore i before.input → i.newlines ≡ before.input.newlines → TakesAs t env old new (record before { input = i }) behind result
-    → TakesAs t env old new before behind result
-TakesAs-less i t env old new before behind result less newlines takes = record {
+    → NoMore i before.input → i.newlines ≡ before.input.newlines → i.calls ≡ before.input.calls
+    → TakesAs t env old new (record before { input = i }) behind result → TakesAs t env old new before behind result
+TakesAs-less i t env old new before behind result less newlines calls takes = record {
   takes = λ cap h stands ready.
       let within = first_passed-no_more before.limits old.registers.all i before.input less ready.within in
       let known : known_at h old.registers.all i ≡ known_at h old.registers.all before.input =
-      ap (λ (lines : ℕ). (let k : Known = record (known_at h old.registers.all before.input) { newlines = lines } in k)) newlines in
+      known_at-same h old.registers.all i before.input newlines calls in
       Takes-elsewhere (t (known_at h old.registers.all before.input)) old.registers new before behind i result
       (subst (λ (k : Known). Takes (t k) old.registers new (record before { input = i }) behind result) known
       (takes.takes cap h stands (record { cap = ready.cap; within = within })));
@@ -356,6 +363,8 @@ first_taking-any i (Deciding keeps) b in_branch in_brace = refl
 first_taking-any i (Skipping opened closed behind) b in_branch in_brace = refl
 first_taking-any i (StringName appends) b in_branch in_brace = refl
 first_taking-any i (StringText name appends is_front) b in_branch in_brace = refl
+first_taking-any i (Calling name) b in_branch in_brace = refl
+first_taking-any i (Defining name appends end matched) b in_branch in_brace = refl
 first_taking-any i (Telling aborts is_front) b in_branch in_brace = refl
 first_taking-any i (Told aborts) b in_branch in_brace = refl
 first_taking-any i Exiting b in_branch in_brace = refl
@@ -377,6 +386,8 @@ first_escape-any i (Deciding keeps) b in_branch in_brace = refl
 first_escape-any i (Skipping opened closed behind) b in_branch in_brace = refl
 first_escape-any i (StringName appends) b in_branch in_brace = refl
 first_escape-any i (StringText name appends is_front) b in_branch in_brace = refl
+first_escape-any i (Calling name) b in_branch in_brace = refl
+first_escape-any i (Defining name appends end matched) b in_branch in_brace = refl
 first_escape-any i (Telling aborts is_front) b in_branch in_brace = refl
 first_escape-any i (Told aborts) b in_branch in_brace = refl
 first_escape-any i Exiting b in_branch in_brace = refl
@@ -387,23 +398,27 @@ pub taking-of : (k : Known) (r : Reading) (i : PageInput) (b : ℕ) (c : Bool) �
     → (if c then going_on (interrupted r i) r else kept_taking k r i b) ≡ taking k r i b
 taking-of k r i b c is = ap (λ (dropped : Bool). if dropped then going_on (interrupted r i) r else kept_taking k r i b) is
 
--- behind a line's beginning the end of the input is a newline
-pub end_taking-newline : (k : Known) (r : Reading) (i : PageInput) → (r ≡ LineStart → ⊥) → kept_taking k r i newline ≡ end_taking k r i
-end_taking-newline k LineStart i begun = absurd (begun refl)
-end_taking-newline k Branch i begun = refl
-end_taking-newline k Braced i begun = refl
-end_taking-newline k (InText line) i begun = refl
-end_taking-newline k (Control breaks) i begun = refl
-end_taking-newline k (Name breaks first) i begun = refl
-end_taking-newline k (InArguments breaks request) i begun = refl
-end_taking-newline k (Deciding keeps) i begun = refl
-end_taking-newline k (Skipping opened closed behind) i begun = refl
-end_taking-newline k (StringName appends) i begun = refl
-end_taking-newline k (StringText name appends is_front) i begun = refl
-end_taking-newline k (Telling aborts is_front) i begun = refl
-end_taking-newline k (Told aborts) i begun = refl
-end_taking-newline k Exiting i begun = refl
-end_taking-newline k Dropped i begun = refl
+-- behind a line's beginning the end of the input is a newline, but of a definition
+pub end_taking-newline : (k : Known) (r : Reading) (i : PageInput) → (r ≡ LineStart → ⊥)
+    → ((name : Option ShortName) (appends : Bool) (end : Option ShortName) (matched : Option ℕ) → r ≡ Defining name appends end matched → ⊥)
+    → kept_taking k r i newline ≡ end_taking k r i
+end_taking-newline k LineStart i begun no_definition = absurd (begun refl)
+end_taking-newline k Branch i begun no_definition = refl
+end_taking-newline k Braced i begun no_definition = refl
+end_taking-newline k (InText line) i begun no_definition = refl
+end_taking-newline k (Control breaks) i begun no_definition = refl
+end_taking-newline k (Name breaks first) i begun no_definition = refl
+end_taking-newline k (InArguments breaks request) i begun no_definition = refl
+end_taking-newline k (Deciding keeps) i begun no_definition = refl
+end_taking-newline k (Skipping opened closed behind) i begun no_definition = refl
+end_taking-newline k (StringName appends) i begun no_definition = refl
+end_taking-newline k (StringText name appends is_front) i begun no_definition = refl
+end_taking-newline k (Calling name) i begun no_definition = refl
+end_taking-newline k (Defining name appends end matched) i begun no_definition = absurd (no_definition name appends end matched refl)
+end_taking-newline k (Telling aborts is_front) i begun no_definition = refl
+end_taking-newline k (Told aborts) i begun no_definition = refl
+end_taking-newline k Exiting i begun no_definition = refl
+end_taking-newline k Dropped i begun no_definition = refl
 
 -- behind a request's name anything but a unit is no byte of an argument
 pub arguments_found-no_unit : (k : Known) (i : PageInput) (breaks : Bool) (request : Request) (found : Read) → ((unit : CopyUnit) → found ≡ OneUnit unit → ⊥)
@@ -435,19 +450,23 @@ message_found-no_unit k i aborts is_front (Decides decision freed) no_unit no_es
 pub half_ended-dropped : (k : Known) (r : Reading) (i : PageInput) → (r ≡ LineStart → ⊥) → (r ≡ Branch → ⊥) → (r ≡ Braced → ⊥) → ((line : TextLine) → r ≡ InText line → ⊥)
     → ((breaks : Bool) (request : Request) → r ≡ InArguments breaks request → ⊥) → ((keeps : Bool) → r ≡ Deciding keeps → ⊥)
     → ((appends : Bool) → r ≡ StringName appends → ⊥) → ((name : Option ShortName) (appends is_front : Bool) → r ≡ StringText name appends is_front → ⊥)
-    → ((aborts is_front : Bool) → r ≡ Telling aborts is_front → ⊥) → going_on (with_half (reading_ended AboveText i.half).1 i) r ≡ half_ended k r i
-half_ended-dropped k LineStart i begun no_branch no_brace no_text no_arguments no_condition no_name no_string no_message = absurd (begun refl)
-half_ended-dropped k Branch i begun no_branch no_brace no_text no_arguments no_condition no_name no_string no_message = absurd (no_branch refl)
-half_ended-dropped k Braced i begun no_branch no_brace no_text no_arguments no_condition no_name no_string no_message = absurd (no_brace refl)
-half_ended-dropped k (InText line) i begun no_branch no_brace no_text no_arguments no_condition no_name no_string no_message = absurd (no_text line refl)
-half_ended-dropped k (Control breaks) i begun no_branch no_brace no_text no_arguments no_condition no_name no_string no_message = refl
-half_ended-dropped k (Name breaks first) i begun no_branch no_brace no_text no_arguments no_condition no_name no_string no_message = refl
-half_ended-dropped k (InArguments breaks request) i begun no_branch no_brace no_text no_arguments no_condition no_name no_string no_message = absurd (no_arguments breaks request refl)
-half_ended-dropped k (Deciding keeps) i begun no_branch no_brace no_text no_arguments no_condition no_name no_string no_message = absurd (no_condition keeps refl)
-half_ended-dropped k (Skipping opened closed behind) i begun no_branch no_brace no_text no_arguments no_condition no_name no_string no_message = refl
-half_ended-dropped k (StringName appends) i begun no_branch no_brace no_text no_arguments no_condition no_name no_string no_message = absurd (no_name appends refl)
-half_ended-dropped k (StringText name appends is_front) i begun no_branch no_brace no_text no_arguments no_condition no_name no_string no_message = absurd (no_string name appends is_front refl)
-half_ended-dropped k (Telling aborts is_front) i begun no_branch no_brace no_text no_arguments no_condition no_name no_string no_message = absurd (no_message aborts is_front refl)
-half_ended-dropped k (Told aborts) i begun no_branch no_brace no_text no_arguments no_condition no_name no_string no_message = refl
-half_ended-dropped k Exiting i begun no_branch no_brace no_text no_arguments no_condition no_name no_string no_message = refl
-half_ended-dropped k Dropped i begun no_branch no_brace no_text no_arguments no_condition no_name no_string no_message = refl
+    → ((aborts is_front : Bool) → r ≡ Telling aborts is_front → ⊥) → ((name : ShortName) → r ≡ Calling name → ⊥)
+    → ((name : Option ShortName) (appends : Bool) (end : Option ShortName) (matched : Option ℕ) → r ≡ Defining name appends end matched → ⊥)
+    → going_on (with_half (reading_ended AboveText i.half).1 i) r ≡ half_ended k r i
+half_ended-dropped k LineStart i begun no_branch no_brace no_text no_arguments no_condition no_name no_string no_message no_call no_definition = absurd (begun refl)
+half_ended-dropped k Branch i begun no_branch no_brace no_text no_arguments no_condition no_name no_string no_message no_call no_definition = absurd (no_branch refl)
+half_ended-dropped k Braced i begun no_branch no_brace no_text no_arguments no_condition no_name no_string no_message no_call no_definition = absurd (no_brace refl)
+half_ended-dropped k (InText line) i begun no_branch no_brace no_text no_arguments no_condition no_name no_string no_message no_call no_definition = absurd (no_text line refl)
+half_ended-dropped k (Control breaks) i begun no_branch no_brace no_text no_arguments no_condition no_name no_string no_message no_call no_definition = refl
+half_ended-dropped k (Name breaks first) i begun no_branch no_brace no_text no_arguments no_condition no_name no_string no_message no_call no_definition = refl
+half_ended-dropped k (InArguments breaks request) i begun no_branch no_brace no_text no_arguments no_condition no_name no_string no_message no_call no_definition = absurd (no_arguments breaks request refl)
+half_ended-dropped k (Deciding keeps) i begun no_branch no_brace no_text no_arguments no_condition no_name no_string no_message no_call no_definition = absurd (no_condition keeps refl)
+half_ended-dropped k (Skipping opened closed behind) i begun no_branch no_brace no_text no_arguments no_condition no_name no_string no_message no_call no_definition = refl
+half_ended-dropped k (StringName appends) i begun no_branch no_brace no_text no_arguments no_condition no_name no_string no_message no_call no_definition = absurd (no_name appends refl)
+half_ended-dropped k (StringText name appends is_front) i begun no_branch no_brace no_text no_arguments no_condition no_name no_string no_message no_call no_definition = absurd (no_string name appends is_front refl)
+half_ended-dropped k (Calling name) i begun no_branch no_brace no_text no_arguments no_condition no_name no_string no_message no_call no_definition = absurd (no_call name refl)
+half_ended-dropped k (Defining name appends end matched) i begun no_branch no_brace no_text no_arguments no_condition no_name no_string no_message no_call no_definition = absurd (no_definition name appends end matched refl)
+half_ended-dropped k (Telling aborts is_front) i begun no_branch no_brace no_text no_arguments no_condition no_name no_string no_message no_call no_definition = absurd (no_message aborts is_front refl)
+half_ended-dropped k (Told aborts) i begun no_branch no_brace no_text no_arguments no_condition no_name no_string no_message no_call no_definition = refl
+half_ended-dropped k Exiting i begun no_branch no_brace no_text no_arguments no_condition no_name no_string no_message no_call no_definition = refl
+half_ended-dropped k Dropped i begun no_branch no_brace no_text no_arguments no_condition no_name no_string no_message no_call no_definition = refl

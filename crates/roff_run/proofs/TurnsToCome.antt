@@ -4,9 +4,9 @@ use Rattle.std.specs.Prelude.{nat_lt, if◌then◌else◌}
 use Rattle.std.proofs.lemmas.Bool.{ltb-false}
 use Rattle.roff_num.specs.declared.limit.Limit.TheVariants.{Bytes}
 use Rattle.roff_scan.specs.Halves.{newline_stays}
-use Rattle.roff_scan.specs.Input.{Ahead, ByteAhead, FreeAhead, EndAhead, DoAhead, cost, item_taken}
+use Rattle.roff_scan.specs.Input.{Ahead, ByteAhead, FreeAhead, EndAhead, ReturnAhead, DoAhead, cost, item_taken}
 use Rattle.roff_scan.specs.Tape.{Answer, Gives, Ends, OneByte, OneNote}
-use Rattle.roff_scan.specs.Unread.{Unread, Shown, ShowsByte, ShowsEnd, ShowsDo, ShowsNote, ShowsEnding, ShowsRefusal, taking, taking_answer, answer_behind}
+use Rattle.roff_scan.specs.Unread.{Unread, Shown, ShowsByte, ShowsEnd, ShowsReturn, ShowsDo, ShowsNote, ShowsEnding, ShowsRefusal, taking, taking_answer, answer_behind}
 use Rattle.roff_scan.specs.Half.{Half}
 use Rattle.roff_run.specs.Reading.{PageInput, half_ended, taking as byte_taking}
 use Rattle.roff_run.specs.Registers.{Known}
@@ -16,10 +16,11 @@ use Rattle.roff_run.specs.TurnsToCome.{begun, endings_of, turns_within, turns_to
 use Rattle.roff_run.proofs.HalfCounts.{some_ending}
 use Rattle.roff_run.proofs.Keeping.{KeepsTwoMore, Keeps-taking, Keeps-half_ended}
 
--- a call took a byte, the end of a text, or an event
+-- a call took a byte, the end of a text or of a body, or an event
 abbrev pub IsTaken : Shown PageEvent → Type 0
 IsTaken (ShowsByte b) = Unit {0}
 IsTaken ShowsEnd = Unit {0}
+IsTaken ShowsReturn = Unit {0}
 IsTaken (ShowsDo event) = Unit {0}
 IsTaken (ShowsNote message) = ⊥
 IsTaken (ShowsEnding ending) = ⊥
@@ -40,6 +41,7 @@ falls-item : (item : Ahead PageEvent) (items : List (Ahead PageEvent)) (bytes : 
 falls-item (ByteAhead b) items bytes i room = omega arith
 falls-item (FreeAhead b) items bytes i room = omega arith
 falls-item EndAhead items bytes i room = omega arith
+falls-item ReturnAhead items bytes i room = omega arith
 falls-item (DoAhead event) items bytes i room = omega arith
 
 falls-answer : (a : Answer) (u : Unread PageEvent) → Falls u (taking_answer a u)

@@ -24,7 +24,7 @@ use Rattle.roff_scan.specs.Unread.{seen_ahead}
 use Rattle.roff_scan.specs.declared.half.Read.TheVariants.{GoesOn, Measures}
 use Rattle.roff_scan.specs.declared.half.Surroundings.{Surroundings}
 use Rattle.roff_scan.specs.declared.half.Surroundings.TheVariants.{Text as AboveText, Arguments as AboveArguments, Copy as AboveCopy}
-use Rattle.roff_run.proofs.Interpolation.{Fits-IsWithin, FindsAtLast, AtLast, Behind, FromAhead, FromSource, IsRead, IsRead-itself, Means, Origin, ReadsEscapes, AtBeginning, AtBranch, AtBraced, OnText, OnArguments, OnCondition, OnStringName, OnStringText, OnMessage, ReadsEscapes-reads_escapes, after-escape, ahead_at, going, input_of, interrupted-arguments, is-going, is_no_newline, line_behind, not-first, not-second, read_in, settled_for, settled_for-settled_for, settled_input, source_behind, step-byte, tape_at, taken_as-going_on, taking-reads, made-Fits, none_due-reads, step-TakesItems}
+use Rattle.roff_run.proofs.Interpolation.{Fits-IsWithin, FindsAtLast, AtLast, Behind, FromAhead, FromSource, IsRead, IsRead-itself, Means, Origin, ReadsEscapes, AtBeginning, AtBranch, AtBraced, OnText, OnArguments, OnCondition, OnStringName, OnCall, OnStringText, OnDefinition, OnMessage, ReadsEscapes-reads_escapes, after-escape, ahead_at, going, input_of, interrupted-arguments, is-going, is_no_newline, line_behind, not-first, not-second, read_in, settled_for, settled_for-settled_for, settled_input, source_behind, step-byte, tape_at, taken_as-going_on, taking-reads, made-Fits, none_due-reads, step-TakesItems}
 use Rattle.roff_run.specs.InterpolationLaws.{TakesItems, StandsForItself, reads_escapes}
 use Rattle.roff_run.specs.Laws.{IsWithin}
 use Rattle.roff_run.specs.Output.{text_of}
@@ -34,7 +34,7 @@ use Rattle.roff_run.specs.Requests.{PageEvent}
 use Rattle.roff_run.specs.Run.{State, after, first_passed, known, step, taken_as, answered, awaited, awaited_of_source, ending_input, half_ends, in_front_taken, made, item_read}
 use Rattle.roff_run.specs.WidthLaws.{MayDelimit, IsPlain, text_units, width_escape, measures_texts, with_width_ahead, WidthsReadAsDigits, WidthsOfTheSourceReadAsDigits, MeasuredTextsReadAsDigits, MeasuredTextsOfTheSourceReadAsDigits, MotionsAreAsLongAsTheirColumns, MotionsCountInTheLine, EndsText, NewlineAhead, NewlineOfTheSource, EndOfTheSource, WidthsEndWithTheirLine}
 use Rattle.roff_run.specs.declared.reading.Reading.{Reading}
-use Rattle.roff_run.specs.declared.reading.Reading.TheVariants.{LineStart, Branch, Braced, Text as InText, Control, Name as NameOf, Arguments as InArguments, Deciding, StringName, StringText, Skipping, Dropped, Telling, Told, Exiting}
+use Rattle.roff_run.specs.declared.reading.Reading.TheVariants.{LineStart, Branch, Braced, Text as InText, Control, Name as NameOf, Arguments as InArguments, Deciding, StringName, StringText, Skipping, Dropped, Telling, Told, Exiting, Calling, Defining}
 
 -- a width was measured where escapes are read
 read_in-measures : (k : Known) (reading : Reading) (base : Surroundings) (i : PageInput) (half : List Half) (width : ℕ) → ReadsEscapes reading base
@@ -46,7 +46,9 @@ read_in-measures k _ _ i half width (OnText line) = refl
 read_in-measures k _ _ i half width (OnArguments breaks request) = refl
 read_in-measures k _ _ i half width (OnCondition keeps) = refl
 read_in-measures k _ _ i half width (OnStringName appends) = refl
+read_in-measures k _ _ i half width (OnCall string) = refl
 read_in-measures k _ _ i half width (OnStringText string appends is_front) = refl
+read_in-measures k _ _ i half width (OnDefinition string appends end matched) = refl
 read_in-measures k _ _ i half width (OnMessage aborts is_front) = refl
 
 -- a byte that ends a text that is measured
@@ -152,7 +154,9 @@ half_ended-reads k _ _ i (OnText line) = refl
 half_ended-reads k _ _ i (OnArguments breaks request) = refl
 half_ended-reads k _ _ i (OnCondition keeps) = refl
 half_ended-reads k _ _ i (OnStringName appends) = refl
+half_ended-reads k _ _ i (OnCall string) = refl
 half_ended-reads k _ _ i (OnStringText string appends is_front) = refl
+half_ended-reads k _ _ i (OnDefinition string appends end matched) = refl
 half_ended-reads k _ _ i (OnMessage aborts is_front) = refl
 
 -- the end of a text that is measured
@@ -245,7 +249,9 @@ reads_escapes-measures_texts (NameOf breaks first) is = absurd (cc)
 reads_escapes-measures_texts (InArguments breaks request) is = refl
 reads_escapes-measures_texts (Deciding keeps) is = refl
 reads_escapes-measures_texts (StringName appends) is = refl
+reads_escapes-measures_texts (Calling name) is = refl
 reads_escapes-measures_texts (StringText name appends is_front) is = absurd (cc)
+reads_escapes-measures_texts (Defining name appends end matched) is = absurd (cc)
 reads_escapes-measures_texts (Skipping opened closed behind) is = absurd (cc)
 reads_escapes-measures_texts Dropped is = absurd (cc)
 reads_escapes-measures_texts (Telling aborts is_front) is = absurd (cc)
@@ -261,7 +267,9 @@ reads_widths-above _ _ (OnText line) reads = refl
 reads_widths-above _ _ (OnArguments breaks request) reads = refl
 reads_widths-above _ _ (OnCondition keeps) reads = refl
 reads_widths-above _ _ (OnStringName appends) reads = refl
+reads_widths-above _ _ (OnCall string) reads = refl
 reads_widths-above _ _ (OnStringText string appends is_front) reads = absurd (cc)
+reads_widths-above _ _ (OnDefinition string appends end matched) reads = absurd (cc)
 reads_widths-above _ _ (OnMessage aborts is_front) reads = absurd (cc)
 
 -- `w`

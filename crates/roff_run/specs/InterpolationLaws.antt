@@ -6,7 +6,7 @@ use Rattle.roff_scan.specs.Bytes.{newline, backslash, is_dropped}
 use Rattle.roff_scan.specs.HalfLaws.{is_special, short_escape, long_escape, string_escape, argument_escape}
 use Rattle.roff_scan.specs.Half.{Half, Backslash, Comment, Name as NameHalf, Size, Delimited, Width, Condition, names_in}
 use Rattle.roff_scan.specs.Halves.{most_names, seen_stays}
-use Rattle.roff_scan.specs.Input.{Ahead, ByteAhead, pushing, item_taken, cost, counting, body_named}
+use Rattle.roff_scan.specs.Input.{Ahead, ByteAhead, pushing, item_taken, cost, counting, arguments_live, body_named}
 use Rattle.roff_scan.specs.declared.escapes.NameUse.{NameUse}
 use Rattle.roff_scan.specs.declared.escapes.NameUse.TheVariants.{Register, Text as OfText, Argument}
 use Rattle.roff_scan.specs.declared.half.ConditionPart.{ConditionPart}
@@ -15,12 +15,12 @@ use Rattle.roff_scan.specs.Tape.{Tape, Gives, OneByte, front, items_then}
 use Rattle.roff_store.specs.declared.register.Direction.{Direction}
 use Rattle.roff_run.specs.Laws.{IsWithin}
 use Rattle.roff_run.specs.Messages.{message_lines}
-use Rattle.roff_run.specs.Reading.{PageInput, due, interrupted}
+use Rattle.roff_run.specs.Reading.{PageInput, argument_named, due, interrupted}
 use Rattle.roff_run.specs.Registers.{Known, StepBy, changed_by, step_messages, text_of_register}
 use Rattle.roff_run.specs.Requests.{PageEvent}
 use Rattle.roff_run.specs.Run.{State, known, made, byte_taken, moved, answered, item_read, step, after}
 use Rattle.roff_run.specs.declared.reading.Reading.{Reading}
-use Rattle.roff_run.specs.declared.reading.Reading.TheVariants.{LineStart, Branch, Braced, Text as InText, Control, Name, Arguments as InArguments, Deciding, StringName, StringText, Skipping, Dropped, Telling, Told, Exiting}
+use Rattle.roff_run.specs.declared.reading.Reading.TheVariants.{LineStart, Branch, Braced, Text as InText, Control, Name, Arguments as InArguments, Deciding, StringName, StringText, Skipping, Dropped, Telling, Told, Exiting, Calling, Defining}
 
 -- a run takes items: it hasn't ended and isn't about to, and there is nothing to do first, and nothing due
 pub record TakesItems (s : State) : Type 0 where
@@ -77,15 +77,17 @@ reads_text (Name breaks first) = false
 reads_text (InArguments breaks request) = false
 reads_text (Deciding keeps) = false
 reads_text (StringName appends) = false
+reads_text (Calling name) = false
 reads_text (StringText name appends is_front) = false
+reads_text (Defining name appends end matched) = false
 reads_text (Skipping opened closed behind) = false
 reads_text Dropped = false
 reads_text (Telling aborts is_front) = false
 reads_text (Told aborts) = false
 reads_text Exiting = false
 
--- whether escapes are read: those of text, those among a request's arguments, those of conditions, those of a string's
--- name and text, and those of a message's text
+-- whether escapes are read: those of text, those among the arguments of a request or a call, those of conditions, those of a
+-- string's name and text, and those of the text of a message or a definition
 abbrev pub reads_escapes : Reading → Bool
 reads_escapes LineStart = true
 reads_escapes Branch = true
@@ -96,7 +98,9 @@ reads_escapes (Name breaks first) = false
 reads_escapes (InArguments breaks request) = true
 reads_escapes (Deciding keeps) = true
 reads_escapes (StringName appends) = true
+reads_escapes (Calling name) = true
 reads_escapes (StringText name appends is_front) = true
+reads_escapes (Defining name appends end matched) = true
 reads_escapes (Skipping opened closed behind) = false
 reads_escapes Dropped = false
 reads_escapes (Telling aborts is_front) = true
@@ -129,11 +133,12 @@ stepped (Register (Some direction)) name s = record s {
 }
 stepped (_) name s = s
 
--- the text that is read in the place of an escape: a register's, or the body of a string's name. Arguments are empty, as
--- there are none yet.
+-- the text that is read in the place of an escape: a register's, the body of a string's name, or the argument of that number
+-- of the innermost body that a line called
 abbrev pub text_named : Known → PageInput → NameUse → List ℕ → List ℕ
 text_named k i (Register step) name = text_of_register k name
 text_named k i OfText name = body_named name i
+text_named k i Argument name = argument_named name (arguments_live i)
 text_named k i (_) name = []
 
 -- such a text and its end stand in front of the rest, and so many bytes more were taken. What isn't a byte of the

@@ -7,6 +7,8 @@ pub mod RegisterLaws
 pub mod Requests
 pub mod RequestLaws
 pub mod Request
+pub mod ShortNames
+pub mod Definitions
 pub mod Reading
 pub mod TextLine
 pub mod Output

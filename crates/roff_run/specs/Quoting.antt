@@ -4,9 +4,11 @@ use Rattle.roff_scan.specs.Arguments.{no_arguments, kept}
 use Rattle.roff_scan.specs.Bytes.{newline}
 use Rattle.roff_scan.specs.Quoting.{quoted_line}
 use Rattle.roff_run.specs.InterpolationLaws.{StandsForItself}
-use Rattle.roff_run.specs.Reading.{PageInput, Taking, ended_by, going_on, taking}
+use Rattle.roff_run.specs.Reading.{PageInput, Taking, ended_by, going_on, lines_begun, taking}
 use Rattle.roff_run.specs.Registers.{Known}
-use Rattle.roff_run.specs.Requests.{Effect, request_effect}
+use Rattle.roff_run.specs.Requests.{Effect, request_effect, row_of}
+use Rattle.roff_run.specs.declared.request.LineReading.{LineReading}
+use Rattle.roff_run.specs.declared.request.LineReading.TheVariants.{ByLines}
 use Rattle.roff_run.specs.declared.reading.Reading.{Reading}
 use Rattle.roff_run.specs.declared.reading.Reading.TheVariants.{Arguments as InArguments}
 use Rattle.roff_run.specs.declared.request.Request.{Request}
@@ -31,6 +33,12 @@ taking_all k reading i (b ∷ bytes) =
       effect = both t.effect others.effect;
     }
 
+-- what the end of a request's line does that gave it these arguments, by how the line is read: it is obeyed, or lines are
+-- defined or ignored from there on
+abbrev pub given_taking : Known → Bool → Request → PageInput → LineReading → List (List ℕ) → Taking
+given_taking k breaks request i (ByLines lines) as_given = lines_begun i lines as_given
+given_taking k breaks request i (_) as_given = ended_by i request (request_effect k breaks request as_given)
+
 -- Behind a request's name the line of some arguments in quotes does what the request does with those of them that are
 -- kept, and none is held behind it.
 abbrev pub RequestsGetQuotedArguments : Type 0
@@ -38,4 +46,4 @@ RequestsGetQuotedArguments =
     (k : Known) (breaks : Bool) (request : Request) (i : PageInput) (arguments : List (List ℕ)) →
     i.half ≡ [] → i.arguments ≡ no_arguments → All (All StandsForItself) arguments →
     taking_all k (InArguments breaks request) i (quoted_line arguments ++ newline ∷ [])
-    ≡ ended_by i request (request_effect k breaks request (kept arguments))
+    ≡ given_taking k breaks request i (row_of request).line (kept arguments)

@@ -1,19 +1,19 @@
 -- What is being read, and what each byte means there (manual, sections 1.1, 4.1, 8, 10.1 and 16).
-use Rattle.std.specs.Prelude.{◌≡◌, ℕ, ◌+◌, Bool, true, false, ◌||◌, ◌&&◌, not, nat_le, List, [], ◌∷◌, ◌++◌, decimal, map, reverse, min, slice_get, option_map, option_to_list, Some, None, Option, if◌then◌else◌, ◌==◌}
+use Rattle.std.specs.Prelude.{◌≡◌, ℕ, get_or, ◌+◌, ◌-◌, Bool, true, false, ◌||◌, ◌&&◌, not, nat_le, List, [], ◌∷◌, ◌++◌, decimal, map, reverse, length, min, Some, None, Option, if◌then◌else◌, ◌==◌}
 use Rattle.roff_lines.specs.declared.event.Event.TheVariants.{Print, WordEnd, Gap, LineEnd, Break}
 use Rattle.roff_lines.specs.declared.glyph.Glyph.{Glyph}
 use Rattle.roff_lines.specs.declared.glyph.Glyph.TheVariants.{Printed, Blanks}
-use Rattle.roff_scan.specs.Arguments.{no_arguments, with_unit, settled, finished, only_kept}
+use Rattle.roff_scan.specs.Arguments.{no_arguments, with_unit, settled, only_kept}
 use Rattle.roff_scan.specs.Bytes.{tab, newline, blank, apostrophe, quote, dot, backslash, is_silent, is_dropped}
 use Rattle.roff_scan.specs.Characters.{character}
 use Rattle.roff_scan.specs.Escapes.{escape_of}
 use Rattle.roff_scan.specs.Half.{unit_bytes}
 use Rattle.roff_scan.specs.Halves.{Reads, byte_read, reading_ended}
-use Rattle.roff_scan.specs.Input.{Input, pushing, holding_plain, holding_text, choosing, keeping, kept_last, without_last, texts_of, calling, body_named, adding, entering}
+use Rattle.roff_scan.specs.Input.{Input, pushing, holding_plain, holding_text, choosing, keeping, kept_last, without_last, texts_of, calling, body_named, adding, entering, calling_body, arguments_live, arguments_given, beginning_line, dropping}
 use Rattle.roff_scan.specs.declared.escapes.Escape.{Escape as Kind}
 use Rattle.roff_scan.specs.declared.escapes.Escape.TheVariants.{Prints, Blank, NoWidth, Brace, LeftOut as IsLeftOut, Text as BeginsText}
 use Rattle.roff_scan.specs.declared.escapes.NameUse.{NameUse}
-use Rattle.roff_scan.specs.declared.escapes.NameUse.TheVariants.{Register, Text as OfText, Character, Font, LeftOut as NameLeftOut}
+use Rattle.roff_scan.specs.declared.escapes.NameUse.TheVariants.{Register, Text as OfText, Argument as OfArgument, Character, Font, LeftOut as NameLeftOut}
 use Rattle.roff_scan.specs.declared.escapes.TextUse.TheVariants.{LeftOut as LeftOutText}
 use Rattle.roff_scan.specs.declared.half.CopyUnit.{CopyUnit}
 use Rattle.roff_scan.specs.declared.half.CopyUnit.TheVariants.{Byte, Kept}
@@ -26,20 +26,28 @@ use Rattle.roff_scan.specs.declared.half.Surroundings.TheVariants.{Text as Above
 use Rattle.roff_store.specs.declared.register.Direction.{Direction}
 use Rattle.roff_store.specs.TextCalls.{Call, Open, Set}
 use Rattle.roff_store.specs.Texts.{Body, has_body}
+pub use Rattle.roff_run.specs.ShortNames.{name_at, name_bytes, name_or_none, short_name}
+use Rattle.roff_run.specs.Definitions.{end_mark, front_of, line_from, matched_behind}
+use Rattle.roff_run.specs.declared.definition.DefinitionLine.{DefinitionLine}
+use Rattle.roff_run.specs.declared.definition.DefinitionLine.TheVariants.{MayBeLast, IsLast, IsText}
 use Rattle.roff_run.specs.Messages.{character_name, remark_message, remark_messages}
 use Rattle.roff_run.specs.declared.message.Message.{Message}
-use Rattle.roff_run.specs.declared.message.Message.TheVariants.{LeftOut, UnknownCharacter}
+use Rattle.roff_run.specs.declared.message.Message.TheVariants.{LeftOut, UnknownCharacter, DefinitionNotEnded}
 use Rattle.roff_run.specs.declared.reading.Due.{Due}
 use Rattle.roff_run.specs.declared.reading.Due.TheVariants.{Leaves, Tells as TellsText}
 use Rattle.roff_run.specs.declared.reading.Reading.{Reading}
-use Rattle.roff_run.specs.declared.reading.Reading.TheVariants.{LineStart, Branch, Braced, Text as InText, Control, Name, Arguments as InArguments, Deciding, StringName, StringText, Skipping, Dropped, Telling, Told, Exiting}
+use Rattle.roff_run.specs.declared.reading.Reading.TheVariants.{LineStart, Branch, Braced, Text as InText, Control, Name, Arguments as InArguments, Deciding, StringName, StringText, Skipping, Dropped, Telling, Told, Exiting, Calling, Defining}
 use Rattle.roff_run.specs.declared.reading.ShortName.{ShortName}
 use Rattle.roff_run.specs.declared.reading.TextLine.{TextLine}
 use Rattle.roff_run.specs.declared.request.Request.{Request}
 use Rattle.roff_run.specs.declared.request.LineReading.{LineReading}
-use Rattle.roff_run.specs.declared.request.LineReading.TheVariants.{ByArguments, ByCondition, ByElse, ByLastLine, ByMessage, ByString}
+use Rattle.roff_run.specs.declared.request.LineReading.TheVariants.{ByArguments, ByCondition, ByElse, ByLastLine, ByMessage, ByString, ByLines}
+use Rattle.roff_run.specs.declared.request.LinesFor.{LinesFor}
+use Rattle.roff_run.specs.declared.request.LinesFor.TheVariants.{Macro, Nobody}
+use Rattle.roff_run.specs.declared.request.Called.{Called}
+use Rattle.roff_run.specs.declared.request.Called.TheVariants.{Request as ARequest, Body as ABody, Nothing as Unknown}
 use Rattle.roff_run.specs.Registers.{Known, is_page_odd, known_behind, step_changes, step_messages, text_of_register}
-use Rattle.roff_run.specs.Requests.{PageEvent, Text, Space, Effect, doing, saying, row_of, request_named, request_effect}
+use Rattle.roff_run.specs.Requests.{PageEvent, Text, Space, Effect, doing, saying, called_by, row_of, request_effect}
 
 -- the input, as a run of the formatter has it
 abbrev pub PageInput : Type 0
@@ -189,9 +197,19 @@ interpolating k i reading step name = record {
 abbrev pub putting_string : PageInput → Reading → List ℕ → Taking
 putting_string i reading name = going_on (pushing (body_named name i) i) reading
 
--- an argument is read in the place of its escape; there are none yet, so the text is empty
+-- nothing is read in the place of an escape
 abbrev pub putting_nothing : PageInput → Reading → Taking
 putting_nothing i reading = going_on (pushing [] i) reading
+
+-- the one of these arguments that a name of one digit above 0 stands for; another name stands for an empty one
+abbrev pub argument_named : List ℕ → List (List ℕ) → List ℕ
+argument_named [] arguments = []
+argument_named (digit ∷ []) arguments = if nat_le 49 digit && nat_le digit 57 then get_or arguments (digit - 49) [] else []
+argument_named (first ∷ second ∷ others) arguments = []
+
+-- an argument of the innermost body that a line called is read in the place of its escape
+abbrev pub putting_argument : PageInput → Reading → List ℕ → Taking
+putting_argument i reading name = going_on (pushing (argument_named name (arguments_live i)) i) reading
 
 -- the width of a text is read in its place, in digits
 abbrev pub measuring : PageInput → Reading → ℕ → Taking
@@ -202,6 +220,7 @@ abbrev pub asking : Known → PageInput → Reading → NameUse → Option (List
 asking k i reading purpose None = going_on i reading
 asking k i reading (Register step) (Some name) = interpolating k i reading step name
 asking k i reading OfText (Some name) = putting_string i reading name
+asking k i reading OfArgument (Some name) = putting_argument i reading name
 asking k i reading (_) (Some name) = putting_nothing i reading
 
 -- the name behind an escape of a text line; where something is read in the escape's place this is read on
@@ -269,10 +288,6 @@ beginning_read k i reading r = beginning_found k (record i { half = r.1 }) readi
 abbrev pub text_read : Known → PageInput → TextLine → Reads → Taking
 text_read k i line r = text_found k (record i { half = r.1 }) line r.0
 
--- the arguments of a line that ends here; of an argument without a byte nothing is kept behind the 32nd
-abbrev pub arguments_given : PageInput → List (List ℕ)
-arguments_given i = reverse (only_kept (finished i.arguments)).whole
-
 -- a unit is held
 abbrev pub holding : CopyUnit → PageInput → PageInput
 holding unit i = record i { arguments = only_kept (with_unit i.arguments unit) }
@@ -280,6 +295,31 @@ holding unit i = record i { arguments = only_kept (with_unit i.arguments unit) }
 -- the input where no quote follows the quote before
 abbrev pub settling : PageInput → PageInput
 settling i = record i { arguments = only_kept (settled i.arguments) }
+
+-- the name of a string, if the argument that gives it is whole
+abbrev pub name_read : PageInput → Option (Option ShortName)
+name_read i = name_at 0 (reverse i.arguments.whole)
+
+-- the text of a string is begun, and the argument that gave its name is released; one without a name gets none
+abbrev pub string_begun : Option ShortName → PageInput → PageInput
+string_begun None i = record i { arguments = no_arguments }
+string_begun (Some name) i = calling Open (record i { arguments = no_arguments })
+
+-- a unit is put behind the text, if a name gets it
+abbrev pub string_grown : Option ShortName → CopyUnit → PageInput → PageInput
+string_grown None unit i = i
+string_grown (Some name) unit i = adding (unit_bytes unit) i
+
+-- the text is the string from now on, or is put behind it
+abbrev pub string_entered : Option ShortName → Bool → PageInput → PageInput
+string_entered None appends i = i
+string_entered (Some name) appends i = entering (name_bytes name) appends i
+
+-- a string without a text is empty; one that is appended to stays
+abbrev pub string_emptied : Option ShortName → Bool → PageInput → PageInput
+string_emptied None appends i = i
+string_emptied (Some name) appends i =
+    if appends && has_body (name_bytes name) (texts_of i) then i else calling (Set (name_bytes name) (Body [])) i
 
 -- the input behind calls on names, one after another
 abbrev pub calling_all : List Call → PageInput → PageInput
@@ -300,14 +340,34 @@ ended_by i request effect = record {
   effect = effect;
 }
 
+-- the text of a definition is begun, if a name gets it, and lines are read up to the one that ends it
+abbrev pub definition_begun : PageInput → Option ShortName → Bool → Option ShortName → Taking
+definition_begun i name appends end = going_on (string_begun name i) (Defining name appends end (Some 0))
+
+-- a definition's line has ended: without the name of a macro it is ignored
+abbrev pub definition_named : PageInput → Bool → Option (Option ShortName) → Option ShortName → Taking
+definition_named i appends None end = going_on (record i { arguments = no_arguments }) LineStart
+definition_named i appends (Some None) end = going_on (record i { arguments = no_arguments }) LineStart
+definition_named i appends (Some (Some name)) end = definition_begun i (Some name) appends end
+
+-- the end of the line of a request by which lines are defined, or ignored
+abbrev pub lines_begun : PageInput → LinesFor → List (List ℕ) → Taking
+lines_begun i (Macro appends) as_given = definition_named i appends (name_at 0 as_given) (name_or_none (name_at 1 as_given))
+lines_begun i Nobody as_given = definition_begun i None false (name_or_none (name_at 0 as_given))
+
 -- the end of a request's line: the request is obeyed
 abbrev pub line_ended : Known → PageInput → Bool → Request → Taking
 line_ended k i breaks request = ended_by i request (request_effect k breaks request (arguments_given i))
 
+-- the end of a line that was read as arguments, by how it is read
+abbrev pub arguments_ended : Known → PageInput → Bool → Request → LineReading → Taking
+arguments_ended k i breaks request (ByLines lines) = lines_begun i lines (arguments_given i)
+arguments_ended k i breaks request (_) = line_ended k i breaks request
+
 -- a unit behind a request's name is held; a newline ends the line
 abbrev pub unit_found : Known → PageInput → Bool → Request → CopyUnit → Taking
 unit_found k i breaks request (Byte b) =
-    if b == newline then line_ended k i breaks request
+    if b == newline then arguments_ended k i breaks request (row_of request).line
     else going_on (holding (Byte b) i) (InArguments breaks request)
 unit_found k i breaks request (Kept b) = going_on (holding (Kept b) i) (InArguments breaks request)
 
@@ -329,44 +389,6 @@ arguments_found k i breaks request found = no_unit_found k (settling i) (InArgum
 -- what something reads behind a request's name, with what is half read then
 abbrev pub arguments_read_on : Known → PageInput → Bool → Request → Reads → Taking
 arguments_read_on k i breaks request r = arguments_found k (record i { half = r.1 }) breaks request r.0
-
--- the name of a string, by the argument that gives it: its first two bytes
-abbrev pub short_name : List ℕ → Option ShortName
-short_name [] = None
-short_name (first ∷ []) = Some (record { first = first; second = None })
-short_name (first ∷ second ∷ others) = Some (record { first = first; second = Some second })
-
-abbrev pub name_bytes : ShortName → List ℕ
-name_bytes name = name.first ∷ option_to_list name.second
-
--- the name that the first of these arguments gives, if there is one
-abbrev pub first_name : List (List ℕ) → Option (Option ShortName)
-first_name texts = option_map short_name (slice_get texts 0)
-
--- the name of a string, if the argument that gives it is whole
-abbrev pub name_read : PageInput → Option (Option ShortName)
-name_read i = first_name (reverse i.arguments.whole)
-
--- the text of a string is begun, and the argument that gave its name is released; one without a name gets none
-abbrev pub string_begun : Option ShortName → PageInput → PageInput
-string_begun None i = record i { arguments = no_arguments }
-string_begun (Some name) i = calling Open (record i { arguments = no_arguments })
-
--- a unit is put behind the text, if there is one
-abbrev pub string_grown : Option ShortName → CopyUnit → PageInput → PageInput
-string_grown None unit i = i
-string_grown (Some name) unit i = adding (unit_bytes unit) i
-
--- the text is the string from now on, or is put behind it
-abbrev pub string_entered : Option ShortName → Bool → PageInput → PageInput
-string_entered None appends i = i
-string_entered (Some name) appends i = entering (name_bytes name) appends i
-
--- a string without a text is empty; one that is appended to stays
-abbrev pub string_emptied : Option ShortName → Bool → PageInput → PageInput
-string_emptied None appends i = i
-string_emptied (Some name) appends i =
-    if appends && has_body (name_bytes name) (texts_of i) then i else calling (Set (name_bytes name) (Body [])) i
 
 -- a unit of a string's text: in front of it blanks are dropped, and then one quote; a newline ends it
 abbrev pub string_unit : PageInput → Option ShortName → Bool → Bool → CopyUnit → Taking
@@ -395,7 +417,7 @@ string_name_or_text i appends unit (Some name) = string_unit (string_begun name 
 -- a unit of a string's name, which is read as an argument is; one in quotes ends before all but a quote
 abbrev pub string_name_unit : PageInput → Bool → CopyUnit → Taking
 string_name_unit i appends (Byte b) =
-    if b == newline then string_line_ended i appends (first_name (arguments_given i))
+    if b == newline then string_line_ended i appends (name_at 0 (arguments_given i))
     else if b == quote then string_name_or_text i appends (Byte b) (name_read i)
     else string_name_or_text (settling i) appends (Byte b) (name_read (settling i))
 string_name_unit i appends (Kept b) = string_name_or_text (settling i) appends (Kept b) (name_read (settling i))
@@ -437,6 +459,42 @@ message_found k i aborts is_front found = no_unit_found k i (Telling aborts is_f
 -- what something reads of it, with what is half read then
 abbrev pub message_read : Known → PageInput → Bool → Bool → Reads → Taking
 message_read k i aborts is_front r = message_found k (record i { half = r.1 }) aborts is_front r.0
+
+-- the text of a definition grows by bytes, if a name gets it
+abbrev pub definition_grown : Option ShortName → List ℕ → PageInput → PageInput
+definition_grown None bytes i = i
+definition_grown (Some name) bytes i = adding bytes i
+
+-- a definition that ends with the input is dropped
+abbrev pub definition_dropped : Option ShortName → PageInput → PageInput
+definition_dropped None i = i
+definition_dropped (Some name) i = dropping i
+
+-- what is said of that
+abbrev pub definition_cut : PageInput → Option ShortName → Taking
+definition_cut i name = record { input = definition_dropped name i; reading = LineStart; effect = saying (DefinitionNotEnded ∷ []) [] }
+
+-- the arguments of a call are held up to the ninth
+abbrev pub holding_call : CopyUnit → PageInput → PageInput
+holding_call unit i = if nat_le 9 (length i.arguments.whole) then i else holding unit i
+
+-- a unit behind the name of a body that a line calls: a newline ends the line, and the body is read
+abbrev pub call_unit : PageInput → ShortName → CopyUnit → Taking
+call_unit i name (Byte b) =
+    if b == newline then going_on (calling_body (body_named (name_bytes name) i) i) LineStart
+    else if b == quote then going_on (holding_call (Byte b) i) (Calling name)
+    else going_on (holding_call (Byte b) (settling i)) (Calling name)
+call_unit i name (Kept b) = going_on (holding_call (Kept b) (settling i)) (Calling name)
+
+-- what was found there
+abbrev pub call_found : Known → PageInput → ShortName → Read → Taking
+call_found k i name (Unit unit) = call_unit i name unit
+call_found k i name (Escape b) = call_unit i name (Kept b)
+call_found k i name found = no_unit_found k (settling i) (Calling name) found
+
+-- what something reads there, with what is half read then
+abbrev pub call_read : Known → PageInput → ShortName → Reads → Taking
+call_read k i name r = call_found k (record i { half = r.1 }) name r.0
 
 -- a byte of a branch that is skipped, in which so many braces were opened and closed: one behind a backslash belongs to
 -- that, and a newline ends the branch unless more were opened
@@ -506,14 +564,18 @@ line_taking k i breaks request (ByCondition keeps) b = condition_begun k i keeps
 line_taking k i breaks request (ByString appends) b = string_name_read k i appends (byte_read AboveArguments i.half b)
 line_taking k i breaks request ByLastLine b = arguments_read_on k i breaks request (byte_read AboveArguments i.half b)
 line_taking k i breaks request (ByMessage aborts) b = message_read k i aborts true (byte_read AboveCopy i.half b)
+line_taking k i breaks request (ByLines lines) b = arguments_read_on k i breaks request (byte_read AboveArguments i.half b)
 line_taking k i breaks request ByElse b = branch_taking k (without_last i) (reads_else (kept_last i)) b
 
--- a byte behind a name that it doesn't belong to: the line of an unknown name is dropped
-abbrev pub name_ended_taking : Known → PageInput → Bool → List ℕ → ℕ → Taking
-name_ended_taking k i breaks name b = elim (request_named name i.names) [
-  | None ↦ dropped_taking i b
-  | Some request ↦ line_taking k i breaks request (row_of request).line b
-]
+-- a byte behind a name that stands for this: a request is read on, a body is called, and any other line is dropped
+abbrev pub called_taking : Known → PageInput → Bool → Called → ℕ → Taking
+called_taking k i breaks (ARequest request) b = line_taking k i breaks request (row_of request).line b
+called_taking k i breaks (ABody name) b = call_read k i name (byte_read AboveArguments i.half b)
+called_taking k i breaks Unknown b = dropped_taking i b
+
+-- a byte behind a name that it doesn't belong to
+abbrev pub name_ended_taking : Known → PageInput → Bool → ShortName → ℕ → Taking
+name_ended_taking k i breaks name b = called_taking k i breaks (called_by name i.names) b
 
 -- what is read behind a request's name, by how its line is read: a condition, or the other branch of the last one whose
 -- result was kept
@@ -523,14 +585,46 @@ behind_name i breaks request (ByCondition keeps) = going_on (choosing i) (Decidi
 behind_name i breaks request (ByString appends) = going_on i (StringName appends)
 behind_name i breaks request ByLastLine = going_on i (InArguments breaks request)
 behind_name i breaks request (ByMessage aborts) = going_on i (Telling aborts true)
+behind_name i breaks request (ByLines lines) = going_on i (InArguments breaks request)
 behind_name i breaks request ByElse = going_on (without_last i) (branch_of (reads_else (kept_last i)))
 
+-- what is read behind a name that stands for this
+abbrev pub behind_called : PageInput → Bool → Called → Taking
+behind_called i breaks (ARequest request) = behind_name i breaks request (row_of request).line
+behind_called i breaks (ABody name) = going_on i (Calling name)
+behind_called i breaks Unknown = going_on i Dropped
+
 -- the last byte of a name of two bytes
-abbrev pub name_whole_taking : PageInput → Bool → List ℕ → Taking
-name_whole_taking i breaks name = elim (request_named name i.names) [
-  | None ↦ going_on i Dropped
-  | Some request ↦ behind_name i breaks request (row_of request).line
-]
+abbrev pub name_whole_taking : PageInput → Bool → ShortName → Taking
+name_whole_taking i breaks name = behind_called i breaks (called_by name i.names)
+
+-- the line that ends a definition: the name behind its dot is called with the rest of the line, of which this is the first
+-- byte; behind two dots the rest is dropped
+abbrev pub behind_definition : Known → PageInput → Option ShortName → ℕ → Taking
+behind_definition k i None b = dropped_taking i b
+behind_definition k i (Some name) b = name_ended_taking k (beginning_line i) true name b
+
+-- a unit of a definition's text, where its line is this
+abbrev pub definition_unit : Known → PageInput → Option ShortName → Bool → Option ShortName → List ℕ → CopyUnit → DefinitionLine → Taking
+definition_unit k i name appends end front unit (MayBeLast matched) = going_on i (Defining name appends end (Some matched))
+definition_unit k i name appends end front unit (IsLast b) = behind_definition k (string_entered name appends i) end b
+definition_unit k i name appends end front unit IsText =
+    going_on (definition_grown name (front ++ unit_bytes unit) i) (Defining name appends end (matched_behind unit))
+
+-- a unit of a definition's text: what stands in front of a line that may be the last one is no text yet
+abbrev pub definition_line : Known → PageInput → Option ShortName → Bool → Option ShortName → Option ℕ → CopyUnit → Taking
+definition_line k i name appends end matched unit =
+    definition_unit k i name appends end (front_of (end_mark end) matched) unit (line_from (end_mark end) matched unit)
+
+-- what was found of a definition's text
+abbrev pub definition_found : Known → PageInput → Option ShortName → Bool → Option ShortName → Option ℕ → Read → Taking
+definition_found k i name appends end matched (Unit unit) = definition_line k i name appends end matched unit
+definition_found k i name appends end matched (Escape b) = definition_line k i name appends end matched (Kept b)
+definition_found k i name appends end matched found = no_unit_found k i (Defining name appends end matched) found
+
+-- what something reads of it, with what is half read then
+abbrev pub definition_read : Known → PageInput → Option ShortName → Bool → Option ShortName → Option ℕ → Reads → Taking
+definition_read k i name appends end matched r = definition_found k (record i { half = r.1 }) name appends end matched r.0
 
 -- a byte that isn't dropped
 abbrev pub kept_taking : Known → Reading → PageInput → ℕ → Taking
@@ -543,12 +637,14 @@ kept_taking k (Control breaks) i b =
     else if ends_name b then dropped_taking i b
     else going_on i (Name breaks b)
 kept_taking k (Name breaks first) i b =
-    if ends_name b then name_ended_taking k i breaks (first ∷ []) b
-    else name_whole_taking i breaks (first ∷ b ∷ [])
+    if ends_name b then name_ended_taking k i breaks (record { first = first; second = None }) b
+    else name_whole_taking i breaks (record { first = first; second = Some b })
 kept_taking k (InArguments breaks request) i b = arguments_read_on k i breaks request (byte_read AboveArguments i.half b)
 kept_taking k (Deciding keeps) i b = condition_read k i keeps (byte_read AboveArguments i.half b)
 kept_taking k (StringName appends) i b = string_name_read k i appends (byte_read AboveArguments i.half b)
 kept_taking k (StringText name appends is_front) i b = string_text_read k i name appends is_front (byte_read AboveCopy i.half b)
+kept_taking k (Calling name) i b = call_read k i name (byte_read AboveArguments i.half b)
+kept_taking k (Defining name appends end matched) i b = definition_read k i name appends end matched (byte_read AboveCopy i.half b)
 kept_taking k (Skipping opened closed behind) i b = skipping_taking i opened closed behind b
 kept_taking k Dropped i b = dropped_taking i b
 kept_taking k (Telling aborts is_front) i b = message_read k i aborts is_front (byte_read AboveCopy i.half b)
@@ -559,6 +655,7 @@ kept_taking k Exiting i b = going_on i Exiting
 abbrev pub interrupted : Reading → PageInput → PageInput
 interrupted (InArguments breaks request) i = settling i
 interrupted (StringName appends) i = settling i
+interrupted (Calling name) i = settling i
 interrupted (_) i = i
 
 -- what a byte does where this is being read
@@ -580,6 +677,8 @@ half_ended k (Deciding keeps) i = condition_read k i keeps (reading_ended AboveA
 half_ended k (StringName appends) i = string_name_read k i appends (reading_ended AboveArguments i.half)
 half_ended k (StringText name appends is_front) i = string_text_read k i name appends is_front (reading_ended AboveCopy i.half)
 half_ended k (Telling aborts is_front) i = message_read k i aborts is_front (reading_ended AboveCopy i.half)
+half_ended k (Calling name) i = call_read k i name (reading_ended AboveArguments i.half)
+half_ended k (Defining name appends end matched) i = definition_read k i name appends end matched (reading_ended AboveCopy i.half)
 half_ended k reading i = going_on (record i { half = (reading_ended AboveText i.half).1 }) reading
 
 -- What is due before anything more is taken, by what is read: a message whose line has ended is told, and may abort the
@@ -602,7 +701,15 @@ message_ended i aborts = going_on i (Told aborts)
 abbrev pub message_text_read : PageInput → List ℕ
 message_text_read i = reverse i.arguments.begun
 
--- the end of the input: an unfinished line ends as by a newline
+-- what is read behind the end of a body that a line called: a line begins, unless a control line is being read
+abbrev pub behind_return : Reading → Reading
+behind_return Branch = LineStart
+behind_return Braced = LineStart
+behind_return (InText line) = LineStart
+behind_return reading = reading
+
+-- the end of the input: an unfinished line ends as by a newline, and a definition is dropped
 abbrev pub end_taking : Known → Reading → PageInput → Taking
 end_taking k LineStart i = going_on i LineStart
+end_taking k (Defining name appends end matched) i = definition_cut i name
 end_taking k reading i = kept_taking k reading i newline

@@ -13,7 +13,7 @@ use Rattle.roff_store.specs.declared.register.Register.{Register}
 use Rattle.roff_run.specs.declared.message.Message.{Message}
 use Rattle.roff_run.specs.declared.message.Message.TheVariants.{BadNumber}
 use Rattle.roff_run.specs.declared.registers.Query.{Query}
-use Rattle.roff_run.specs.declared.registers.Query.TheVariants.{Newlines, Indent, LineLength, LastWidth, Filling, LineSpacing, ColumnWidth, Later}
+use Rattle.roff_run.specs.declared.registers.Query.TheVariants.{Newlines, Indent, LineLength, LastWidth, Filling, LineSpacing, ColumnWidth, Arguments, Later}
 pub mod Capped
 pub mod Kept
 pub mod Coded
@@ -35,13 +35,15 @@ pub record Known : Type 0 where
   pub newlines : ℕ
   -- the width of the last finished line, in columns
   pub last_width : ℕ
+  -- how many arguments the innermost body has that a line called
+  pub arguments : ℕ
 
 -- the read-only registers, each with what it asks for; those whose part isn't built yet are 0
 abbrev pub read_only : List (List ℕ × Query)
 read_only =
     (codes ".c", Newlines) ∷ (codes ".i", Indent) ∷ (codes ".l", LineLength) ∷ (codes ".n", LastWidth)
     ∷ (codes ".u", Filling) ∷ (codes ".v", LineSpacing) ∷ (codes ".V", LineSpacing) ∷ (codes ".H", ColumnWidth)
-    ∷ (codes ".$", Later) ∷ (codes ".d", Later) ∷ (codes ".o", Later) ∷ (codes ".p", Later) ∷ (codes ".t", Later)
+    ∷ (codes ".$", Arguments) ∷ (codes ".d", Later) ∷ (codes ".o", Later) ∷ (codes ".p", Later) ∷ (codes ".t", Later)
     ∷ (codes ".z", Later) ∷ (codes "nl", Later) ∷ (codes "dn", Later) ∷ (codes "dl", Later)
     ∷ []
 
@@ -66,6 +68,7 @@ answer k LastWidth = in_units k.last_width
 answer k Filling = if k.settings.filling then 1 else 0
 answer k LineSpacing = 40
 answer k ColumnWidth = 24
+answer k Arguments = k.arguments
 answer k Later = 0
 
 -- a count above the greatest number reads as that

@@ -7,9 +7,14 @@ pub use Rattle.roff_run.specs.declared.event.PageEvent.{PageEvent}
 pub use Rattle.roff_run.specs.declared.event.PageEvent.TheVariants.{Text, Space}
 pub use Rattle.roff_run.specs.Registers.{Known}
 use Rattle.roff_run.specs.declared.request.LineReading.{LineReading}
-use Rattle.roff_run.specs.declared.request.LineReading.TheVariants.{ByArguments, ByCondition, ByElse, ByLastLine, ByMessage, ByString}
+use Rattle.roff_run.specs.declared.request.LineReading.TheVariants.{ByArguments, ByCondition, ByElse, ByLastLine, ByMessage, ByString, ByLines}
 use Rattle.roff_run.specs.declared.request.Request.{Request}
-use Rattle.roff_run.specs.declared.request.Request.TheVariants.{Abort, Adjust, AppendString, AssignFormat, Break, DefineString, Else, Exit, Fill, If, IfElse, Indent, LineLength, NoAdjust, NoFill, NumberRegister, RemoveNames, RemoveRegisters, Rename, Space as SpaceDown, TellMessage, WithoutEffect, LeftOut}
+use Rattle.roff_run.specs.declared.request.Request.TheVariants.{Abort, Adjust, AppendString, AssignFormat, Break, DefineString, Else, Exit, Fill, If, IfElse, Indent, LineLength, NoAdjust, NoFill, NumberRegister, RemoveNames, RemoveRegisters, Rename, Space as SpaceDown, TellMessage, WithoutEffect, LeftOut, AppendMacro, DefineMacro, Ignore}
+use Rattle.roff_run.specs.declared.request.Called.{Called}
+use Rattle.roff_run.specs.declared.request.Called.TheVariants.{Request as ARequest, Body as ABody, Nothing as Unknown}
+use Rattle.roff_run.specs.declared.request.LinesFor.TheVariants.{Macro, Nobody}
+use Rattle.roff_run.specs.declared.reading.ShortName.{ShortName}
+use Rattle.roff_run.specs.ShortNames.{name_bytes}
 pub use Rattle.roff_run.specs.Requests.Effects.{Effect, doing, saying, Done, Ignored, Does, nothing, setting, left_out, meant_by}
 use Rattle.roff_run.specs.Requests.Adjustment.{adjust}
 use Rattle.roff_run.specs.Requests.Spacing.{space_down}
@@ -43,14 +48,17 @@ abbrev pub row_of : Request → Row
 row_of Abort = row (codes "ab") (ByMessage true) false (always nothing)  -- section 20
 row_of Adjust = row (codes "ad") ByArguments false (λ known. adjust)  -- section 4
 row_of AssignFormat = row (codes "af") ByArguments false (λ known. assign_format)  -- section 8
+row_of AppendMacro = row (codes "am") (ByLines (Macro true)) false (always nothing)  -- section 7
 row_of AppendString = row (codes "as") (ByString true) false (always nothing)  -- section 7
 row_of Break = row (codes "br") ByArguments true (always nothing)  -- section 4
+row_of DefineMacro = row (codes "de") (ByLines (Macro false)) false (always nothing)  -- section 7
 row_of DefineString = row (codes "ds") (ByString false) false (always nothing)  -- section 7
 row_of Else = row (codes "el") ByElse false (always nothing)  -- section 16
 row_of Exit = row (codes "ex") ByLastLine false (always nothing)  -- section 18
 row_of Fill = row (codes "fi") ByArguments true (always (setting (Filling true)))  -- section 4
 row_of IfElse = row (codes "ie") (ByCondition true) false (always nothing)  -- section 16
 row_of If = row (codes "if") (ByCondition false) false (always nothing)  -- section 16
+row_of Ignore = row (codes "ig") (ByLines Nobody) false (always nothing)  -- section 20
 row_of Indent = row (codes "in") ByArguments true indent  -- section 6
 row_of LineLength = row (codes "ll") ByArguments false line_length  -- section 6
 row_of NoAdjust = row (codes "na") ByArguments false (always (setting (Adjusting false)))  -- section 4
@@ -88,8 +96,9 @@ names_left_out =
 -- the requests that are built, in the order of their names
 abbrev pub built : List Request
 built =
-    Abort ∷ Adjust ∷ AssignFormat ∷ AppendString ∷ Break ∷ DefineString ∷ Else ∷ Exit ∷ Fill ∷ IfElse ∷ If ∷ Indent
-    ∷ LineLength ∷ NoAdjust ∷ NoFill ∷ NumberRegister ∷ RemoveNames ∷ Rename ∷ RemoveRegisters ∷ SpaceDown ∷ TellMessage ∷ []
+    Abort ∷ Adjust ∷ AssignFormat ∷ AppendMacro ∷ AppendString ∷ Break ∷ DefineMacro ∷ DefineString ∷ Else ∷ Exit ∷ Fill ∷ IfElse
+    ∷ If ∷ Ignore ∷ Indent ∷ LineLength ∷ NoAdjust ∷ NoFill ∷ NumberRegister ∷ RemoveNames ∷ Rename ∷ RemoveRegisters ∷ SpaceDown
+    ∷ TellMessage ∷ []
 
 -- those that do nothing, or nothing but say that they are left out
 abbrev pub others : List Request
@@ -116,6 +125,16 @@ request_of (Some (Body bytes)) = None
 -- the request that a name stands for, if it stands for one
 abbrev pub request_named : List ℕ → Named Entry → Option Request
 request_named name names = request_of (entry_of name names)
+
+-- what a line does whose name has this entry
+abbrev pub called_as : ShortName → Option Entry → Called
+called_as name None = Unknown
+called_as name (Some (RequestEntry number)) = elim (slice_get requests number) [ None ↦ Unknown | Some request ↦ ARequest request ]
+called_as name (Some (Body bytes)) = ABody name
+
+-- what a line does that begins with a name
+abbrev pub called_by : ShortName → Named Entry → Called
+called_by name names = called_as name (entry_of (name_bytes name) names)
 
 -- what a request means: it breaks if its row says so and a dot called it
 abbrev pub request_effect : Known → Bool → Request → List (List ℕ) → Effect

@@ -9,14 +9,14 @@ use Rattle.roff_num.specs.declared.limit.Limit.{Limit}
 use Rattle.roff_num.specs.declared.limit.Limit.TheVariants.{Bytes, Names, Stack, Depth, Line, Conditions, Store, Diversions}
 use Rattle.roff_num.specs.declared.limits.Limits.{Limits}
 use Rattle.roff_scan.specs.Halves.{decides_now, newline_stays, seen_stays}
-use Rattle.roff_scan.specs.Input.{Ahead, ByteAhead, FreeAhead, EndAhead, DoAhead, initial_input, names_added, pushed, depth, results, stored, cost, item_taken, counting, leaving}
+use Rattle.roff_scan.specs.Input.{Ahead, ByteAhead, FreeAhead, EndAhead, DoAhead, initial_input, names_added, pushed, depth, results, stored, cost, item_taken, counting, leaving, ReturnAhead, arguments_live}
 use Rattle.roff_scan.specs.Tape.{Tape, Answer, OneByte, OneNote, Ended, Failed, Stopped, Gives, Ends, front, behind_front}
 use Rattle.roff_scan.specs.Unread.{Unread, Sighted, SeesByte, SeesNothing, SeesNote, SeesEnding, seen_ahead}
 use Rattle.roff_scan.specs.Arguments.{no_arguments}
 use Rattle.roff_scan.specs.Half.{Half}
 use Rattle.roff_run.specs.Messages.{message_line, message_lines, told_line}
 use Rattle.roff_run.specs.Output.{PageHistory, text_of, written}
-use Rattle.roff_run.specs.Reading.{PageInput, Taking, taking, half_ended, end_taking, interrupted, due, message_begun, message_ended, message_text_read}
+use Rattle.roff_run.specs.Reading.{PageInput, Taking, taking, half_ended, end_taking, interrupted, due, message_begun, message_ended, message_text_read, behind_return}
 use Rattle.roff_run.specs.Registers.{AllRegisters, Known, no_registers, changed_by_all}
 use Rattle.roff_run.specs.Requests.{PageEvent, Text, Space, Effect, first_entries, requests}
 use Rattle.roff_run.specs.declared.message.Message.{Message}
@@ -80,6 +80,7 @@ known_at h rs i = record {
   registers = rs;
   newlines = i.newlines;
   last_width = last_width (text_of h);
+  arguments = length (arguments_live i);
 }
 
 -- the same of a state
@@ -133,13 +134,12 @@ unless_refused l (Some limit) s done = stopped_by l limit s
 abbrev pub performing : Limits → PageEvent → List PageEvent → State → State
 performing l e rest s = unless_refused l (refusal l s.history e) s (record s { to_do = rest; history = e ∷ s.history })
 
--- What a step may make grow, as it is behind the step, in the order in which it is looked at. One text may be made beside
--- the diversions: that of a string or a macro.
+-- What a step may make grow, as it is behind the step, in the order in which it is looked at: what is of texts and their names
+-- comes before what stands in front. One text may be made beside the diversions: that of a string or a macro.
 abbrev pub counts_in : AllRegisters → PageInput → List (Limit × ℕ)
 counts_in rs i =
-    (Names, length rs.named) ∷ (Stack, pushed i) ∷ (Depth, depth i)
-    ∷ (Diversions, length i.open_texts - 1) ∷ (Store, stored i) ∷ (Names, names_added i)
-    ∷ (Conditions, results i) ∷ []
+    (Names, length rs.named) ∷ (Diversions, length i.open_texts - 1) ∷ (Store, stored i) ∷ (Names, names_added i)
+    ∷ (Stack, pushed i) ∷ (Depth, depth i) ∷ (Conditions, results i) ∷ []
 
 -- the same of a state
 abbrev pub grown : State → List (Limit × ℕ)
@@ -195,6 +195,7 @@ abbrev pub ahead_taken : Ahead PageEvent → State → State
 ahead_taken (ByteAhead b) s = byte_taken b s
 ahead_taken (FreeAhead b) s = byte_taken b s
 ahead_taken EndAhead s = s
+ahead_taken ReturnAhead s = record s { reading = behind_return s.reading }
 ahead_taken (DoAhead e) s = record s { input = interrupted s.reading s.input; to_do = e ∷ [] }
 
 -- an item ahead of the source is taken, at its cost

@@ -1,13 +1,13 @@
 -- How many turns of a run are still to come at the most: each takes something, or ends what is half read.
 use Rattle.std.specs.Prelude.{ℕ, ◌+◌, ◌-◌, ◌*◌, List, [], ◌∷◌, None}
 use Rattle.roff_scan.specs.Half.{Half, Condition}
-use Rattle.roff_scan.specs.Input.{Ahead, ByteAhead, FreeAhead, EndAhead, DoAhead}
+use Rattle.roff_scan.specs.Input.{Ahead, ByteAhead, FreeAhead, EndAhead, ReturnAhead, DoAhead}
 use Rattle.roff_scan.specs.Unread.{Unread}
 use Rattle.roff_scan.specs.declared.half.ConditionPart.TheVariants.{Decided}
 use Rattle.roff_run.specs.Reading.{PageInput}
 use Rattle.roff_run.specs.Requests.{PageEvent}
 use Rattle.roff_run.specs.declared.reading.Reading.{Reading}
-use Rattle.roff_run.specs.declared.reading.Reading.TheVariants.{Name, Telling, Told}
+use Rattle.roff_run.specs.declared.reading.Reading.TheVariants.{Name, Arguments as InArguments, Telling, Told, Defining}
 
 -- the bytes ahead that cost nothing
 abbrev pub free_ahead : List (Ahead PageEvent) → ℕ
@@ -15,6 +15,7 @@ free_ahead [] = 0
 free_ahead (ByteAhead b ∷ items) = free_ahead items
 free_ahead (FreeAhead b ∷ items) = free_ahead items + 1
 free_ahead (EndAhead ∷ items) = free_ahead items
+free_ahead (ReturnAhead ∷ items) = free_ahead items
 free_ahead (DoAhead event ∷ items) = free_ahead items
 
 -- how many turns it takes to end these at the most: a condition is read before it decides, and a byte behind it may begin
@@ -25,12 +26,15 @@ endings_of (Condition (Decided decision None) text ∷ rest) = endings_of rest +
 endings_of (Condition part text ∷ rest) = endings_of rest + 2
 endings_of (half ∷ rest) = endings_of rest + 1
 
--- What is read may need turns of its own: behind a name's first byte a condition may begin, which ends in two turns; a
--- message's line ends where the input does, and then the message is told.
+-- What is read may need turns of its own. Behind a name's first byte a condition or a line of arguments may begin, and behind
+-- that line a definition, at whose end a name's line begins again; a condition ends in two turns. A message's line ends where
+-- the input does, and then the message is told.
 abbrev pub begun : Reading → ℕ
-begun (Name breaks first) = 1
+begun (Name breaks first) = 2
+begun (InArguments breaks request) = 3
 begun (Telling aborts is_front) = 2
 begun (Told aborts) = 1
+begun (Defining name appends end matched) = 3
 begun (_) = 0
 
 -- what falls with each turn beside that, within so many bytes: each item is paid for or free, and may begin three endings

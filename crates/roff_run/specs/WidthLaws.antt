@@ -20,7 +20,7 @@ use Rattle.roff_run.specs.Reading.{interrupted}
 use Rattle.roff_run.specs.Requests.{PageEvent, Text}
 use Rattle.roff_run.specs.Run.{State, refusal, step, after}
 use Rattle.roff_run.specs.declared.reading.Reading.{Reading}
-use Rattle.roff_run.specs.declared.reading.Reading.TheVariants.{StringText, Telling}
+use Rattle.roff_run.specs.declared.reading.Reading.TheVariants.{StringText, Telling, Defining}
 
 -- The digits of a width and their end stand in front of the rest, this is half read, and so many bytes more were
 -- taken. What isn't a byte of the line has come: among arguments, and in a string's name, no quote follows the quote before
@@ -70,6 +70,7 @@ WidthsEndWithTheirLine =
 -- whether texts are measured: where escapes are read, but for a string's text and a message's, into which they are copied
 abbrev pub measures_texts : Reading → Bool
 measures_texts (StringText name appends is_front) = false
+measures_texts (Defining name appends end matched) = false
 measures_texts (Telling aborts is_front) = false
 measures_texts reading = reads_escapes reading
 

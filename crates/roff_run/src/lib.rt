@@ -3,6 +3,7 @@
 #![tactic(auto)]
 
 pub mod condition_laws;
+mod definition;
 mod event;
 pub mod interpolation_laws;
 pub mod laws;

@@ -24,6 +24,8 @@ pub enum Message {
     LeftOut([u8; 2]),
     /// No character has this name.
     UnknownCharacter(CharacterName),
+    /// The input ended within a definition.
+    DefinitionNotEnded,
     /// The source failed.
     ReadFailed,
     /// The output failed.
@@ -83,6 +85,7 @@ impl Message {
                 append(text, b"unknown character: ");
                 name.say(text);
             }
+            Message::DefinitionNotEnded => append(text, b"definition not ended"),
             Message::ReadFailed => append(text, b"read failed"),
             Message::WriteFailed => append(text, b"write failed"),
         }

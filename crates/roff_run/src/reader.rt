@@ -1,6 +1,6 @@
 //! Reading: what each item of the input means, before it is done.
 
-ghost use Rattle.std.specs.Prelude.{◌≡◌, ◌≢◌, ◌≤◌, ℕ, List, [], ◌∷◌, None, Some, false, true, IfOk, IfSome, Ok, length, reverse, slice_get};
+ghost use Rattle.std.specs.Prelude.{◌≡◌, ◌≢◌, ◌≤◌, ◌++◌, ℕ, List, [], ◌∷◌, None, Some, false, true, IfOk, IfSome, Ok, length, reverse, slice_get};
 ghost use Rattle.std.specs.Option.{option_copied};
 ghost use Rattle.roff_lines.specs.declared.event.Event.TheVariants.{Gap, Print, WordEnd};
 ghost use Rattle.roff_lines.specs.declared.glyph.Glyph.TheVariants.{Printed};
@@ -8,15 +8,18 @@ ghost use Rattle.roff_run.specs.Requests.{Text};
 ghost use Rattle.roff_scan.specs.declared.arguments.Place.TheVariants.{BehindQuote};
 ghost use Rattle.roff_scan.specs.declared.half.CopyUnit.TheVariants.{Byte};
 ghost use Rattle.roff_run.specs.Registers.{Known as KnownOf};
-ghost use Rattle.roff_run.specs.Clauses.{AllRegisters, Changed, calling_all, calls_of, name_in, removals, Env, LineStart, NameOf, Telling, PageHistory, PageInput, PageUnread, Passes, Remove, Stands, TakesAs, arguments_found, asking, beginning_found, behind_name, changed_by, changes_of, condition_found, decided, effect_of, end_taking, first_escape, first_taking, fresh_reader, going_on, meaning_events, half_ended, holding, holding_text, interpolating, interrupted, is_passed, is_so, kept_taking, known_at, known_of, first_unread, line_taking, request_named, line_begun, line_ended, listed, row_of, measuring, name_ended_taking, name_taking, names_given, no_unit_found, putting_nothing, register_named, request_effect, taking, telling, text_found, text_of, unit_found, value_in_force, InputBecame, arguments_given, first_name, name_read, putting_string, string_begun, string_emptied, string_entered, string_grown, string_line_ended, string_name_behind, string_name_found, string_name_or_text, string_name_unit, string_text_found, string_unit, due, holding_plain, message_begun, message_ended, message_found, message_unit, condition_begun};
+ghost use Rattle.roff_run.specs.Clauses.{AllRegisters, Changed, calling_all, calls_of, name_in, removals, Env, LineStart, NameOf, Telling, PageHistory, PageInput, PageUnread, Passes, Remove, Stands, TakesAs, arguments_found, asking, beginning_found, behind_name, changed_by, changes_of, condition_found, decided, effect_of, end_taking, first_escape, first_taking, fresh_reader, going_on, meaning_events, half_ended, holding, holding_text, interpolating, interrupted, is_passed, is_so, kept_taking, known_at, known_of, first_unread, line_taking, line_begun, line_ended, listed, row_of, measuring, name_ended_taking, name_taking, names_given, no_unit_found, putting_nothing, register_named, request_effect, taking, telling, text_found, text_of, unit_found, value_in_force, InputBecame, arguments_given, name_read, putting_string, string_begun, string_emptied, string_entered, string_grown, string_line_ended, string_name_behind, string_name_found, string_name_or_text, string_name_unit, string_text_found, string_unit, due, holding_plain, message_begun, message_ended, message_found, message_unit, arguments_ended, lines_begun, behind_definition, definition_begun, definition_cut, definition_found, definition_grown, definition_line, ends_mark, call_found, call_unit, called_by, behind_return, putting_argument, unit_bytes, name_at as name_given_at, condition_begun};
 
+use crate::definition::{DefinitionLine, EndMark, matched_behind};
 use crate::event::{Events, PageEvent};
 use crate::message::Message;
 use crate::reading::{Due, Reading, ShortName, TextLine, TextStep, ends_name};
 use crate::registers::{Facts, RunRegisters};
 use crate::request::{
-    Changes, Effect, Given, Known, LineReading, Request, name_given, register_named,
+    Called, Changes, Effect, Given, Known, LineReading, LinesFor, Request, name_given,
+    register_named,
 };
+use arrayvec::ArrayVec;
 use itoa::Buffer;
 use roff_lines::Env;
 use roff_num::{Limit, Limits, Name, Num};
@@ -26,6 +29,9 @@ use roff_scan::{
 use roff_store::{Direction, Entry, Kind};
 use std::alloc::{AllocError, Global};
 use std::marker::Model;
+
+/// How many arguments a body gets that a line calls.
+const CALL_ARGUMENTS: usize = 9;
 
 /// What is being read, and the number registers.
 ///
@@ -179,6 +185,19 @@ impl Reader {
                 let found = unread.read_byte(Surroundings::Copy, byte);
                 self.read_string(name, appends, is_front, found, env, unread)
             }
+            Reading::Calling { name } => {
+                let found = unread.read_byte(Surroundings::Arguments, byte);
+                self.read_call(name, found, env, unread)
+            }
+            Reading::Defining {
+                name,
+                appends,
+                end,
+                matched,
+            } => {
+                let found = unread.read_byte(Surroundings::Copy, byte);
+                self.read_definition(name, appends, end, matched, found, env, unread)
+            }
             Reading::Skipping {
                 opened,
                 closed,
@@ -244,6 +263,19 @@ impl Reader {
                 let found = unread.end_reading(Surroundings::Copy);
                 self.read_message(aborts, is_front, found, env, unread)
             }
+            Reading::Calling { name } => {
+                let found = unread.end_reading(Surroundings::Arguments);
+                self.read_call(name, found, env, unread)
+            }
+            Reading::Defining {
+                name,
+                appends,
+                end,
+                matched,
+            } => {
+                let found = unread.end_reading(Surroundings::Copy);
+                self.read_definition(name, appends, end, matched, found, env, unread)
+            }
             _ => {
                 let _ = unread.end_reading(Surroundings::Text);
                 Ok(Meaning::nothing())
@@ -266,6 +298,7 @@ impl Reader {
     {
         match self.reading {
             Reading::LineStart => Ok(Meaning::nothing()),
+            Reading::Defining { name, .. } => Ok(self.drop_definition(name, unread)),
             _ => self.read_kept(b'\n', env, unread),
         }
     }
@@ -300,6 +333,34 @@ impl Reader {
         self.reading = Reading::LineStart;
     }
 
+    /// A definition that ends with the input is dropped.
+    fn drop_definition(
+        &mut self,
+        name: Option<ShortName>,
+        unread: &mut Unread<PageEvent>,
+    ) -> Meaning
+        ensures { (env : Env)
+            → TakesAs (λ k. definition_cut unread.old.input name)
+            env self.old self.new unread.old unread.new (Ok result) }
+    {
+        if name.is_some() {
+            unread.drop_text();
+        }
+        self.reading = Reading::LineStart;
+        Meaning {
+            message: Some(Message::DefinitionNotEnded),
+            events: Events::new(),
+        }
+    }
+
+    /// The end of a body that a line called: a line begins, unless a control line is being read.
+    pub fn end_call(&mut self)
+        ensures { self.new
+            ≡ record self.old { reading = behind_return self.old.reading } }
+    {
+        self.reading = self.reading.behind_return();
+    }
+
     /// Something that isn't a byte of the line stands in front: no quote follows the quote before it.
     pub fn interrupt(&self, unread: &mut Unread<PageEvent>)
         ensures { unread.new
@@ -308,6 +369,7 @@ impl Reader {
         match self.reading {
             Reading::Arguments { .. } => unread.settle(),
             Reading::StringName { .. } => unread.settle(),
+            Reading::Calling { .. } => unread.settle(),
             _ => {}
         }
     }
@@ -466,29 +528,42 @@ impl Reader {
             env.now self.old self.new unread.old unread.new result }
     {
         if ends_name(byte) {
-            return self.end_short_name(breaks, first, byte, env, unread);
+            let name = ShortName {
+                first,
+                second: None,
+            };
+            return self.read_behind_name(breaks, name, byte, env, unread);
         }
-        match request_named(&[first, byte], unread) {
-            Some(request) => Ok(self.begin_request(breaks, request, unread)),
-            None => Ok(self.read_on(Reading::Dropped)),
+        let name = ShortName {
+            first,
+            second: Some(byte),
+        };
+        match called_by(name, unread) {
+            Called::Request(request) => Ok(self.begin_request(breaks, request, unread)),
+            Called::Body(name) => Ok(self.read_on(Reading::Calling { name })),
+            Called::Nothing => Ok(self.read_on(Reading::Dropped)),
         }
     }
 
-    /// The byte behind a name of one byte.
-    fn end_short_name(
+    /// The first byte behind a name, which doesn't belong to it.
+    fn read_behind_name(
         &mut self,
         breaks: bool,
-        first: u8,
+        name: ShortName,
         byte: u8,
         env: &Env,
         unread: &mut Unread<PageEvent>,
     ) -> Result<Meaning, Limit>
-        ensures { TakesAs (λ k. name_ended_taking k unread.old.input breaks (first ∷ []) byte)
+        ensures { TakesAs (λ k. name_ended_taking k unread.old.input breaks name byte)
             env.now self.old self.new unread.old unread.new result }
     {
-        match request_named(&[first], unread) {
-            Some(request) => self.read_first(breaks, request, byte, env, unread),
-            None => Ok(self.read_on(Reading::behind_dropped(byte))),
+        match called_by(name, unread) {
+            Called::Request(request) => self.read_first(breaks, request, byte, env, unread),
+            Called::Body(name) => {
+                let found = unread.read_byte(Surroundings::Arguments, byte);
+                self.read_call(name, found, env, unread)
+            }
+            Called::Nothing => Ok(self.read_on(Reading::behind_dropped(byte))),
         }
     }
 
@@ -521,6 +596,10 @@ impl Reader {
             LineReading::ByMessage { aborts } => {
                 let read = unread.read_byte(Surroundings::Copy, byte);
                 self.read_message(aborts, true, read, env, unread)
+            }
+            LineReading::ByLines(_) => {
+                let found = unread.read_byte(Surroundings::Arguments, byte);
+                self.read_arguments(breaks, request, found, env, unread)
             }
             LineReading::ByElse => {
                 let so = unread.take_kept() == Some(false);
@@ -562,6 +641,7 @@ impl Reader {
     {
         let reading = match request.row().line {
             LineReading::ByArguments => Reading::Arguments { breaks, request },
+            LineReading::ByLines(_) => Reading::Arguments { breaks, request },
             LineReading::ByCondition { keeps } => {
                 unread.begin_condition();
                 Reading::Deciding { keeps }
@@ -696,7 +776,7 @@ impl Reader {
             env.now self.old self.new unread.old unread.new result }
     {
         match unit {
-            CopyUnit::Byte(b'\n') => self.obey(breaks, request, env, unread),
+            CopyUnit::Byte(b'\n') => self.end_arguments(breaks, request, env, unread),
             _ => self.hold(unit, Reading::Arguments { breaks, request }, unread),
         }
     }
@@ -800,7 +880,7 @@ impl Reader {
         unread: &mut Unread<PageEvent>,
     ) -> Result<Meaning, Limit>
         ensures { (env : Env)
-            → TakesAs (λ k. string_line_ended unread.old.input appends (first_name (arguments_given unread.old.input)))
+            → TakesAs (λ k. string_line_ended unread.old.input appends (name_given_at 0 (arguments_given unread.old.input)))
             env self.old self.new unread.old unread.new result }
     {
         unread.finish_arguments();
@@ -1013,7 +1093,7 @@ impl Reader {
         match purpose {
             NameUse::Register(step) => self.interpolate(step, &name, env, unread),
             NameUse::Text => self.put_string(&name, unread),
-            NameUse::Argument => self.put_nothing(unread),
+            NameUse::Argument => self.put_argument(&name, unread),
             // Copy mode reads no such name, and text reads it otherwise.
             NameUse::Character => self.put_nothing(unread),
             NameUse::Font => self.put_nothing(unread),
@@ -1028,6 +1108,19 @@ impl Reader {
             env self.now self.now unread.old unread.new result }
     {
         unread.push_body(name)?;
+        Ok(Meaning::nothing())
+    }
+
+    /// An argument is put in front.
+    fn put_argument(&self, name: &Name, unread: &mut Unread<PageEvent>) -> Result<Meaning, Limit>
+        ensures { (env : Env)
+            → TakesAs (λ k. putting_argument unread.old.input self.now.reading name.now)
+            env self.now self.now unread.old unread.new result }
+    {
+        match name.as_bytes() {
+            [digit @ b'1'..=b'9'] => unread.push_argument((*digit - b'1') as usize)?,
+            _ => unread.push(&[])?,
+        }
         Ok(Meaning::nothing())
     }
 
@@ -1058,6 +1151,223 @@ impl Reader {
             message: given.message,
             events: Events::new(),
         })
+    }
+
+    /// The end of a line that was read as arguments.
+    fn end_arguments(
+        &mut self,
+        breaks: bool,
+        request: Request,
+        env: &Env,
+        unread: &mut Unread<PageEvent>,
+    ) -> Result<Meaning, Limit>
+        ensures { TakesAs (λ k. arguments_ended k unread.old.input breaks request (row_of request).line)
+            env.now self.old self.new unread.old unread.new result }
+    {
+        match request.row().line {
+            LineReading::ByLines(lines) => self.begin_lines(lines, unread),
+            _ => self.obey(breaks, request, env, unread),
+        }
+    }
+
+    /// The end of the line of a request by which lines are defined, or ignored.
+    fn begin_lines(
+        &mut self,
+        lines: LinesFor,
+        unread: &mut Unread<PageEvent>,
+    ) -> Result<Meaning, Limit>
+        ensures { (env : Env)
+            → TakesAs (λ k. lines_begun unread.old.input lines (arguments_given unread.old.input))
+            env self.old self.new unread.old unread.new result }
+    {
+        unread.finish_arguments();
+        let first = short_name_at(0, unread.arguments());
+        let second = short_name_at(1, unread.arguments());
+        match (lines, first) {
+            (LinesFor::Nobody, end) => self.begin_definition(None, false, end.flatten(), unread),
+            (LinesFor::Macro { appends }, Some(Some(name))) => {
+                self.begin_definition(Some(name), appends, second.flatten(), unread)
+            }
+            (LinesFor::Macro { .. }, _) => {
+                unread.begin_arguments();
+                Ok(self.read_on(Reading::LineStart))
+            }
+        }
+    }
+
+    /// The text of a definition is begun, if a name gets it.
+    fn begin_definition(
+        &mut self,
+        name: Option<ShortName>,
+        appends: bool,
+        end: Option<ShortName>,
+        unread: &mut Unread<PageEvent>,
+    ) -> Result<Meaning, Limit>
+        ensures { (env : Env)
+            → TakesAs (λ k. definition_begun unread.old.input name appends end)
+            env self.old self.new unread.old unread.new result }
+    {
+        begin_string(name, unread)?;
+        Ok(self.read_on(Reading::Defining {
+            name,
+            appends,
+            end,
+            matched: Some(0),
+        }))
+    }
+
+    /// Something of a definition's text.
+    fn read_definition(
+        &mut self,
+        name: Option<ShortName>,
+        appends: bool,
+        end: Option<ShortName>,
+        matched: Option<u8>,
+        found: Read,
+        env: &Env,
+        unread: &mut Unread<PageEvent>,
+    ) -> Result<Meaning, Limit>
+        ensures { TakesAs (λ k. definition_found k unread.old.input name appends end matched found)
+            env.now self.old self.new unread.old unread.new result }
+    {
+        match found {
+            Read::Unit(unit) => {
+                self.read_unit_of_definition(name, appends, end, matched, unit, env, unread)
+            }
+            Read::Escape(byte) => {
+                let unit = CopyUnit::Kept(byte);
+                self.read_unit_of_definition(name, appends, end, matched, unit, env, unread)
+            }
+            _ => {
+                let reading = Reading::Defining {
+                    name,
+                    appends,
+                    end,
+                    matched,
+                };
+                self.read_in_arguments(reading, found, env, unread)
+            }
+        }
+    }
+
+    /// A unit of a definition's text: what stands in front of a line that may be the last one is no
+    /// text yet.
+    fn read_unit_of_definition(
+        &mut self,
+        name: Option<ShortName>,
+        appends: bool,
+        end: Option<ShortName>,
+        matched: Option<u8>,
+        unit: CopyUnit,
+        env: &Env,
+        unread: &mut Unread<PageEvent>,
+    ) -> Result<Meaning, Limit>
+        ensures { TakesAs (λ k. definition_line k unread.old.input name appends end matched unit)
+            env.now self.old self.new unread.old unread.new result }
+    {
+        let defining = |matched| Reading::Defining {
+            name,
+            appends,
+            end,
+            matched,
+        };
+        let mark = EndMark::of(end);
+        match mark.line_with(matched, unit) {
+            DefinitionLine::MayBeLast(matched) => Ok(self.read_on(defining(Some(matched)))),
+            DefinitionLine::IsLast(byte) => {
+                self.end_definition(name, appends, end, byte, env, unread)
+            }
+            DefinitionLine::IsText => {
+                grow_definition(name, mark.front(matched), unit, unread)?;
+                Ok(self.read_on(defining(matched_behind(unit))))
+            }
+        }
+    }
+
+    /// The line that ends a definition, up to the first byte behind its name.
+    fn end_definition(
+        &mut self,
+        name: Option<ShortName>,
+        appends: bool,
+        end: Option<ShortName>,
+        byte: u8,
+        env: &Env,
+        unread: &mut Unread<PageEvent>,
+    ) -> Result<Meaning, Limit>
+        requires { ends_mark byte ≡ true }
+        ensures { TakesAs (λ k. behind_definition k (string_entered name appends unread.old.input) end byte)
+            env.now self.old self.new unread.old unread.new result }
+    {
+        enter_string(name, appends, unread)?;
+        self.read_behind_definition(end, byte, env, unread)
+    }
+
+    /// The first byte behind the name on that line: the name is called, if there is one, and else the
+    /// line is dropped.
+    fn read_behind_definition(
+        &mut self,
+        end: Option<ShortName>,
+        byte: u8,
+        env: &Env,
+        unread: &mut Unread<PageEvent>,
+    ) -> Result<Meaning, Limit>
+        ensures { TakesAs (λ k. behind_definition k unread.old.input end byte)
+            env.now self.old self.new unread.old unread.new result }
+    {
+        match end {
+            Some(end) => {
+                unread.begin_line();
+                self.read_behind_name(true, end, byte, env, unread)
+            }
+            None => Ok(self.read_on(Reading::behind_dropped(byte))),
+        }
+    }
+
+    /// Something behind the name of a body that a line calls.
+    fn read_call(
+        &mut self,
+        name: ShortName,
+        found: Read,
+        env: &Env,
+        unread: &mut Unread<PageEvent>,
+    ) -> Result<Meaning, Limit>
+        ensures { TakesAs (λ k. call_found k unread.old.input name found)
+            env.now self.old self.new unread.old unread.new result }
+    {
+        match found {
+            Read::Unit(unit) => self.read_unit_of_call(name, unit, unread),
+            Read::Escape(byte) => self.read_unit_of_call(name, CopyUnit::Kept(byte), unread),
+            _ => {
+                unread.settle();
+                self.read_in_arguments(Reading::Calling { name }, found, env, unread)
+            }
+        }
+    }
+
+    /// A unit behind the name of a body that a line calls: a newline ends the line, and the body is
+    /// read.
+    fn read_unit_of_call(
+        &mut self,
+        name: ShortName,
+        unit: CopyUnit,
+        unread: &mut Unread<PageEvent>,
+    ) -> Result<Meaning, Limit>
+        ensures { (env : Env)
+            → TakesAs (λ k. call_unit unread.old.input name unit)
+            env self.old self.new unread.old unread.new result }
+    {
+        match unit {
+            CopyUnit::Byte(b'\n') => {
+                unread.call(&name.name())?;
+                return Ok(self.read_on(Reading::LineStart));
+            }
+            CopyUnit::Byte(b'"') => {}
+            _ => unread.settle(),
+        }
+        if unread.arguments().len() < CALL_ARGUMENTS {
+            unread.hold(unit)?;
+        }
+        Ok(self.read_on(Reading::Calling { name }))
     }
 
     /// The end of a request's line: it is obeyed with the arguments that were read.
@@ -1204,15 +1514,17 @@ pub fn first_unread(alloc: Global, limits: Limits) -> Result<Unread<PageEvent>, 
     Ok(unread)
 }
 
-/// The request that a name stands for, if it stands for one.
-fn request_named(name: &[u8], unread: &Unread<PageEvent>) -> Option<Request>
-    requires { 1 ≤ length name.now × length name.now ≤ 2 }
-    ensures { result ≡ request_named name.now unread.now.input.names }
+/// What a line does that begins with a name.
+fn called_by(name: ShortName, unread: &Unread<PageEvent>) -> Called
+    ensures { result ≡ called_by name unread.now.input.names }
 {
-    let name = Name::new(name)?;
-    match unread.get(&name)? {
-        Kind::Request(number) => Request::numbered(number as usize),
-        Kind::Body(_) => None,
+    match unread.get(&name.name()) {
+        Some(Kind::Request(number)) => match Request::numbered(number as usize) {
+            Some(request) => Called::Request(request),
+            None => Called::Nothing,
+        },
+        Some(Kind::Body(_)) => Called::Body(name),
+        None => Called::Nothing,
     }
 }
 
@@ -1242,9 +1554,16 @@ fn name_at(index: usize, unread: &Unread<PageEvent>) -> Option<Name>
 
 /// The name that the first of these arguments gives, if there is one.
 fn first_name(arguments: ArgumentList<'_>) -> Option<Option<ShortName>>
-    ensures { result ≡ first_name (listed arguments.entry) }
+    ensures { result ≡ name_given_at 0 (listed arguments.entry) }
 {
-    arguments.get(0).map(ShortName::of)
+    short_name_at(0, arguments)
+}
+
+/// The name that the argument at an index gives, if the argument is there.
+fn short_name_at(index: usize, arguments: ArgumentList<'_>) -> Option<Option<ShortName>>
+    ensures { result ≡ name_given_at index (listed arguments.entry) }
+{
+    arguments.get(index).map(ShortName::of)
 }
 
 /// Begins the text of a string, and releases the argument that gave its name.
@@ -1273,6 +1592,29 @@ fn grow_string(
         CopyUnit::Byte(byte) => unread.add(&[byte]),
         CopyUnit::Kept(byte) => unread.add(&[b'\\', byte]),
     }
+}
+
+/// Puts what stood in front of a line and a unit behind the text of a definition, if it has a name.
+fn grow_definition(
+    name: Option<ShortName>,
+    front: &[u8],
+    unit: CopyUnit,
+    unread: &mut Unread<PageEvent>,
+) -> Result<(), Limit>
+    requires { length front.now ≤ 3 }
+    ensures { InputBecame (definition_grown name (front.now ++ unit_bytes unit) unread.old.input)
+        unread.old unread.new result }
+{
+    if name.is_none() {
+        return Ok(());
+    }
+    let mut text: ArrayVec<u8, 5> = ArrayVec::new();
+    text.try_extend_from_slice(front).unwrap();
+    match unit {
+        CopyUnit::Byte(byte) => text.push(byte),
+        CopyUnit::Kept(byte) => text.try_extend_from_slice(&[b'\\', byte]).unwrap(),
+    }
+    unread.add(&text)
 }
 
 /// Ends the text of a string.
@@ -1309,5 +1651,6 @@ fn facts(env: &Env, unread: &Unread<PageEvent>) -> Facts
         settings: env.settings(),
         newlines: unread.newlines(),
         last_width: env.last_width(),
+        arguments: unread.argument_count(),
     }
 }

@@ -3,16 +3,13 @@
 ghost use Rattle.std.specs.Prelude.{◌≡◌, ℕ, ◌≤◌, ◌+◌, ◌++◌, ◌∷◌, [], length, map, true, min};
 ghost use Rattle.roff_lines.specs.declared.event.Event.TheVariants.{Gap, Print, WordEnd};
 ghost use Rattle.roff_lines.specs.declared.glyph.Glyph.TheVariants.{Printed};
-ghost use Rattle.roff_run.specs.Reading.{PageInput, due, message_begun, name_bytes, reading_behind, short_name, branch_of, counted_if, going_on, kept_taking, dropped_taking, skipping_taking, ends_name, brace_taking, character_taking, escape_taking, fresh_line, glyph_taking, glyphs_taking, blank_taking, leading_blank_events, leading_glyph, left_out_taking, meaning_events, most_leading, motion_taking, other_taking, taking, told_taking, text_line_end, text_taking};
+ghost use Rattle.roff_run.specs.Reading.{PageInput, due, message_begun, name_bytes, reading_behind, short_name, branch_of, counted_if, going_on, kept_taking, dropped_taking, skipping_taking, ends_name, brace_taking, character_taking, escape_taking, fresh_line, glyph_taking, glyphs_taking, blank_taking, leading_blank_events, leading_glyph, left_out_taking, meaning_events, most_leading, motion_taking, other_taking, taking, told_taking, text_line_end, text_taking, behind_return};
 ghost use Rattle.std.specs.Option.{option_to_list};
 ghost use Rattle.roff_run.specs.Messages.{remark_messages};
 ghost use Rattle.roff_run.specs.Requests.{Text};
 ghost use Rattle.roff_run.specs.TextLine.Stepping.{step_at};
 ghost use Rattle.roff_run.specs.Registers.{Known};
 ghost use Rattle.roff_run.specs.declared.reading.Reading.TheVariants.{Control as BehindControl, Text as InText};
-
-#[cfg(test)]
-mod tests;
 
 use crate::event::{Events, PageEvent};
 use crate::message::{CharacterName, Message};
@@ -62,6 +59,19 @@ pub(crate) enum Reading {
         name: Option<ShortName>,
         appends: bool,
         is_front: bool,
+    },
+    /// The arguments of a line that calls the body of this name.
+    Calling {
+        name: ShortName,
+    },
+    /// The text of a definition: what gets it, if anything does, whether it is put behind that, the
+    /// name that its last line has, and how many bytes of that line's mark stand in front of a line
+    /// that may be the last one.
+    Defining {
+        name: Option<ShortName>,
+        appends: bool,
+        end: Option<ShortName>,
+        matched: Option<u8>,
     },
     /// A branch that is skipped: how many braces were opened and closed in it, and whether a
     /// backslash stands in front.
@@ -151,6 +161,7 @@ impl Reading {
             LineReading::ByArguments => Reading::LineStart,
             LineReading::ByCondition { .. } => Reading::LineStart,
             LineReading::ByElse => Reading::LineStart,
+            LineReading::ByLines(_) => Reading::LineStart,
             LineReading::ByMessage { .. } => Reading::LineStart,
             LineReading::ByString { .. } => Reading::LineStart,
         }
@@ -215,6 +226,17 @@ impl Reading {
                 breaks,
                 first: byte,
             }
+        }
+    }
+
+    /// What is read behind the end of a body that a line called: a line begins, unless a control line
+    /// is being read.
+    pub(crate) fn behind_return(self) -> Reading
+        ensures { result ≡ behind_return self }
+    {
+        match self {
+            Reading::Branch | Reading::Braced | Reading::Text(_) => Reading::LineStart,
+            reading => reading,
         }
     }
 

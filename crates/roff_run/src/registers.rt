@@ -10,8 +10,6 @@ ghost use Rattle.roff_run.specs.Registers.{is_page, stepped_page};
 ghost use Rattle.roff_run.specs.declared.message.Message.TheVariants.{BadNumber};
 
 mod read_only;
-#[cfg(test)]
-mod tests;
 
 use crate::message::Message;
 use read_only::{is_read_only, query_of};
@@ -38,6 +36,8 @@ pub(crate) enum Query {
     LineSpacing,
     /// The width of a column.
     ColumnWidth,
+    /// How many arguments the innermost body has that a line called.
+    Arguments,
     /// What nothing sets yet: 0.
     Later,
 }
@@ -51,6 +51,8 @@ pub(crate) struct Facts {
     pub(crate) newlines: u32,
     /// The width of the last finished line, in columns.
     pub(crate) last_width: u32,
+    /// How many arguments the innermost body has that a line called.
+    pub(crate) arguments: usize,
 }
 
 /// A change that a request makes.

@@ -11,10 +11,9 @@ mod lengths;
 mod naming;
 mod numbering;
 mod spacing;
-#[cfg(test)]
-mod tests;
 
-use LineReading::{ByArguments, ByCondition, ByElse, ByLastLine, ByMessage, ByString};
+use crate::reading::ShortName;
+use LineReading::{ByArguments, ByCondition, ByElse, ByLastLine, ByLines, ByMessage, ByString};
 use Request::{LeftOut, WithoutEffect};
 pub(crate) use effects::{Changes, Done, Effect, Known};
 pub(crate) use numbering::{name_given, register_named};
@@ -27,12 +26,16 @@ pub(crate) enum Request {
     Abort,
     /// `ad`: adjusting on, in a mode.
     Adjust,
+    /// `am`: a macro is appended to.
+    AppendMacro,
     /// `as`: a string is appended to.
     AppendString,
     /// `af`: how a number register is written.
     AssignFormat,
     /// `br`: a break.
     Break,
+    /// `de`: a macro.
+    DefineMacro,
     /// `ds`: a string.
     DefineString,
     /// `el`: the other branch of a condition.
@@ -45,6 +48,8 @@ pub(crate) enum Request {
     If,
     /// `ie`: a condition with another branch.
     IfElse,
+    /// `ig`: lines that are ignored.
+    Ignore,
     /// `in`: the indent.
     Indent,
     /// `ll`: the line length.
@@ -90,11 +95,36 @@ pub(crate) enum LineReading {
         /// Whether it aborts the run.
         aborts: bool,
     },
+    /// As arguments, and then lines up to the last one of a definition.
+    ByLines(LinesFor),
     /// As the name of a string and its text.
     ByString {
         /// Whether the text is put behind the string.
         appends: bool,
     },
+}
+
+/// What gets the lines of a definition.
+#[derive(Clone, Copy, Debug, PartialEq, Eq)]
+pub(crate) enum LinesFor {
+    /// A macro.
+    Macro {
+        /// Whether they are put behind it.
+        appends: bool,
+    },
+    /// Nothing: they are ignored.
+    Nobody,
+}
+
+/// What a line does that begins with a name.
+#[derive(Clone, Copy, Debug, PartialEq, Eq)]
+pub(crate) enum Called {
+    /// It is a request's.
+    Request(Request),
+    /// It calls the body of this name.
+    Body(ShortName),
+    /// It is dropped.
+    Nothing,
 }
 
 /// The first arguments of a request, as far as they are given.
@@ -117,18 +147,21 @@ pub(crate) struct Row {
 }
 
 /// The requests that are built, in the order of their names.
-static BUILT: [Request; 21] = [
+static BUILT: [Request; 24] = [
     Request::Abort,
     Request::Adjust,
     Request::AssignFormat,
+    Request::AppendMacro,
     Request::AppendString,
     Request::Break,
+    Request::DefineMacro,
     Request::DefineString,
     Request::Else,
     Request::Exit,
     Request::Fill,
     Request::IfElse,
     Request::If,
+    Request::Ignore,
     Request::Indent,
     Request::LineLength,
     Request::NoAdjust,
@@ -166,7 +199,7 @@ static LEFT_OUT: [[u8; 2]; 24] = [
 
 impl Request {
     /// How many there are.
-    pub(crate) const COUNT: u16 = 60;
+    pub(crate) const COUNT: u16 = 63;
 
     /// The request of this place in the table, if there is one.
     pub(crate) fn numbered(number: usize) -> Option<Request>
@@ -191,14 +224,17 @@ impl Request {
             Request::Abort => Row { name: *b"ab", line: ByMessage { aborts: true }, breaks: false },
             Request::Adjust => Row { name: *b"ad", line: ByArguments, breaks: false },
             Request::AssignFormat => Row { name: *b"af", line: ByArguments, breaks: false },
+            Request::AppendMacro => Row { name: *b"am", line: ByLines(LinesFor::Macro { appends: true }), breaks: false },
             Request::AppendString => Row { name: *b"as", line: ByString { appends: true }, breaks: false },
             Request::Break => Row { name: *b"br", line: ByArguments, breaks: true },
+            Request::DefineMacro => Row { name: *b"de", line: ByLines(LinesFor::Macro { appends: false }), breaks: false },
             Request::DefineString => Row { name: *b"ds", line: ByString { appends: false }, breaks: false },
             Request::Else => Row { name: *b"el", line: ByElse, breaks: false },
             Request::Exit => Row { name: *b"ex", line: ByLastLine, breaks: false },
             Request::Fill => Row { name: *b"fi", line: ByArguments, breaks: true },
             Request::IfElse => Row { name: *b"ie", line: ByCondition { keeps: true }, breaks: false },
             Request::If => Row { name: *b"if", line: ByCondition { keeps: false }, breaks: false },
+            Request::Ignore => Row { name: *b"ig", line: ByLines(LinesFor::Nobody), breaks: false },
             Request::Indent => Row { name: *b"in", line: ByArguments, breaks: true },
             Request::LineLength => Row { name: *b"ll", line: ByArguments, breaks: false },
             Request::NoAdjust => Row { name: *b"na", line: ByArguments, breaks: false },
@@ -233,14 +269,17 @@ impl Request {
             Request::Abort => Done::nothing(),
             Request::Adjust => adjustment::adjust(given.first),
             Request::AssignFormat => numbering::assign_format(given.first, given.second),
+            Request::AppendMacro => Done::nothing(),
             Request::AppendString => Done::nothing(),
             Request::Break => Done::nothing(),
+            Request::DefineMacro => Done::nothing(),
             Request::DefineString => Done::nothing(),
             Request::Else => Done::nothing(),
             Request::Exit => Done::nothing(),
             Request::Fill => Done::setting(Param::Filling(true)),
             Request::IfElse => Done::nothing(),
             Request::If => Done::nothing(),
+            Request::Ignore => Done::nothing(),
             Request::Indent => lengths::indent(known, given.first),
             Request::LineLength => lengths::line_length(known, given.first),
             Request::NoAdjust => Done::setting(Param::Adjusting(false)),

@@ -45,6 +45,14 @@ kept_in-byte block ends old new b within =
 abbrev pub AllKept : List ℕ → List ℕ → Type 0
 AllKept block ends = kept (texts_ending block 0 ends) ≡ texts_ending block 0 ends
 
+-- few of them have no byte
+pub few_texts : (block ends : List ℕ) → AllKept block ends
+    → length (texts_ending block 0 ends) ≤ total_length (texts_ending block 0 ends) + kept_by_place
+few_texts block ends all =
+    let few : length (kept (texts_ending block 0 ends)) ≤ total_length (texts_ending block 0 ends) + kept_by_place =
+    length-kept_behind kept_by_place (texts_ending block 0 ends) in
+    rw all at few
+
 -- bytes behind the block change no text in it
 pub AllKept-append_block : (block more new ends : List ℕ) → new ≡ block ++ more → EndWithin (length block) 0 ends → AllKept block ends → AllKept new ends
 AllKept-append_block block more new ends is within all =
@@ -70,9 +78,7 @@ is_kept-none ends end is = grind (arith, nat_tests)
 pub ends_fit : (block ends : List ℕ) (room : ℕ) → EndWithin (length block) 0 ends → AllKept block ends → length block ≤ room
     → is_kept ends (length block) ≡ true → length ends < room + 32
 ends_fit block ends room within all fits is =
-    let few : length (kept (texts_ending block 0 ends)) ≤ total_length (texts_ending block 0 ends) + kept_by_place =
-    length-kept_behind kept_by_place (texts_ending block 0 ends) in
-    let few_ends = rw (all, length-texts_ending) at few in
+    let few_ends = rw length-texts_ending at (few_texts block ends all) in
     let bytes = total_length-texts_ending block 0 ends within in
     elim (is_kept-cases ends (length block) is) [
       | inl first ↦ omega (arith, first)

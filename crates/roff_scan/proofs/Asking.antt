@@ -1,7 +1,7 @@
 -- Calls that are lent the source, by what they find.
 use Rattle.std.proofs.Common.{Bool, true, false, ◌&&◌, ◌≡◌, ℕ, List, [], ◌∷◌, Option, Some, None, refl, sym, ap, ◌∙◌}
 use Rattle.std.specs.Prelude.{is_none}
-use Rattle.roff_scan.specs.Input.{Ahead, ByteAhead, FreeAhead, EndAhead, DoAhead, is_none_ahead}
+use Rattle.roff_scan.specs.Input.{Ahead, ByteAhead, FreeAhead, EndAhead, ReturnAhead, DoAhead, is_none_ahead}
 use Rattle.roff_scan.specs.Tape.{Tape, Answer, Answers, Gives, Ends, OneByte, Ending, Ended}
 use Rattle.roff_scan.specs.Unread.{Unread, Asked, Stays, Shown, Sighted, SeesByte, SeesNote, SeesEnding, answer_behind, taking, taking_first, taking_answer, asks_to_take, looking, looking_past, looking_at, asks_to_look, seen_ahead}
 use Rattle.roff_scan.specs.Unread.Calls.{Takes, Looks}
@@ -112,6 +112,7 @@ module _ {E : Type 0} where
   no_note_ahead (ByteAhead b ∷ items) m seen = cc
   no_note_ahead (FreeAhead b ∷ items) m seen = cc
   no_note_ahead (EndAhead ∷ items) m seen = no_note_ahead items m seen
+  no_note_ahead (ReturnAhead ∷ items) m seen = no_note_ahead items m seen
   no_note_ahead (DoAhead event ∷ items) m seen = cc
 
   pub no_ending_ahead : (items : List (Ahead E)) (e : Ending) → seen_ahead items ≡ Some (SeesEnding e) → ⊥
@@ -119,4 +120,5 @@ module _ {E : Type 0} where
   no_ending_ahead (ByteAhead b ∷ items) e seen = cc
   no_ending_ahead (FreeAhead b ∷ items) e seen = cc
   no_ending_ahead (EndAhead ∷ items) e seen = no_ending_ahead items e seen
+  no_ending_ahead (ReturnAhead ∷ items) e seen = no_ending_ahead items e seen
   no_ending_ahead (DoAhead event ∷ items) e seen = cc

@@ -1,10 +1,10 @@
 -- What stands ahead, with bodies in the place of their bytes.
-use Rattle.std.proofs.Common.{false, ◌≡◌, ◌<◌, ◌≤◌, ◌+◌, ℕ, List, [], ◌∷◌, ◌++◌, length, map, refl, ap, ◌∙◌, arith}
+use Rattle.std.proofs.Common.{true, false, ◌≡◌, ◌<◌, ◌≤◌, ◌+◌, ℕ, cond, List, [], ◌∷◌, ◌++◌, length, map, refl, ap, ◌∙◌, arith}
 use Rattle.std.specs.Prelude.{sum_by, All, Option, Some, None}
 use Rattle.std.proofs.lemmas.List.Sums.{sum_by-cons}
-use Rattle.roff_scan.specs.Input.{Ahead, ByteAhead, FreeAhead, EndAhead, DoAhead, bytes_ahead, ends_ahead, events_ahead, frees_ahead, is_none_ahead}
+use Rattle.roff_scan.specs.Input.{Ahead, ByteAhead, FreeAhead, EndAhead, ReturnAhead, DoAhead, bytes_ahead, ends_ahead, events_ahead, frees_ahead, is_none_ahead}
 use Rattle.roff_scan.specs.Frames.Bodies.{leases_in, with_bodies}
-use Rattle.roff_scan.specs.Frames.Kept.{AreEnded, Gives}
+use Rattle.roff_scan.specs.Frames.Kept.{AreEnded, Gives, is_end_next}
 use Rattle.roff_scan.specs.declared.frames.Frame.{Frame}
 use Rattle.roff_scan.specs.declared.frames.Frame.TheVariants.{Event, Body}
 use Rattle.roff_scan.proofs.Counts.{bytes_ahead-bytes, ends_ahead-bytes, events_ahead-bytes, frees_ahead-bytes}
@@ -35,6 +35,7 @@ module _ {E : Type 0} (t : Texts) where
   bytes-with_bodies (ByteAhead b ∷ items) = omega (arith, bytes-with_bodies items)
   bytes-with_bodies (FreeAhead b ∷ items) = bytes-with_bodies items
   bytes-with_bodies (EndAhead ∷ items) = bytes-with_bodies items
+  bytes-with_bodies (ReturnAhead ∷ items) = bytes-with_bodies items
   bytes-with_bodies (DoAhead (Event event) ∷ items) = bytes-with_bodies items
   bytes-with_bodies (DoAhead (Body id) ∷ items) =
       omega (
@@ -51,6 +52,7 @@ module _ {E : Type 0} (t : Texts) where
   ends-with_bodies (ByteAhead b ∷ items) = ends-with_bodies items
   ends-with_bodies (FreeAhead b ∷ items) = ends-with_bodies items
   ends-with_bodies (EndAhead ∷ items) = ap (λ n. n + 1) (ends-with_bodies items)
+  ends-with_bodies (ReturnAhead ∷ items) = ap (λ n. n + 1) (ends-with_bodies items)
   ends-with_bodies (DoAhead (Event event) ∷ items) = ends-with_bodies items
   ends-with_bodies (DoAhead (Body id) ∷ items) =
       ends_ahead-bytes (lease_bytes (lease_of id.0 t)) (with_bodies t items) ∙ ends-with_bodies items
@@ -62,6 +64,7 @@ module _ {E : Type 0} (t : Texts) where
   events-with_bodies (ByteAhead b ∷ items) = events-with_bodies items
   events-with_bodies (FreeAhead b ∷ items) = events-with_bodies items
   events-with_bodies (EndAhead ∷ items) = events-with_bodies items
+  events-with_bodies (ReturnAhead ∷ items) = events-with_bodies items
   events-with_bodies (DoAhead (Event event) ∷ items) = omega (arith, events-with_bodies items)
   events-with_bodies (DoAhead (Body id) ∷ items) =
       omega (arith, events-with_bodies items, events_ahead-bytes (lease_bytes (lease_of id.0 t)) (with_bodies t items))
@@ -72,6 +75,7 @@ module _ {E : Type 0} (t : Texts) where
   frees-with_bodies (ByteAhead b ∷ items) = frees-with_bodies items
   frees-with_bodies (FreeAhead b ∷ items) = ap (λ n. n + 1) (frees-with_bodies items)
   frees-with_bodies (EndAhead ∷ items) = frees-with_bodies items
+  frees-with_bodies (ReturnAhead ∷ items) = frees-with_bodies items
   frees-with_bodies (DoAhead (Event event) ∷ items) = frees-with_bodies items
   frees-with_bodies (DoAhead (Body id) ∷ items) =
       frees_ahead-bytes (lease_bytes (lease_of id.0 t)) (with_bodies t items) ∙ frees-with_bodies items
@@ -87,6 +91,7 @@ module _ {E : Type 0} (t : Texts) where
   none-with_bodies (ByteAhead b ∷ items) give = refl
   none-with_bodies (FreeAhead b ∷ items) give = refl
   none-with_bodies (EndAhead ∷ items) give = refl
+  none-with_bodies (ReturnAhead ∷ items) give = refl
   none-with_bodies (DoAhead (Event event) ∷ items) give = refl
   none-with_bodies (DoAhead (Body id) ∷ items) give =
       let gives : 0 < rest_of (lease_of id.0 t) = give 0 0 (omega arith) in
@@ -111,15 +116,23 @@ module _ {E : Type 0} where
   ended-frees [] items ended = ended
   ended-frees (b ∷ bytes) items ended = ended-frees bytes items ended
 
+  -- each body is counted by an end behind it, and where an end comes next, that one is left
+  bodies_counted : (items : List (Ahead (Frame E))) → AreEnded items
+      → length (leases_in items) + cond (is_end_next items) 1 0 ≤ ends_ahead items
+  bodies_counted [] ended = omega arith
+  bodies_counted (ByteAhead b ∷ items) ended = bodies_counted items ended
+  bodies_counted (FreeAhead b ∷ items) ended = omega (arith, bodies_counted items ended)
+  bodies_counted (EndAhead ∷ items) ended = omega (arith, bodies_counted items ended)
+  bodies_counted (ReturnAhead ∷ items) ended = omega (arith, bodies_counted items ended)
+  bodies_counted (DoAhead (Event event) ∷ items) ended = omega (arith, bodies_counted items ended)
+  bodies_counted (DoAhead (Body id) ∷ items) ended =
+      let left = rw ended.0 at (bodies_counted items ended.1) in omega (arith, left)
+
   -- there are no more bodies than ends
   pub bodies-few : (items : List (Ahead (Frame E))) → AreEnded items → length (leases_in items) ≤ ends_ahead items
-  bodies-few [] ended = omega arith
-  bodies-few (ByteAhead b ∷ items) ended = bodies-few items ended
-  bodies-few (FreeAhead b ∷ items) ended = bodies-few items ended
-  bodies-few (EndAhead ∷ items) ended = omega (arith, bodies-few items ended)
-  bodies-few (DoAhead (Event event) ∷ items) ended = bodies-few items ended
-  bodies-few (DoAhead (Body id) ∷ EndAhead ∷ items) ended = omega (arith, bodies-few items ended.1)
-  bodies-few (DoAhead (Body id) ∷ []) ended = let e = ended.0 in cc
-  bodies-few (DoAhead (Body id) ∷ ByteAhead b ∷ items) ended = let e = ended.0 in cc
-  bodies-few (DoAhead (Body id) ∷ FreeAhead b ∷ items) ended = let e = ended.0 in cc
-  bodies-few (DoAhead (Body id) ∷ DoAhead event ∷ items) ended = let e = ended.0 in cc
+  bodies-few items ended = omega (arith, bodies_counted items ended)
+
+  -- and fewer where an end comes next
+  pub bodies-fewer : (items : List (Ahead (Frame E))) → is_end_next items ≡ true → AreEnded items
+      → length (leases_in items) < ends_ahead items
+  bodies-fewer items next ended = let left = rw next at (bodies_counted items ended) in omega (arith, left)

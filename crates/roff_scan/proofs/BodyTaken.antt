@@ -121,6 +121,7 @@ module _ {E : Type 0} (t : Texts) (full s : Held (Frame E)) (id : LeaseId) (whol
           events = omega (arith, ap events_ahead ahead-passed, sound.events);
           frees = omega (arith, ap frees_ahead ahead-passed, sound.frees);
           small = sound.small;
+          store = sound.store;
         } in
         subst (λ (h : Held (Frame E)). IsSound {E = E} (record { slots = h; texts = u })) (sym whole) passed
 
@@ -168,6 +169,7 @@ module _ {E : Type 0} (t : Texts) (full s : Held (Frame E)) (id : LeaseId) (whol
           events = omega (arith, ap events_ahead (ahead-released one), sound.events);
           frees = omega (arith, ap frees_ahead (ahead-released one), sound.frees);
           small = sound.small;
+          store = sound.store;
         }
 
     -- and the byte was in front

@@ -1,13 +1,14 @@
 -- Which changes of the input a limit refuses.
-use Rattle.std.proofs.Common.{true, false, ap, None, ◌≡◌, ◌<◌, ◌≤◌, ◌+◌, ◌-◌, ℕ, List, ◌∷◌, Ok, Err, length, refl, arith}
+use Rattle.std.proofs.Common.{true, false, None, ◌≡◌, ◌<◌, ◌≤◌, ◌+◌, ◌-◌, ℕ, List, ◌∷◌, Ok, Err, length, refl, arith}
 use Rattle.std.specs.Prelude.{nat_lt, Bool, Option, Some, if◌then◌else◌}
 use Rattle.std.proofs.lemmas.Bool.Decides.{nat_tests}
 use Rattle.roff_num.specs.declared.limit.Limit.{Limit}
 use Rattle.roff_num.specs.declared.limit.Limit.TheVariants.{Stack, Depth, Store, Names}
 use Rattle.roff_scan.specs.Arguments.{Arguments, held}
 use Rattle.roff_scan.specs.Half.{Half, texts_held}
-use Rattle.roff_scan.specs.Input.{Input, EndAhead, pushed, depth, results, pushing, freeing, leaving, with_arguments, with_half, bytes_ahead, names_added, stored}
+use Rattle.roff_scan.specs.Input.{Input, EndAhead, pushed, depth, results, pushing, freeing, leaving, with_arguments, with_half, names_added, stored}
 use Rattle.roff_scan.specs.Unread.{Unread, IsWithin, changing, unless_passed}
+use Rattle.roff_scan.proofs.CallsOver.{kept_below-few}
 use Rattle.roff_scan.proofs.KeptArguments.{held-only_kept}
 use Rattle.roff_scan.proofs.Counts.{bytes_ahead-bytes, ends_ahead-bytes, bytes_ahead-frees, ends_ahead-frees}
 
@@ -31,16 +32,20 @@ module _ {E : Type 0} where
   depth-pushing text i = ends_ahead-bytes text (EndAhead ∷ i.ahead)
 
 module _ {E : Type 0} (u : Unread E) (i : Input E) where
-  -- the limit on the stack comes first
-  pub changing_past_stack : u.limits.stack < pushed i → changing i u ≡ (Err Stack, u)
-  changing_past_stack above = rw (is_above u.limits.stack (pushed i) above) refl
+  -- the counts beside those of what stands in front
+  pub record OthersWithin : Type 0 where
+    pub charge : i.charge ≤ u.limits.bytes
+    pub newlines : i.newlines ≤ i.charge
+    pub results : results i ≤ u.limits.conditions
+    pub stored : stored i ≤ u.limits.store
+    pub names : names_added i ≤ u.limits.names
+    pub making : length i.open_texts ≤ u.limits.diversions + 1
 
-  pub changing_past_depth : pushed i ≤ u.limits.stack → u.limits.depth < depth i → changing i u ≡ (Err Depth, u)
-  changing_past_depth within above = rw (not_above u.limits.stack (pushed i) within, is_above u.limits.depth (depth i) above) refl
-
-  -- then come those on the texts, of which the bytes and the names may be above theirs
-  pub changing_texts : pushed i ≤ u.limits.stack → depth i ≤ u.limits.depth → length i.open_texts ≤ u.limits.diversions + 1 → results i ≤ u.limits.conditions
-      → changing i u ≡ unless_passed (texts_refusal (nat_lt u.limits.store (stored i)) (nat_lt u.limits.names (names_added i))) i u
+  -- the limits on the texts come first, of which the bytes and the names may be above theirs
+  pub changing_texts : pushed i ≤ u.limits.stack → depth i ≤ u.limits.depth → length i.open_texts ≤ u.limits.diversions + 1
+      → results i ≤ u.limits.conditions
+      → changing i u
+      ≡ unless_passed (texts_refusal (nat_lt u.limits.store (stored i)) (nat_lt u.limits.names (names_added i))) i u
   changing_texts within inside making few =
       rw (
         not_above u.limits.stack (pushed i) within,
@@ -49,44 +54,108 @@ module _ {E : Type 0} (u : Unread E) (i : Input E) where
         not_above u.limits.conditions (results i) few,
       ) refl
 
-  pub changing_within : pushed i ≤ u.limits.stack → depth i ≤ u.limits.depth → results i ≤ u.limits.conditions
-      → stored i ≤ u.limits.store → names_added i ≤ u.limits.names → length i.open_texts ≤ u.limits.diversions + 1
-      → changing i u ≡ (Ok tt, record u { input = i })
-  changing_within within inside few bytes names making =
-      rw (
-        changing_texts within inside making few,
-        not_above u.limits.store (stored i) bytes,
-        not_above u.limits.names (names_added i) names,
-      ) refl
+  module _ (others : OthersWithin) where
+    -- then that on the stack, and that on the depth
+    pub changing_past_stack : u.limits.stack < pushed i → changing i u ≡ (Err Stack, u)
+    changing_past_stack above =
+        rw (
+          not_above u.limits.diversions (length i.open_texts - 1) (omega (arith, others.making)),
+          not_above u.limits.store (stored i) others.stored,
+          not_above u.limits.names (names_added i) others.names,
+          is_above u.limits.stack (pushed i) above,
+        ) refl
 
-module _ {E : Type 0} (u : Unread E) (text : List ℕ) (bytes : ℕ) (counted : bytes ≡ pushed u.input) where
+    pub changing_past_depth : pushed i ≤ u.limits.stack → u.limits.depth < depth i → changing i u ≡ (Err Depth, u)
+    changing_past_depth within above =
+        rw (
+          not_above u.limits.diversions (length i.open_texts - 1) (omega (arith, others.making)),
+          not_above u.limits.store (stored i) others.stored,
+          not_above u.limits.names (names_added i) others.names,
+          not_above u.limits.stack (pushed i) within,
+          is_above u.limits.depth (depth i) above,
+        ) refl
+
+    pub changing_within : pushed i ≤ u.limits.stack → depth i ≤ u.limits.depth → changing i u ≡ (Ok tt, record u { input = i })
+    changing_within within inside =
+        rw (
+          changing_texts within inside others.making others.results,
+          not_above u.limits.store (stored i) others.stored,
+          not_above u.limits.names (names_added i) others.names,
+        ) refl
+
+    pub IsWithin-others : pushed i ≤ u.limits.stack → depth i ≤ u.limits.depth → IsWithin (record u { input = i })
+    IsWithin-others within inside = record {
+      charge = others.charge;
+      newlines = others.newlines;
+      pushed = within;
+      depth = inside;
+      results = others.results;
+      stored = others.stored;
+      names = others.names;
+      making = others.making;
+    }
+
+    -- so many bytes more stand in front, and an end
+    module _ (more bytes : ℕ) (counted : bytes ≡ pushed u.input) (longer : pushed i ≡ more + pushed u.input)
+        (deeper : depth i ≡ depth u.input + 1) where
+      -- bytes that don't fit are refused
+      pub put_past_stack : u.limits.stack - bytes < more → changing i u ≡ (Err Stack, u)
+      put_past_stack above = changing_past_stack (omega (arith, above, counted, longer))
+
+      module _ (before : pushed u.input ≤ u.limits.stack) (fits : more ≤ u.limits.stack - bytes) where
+        stack_within : pushed i ≤ u.limits.stack
+        stack_within = omega (arith, before, fits, counted, longer)
+
+        -- an end that doesn't fit is refused
+        pub put_past_depth : u.limits.depth ≤ depth u.input → changing i u ≡ (Err Depth, u)
+        put_past_depth above = changing_past_depth stack_within (omega (arith, above, deeper))
+
+        -- and bytes and an end that fit are put there
+        pub put_within : depth u.input < u.limits.depth → changing i u ≡ (Ok tt, record u { input = i })
+        put_within inside = changing_within stack_within (omega (arith, inside, deeper))
+
+        pub IsWithin-put : depth u.input < u.limits.depth → IsWithin (record u { input = i })
+        IsWithin-put inside = IsWithin-others stack_within (omega (arith, inside, deeper))
+
+module _ {E : Type 0} (u : Unread E) (text : List ℕ) (within : IsWithin u) (bytes : ℕ) (counted : bytes ≡ pushed u.input) where
+  others-pushing : OthersWithin u (pushing text u.input)
+  others-pushing = record {
+    charge = within.charge;
+    newlines = within.newlines;
+    results = within.results;
+    stored = within.stored;
+    names = within.names;
+    making = within.making;
+  }
+
   -- a text that doesn't fit is refused
   pub push_past_stack : u.limits.stack - bytes < length text → changing (pushing text u.input) u ≡ (Err Stack, u)
-  push_past_stack above = changing_past_stack u (pushing text u.input) (rw (pushed-pushing text u.input) (omega (arith, above, counted)))
+  push_past_stack above =
+      put_past_stack u (pushing text u.input) others-pushing (length text) bytes counted (pushed-pushing text u.input)
+      (depth-pushing text u.input) above
 
-  module _ (within : IsWithin u) (fits : length text ≤ u.limits.stack - bytes) where
-    -- what is pushed then
-    stack_within : pushed (pushing text u.input) ≤ u.limits.stack
-    stack_within = rw (pushed-pushing text u.input) (omega (arith, fits, within.pushed, counted))
-
+  module _ (fits : length text ≤ u.limits.stack - bytes) where
     -- an end that doesn't fit is refused
     pub push_past_depth : u.limits.depth ≤ depth u.input → changing (pushing text u.input) u ≡ (Err Depth, u)
-    push_past_depth above = changing_past_depth u (pushing text u.input) stack_within (rw (depth-pushing text u.input) (omega (arith, above)))
+    push_past_depth above =
+        put_past_depth u (pushing text u.input) others-pushing (length text) bytes counted (pushed-pushing text u.input)
+        (depth-pushing text u.input) within.pushed fits above
 
     module _ (inside : depth u.input < u.limits.depth) where
       -- and a text and an end that fit are pushed
-      depth_within : depth (pushing text u.input) ≤ u.limits.depth
-      depth_within = rw (depth-pushing text u.input) (omega (arith, inside))
-
       pub push_within : changing (pushing text u.input) u ≡ (Ok tt, record u { input = pushing text u.input })
-      push_within = changing_within u (pushing text u.input) stack_within depth_within within.results within.stored within.names within.making
+      push_within =
+          put_within u (pushing text u.input) others-pushing (length text) bytes counted (pushed-pushing text u.input)
+          (depth-pushing text u.input) within.pushed fits inside
 
       pub IsWithin-pushing : IsWithin (record u { input = pushing text u.input })
       IsWithin-pushing =
-          record { charge = within.charge; newlines = within.newlines; pushed = stack_within; depth = depth_within; results = within.results; stored = within.stored; names = within.names; making = within.making }
+          IsWithin-put u (pushing text u.input) others-pushing (length text) bytes counted (pushed-pushing text u.input)
+          (depth-pushing text u.input) within.pushed fits inside
 
 -- bytes in front again count nowhere
-pub IsWithin-freeing : {E : Type 0} (u : Unread E) (bytes : List ℕ) → IsWithin u → IsWithin (record u { input = freeing bytes u.input })
+pub IsWithin-freeing : {E : Type 0} (u : Unread E) (bytes : List ℕ) → IsWithin u
+    → IsWithin (record u { input = freeing bytes u.input })
 IsWithin-freeing u bytes within = record {
   charge = within.charge;
   newlines = within.newlines;
@@ -98,19 +167,15 @@ IsWithin-freeing u bytes within = record {
   making = within.making;
 }
 
-module _ {E : Type 0} (u : Unread E) (a : Arguments) where
+module _ {E : Type 0} (u : Unread E) (a : Arguments) (within : IsWithin u) where
   -- what isn't kept of arguments holds no bytes
-  pushed-with_arguments : pushed (with_arguments a u.input) ≡ bytes_ahead u.input.ahead + held a + texts_held u.input.half
-  pushed-with_arguments = ap (λ bytes. bytes_ahead u.input.ahead + bytes + texts_held u.input.half) (held-only_kept a)
+  pushed-with_arguments : pushed (with_arguments a u.input) + held u.input.arguments ≡ pushed u.input + held a
+  pushed-with_arguments = omega (arith, held-only_kept a)
 
-  -- other arguments that fit
-  pub IsWithin-with_arguments : IsWithin u → bytes_ahead u.input.ahead + held a + texts_held u.input.half ≤ u.limits.stack
-      → IsWithin (record u { input = with_arguments a u.input })
-  IsWithin-with_arguments within fits = record {
+  others-with_arguments : OthersWithin u (with_arguments a u.input)
+  others-with_arguments = record {
     charge = within.charge;
     newlines = within.newlines;
-    pushed = rw pushed-with_arguments fits;
-    depth = within.depth;
     results = within.results;
     stored = within.stored;
     names = within.names;
@@ -118,48 +183,58 @@ module _ {E : Type 0} (u : Unread E) (a : Arguments) where
   }
 
   -- arguments with no more bytes
-  pub IsWithin-same_held : IsWithin u → held a ≡ held u.input.arguments → IsWithin (record u { input = with_arguments a u.input })
-  IsWithin-same_held within same = IsWithin-with_arguments within (rw same within.pushed)
+  pub IsWithin-same_held : held a ≡ held u.input.arguments → IsWithin (record u { input = with_arguments a u.input })
+  IsWithin-same_held same =
+      IsWithin-others u (with_arguments a u.input) others-with_arguments
+      (omega (arith, pushed-with_arguments, same, within.pushed)) within.depth
 
   module _ (bytes more : ℕ) (counted : bytes ≡ pushed u.input) (longer : held a ≡ held u.input.arguments + more) where
     -- arguments that don't fit are refused
     pub hold_past_stack : u.limits.stack - bytes < more → changing (with_arguments a u.input) u ≡ (Err Stack, u)
-    hold_past_stack above = changing_past_stack u (with_arguments a u.input) (rw pushed-with_arguments (omega (arith, above, counted, longer)))
+    hold_past_stack above =
+        changing_past_stack u (with_arguments a u.input) others-with_arguments
+        (omega (arith, above, pushed-with_arguments, counted, longer))
 
-    module _ (within : IsWithin u) (fits : more ≤ u.limits.stack - bytes) where
-      held_within : bytes_ahead u.input.ahead + held a + texts_held u.input.half ≤ u.limits.stack
-      held_within = omega (arith, fits, counted, longer, within.pushed)
+    module _ (fits : more ≤ u.limits.stack - bytes) where
+      held_within : pushed (with_arguments a u.input) ≤ u.limits.stack
+      held_within = omega (arith, fits, pushed-with_arguments, counted, longer, within.pushed)
 
       -- and those that fit are held
       pub hold_within : changing (with_arguments a u.input) u ≡ (Ok tt, record u { input = with_arguments a u.input })
-      hold_within = changing_within u (with_arguments a u.input) (rw pushed-with_arguments held_within) within.depth within.results within.stored within.names within.making
+      hold_within = changing_within u (with_arguments a u.input) others-with_arguments held_within within.depth
 
       pub IsWithin-holding : IsWithin (record u { input = with_arguments a u.input })
-      IsWithin-holding = IsWithin-with_arguments within held_within
+      IsWithin-holding = IsWithin-others u (with_arguments a u.input) others-with_arguments held_within within.depth
 
 -- a text of the line, of which one unit more is held
-module _ {E : Type 0} (u : Unread E) (a : Arguments) (bytes more : ℕ) (counted : bytes ≡ pushed u.input) (longer : held a ≡ held u.input.arguments + more) where
+module _ {E : Type 0} (u : Unread E) (a : Arguments) (within : IsWithin u) (bytes more : ℕ) (counted : bytes ≡ pushed u.input)
+    (longer : held a ≡ held u.input.arguments + more) where
+  others-plain : OthersWithin u (record u.input { arguments = a })
+  others-plain = record {
+    charge = within.charge;
+    newlines = within.newlines;
+    results = within.results;
+    stored = within.stored;
+    names = within.names;
+    making = within.making;
+  }
+
   -- one that doesn't fit is refused
   pub plain_past_stack : u.limits.stack - bytes < more → changing (record u.input { arguments = a }) u ≡ (Err Stack, u)
-  plain_past_stack above = changing_past_stack u (record u.input { arguments = a }) (omega (arith, above, counted, longer))
+  plain_past_stack above =
+      changing_past_stack u (record u.input { arguments = a }) others-plain (omega (arith, above, counted, longer))
 
-  module _ (within : IsWithin u) (fits : more ≤ u.limits.stack - bytes) where
+  module _ (fits : more ≤ u.limits.stack - bytes) where
+    plain_pushed : pushed (record u.input { arguments = a }) ≤ u.limits.stack
+    plain_pushed = omega (arith, fits, counted, longer, within.pushed)
+
     pub IsWithin-plain : IsWithin (record u { input = record u.input { arguments = a } })
-    IsWithin-plain = record {
-      charge = within.charge;
-      newlines = within.newlines;
-      pushed = omega (arith, fits, counted, longer, within.pushed);
-      depth = within.depth;
-      results = within.results;
-      stored = within.stored;
-      names = within.names;
-      making = within.making;
-    }
+    IsWithin-plain = IsWithin-others u (record u.input { arguments = a }) others-plain plain_pushed within.depth
 
     -- and one that fits is held
-    pub plain_within : changing (record u.input { arguments = a }) u ≡ (Ok tt, record u { input = record u.input { arguments = a } })
-    plain_within =
-        changing_within u (record u.input { arguments = a }) IsWithin-plain.pushed within.depth within.results within.stored within.names within.making
+    pub plain_within :
+        changing (record u.input { arguments = a }) u ≡ (Ok tt, record u { input = record u.input { arguments = a } })
+    plain_within = changing_within u (record u.input { arguments = a }) others-plain plain_pushed within.depth
 
 -- where nothing stands ahead
 pub IsWithin-leaving : {E : Type 0} (u : Unread E) → IsWithin u → IsWithin (record u { input = leaving u.input })
@@ -168,7 +243,7 @@ IsWithin-leaving u within = record {
   newlines = within.newlines;
   pushed = omega (arith, within.pushed);
   depth = omega arith;
-  results = within.results;
+  results = omega (arith, kept_below-few 1 u.input.kept, within.results);
   stored = within.stored;
   names = within.names;
   making = within.making;
@@ -176,6 +251,16 @@ IsWithin-leaving u within = record {
 
 -- where no more is held of texts between delimiters
 pub IsWithin-with_half :
-    {E : Type 0} (u : Unread E) (half : List Half) → IsWithin u → texts_held half ≤ texts_held u.input.half → IsWithin (record u { input = with_half half u.input })
+    {E : Type 0} (u : Unread E) (half : List Half) → IsWithin u → texts_held half ≤ texts_held u.input.half
+    → IsWithin (record u { input = with_half half u.input })
 IsWithin-with_half u half within fewer =
-    record { charge = within.charge; newlines = within.newlines; pushed = omega (arith, within.pushed, fewer); depth = within.depth; results = within.results; stored = within.stored; names = within.names; making = within.making }
+    record {
+      charge = within.charge;
+      newlines = within.newlines;
+      pushed = omega (arith, within.pushed, fewer);
+      depth = within.depth;
+      results = within.results;
+      stored = within.stored;
+      names = within.names;
+      making = within.making;
+    }

@@ -2,11 +2,11 @@
 use Rattle.std.proofs.Common.{◌≡◌, ◌<◌, ◌≤◌, ◌+◌, ℕ, zero, suc, List, [], ◌∷◌, ◌++◌, length, map, take, drop, refl, sym, arith, length-drop, zero-add}
 use Rattle.std.specs.Prelude.{reverse, replicate}
 use Rattle.std.proofs.lemmas.List.{length-reverse, length-take-le}
-use Rattle.roff_scan.specs.Input.{Ahead, ByteAhead, FreeAhead, EndAhead, bytes_ahead, ends_ahead, events_ahead, frees_ahead}
+use Rattle.roff_scan.specs.Input.{Ahead, ByteAhead, FreeAhead, EndAhead, ReturnAhead, DoAhead, bytes_ahead, ends_ahead, events_ahead, frees_ahead, returns_ahead}
 use Rattle.roff_scan.specs.Slots.Standing.{standing, items_of, IsStacked}
 use Rattle.roff_scan.specs.declared.slots.Slot.{Slot}
 use Rattle.roff_scan.specs.declared.slots.Mark.{Mark}
-use Rattle.roff_scan.specs.declared.slots.Mark.TheVariants.{Ends, Free, Do}
+use Rattle.roff_scan.specs.declared.slots.Mark.TheVariants.{Ends, Return, Free, Do}
 
 module _ {E : Type 0} where
   -- bytes of texts, in front of other items
@@ -26,6 +26,10 @@ module _ {E : Type 0} where
   frees_ahead-bytes [] items = refl
   frees_ahead-bytes (b ∷ text) items = frees_ahead-bytes text items
 
+  pub returns_ahead-bytes : (text : List ℕ) (items : List (Ahead E)) → returns_ahead (map ByteAhead text ++ items) ≡ returns_ahead items
+  returns_ahead-bytes [] items = refl
+  returns_ahead-bytes (b ∷ text) items = returns_ahead-bytes text items
+
   -- bytes in front again, in front of other items
   pub frees_ahead-frees : (bytes : List ℕ) (items : List (Ahead E)) → frees_ahead (map FreeAhead bytes ++ items) ≡ length bytes + frees_ahead items
   frees_ahead-frees [] items = sym (zero-add (frees_ahead items))
@@ -43,6 +47,19 @@ module _ {E : Type 0} where
   events_ahead-frees [] items = refl
   events_ahead-frees (b ∷ bytes) items = events_ahead-frees bytes items
 
+  pub returns_ahead-frees : (bytes : List ℕ) (items : List (Ahead E)) → returns_ahead (map FreeAhead bytes ++ items) ≡ returns_ahead items
+  returns_ahead-frees [] items = refl
+  returns_ahead-frees (b ∷ bytes) items = returns_ahead-frees bytes items
+
+  -- the end of a called body is an end
+  pub returns-few : (items : List (Ahead E)) → returns_ahead items ≤ ends_ahead items
+  returns-few [] = omega arith
+  returns-few (ByteAhead b ∷ items) = returns-few items
+  returns-few (FreeAhead b ∷ items) = returns-few items
+  returns-few (EndAhead ∷ items) = omega (arith, returns-few items)
+  returns-few (ReturnAhead ∷ items) = omega (arith, returns-few items)
+  returns-few (DoAhead event ∷ items) = returns-few items
+
   -- ends have no bytes
   bytes_ahead-ends : (n : ℕ) (items : List (Ahead E)) → bytes_ahead (replicate n EndAhead ++ items) ≡ bytes_ahead items
   bytes_ahead-ends zero items = refl
@@ -51,6 +68,7 @@ module _ {E : Type 0} where
   -- and no mark has any
   bytes_ahead-mark : (mark : Mark E) (items : List (Ahead E)) → bytes_ahead (items_of mark ++ items) ≡ bytes_ahead items
   bytes_ahead-mark (Ends more) items = bytes_ahead-ends more items
+  bytes_ahead-mark Return items = refl
   bytes_ahead-mark (Free b) items = refl
   bytes_ahead-mark (Do event) items = refl
 
@@ -84,6 +102,7 @@ module _ {E : Type 0} where
   marks-mark : (mark : Mark E) (items : List (Ahead E)) → marks items + 1 ≤ marks (items_of mark ++ items)
   unfolding marks
   marks-mark (Ends more) items = omega (arith, ends_ahead-ends more items, frees_ahead-ends more items, events_ahead-ends more items)
+  marks-mark Return items = omega arith
   marks-mark (Free b) items = omega arith
   marks-mark (Do event) items = omega arith
 

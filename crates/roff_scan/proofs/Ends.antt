@@ -2,7 +2,7 @@
 use Rattle.std.proofs.Common.{◌≡◌, ℕ, ◌+◌, ◌-◌, ◌≤◌, List, [], ◌∷◌, ◌++◌, length, take, drop, zero, suc, refl, sym, ◌∙◌, ap, arith, length-drop}
 use Rattle.std.specs.Prelude.{slice_get, Some, None}
 use Rattle.std.specs.List.{slice_range}
-use Rattle.std.proofs.lemmas.List.{take-append-le, drop-append-le, take_rest, length-take-le}
+use Rattle.std.proofs.lemmas.List.{take-append-le, drop-append-le, take-append-drop, take_rest, length-take-le}
 use Rattle.roff_scan.specs.Arguments.{total_length}
 use Rattle.roff_scan.specs.ArgumentTexts.Ends.{texts_ending, last_end, EndWithin}
 
@@ -14,6 +14,11 @@ EndWithin-first len from (end ∷ ends) within = omega (arith, within.0, EndWith
 pub EndWithin-last : (len from : ℕ) (ends : List ℕ) → EndWithin len from ends → last_end from ends ≤ len
 EndWithin-last len from [] within = within
 EndWithin-last len from (end ∷ ends) within = EndWithin-last len end ends within.1
+
+-- they are within the bytes up to the last of them
+EndWithin-own : (len from : ℕ) (ends : List ℕ) → EndWithin len from ends → EndWithin (last_end from ends) from ends
+EndWithin-own len from [] within = omega arith
+EndWithin-own len from (end ∷ ends) within = (within.0, EndWithin-own len end ends within.1)
 
 -- they are within more bytes
 pub EndWithin-more : (len more from : ℕ) (ends : List ℕ) → len ≤ more → EndWithin len from ends → EndWithin more from ends
@@ -112,3 +117,19 @@ EndWithin-at len from (e ∷ ends) zero end within is =
     let same : e ≡ end = cc in
     (omega (arith, within.0), omega (arith, EndWithin-first len e ends within.1))
 EndWithin-at len from (e ∷ ends) (suc index) end within is = EndWithin-at len e ends index end within.1 is
+
+-- the bytes up to the last end are as many as it says, and the texts lie within them
+module _ (block ends : List ℕ) (within : EndWithin (length block) 0 ends) where
+  pub length-up_to_last : length (take (last_end 0 ends) block) ≡ last_end 0 ends
+  length-up_to_last = length-take-le (last_end 0 ends) block (EndWithin-last (length block) 0 ends within)
+
+  pub EndWithin-up_to_last : EndWithin (length (take (last_end 0 ends) block)) 0 ends
+  EndWithin-up_to_last = rw length-up_to_last (EndWithin-own (length block) 0 ends within)
+
+  pub texts_ending-up_to_last : texts_ending (take (last_end 0 ends) block) 0 ends ≡ texts_ending block 0 ends
+  texts_ending-up_to_last =
+      sym (texts_ending-append_block (take (last_end 0 ends) block) (drop (last_end 0 ends) block) 0 ends EndWithin-up_to_last)
+      ∙ ap (λ (bytes : List ℕ). texts_ending bytes 0 ends) (take-append-drop (last_end 0 ends) block)
+
+  pub total_length-up_to_last : length (take (last_end 0 ends) block) ≡ total_length (texts_ending block 0 ends)
+  total_length-up_to_last = omega (arith, length-up_to_last, total_length-texts_ending block 0 ends within)

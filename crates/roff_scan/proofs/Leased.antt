@@ -4,7 +4,7 @@ use Rattle.std.specs.Prelude.{Option, AllPairs}
 use Rattle.std.proofs.lemmas.List.{get_or-set_same, get_or-set_other}
 use Rattle.std.proofs.lemmas.List.Elements.{All-tail}
 use Rattle.std.proofs.lemmas.List.Sums.{sum_by-set}
-use Rattle.roff_scan.specs.Input.{Ahead, ByteAhead, FreeAhead, EndAhead, DoAhead}
+use Rattle.roff_scan.specs.Input.{Ahead, ByteAhead, FreeAhead, EndAhead, ReturnAhead, DoAhead}
 use Rattle.roff_scan.specs.Frames.Bodies.{leases_in, with_bodies}
 use Rattle.roff_scan.specs.declared.frames.Frame.{Frame}
 use Rattle.roff_scan.specs.declared.frames.Frame.TheVariants.{Event, Body}
@@ -42,6 +42,8 @@ with_bodies-same {E} t u (FreeAhead b ∷ items) same =
     ap (λ (rest : List (Ahead E)). FreeAhead b ∷ rest) (with_bodies-same t u items same)
 with_bodies-same {E} t u (EndAhead ∷ items) same =
     ap (λ (rest : List (Ahead E)). EndAhead ∷ rest) (with_bodies-same t u items same)
+with_bodies-same {E} t u (ReturnAhead ∷ items) same =
+    ap (λ (rest : List (Ahead E)). ReturnAhead ∷ rest) (with_bodies-same t u items same)
 with_bodies-same {E} t u (DoAhead (Event event) ∷ items) same =
     ap (λ (rest : List (Ahead E)). DoAhead event ∷ rest) (with_bodies-same t u items same)
 with_bodies-same {E} t u (DoAhead (Body id) ∷ items) same =

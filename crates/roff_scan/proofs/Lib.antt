@@ -10,10 +10,14 @@ pub mod KeptArguments
 pub mod Settling
 pub mod Ends
 pub mod ArgumentBlock
+pub mod CallStack
 pub mod QuotedArguments
 pub mod Asking
 pub mod Changing
 pub mod Calling
+pub mod LineCalls
+pub mod CallsOver
+pub mod LastBytes
 pub mod Counts
 pub mod Pushing
 pub mod Standing

@@ -1,17 +1,17 @@
--- A body is leased, and put in front with its end.
+-- A body is leased, and put in front.
 use Rattle.std.proofs.Common.{◌≡◌, ◌≢◌, ◌<◌, ◌≤◌, ◌+◌, ◌*◌, ℕ, zero, suc, Bool, true, false, cond, List, [], ◌∷◌, ◌++◌, length, map, get_or, refl, sym, ap, ◌∙◌, subst, arith, All, Some, None, is_some}
 use Rattle.std.specs.Prelude.{Option, AllPairs, set, sum_by, ◌==◌, if◌then◌else◌}
 use Rattle.std.proofs.lemmas.Bool.Decides.{nat_tests}
 use Rattle.std.proofs.lemmas.List.{get_or_append_left, get_or_push, get_or-set_same, get_or-set_other}
 use Rattle.std.proofs.lemmas.List.Sums.{sum_by-cons, sum_by-set, sum_by_push}
-use Rattle.roff_scan.specs.Input.{Ahead, ByteAhead, EndAhead, DoAhead, bytes_ahead, ends_ahead, events_ahead}
+use Rattle.roff_scan.specs.Input.{Ahead, ByteAhead, DoAhead, bytes_ahead, events_ahead}
 use Rattle.roff_scan.specs.Frames.Bodies.{leases_in, with_bodies}
-use Rattle.roff_scan.specs.Frames.Kept.{Framed, Gives, IsSound, kept_by}
-use Rattle.roff_scan.specs.Slots.Held.{Held}
+use Rattle.roff_scan.specs.Frames.Calls.{PutsBytes}
+use Rattle.roff_scan.specs.Frames.Kept.{Gives, IsSound, is_end_next, kept_by}
 use Rattle.roff_scan.specs.declared.frames.Frame.{Frame}
 use Rattle.roff_scan.specs.declared.frames.Frame.TheVariants.{Body}
 use Rattle.roff_scan.specs.declared.frames.Frames.TheInside.{Inside}
-use Rattle.roff_scan.proofs.Bodies.{bodies-few, bytes-with_bodies, ends-with_bodies, events-with_bodies}
+use Rattle.roff_scan.proofs.Bodies.{bodies-fewer, bytes-with_bodies, ends-with_bodies, events-with_bodies}
 use Rattle.roff_scan.proofs.Counts.{bytes_ahead-bytes, ends_ahead-bytes, events_ahead-bytes, frees_ahead-bytes}
 use Rattle.roff_scan.proofs.Leased.{with_bodies-same}
 use Rattle.roff_store.proofs.LyingSums.{sum_by-same}
@@ -48,37 +48,37 @@ inside-giving [] id gives = absurd (omega (arith, gives))
 inside-giving (lease ∷ leases) zero gives = omega arith
 inside-giving (lease ∷ leases) (suc id) gives = let n = inside-giving leases id gives in omega arith
 
-module _ {E : Type 0} (a : Inside E) (f : Framed E) (sound : IsSound a) (is : kept_by a ≡ f) (name : List ℕ)
-    (fits : length (body_of name f.texts) + bytes_ahead f.ahead ≤ f.most_bytes) (few : ends_ahead f.ahead < f.most_texts) where
-  -- what is asked, of the fields
-  fits_inside : length (body_of name a.texts) + bytes_ahead (kept_by a).ahead ≤ a.slots.most_bytes
-  fits_inside = subst (λ (f : Framed E). length (body_of name f.texts) + bytes_ahead f.ahead ≤ f.most_bytes) (sym is) fits
-
-  few_inside : ends_ahead (kept_by a).ahead < a.slots.most_texts
-  few_inside = subst (λ (f : Framed E). ends_ahead f.ahead < f.most_texts) (sym is) few
-
-  -- there is room for the bytes, the end and the lease
-  pub room-for-bytes : 0 + bytes_ahead a.slots.ahead ≤ a.slots.most_bytes
-  room-for-bytes = omega (arith, sound.bytes, bytes-with_bodies a.texts a.slots.ahead)
-
-  pub room-for-end : ends_ahead a.slots.ahead < a.slots.most_texts
-  room-for-end = omega (arith, few_inside, ends-with_bodies a.texts a.slots.ahead)
-
+module _ {E : Type 0} (a : Inside E) (sound : IsSound a) (name : List ℕ) (ended : is_end_next a.slots.ahead ≡ true)
+    (fits : length (body_of name a.texts) + bytes_ahead (kept_by a).ahead ≤ a.slots.most_bytes) where
+  -- there is room for the lease and the bytes
   pub room-for-lease : live a.texts < a.texts.cap_leases
   room-for-lease =
-      omega (arith, room-for-end, bodies-few a.slots.ahead sound.ended, sound.live, sound.cap_leases)
+      omega (
+        arith,
+        sound.ends,
+        ends-with_bodies a.texts a.slots.ahead,
+        bodies-fewer a.slots.ahead ended sound.ended,
+        sound.live,
+        sound.cap_leases,
+      )
 
   pub room-for-body : kept a.texts + length (body_of name a.texts) ≤ a.texts.cap_kept
-  room-for-body =
-      omega (arith, fits_inside, bytes-with_bodies a.texts a.slots.ahead, sound.sum, sound.cap_kept)
+  room-for-body = omega (arith, fits, bytes-with_bodies a.texts a.slots.ahead, sound.sum, sound.cap_kept)
 
   pub room-for-mark : events_ahead a.slots.ahead < 4 * (a.slots.most_texts + 1)
   room-for-mark =
-      omega (arith, room-for-end, bodies-few a.slots.ahead sound.ended, sound.events, events-with_bodies a.texts a.slots.ahead)
+      omega (
+        arith,
+        sound.ends,
+        ends-with_bodies a.texts a.slots.ahead,
+        bodies-fewer a.slots.ahead ended sound.ended,
+        sound.events,
+        events-with_bodies a.texts a.slots.ahead,
+      )
 
   module _ (some : 0 < length (body_of name a.texts)) (id : LeaseId) (free : IsFree id.0 a.texts) where
     abbrev items : List (Ahead (Frame E))
-    items = DoAhead (Body id) ∷ EndAhead ∷ a.slots.ahead
+    items = DoAhead (Body id) ∷ a.slots.ahead
 
     abbrev leased : Texts
     leased = after (Lease name id.0) a.texts
@@ -105,11 +105,10 @@ module _ {E : Type 0} (a : Inside E) (f : Framed E) (sound : IsSound a) (is : ke
         ap (λ n. rest_of (lease_of n a.texts)) (sym same) ∙ ap rest_of free.free in
         omega (arith, gives, none)
 
-    pub stands : with_bodies leased items
-        ≡ map ByteAhead (body_of name a.texts) ++ EndAhead ∷ with_bodies a.texts a.slots.ahead
+    stands : with_bodies leased items ≡ map ByteAhead (body_of name a.texts) ++ with_bodies a.texts a.slots.ahead
     stands =
-        ap (λ (lease : Option (List ℕ)). map ByteAhead (lease_bytes lease) ++ EndAhead ∷ with_bodies leased a.slots.ahead) now
-        ∙ ap (λ (rest : List (Ahead E)). map ByteAhead (body_of name a.texts) ++ EndAhead ∷ rest)
+        ap (λ (lease : Option (List ℕ)). map ByteAhead (lease_bytes lease) ++ with_bodies leased a.slots.ahead) now
+        ∙ ap (λ (rest : List (Ahead E)). map ByteAhead (body_of name a.texts) ++ rest)
         (with_bodies-same a.texts leased a.slots.ahead others)
 
     abbrev inside : Inside E
@@ -143,9 +142,9 @@ module _ {E : Type 0} (a : Inside E) (f : Framed E) (sound : IsSound a) (is : ke
     once-leased (suc i) zero d before within = absurd (omega (arith, before))
     once-leased (suc i) (suc j) d before within = sound.once i j d (omega (arith, before)) (omega (arith, within))
 
-    pub sound-leased : IsSound inside
+    sound-leased : IsSound inside
     sound-leased = record {
-      ended = (refl, sound.ended);
+      ended = (ended, sound.ended);
       give = gives-leased;
       once = once-leased;
       live = omega (arith, live-leased, sound.live);
@@ -161,27 +160,22 @@ module _ {E : Type 0} (a : Inside E) (f : Framed E) (sound : IsSound a) (is : ke
           );
       cap_leases = sound.cap_leases;
       cap_kept = sound.cap_kept;
-      bytes = rw (stands, bytes_ahead-bytes (body_of name a.texts) (EndAhead ∷ with_bodies a.texts a.slots.ahead)) fits_inside;
-      ends = rw (stands, ends_ahead-bytes (body_of name a.texts) (EndAhead ∷ with_bodies a.texts a.slots.ahead))
-          (omega (arith, few_inside));
-      events =
-          rw (stands, events_ahead-bytes (body_of name a.texts) (EndAhead ∷ with_bodies a.texts a.slots.ahead)) sound.events;
-      frees = rw (stands, frees_ahead-bytes (body_of name a.texts) (EndAhead ∷ with_bodies a.texts a.slots.ahead)) sound.frees;
+      bytes = rw (stands, bytes_ahead-bytes (body_of name a.texts) (with_bodies a.texts a.slots.ahead)) fits;
+      ends = rw (stands, ends_ahead-bytes (body_of name a.texts) (with_bodies a.texts a.slots.ahead)) sound.ends;
+      events = rw (stands, events_ahead-bytes (body_of name a.texts) (with_bodies a.texts a.slots.ahead)) sound.events;
+      frees = rw (stands, frees_ahead-bytes (body_of name a.texts) (with_bodies a.texts a.slots.ahead)) sound.frees;
       small = sound.small;
+      store = sound.store;
     }
 
-    pub kept-by-leased : kept_by inside
-        ≡ record f { ahead = map ByteAhead (body_of name f.texts) ++ EndAhead ∷ f.ahead }
-    kept-by-leased =
-        subst (λ (f : Framed E). kept_by inside
-        ≡ record f { ahead = map ByteAhead (body_of name f.texts) ++ EndAhead ∷ f.ahead }) is
-        (ap (λ (ahead : List (Ahead E)). record (kept_by a) { ahead = ahead }) stands)
+    -- so its bytes are put in front
+    pub PutsBytes-leased : PutsBytes a inside (body_of name a.texts)
+    PutsBytes-leased = record {
+      sound = sound-leased;
+      kept = ap (λ (ahead : List (Ahead E)). record (kept_by a) { ahead = ahead }) stands;
+    }
 
-    -- the same of fields that are the same
-    pub kept-by-pushed : (slots : Held (Frame E)) (texts : Texts) → slots ≡ record a.slots { ahead = items } → texts ≡ leased
-        → kept_by (record a { slots = slots; texts = texts })
-        ≡ record f { ahead = map ByteAhead (body_of name f.texts) ++ EndAhead ∷ f.ahead }
-    kept-by-pushed slots texts slots_are texts_are =
-        ap (λ (s : Held (Frame E)). kept_by (record a { slots = s; texts = texts })) slots_are
-        ∙ ap (λ (t : Texts). kept_by (record inside { texts = t })) texts_are
-        ∙ kept-by-leased
+-- a body without bytes changes nothing
+pub PutsBytes-none : {E : Type 0} (a : Inside E) (bytes : List ℕ) → length bytes ≡ 0 → IsSound a → PutsBytes a a bytes
+PutsBytes-none a [] none sound = record { sound = sound; kept = refl }
+PutsBytes-none a (b ∷ bytes) none sound = absurd (omega (arith, none))

@@ -1,5 +1,5 @@
 -- Texts and bytes are put in front of what slots hold.
-use Rattle.std.proofs.Common.{◌≡◌, ◌<◌, ◌≤◌, ◌+◌, ℕ, List, ◌∷◌, ◌++◌, length, length-append, map, refl, arith}
+use Rattle.std.proofs.Common.{◌≡◌, ◌<◌, ◌≤◌, ◌+◌, ℕ, List, [], ◌∷◌, ◌++◌, length, length-append, map, refl, arith}
 use Rattle.std.specs.Prelude.{reverse}
 use Rattle.std.proofs.lemmas.List.{length-reverse}
 use Rattle.roff_scan.specs.Input.{ByteAhead, FreeAhead, EndAhead, bytes_ahead, ends_ahead, frees_ahead, most_frees}
@@ -25,6 +25,16 @@ module _ {E : Type 0} where
     pub IsStacked-pushed : IsStacked (reverse new) (length more)
     IsStacked-pushed = IsStacked-more (reverse new) (length seen) (length more) some_reversed (rw (longer, same, length-append) (omega arith)) stacked
 
+  module _ (slots : List (Slot E)) (bytes more : List ℕ) (b : ℕ) (longer : more ≡ bytes ++ b ∷ [])
+      (some : 0 < length slots) (stacked : IsStacked slots (length bytes)) where
+    -- a byte was put in front
+    pub standing-one : standing slots more ≡ ByteAhead b ∷ standing slots bytes
+    standing-one = rw longer (standing-text slots bytes (b ∷ []) some stacked)
+
+    -- the heights are in order
+    pub IsStacked-one : IsStacked slots (length more)
+    IsStacked-one = IsStacked-more slots (length bytes) (length more) some (rw (longer, length-append) (omega arith)) stacked
+
   -- there is room for it
   pub HasRoom-pushed : (h : Held E) (text : List ℕ) → HasRoom h → length text + bytes_ahead h.ahead ≤ h.most_bytes → ends_ahead h.ahead < h.most_texts
       → HasRoom (record h { ahead = map ByteAhead text ++ EndAhead ∷ h.ahead })
@@ -33,6 +43,16 @@ module _ {E : Type 0} where
     ends = rw (ends_ahead-bytes text (EndAhead ∷ h.ahead)) (omega (arith, ends));
     events = rw (events_ahead-bytes text (EndAhead ∷ h.ahead)) room.events;
     frees = rw (frees_ahead-bytes text (EndAhead ∷ h.ahead)) room.frees;
+  }
+
+  -- and for a byte
+  pub HasRoom-byte : (h : Held E) (b : ℕ) → HasRoom h → bytes_ahead h.ahead < h.most_bytes
+      → HasRoom (record h { ahead = ByteAhead b ∷ h.ahead })
+  HasRoom-byte h b room bytes = record {
+    bytes = omega (arith, bytes);
+    ends = room.ends;
+    events = room.events;
+    frees = room.frees;
   }
 
   -- there is room for bytes in front again

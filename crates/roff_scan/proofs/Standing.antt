@@ -7,7 +7,7 @@ use Rattle.std.proofs.lemmas.List.{drop-append-le, take-append-le, reverse-appen
 use Rattle.roff_scan.specs.Input.{Ahead, ByteAhead, EndAhead, is_none_ahead}
 use Rattle.roff_scan.specs.Slots.Standing.{standing, items_of, IsStacked}
 use Rattle.roff_scan.specs.declared.slots.Slot.{Slot}
-use Rattle.roff_scan.specs.declared.slots.Mark.TheVariants.{Ends, Free, Do}
+use Rattle.roff_scan.specs.declared.slots.Mark.TheVariants.{Ends, Return, Free, Do}
 use Rattle.roff_scan.specs.declared.slots.Mark.{Mark}
 
 module _ {E : Type 0} (slot : Slot E) (slots : List (Slot E)) (bytes : List ℕ) where
@@ -32,6 +32,7 @@ module _ {E : Type 0} where
 
   some_mark : (mark : Mark E) (items : List (Ahead E)) → is_none_ahead (items_of mark ++ items) ≡ false
   some_mark (Ends more) items = refl
+  some_mark Return items = refl
   some_mark (Free b) items = refl
   some_mark (Do event) items = refl
 
@@ -39,6 +40,11 @@ module _ {E : Type 0} where
   pub is_none_ahead-standing : (slots : List (Slot E)) (bytes : List ℕ) → is_none_ahead (standing slots bytes) ≡ (length slots == 0)
   is_none_ahead-standing [] bytes = refl
   is_none_ahead-standing (slot ∷ slots) bytes = rw (not_none (length slots)) (something (map ByteAhead (reverse (drop slot.height bytes))) _ (some_mark slot.mark _))
+
+  -- so there is a slot where something stands ahead
+  pub some-slots : (slots : List (Slot E)) (bytes : List ℕ) → is_none_ahead (standing slots bytes) ≡ false → 0 < length slots
+  some-slots [] bytes some = cc
+  some-slots (slot ∷ slots) bytes some = omega arith
 
   -- a text on top of others
   pub standing-text : (slots : List (Slot E)) (bytes text : List ℕ) → 0 < length slots → IsStacked slots (length bytes)

@@ -1,9 +1,10 @@
 -- The input: what stands in front of the source, what is half read, and what is counted (manual, section 7).
 --
--- Pushed texts, each with its end, and events put back stand ahead of the source's items in one list. Beside it the input
--- has what names stand for, whose bodies are pushed, and the texts that are being made of it.
-use Rattle.std.specs.Prelude.{ℕ, ◌+◌, ◌-◌, ◌*◌, Bool, true, false, List, [], ◌∷◌, ◌++◌, drop, length, map, Option, Some, None, if◌then◌else◌, ◌==◌}
-use Rattle.roff_scan.specs.Arguments.{Arguments, no_arguments, only_kept, held, with_plain}
+-- Pushed texts, each with its end, and events put back stand ahead of the source's items in one list; so do the bodies that
+-- lines call, whose ends are told apart. Beside it the input has the arguments of these calls, what names stand for, whose
+-- bodies are pushed, and the texts that are being made of it.
+use Rattle.std.specs.Prelude.{ℕ, ◌+◌, ◌-◌, ◌*◌, Bool, true, false, List, [], ◌∷◌, ◌++◌, drop, length, map, Option, Some, None, if◌then◌else◌, ◌==◌, not, nat_le, get_or, reverse}
+use Rattle.roff_scan.specs.Arguments.{Arguments, no_arguments, only_kept, held, with_plain, finished, total_length}
 use Rattle.roff_scan.specs.Bytes.{newline}
 use Rattle.roff_scan.specs.Half.{Half, Condition, texts_held, text_held}
 use Rattle.roff_scan.specs.declared.half.ConditionPart.TheVariants.{Choice}
@@ -20,6 +21,8 @@ pub data Ahead (E : Type 0) : Type 0 where
   FreeAhead : (b : ℕ) → Ahead E
   -- the end of a pushed text
   EndAhead : Ahead E
+  -- the end of a body that a line called
+  ReturnAhead : Ahead E
   -- an event that was put back
   DoAhead : (event : E) → Ahead E
 
@@ -29,10 +32,13 @@ pub record Input (E : Type 0) : Type 0 where
   pub ahead : List (Ahead E)
   -- the arguments of the control line that is being read
   pub arguments : Arguments
+  -- the arguments of the bodies that lines called and that haven't ended, the innermost first
+  pub calls : List (List (List ℕ))
   -- what is half read, the innermost first
   pub half : List Half
-  -- the results of conditions that are kept for their other branch, the newest first
-  pub kept : List Bool
+  -- the results of conditions that are kept for their other branch, the newest first, each with how many bodies that lines
+  -- called hadn't ended then
+  pub kept : List (Bool × ℕ)
   -- how much was taken: bytes, ends of texts, events put back
   pub charge : ℕ
   -- how many newlines were taken of the source
@@ -51,6 +57,7 @@ abbrev pub initial_input : {E : Type 0} → ℕ → Input E
 initial_input first_names = record {
   ahead = [];
   arguments = no_arguments;
+  calls = [];
   half = [];
   kept = [];
   charge = 0;
@@ -72,15 +79,26 @@ bytes_ahead [] = 0
 bytes_ahead (ByteAhead b ∷ items) = bytes_ahead items + 1
 bytes_ahead (FreeAhead b ∷ items) = bytes_ahead items
 bytes_ahead (EndAhead ∷ items) = bytes_ahead items
+bytes_ahead (ReturnAhead ∷ items) = bytes_ahead items
 bytes_ahead (DoAhead event ∷ items) = bytes_ahead items
 
--- the pushed texts that haven't ended
+-- the pushed texts, and the bodies that lines called, that haven't ended
 abbrev pub ends_ahead : {E : Type 0} → List (Ahead E) → ℕ
 ends_ahead [] = 0
 ends_ahead (ByteAhead b ∷ items) = ends_ahead items
 ends_ahead (FreeAhead b ∷ items) = ends_ahead items
 ends_ahead (EndAhead ∷ items) = ends_ahead items + 1
+ends_ahead (ReturnAhead ∷ items) = ends_ahead items + 1
 ends_ahead (DoAhead event ∷ items) = ends_ahead items
+
+-- the bodies that lines called that haven't ended
+abbrev pub returns_ahead : {E : Type 0} → List (Ahead E) → ℕ
+returns_ahead [] = 0
+returns_ahead (ByteAhead b ∷ items) = returns_ahead items
+returns_ahead (FreeAhead b ∷ items) = returns_ahead items
+returns_ahead (EndAhead ∷ items) = returns_ahead items
+returns_ahead (ReturnAhead ∷ items) = returns_ahead items + 1
+returns_ahead (DoAhead event ∷ items) = returns_ahead items
 
 -- the events that were put back
 abbrev pub events_ahead : {E : Type 0} → List (Ahead E) → ℕ
@@ -88,6 +106,7 @@ events_ahead [] = 0
 events_ahead (ByteAhead b ∷ items) = events_ahead items
 events_ahead (FreeAhead b ∷ items) = events_ahead items
 events_ahead (EndAhead ∷ items) = events_ahead items
+events_ahead (ReturnAhead ∷ items) = events_ahead items
 events_ahead (DoAhead event ∷ items) = events_ahead items + 1
 
 -- the bytes that stand in front again
@@ -96,6 +115,7 @@ frees_ahead [] = 0
 frees_ahead (ByteAhead b ∷ items) = frees_ahead items
 frees_ahead (FreeAhead b ∷ items) = frees_ahead items + 1
 frees_ahead (EndAhead ∷ items) = frees_ahead items
+frees_ahead (ReturnAhead ∷ items) = frees_ahead items
 frees_ahead (DoAhead event ∷ items) = frees_ahead items
 
 -- for so many events put back there is room, by the limit on the depth: three before each end, and three behind the last
@@ -106,9 +126,15 @@ most_events most_texts = 3 * (most_texts + 1)
 abbrev pub most_frees : ℕ
 most_frees = 21
 
--- what counts in the limit on the stack: unread pushed bytes, and the texts that are held while they are read
+-- the bytes of the arguments of calls that aren't over
+abbrev pub live_bytes : List (List (List ℕ)) → ℕ
+live_bytes [] = 0
+live_bytes (arguments ∷ calls) = total_length arguments + live_bytes calls
+
+-- what counts in the limit on the stack: unread pushed bytes, the texts that are held while they are read, and the arguments
+-- of the bodies that lines called and that haven't ended
 abbrev pub pushed : {E : Type 0} → Input E → ℕ
-pushed i = bytes_ahead i.ahead + held i.arguments + texts_held i.half
+pushed i = bytes_ahead i.ahead + held i.arguments + texts_held i.half + live_bytes i.calls
 
 -- what counts in the limit on the depth: pushed texts that haven't ended
 abbrev pub depth : {E : Type 0} → Input E → ℕ
@@ -122,6 +148,38 @@ results i = length i.kept
 abbrev pub pushing : {E : Type 0} → List ℕ → Input E → Input E
 pushing text i = record i { ahead = map ByteAhead text ++ EndAhead ∷ i.ahead }
 
+-- whether a body has bytes, and no newline at its end
+abbrev pub lacks_newline : List ℕ → Bool
+lacks_newline body = elim (reverse body) [ [] ↦ false | last ∷ others ↦ not (last == newline) ]
+
+-- a body as it is read where a line calls it: one that has bytes ends in a newline
+abbrev pub called_text : List ℕ → List ℕ
+called_text body = if lacks_newline body then body ++ newline ∷ [] else body
+
+-- a line is read of which nothing was read
+abbrev pub beginning_line : {E : Type 0} → Input E → Input E
+beginning_line i = record i { arguments = no_arguments; half = [] }
+
+-- the arguments that a line was given, once it has ended
+abbrev pub arguments_given : {E : Type 0} → Input E → List (List ℕ)
+arguments_given i = reverse (only_kept (finished i.arguments)).whole
+
+-- a line calls a body with the arguments that it was given: it is put in front, and its end
+abbrev pub calling_body : {E : Type 0} → List ℕ → Input E → Input E
+calling_body body i = record i {
+  ahead = map ByteAhead (called_text body) ++ ReturnAhead ∷ i.ahead;
+  calls = arguments_given i ∷ i.calls;
+  arguments = no_arguments;
+}
+
+-- the arguments of the innermost call that isn't over
+abbrev pub arguments_live : {E : Type 0} → Input E → List (List ℕ)
+arguments_live i = elim i.calls [ [] ↦ [] | arguments ∷ calls ↦ arguments ]
+
+-- the argument of that call at an index, from 0 on; one that it wasn't given is empty
+abbrev pub argument_live : {E : Type 0} → ℕ → Input E → List ℕ
+argument_live index i = get_or (arguments_live i) index []
+
 -- an event is put back
 abbrev pub putting_back : {E : Type 0} → E → Input E → Input E
 putting_back event i = record i { ahead = DoAhead event ∷ i.ahead }
@@ -130,15 +188,12 @@ putting_back event i = record i { ahead = DoAhead event ∷ i.ahead }
 abbrev pub freeing : {E : Type 0} → List ℕ → Input E → Input E
 freeing bytes i = record i { ahead = map FreeAhead bytes ++ i.ahead }
 
--- all that stands ahead is dropped
-abbrev pub leaving : {E : Type 0} → Input E → Input E
-leaving i = record i { ahead = [] }
-
 -- what an item ahead costs
 abbrev pub cost : {E : Type 0} → Ahead E → ℕ
 cost (ByteAhead b) = 1
 cost (FreeAhead b) = 0
 cost EndAhead = 1
+cost ReturnAhead = 1
 cost (DoAhead event) = 1
 
 -- the front item, if there is one
@@ -152,6 +207,7 @@ first_but_ends [] = None
 first_but_ends (ByteAhead b ∷ items) = Some (ByteAhead b)
 first_but_ends (FreeAhead b ∷ items) = Some (FreeAhead b)
 first_but_ends (EndAhead ∷ items) = first_but_ends items
+first_but_ends (ReturnAhead ∷ items) = first_but_ends items
 first_but_ends (DoAhead event ∷ items) = Some (DoAhead event)
 
 -- what the front item costs, if there is one
@@ -159,9 +215,33 @@ abbrev pub front_cost : {E : Type 0} → List (Ahead E) → ℕ
 front_cost [] = 0
 front_cost (item ∷ items) = cost item
 
+-- the calls that aren't over behind an item: the end of a called body is the end of its call
+abbrev pub calls_behind : {E : Type 0} → Ahead E → List (List (List ℕ)) → List (List (List ℕ))
+calls_behind ReturnAhead calls = drop 1 calls
+calls_behind (_) calls = calls
+
+-- the results that were kept while fewer calls than so many weren't over
+abbrev pub kept_below : ℕ → List (Bool × ℕ) → List (Bool × ℕ)
+kept_below calls [] = []
+kept_below calls (result ∷ others) = if nat_le calls result.1 then kept_below calls others else result ∷ others
+
+-- the results that are kept behind an item: those that were kept in a called body are dropped at its end
+abbrev pub kept_behind : {E : Type 0} → Ahead E → List (List (List ℕ)) → List (Bool × ℕ) → List (Bool × ℕ)
+kept_behind ReturnAhead calls kept = kept_below (length calls) kept
+kept_behind (_) calls kept = kept
+
+-- all that stands ahead is dropped, and so are the calls of bodies and what was kept in them
+abbrev pub leaving : {E : Type 0} → Input E → Input E
+leaving i = record i { ahead = []; calls = []; kept = kept_below 1 i.kept }
+
 -- an item ahead is taken, and these stand behind it
 abbrev pub item_taken : {E : Type 0} → Ahead E → List (Ahead E) → Input E → Input E
-item_taken item behind i = record i { ahead = behind; charge = i.charge + cost item }
+item_taken item behind i = record i {
+  ahead = behind;
+  charge = i.charge + cost item;
+  calls = calls_behind item i.calls;
+  kept = kept_behind item i.calls i.kept;
+}
 
 -- a byte of the source is taken: it stands on its line, and a newline on the line that it ends
 abbrev pub counting : {E : Type 0} → ℕ → Input E → Input E
@@ -202,11 +282,11 @@ choosing i = record i { half = Condition (Choice false) [] ∷ [] }
 
 -- a result is kept
 abbrev pub keeping : {E : Type 0} → Bool → Input E → Input E
-keeping so i = record i { kept = so ∷ i.kept }
+keeping so i = record i { kept = (so, length i.calls) ∷ i.kept }
 
 -- the result that was kept last, if one is
 abbrev pub kept_last : {E : Type 0} → Input E → Option Bool
-kept_last i = elim i.kept [ [] ↦ None | so ∷ others ↦ Some so ]
+kept_last i = elim i.kept [ [] ↦ None | result ∷ others ↦ Some result.0 ]
 
 -- it is kept no more
 abbrev pub without_last : {E : Type 0} → Input E → Input E

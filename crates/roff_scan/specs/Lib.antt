@@ -15,6 +15,7 @@ pub mod ArgumentTexts
 pub mod ArgumentList
 pub mod Quoting
 pub mod Input
+pub mod Calls
 pub mod Slots
 pub mod Frames
 pub mod Unread

@@ -10,12 +10,12 @@ use Rattle.roff_num.specs.declared.limit.Limit.TheVariants.{Bytes, Stack, Depth,
 use Rattle.roff_num.specs.declared.limits.Limits.{Limits}
 use Rattle.roff_scan.specs.Bytes.{is_passed}
 use Rattle.roff_scan.specs.Halves.{Reads}
-use Rattle.roff_scan.specs.Input.{with_half, Input, initial_input, is_none_ahead, Ahead, ByteAhead, FreeAhead, EndAhead, DoAhead, cost, counting, item_taken, pushed, depth, results, stored, names_added}
+use Rattle.roff_scan.specs.Input.{with_half, Input, initial_input, is_none_ahead, Ahead, ByteAhead, FreeAhead, EndAhead, ReturnAhead, DoAhead, cost, counting, item_taken, pushed, depth, results, stored, names_added}
 use Rattle.roff_store.specs.Texts.{Texts}
 use Rattle.roff_scan.specs.Tape.{Tape, Answer, Answers, Gives, Ends, OneByte, OneNote, Ending, Ended, Failed, Stopped, items_then}
 use Rattle.roff_scan.specs.declared.half.Read.{Read}
 use Rattle.roff_scan.specs.declared.unread.Item.{Item}
-use Rattle.roff_scan.specs.declared.unread.Item.TheVariants.{Byte, End, Do, Note, SourceEnd, Fault, Stop, Refused}
+use Rattle.roff_scan.specs.declared.unread.Item.TheVariants.{Byte, End, Return, Do, Note, SourceEnd, Fault, Stop, Refused}
 use Rattle.roff_scan.specs.declared.unread.Sight.{Sight}
 use Rattle.roff_scan.specs.declared.unread.Sight.TheVariants.{Byte as SightOfByte, Nothing as SightOfNothing, Note as SightOfNote, SourceEnd as SightOfEnd, Fault as SightOfFault, Stop as SightOfStop}
 
@@ -96,6 +96,8 @@ pub data Shown (E : Type 0) : Type 0 where
   ShowsByte : (b : ℕ) → Shown E
   -- the end of a pushed text
   ShowsEnd : Shown E
+  -- the end of a body that a line called
+  ShowsReturn : Shown E
   -- an event that was put back
   ShowsDo : (event : E) → Shown E
   -- a message of the source's
@@ -109,6 +111,7 @@ pub data Shown (E : Type 0) : Type 0 where
 abbrev pub shown : {E : Type 0} → Item E → Shown E
 shown (Byte b) = ShowsByte b
 shown End = ShowsEnd
+shown Return = ShowsReturn
 shown (Do event) = ShowsDo event
 shown (Note message) = ShowsNote message.items
 shown SourceEnd = ShowsEnding Ended
@@ -121,6 +124,7 @@ abbrev pub shown_ahead : {E : Type 0} → Ahead E → Shown E
 shown_ahead (ByteAhead b) = ShowsByte b
 shown_ahead (FreeAhead b) = ShowsByte b
 shown_ahead EndAhead = ShowsEnd
+shown_ahead ReturnAhead = ShowsReturn
 shown_ahead (DoAhead event) = ShowsDo event
 
 -- an item ahead is taken, unless it would pass the limit on bytes
@@ -175,6 +179,7 @@ seen_ahead [] = None
 seen_ahead (ByteAhead b ∷ items) = Some (SeesByte b)
 seen_ahead (FreeAhead b ∷ items) = Some (SeesByte b)
 seen_ahead (EndAhead ∷ items) = seen_ahead items
+seen_ahead (ReturnAhead ∷ items) = seen_ahead items
 seen_ahead (DoAhead event ∷ items) = Some SeesNothing
 
 -- what is seen of the source by its answer; a byte stays, and was looked at
@@ -196,14 +201,15 @@ looking a u = looking_past (seen_ahead u.input.ahead) a u
 abbrev pub asks_to_look : {E : Type 0} → Unread E → Bool
 asks_to_look u = is_none (seen_ahead u.input.ahead) && is_none u.looked
 
--- the first limit that a count of this input is above; a text that is made beside the diversions counts as none of them
+-- The first limit that a count of this input is above, those of the texts before those of what stands in front; a text that is
+-- made beside the diversions counts as none of them.
 abbrev pub input_refusal : {E : Type 0} → Limits → Input E → Option Limit
 input_refusal l i =
-    if nat_lt l.stack (pushed i) then Some Stack
-    else if nat_lt l.depth (depth i) then Some Depth
-    else if nat_lt l.diversions (length i.open_texts - 1) then Some Diversions
+    if nat_lt l.diversions (length i.open_texts - 1) then Some Diversions
     else if nat_lt l.store (stored i) then Some Store
     else if nat_lt l.names (names_added i) then Some Names
+    else if nat_lt l.stack (pushed i) then Some Stack
+    else if nat_lt l.depth (depth i) then Some Depth
     else if nat_lt l.conditions (results i) then Some Conditions
     else None
 

@@ -2,8 +2,8 @@
 
 ghost use Rattle.std.specs.Prelude.{◌≡◌, ℕ, ◌+◌, ◌<◌, ◌≤◌, ◌∷◌, ◌++◌, length, reverse, slice_get, IfOk, ◌==◌};
 ghost use Rattle.std.specs.Option.{option_copied};
-ghost use Rattle.roff_scan.specs.Arguments.{Arguments, no_arguments, with_unit, with_argument_byte, with_kept, with_plain, with_byte, with_whole, settled, finished, held, kept, in_argument};
-ghost use Rattle.roff_scan.specs.ArgumentTexts.Ends.{is_kept, last_end, EndWithin, EndWithin-prop};
+ghost use Rattle.roff_scan.specs.Arguments.{Arguments, no_arguments, with_unit, with_argument_byte, with_kept, with_plain, with_byte, with_whole, settled, finished, held, kept, in_argument, total_length};
+ghost use Rattle.roff_scan.specs.ArgumentTexts.Ends.{is_kept, last_end, EndWithin, EndWithin-prop, texts_ending};
 
 use crate::half::CopyUnit;
 use std::alloc::{AllocError, Global};
@@ -183,6 +183,7 @@ impl ArgumentTexts {
         ensures value { listed result ≡ reverse self.now.arguments.whole }
         ensures keeps { (a : Arguments) → Keeps a self.now
             → listed result ≡ kept (reverse a.whole) }
+        ensures few { length (listed result) ≤ total_length (listed result) + 32 }
     {
         ArgumentList {
             bytes: self.bytes.as_slice(),
@@ -252,6 +253,30 @@ impl ArgumentTexts {
 
 impl<'a> ArgumentList<'a> {
     ghost use Rattle.roff_scan.specs.ArgumentList.{listed};
+
+    /// Those that end there, in a block.
+    pub(crate) fn new(bytes: &'a [u8], ends: &'a [u32]) -> Self
+        requires { EndWithin (length bytes.now) 0 ends.now }
+        ensures { listed result ≡ texts_ending bytes.now 0 ends.now }
+    {
+        ArgumentList { bytes, ends }
+    }
+
+    /// The bytes of all of them, one after another.
+    pub(crate) fn block(&self) -> &'a [u8]
+        ensures texts { texts_ending result.now 0 self.now.ends.now ≡ listed self.now }
+        ensures within { EndWithin (length result.now) 0 self.now.ends.now }
+        ensures len { length result.now ≡ total_length (listed self.now) }
+    {
+        &self.bytes[..last_end(self.ends) as usize]
+    }
+
+    /// Where each of them ends there.
+    pub(crate) fn ends(&self) -> &'a [u32]
+        ensures { result.now ≡ self.now.ends.now }
+    {
+        self.ends
+    }
 
     /// How many there are.
     pub fn len(&self) -> usize

@@ -1,7 +1,10 @@
 //! Frames: what stands ahead of the source. Bodies of strings and macros are read where they lie.
 
 ghost use Rattle.std.specs.Prelude.{IsTrue, false, true, ◌≡◌, ◌↔◌, ◌+◌, ◌<◌, ◌≤◌, ◌^◌, [], ◌∷◌, ◌++◌, map, length, option_map, IfOk};
-ghost use Rattle.roff_scan.specs.Input.{is_none_ahead, front_cost, ByteAhead, FreeAhead, EndAhead, DoAhead, bytes_ahead, ends_ahead, events_ahead, frees_ahead, most_events, most_frees};
+ghost use Rattle.roff_scan.specs.Input.{is_none_ahead, front_cost, called_text, lacks_newline, ByteAhead, FreeAhead, EndAhead, ReturnAhead, DoAhead, bytes_ahead, ends_ahead, events_ahead, frees_ahead, most_events, most_frees};
+ghost use Rattle.roff_scan.specs.Frames.Bodies.{with_bodies};
+ghost use Rattle.roff_scan.specs.Frames.Calls.{PutsBytes};
+ghost use Rattle.roff_scan.specs.Frames.Kept.{is_end_next, IsSound};
 ghost use Rattle.roff_store.specs.Named.{entry_of};
 ghost use Rattle.roff_store.specs.Texts.{body_of, entry_given, kind_given, kind_of, newest};
 
@@ -90,7 +93,7 @@ impl<E: Copy> Frames<E> {
         self.slots.byte_count() + self.texts.kept()
     }
 
-    /// How many pushed texts haven't ended.
+    /// How many pushed texts and called bodies haven't ended.
     pub(crate) fn depth(&self) -> usize
         ensures count { result ≡ ends_ahead self.now.ahead }
         ensures within { result ≤ self.now.most_texts }
@@ -112,10 +115,7 @@ impl<E: Copy> Frames<E> {
     pub(crate) fn body_len(&self, name: &Name) -> usize
         ensures { result ≡ length (body_of name.now self.now.texts) }
     {
-        match self.texts.get(name) {
-            Some(Kind::Body(len)) => len,
-            _ => 0,
-        }
+        body_len(&self.texts, name)
     }
 
     /// Puts the body of a name and its end in front; it is read where it lies.
@@ -128,11 +128,51 @@ impl<E: Copy> Frames<E> {
         } }
     {
         self.slots.push(&[]);
-        if self.body_len(name) == 0 {
-            return;
+        put_body(&mut self.slots, &mut self.texts, name);
+    }
+
+    /// How many bytes the body of a name has where a line calls it.
+    pub(crate) fn called_len(&self, name: &Name) -> usize
+        ensures { result ≡ length (called_text (body_of name.now self.now.texts)) }
+    {
+        // No body is longer than all of them.
+        let _ = self.texts.used();
+        let len = self.body_len(name);
+        if self.lacks_newline(name) {
+            len + 1
+        } else {
+            len
         }
-        if let Some(lease) = self.texts.lease(name) {
-            self.slots.put_back(Frame::Body(lease));
+    }
+
+    /// Whether the body of a name has bytes, and no newline at its end.
+    fn lacks_newline(&self, name: &Name) -> bool
+        ensures { result ≡ lacks_newline (body_of name.now self.now.texts) }
+    {
+        match self.texts.last_byte(name) {
+            Some(byte) => byte != b'\n',
+            None => false,
+        }
+    }
+
+    /// Puts the body of a name that a line calls in front, and the end of the call; it is read
+    /// where it lies.
+    pub(crate) fn push_call(&mut self, name: &Name)
+        requires bytes { length (called_text (body_of name.now self.old.texts))
+            + bytes_ahead self.old.ahead ≤ self.old.most_bytes }
+        requires ends { ends_ahead self.old.ahead < self.old.most_texts }
+        ensures { self.new ≡ record self.old {
+          ahead = map ByteAhead (called_text (body_of name.now self.old.texts))
+              ++ ReturnAhead ∷ self.old.ahead;
+        } }
+    {
+        let lacks_newline = self.lacks_newline(name);
+        self.slots.push_return();
+        if lacks_newline {
+            self.slots.push_byte(b'\n');
+            put_body(&mut self.slots, &mut self.texts, name);
+        } else {
+            put_body(&mut self.slots, &mut self.texts, name);
         }
     }
 
@@ -152,6 +192,7 @@ impl<E: Copy> Frames<E> {
             None | Some(Front::Free(_)) => 0,
             Some(Front::Byte(_)) => 1,
             Some(Front::End) => 1,
+            Some(Front::Return) => 1,
             Some(Front::Do(_)) => 1,
         }
     }
@@ -173,6 +214,10 @@ impl<E: Copy> Frames<E> {
             Some(Front::End) => {
                 self.slots.take();
                 Item::End
+            }
+            Some(Front::Return) => {
+                self.slots.take();
+                Item::Return
             }
             Some(Front::Do(Frame::Event(event))) => {
                 self.slots.take();
@@ -213,6 +258,7 @@ impl<E: Copy> Frames<E> {
             Some(Front::Byte(byte)) => Some(Sight::Byte(byte)),
             Some(Front::Free(byte)) => Some(Sight::Byte(byte)),
             Some(Front::End) => Some(Sight::Nothing),
+            Some(Front::Return) => Some(Sight::Nothing),
             Some(Front::Do(Frame::Event(_))) => Some(Sight::Nothing),
         }
     }
@@ -322,5 +368,32 @@ impl<E: Copy> Frames<E> {
         ensures { self.new ≡ record self.old { texts = after (DropOpen id.0) self.old.texts } }
     {
         self.texts.drop_open(id);
+    }
+}
+
+/// How many bytes the body of a name has.
+fn body_len(texts: &TextStore, name: &Name) -> usize
+    ensures { result ≡ length (body_of name.now texts.now) }
+{
+    match texts.get(name) {
+        Some(Kind::Body(len)) => len,
+        _ => 0,
+    }
+}
+
+/// Puts the body of a name in front of an end, or of bytes before one.
+fn put_body<E: Copy>(slots: &mut Slots<Frame<E>>, texts: &mut TextStore, name: &Name)
+    requires sound { IsSound {E = E} (record { slots = slots.old; texts = texts.old }) }
+    requires end { is_end_next slots.old.ahead ≡ true }
+    requires bytes { length (body_of name.now texts.old)
+        + bytes_ahead (with_bodies texts.old slots.old.ahead) ≤ slots.old.most_bytes }
+    ensures { PutsBytes (record { slots = slots.old; texts = texts.old })
+        (record { slots = slots.new; texts = texts.new }) (body_of name.now texts.old) }
+{
+    if body_len(texts, name) == 0 {
+        return;
+    }
+    if let Some(lease) = texts.lease(name) {
+        slots.put_back(Frame::Body(lease));
     }
 }

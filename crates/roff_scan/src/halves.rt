@@ -736,6 +736,14 @@ impl Halves {
         }
     }
 
+    /// Nothing is half read from now on.
+    pub(crate) fn clear(&mut self)
+        ensures { self.new ≡ record self.old { half = [] } }
+    {
+        self.items.clear();
+        self.texts.clear();
+    }
+
     /// A condition begins, and nothing else is half read.
     pub(crate) fn begin_condition(&mut self)
         ensures { self.new ≡ record self.old {

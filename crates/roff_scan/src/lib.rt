@@ -4,6 +4,7 @@
 
 mod arguments;
 mod bytes;
+mod calls;
 mod characters;
 mod conditions;
 mod escapes;
@@ -16,8 +17,6 @@ mod measures;
 mod slots;
 mod source;
 mod unread;
-#[cfg(test)]
-mod unread_tests;
 
 pub use arguments::{ArgumentList, Place};
 pub use bytes::{is_dropped, is_silent};

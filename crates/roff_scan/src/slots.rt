@@ -3,7 +3,7 @@
 ghost use Rattle.std.specs.Prelude.{false, ◌≡◌, ◌+◌, ◌<◌, ◌≤◌, ◌^◌, [], ◌∷◌, ◌++◌, map, reverse, length, IfOk, option_map, vec_len, vec_capacity};
 ghost use Rattle.roff_scan.specs.Slots.Held.{most_marks};
 ghost use Rattle.roff_scan.specs.Slots.Standing.{standing, items_of, item_of, is_byte_next, IsStacked};
-ghost use Rattle.roff_scan.specs.Input.{is_none_ahead, first, first_but_ends, ByteAhead, FreeAhead, EndAhead, DoAhead, bytes_ahead, ends_ahead, events_ahead, frees_ahead, most_frees};
+ghost use Rattle.roff_scan.specs.Input.{is_none_ahead, first, first_but_ends, ByteAhead, FreeAhead, EndAhead, ReturnAhead, DoAhead, bytes_ahead, ends_ahead, events_ahead, frees_ahead, most_frees};
 
 use std::alloc::{AllocError, Global};
 use std::marker::Model;
@@ -23,6 +23,8 @@ pub(crate) enum Front<E> {
     Free(u8),
     /// The end of a pushed text.
     End,
+    /// The end of a body that a line called.
+    Return,
     /// An event that was put back.
     Do(E),
 }
@@ -32,6 +34,8 @@ pub(crate) enum Front<E> {
 enum Mark<E> {
     /// The end of a text, and so many more ends.
     Ends(usize),
+    /// The end of a body that a line called.
+    Return,
     /// A byte that stands in front again.
     Free(u8),
     /// An event that was put back.
@@ -54,7 +58,7 @@ pub(crate) struct Slots<E> {
     slots: Vec<Slot<E>>,
     /// The unread bytes of all texts. The next one is the last.
     bytes: Vec<u8>,
-    /// How many texts haven't ended.
+    /// How many texts and called bodies haven't ended.
     ends: usize,
 }
 
@@ -103,7 +107,7 @@ impl<E: Copy> Slots<E> {
         self.bytes.len()
     }
 
-    /// How many pushed texts haven't ended.
+    /// How many pushed texts and called bodies haven't ended.
     pub(crate) fn depth(&self) -> usize
         ensures count { result ≡ ends_ahead self.now.ahead }
         ensures within { result ≤ self.now.most_texts }
@@ -121,6 +125,24 @@ impl<E: Copy> Slots<E> {
         put_end(&mut self.slots, self.bytes.as_slice());
         self.ends += 1;
         put_reversed(&mut self.bytes, text);
+    }
+
+    /// Puts the end of a called body in front.
+    pub(crate) fn push_return(&mut self)
+        requires { ends_ahead self.old.ahead < self.old.most_texts }
+        ensures { self.new ≡ record self.old { ahead = ReturnAhead ∷ self.old.ahead } }
+    {
+        put_mark(&mut self.slots, self.bytes.as_slice(), Mark::Return);
+        self.ends += 1;
+    }
+
+    /// Puts a byte in front of something.
+    pub(crate) fn push_byte(&mut self, byte: u8)
+        requires some { is_none_ahead self.old.ahead ≡ false }
+        requires room { bytes_ahead self.old.ahead < self.old.most_bytes }
+        ensures { self.new ≡ record self.old { ahead = ByteAhead byte ∷ self.old.ahead } }
+    {
+        self.bytes.push_reserved(byte);
     }
 
     /// Puts an event in front.
@@ -141,6 +163,7 @@ impl<E: Copy> Slots<E> {
         match self.slots.as_slice().split_last() {
             Some((slot, _)) => Some(match slot.mark {
                 Mark::Ends(_) => Front::End,
+                Mark::Return => Front::Return,
                 Mark::Free(byte) => Front::Free(byte),
                 Mark::Do(event) => Front::Do(event),
             }),
@@ -157,7 +180,7 @@ impl<E: Copy> Slots<E> {
             return Front::Byte(self.bytes.take_last());
         }
         let front = take_mark(&mut self.slots, self.bytes.as_slice());
-        if matches!(front, Front::End) {
+        if matches!(front, Front::End | Front::Return) {
             self.ends -= 1;
         }
         front
@@ -174,6 +197,7 @@ impl<E: Copy> Slots<E> {
             }
             match slot.mark {
                 Mark::Ends(_) => slots = below,
+                Mark::Return => slots = below,
                 Mark::Free(byte) => return Some(Front::Free(byte)),
                 Mark::Do(event) => return Some(Front::Do(event)),
             }
@@ -212,6 +236,7 @@ fn take_mark<E>(slots: &mut Vec<Slot<E>>, bytes: &[u8]) -> Front<E>
 {
     let slot = slots.take_last();
     match slot.mark {
+        Mark::Return => Front::Return,
         Mark::Free(byte) => Front::Free(byte),
         Mark::Do(event) => Front::Do(event),
         Mark::Ends(more) => {

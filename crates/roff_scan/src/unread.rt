@@ -5,12 +5,13 @@ ghost use Rattle.roff_scan.specs.ArgumentList.{listed};
 ghost use Rattle.roff_store.specs.Named.{entry_of};
 ghost use Rattle.roff_store.specs.Texts.{entry_given, kind_given, kind_of};
 ghost use Rattle.roff_scan.specs.Halves.{byte_read, decides_now, reading_ended, newline_stays, seen_stays};
-ghost use Rattle.std.specs.Prelude.{reverse, true, false, not, ◌≡◌, ◌==◌, ◌+◌, ◌<◌, ◌≤◌, length, None, option_map, IfOk, IfSome};
+ghost use Rattle.std.specs.Prelude.{vec_capacity, reverse, true, false, not, ◌≡◌, ◌==◌, ◌+◌, ◌<◌, ◌≤◌, ◌^◌, [], drop, get_or, length, None, option_map, IfOk, IfSome};
 ghost use Rattle.roff_scan.specs.Tape.{Answer, OneByte, OneNote, Gives, Failed, Rises};
-ghost use Rattle.roff_scan.specs.Input.{is_none_ahead, counting, choosing, keeping, kept_last, leaving, without_last, events_ahead, frees_ahead, most_events, most_frees, holding_plain, holding_text, pushed, depth, pushing, putting_back, freeing, with_arguments, without_arguments, adding, body_named, calling, dropping, entering};
+ghost use Rattle.roff_scan.specs.Input.{is_none_ahead, counting, choosing, keeping, kept_last, leaving, without_last, events_ahead, frees_ahead, most_events, most_frees, holding_plain, holding_text, pushed, depth, pushing, putting_back, freeing, with_arguments, without_arguments, adding, body_named, calling, dropping, entering, kept_below, arguments_live, argument_live, beginning_line, calling_body};
 
 use crate::arguments::{ArgumentList, ArgumentTexts, bytes_of};
 use crate::bytes::{newlines_among, passed_len};
+use crate::calls::Calls;
 use crate::frames::Frames;
 use crate::half::{CopyUnit, Read, Surroundings};
 use crate::halves::Halves;
@@ -27,6 +28,8 @@ pub enum Item<E> {
     Byte(u8),
     /// The end of a pushed text.
     End,
+    /// The end of a body that a line called.
+    Return,
     /// An event that was put back.
     Do(E),
     /// A message of the source's.
@@ -66,9 +69,11 @@ pub struct Unread<E> {
     limits: Limits,
     frames: Frames<E>,
     arguments: ArgumentTexts,
+    calls: Calls,
     half: Halves,
-    /// The results of conditions that are kept for their other branch, the newest at the back.
-    kept: Vec<bool>,
+    /// The results of conditions that are kept for their other branch, the newest at the back, each
+    /// with how many calls weren't over then.
+    kept: Vec<(bool, u32)>,
     /// The byte of the source that was looked at and isn't taken yet.
     looked: Option<u8>,
     charge: u32,
@@ -104,6 +109,7 @@ impl<E: Copy> Unread<E> {
             limits,
             frames: Frames::new(alloc, &limits, first_names)?,
             arguments: ArgumentTexts::new(alloc, limits.stack)?,
+            calls: Calls::new(alloc, limits.stack, limits.depth)?,
             half: Halves::new(alloc, limits.stack)?,
             kept: Vec::with_capacity(alloc, limits.conditions as usize)?,
             looked: None,
@@ -136,15 +142,20 @@ impl<E: Copy> Unread<E> {
         self.line
     }
 
-    /// What counts in the limit on the stack: the pushed bytes that aren't read yet, and the bytes
-    /// of the arguments and of other texts that are held while they are read.
+    /// What counts in the limit on the stack: the pushed bytes that aren't read yet, the bytes of the
+    /// arguments and of other texts that are held while they are read, and those of the arguments of
+    /// calls that aren't over.
     pub fn pushed(&self) -> usize
         ensures { result ≡ pushed self.now.input }
     {
-        self.frames.byte_count() + self.arguments.held() + self.half.held()
+        self.frames.byte_count()
+            + self.arguments.held()
+            + self.half.held()
+            + self.calls.byte_count()
     }
 
-    /// What counts in the limit on the depth: the pushed texts that haven't ended.
+    /// What counts in the limit on the depth: the pushed texts, and the bodies that lines called, that
+    /// haven't ended.
     pub fn depth(&self) -> usize
         ensures { result ≡ depth self.now.input }
     {
@@ -296,7 +307,13 @@ impl<E: Copy> Unread<E> {
             return Item::Refused(Limit::Bytes);
         }
         self.charge += cost;
-        self.frames.take()
+        match self.frames.take() {
+            Item::Return => {
+                end_call(&mut self.calls, &mut self.kept);
+                Item::Return
+            }
+            item => item,
+        }
     }
 
     /// Looks at the first byte behind any ends of texts. The source is asked where none stands
@@ -379,6 +396,62 @@ impl<E: Copy> Unread<E> {
         Ok(())
     }
 
+    /// A line calls the body of a name: it is put in front, as it is now, with a newline behind it if
+    /// it has bytes and none at its end, and the end of the call. The arguments of the line are those
+    /// of the call, until its end is taken.
+    ///
+    /// # Errors
+    ///
+    /// As for [`push`](Unread::push).
+    pub fn call(&mut self, name: &Name) -> Result<(), Limit>
+        ensures change { (result, self.new)
+            ≡ changing (calling_body (body_named name.now self.old.input) self.old.input) self.old }
+        ensures within { IsWithin self.new }
+    {
+        if self.frames.called_len(name) > self.limits.stack as usize - self.pushed() {
+            return Err(Limit::Stack);
+        }
+        if self.is_deep() {
+            return Err(Limit::Depth);
+        }
+        self.arguments.finish();
+        self.calls.push(self.arguments.list());
+        self.arguments.clear();
+        self.frames.push_call(name);
+        Ok(())
+    }
+
+    /// How many arguments the innermost call has that isn't over; none where there is no call.
+    pub fn argument_count(&self) -> usize
+        ensures { result ≡ length (arguments_live self.now.input) }
+    {
+        self.calls.arguments().len()
+    }
+
+    /// Puts an argument of that call and its end in front, by its index from 0 on. One that it wasn't
+    /// given is empty.
+    ///
+    /// # Errors
+    ///
+    /// As for [`push`](Unread::push).
+    pub fn push_argument(&mut self, index: usize) -> Result<(), Limit>
+        ensures change { (result, self.new)
+            ≡ changing (pushing (argument_live index self.old.input) self.old.input) self.old }
+        ensures within { IsWithin self.new }
+    {
+        let pushed = self.pushed();
+        let is_deep = self.is_deep();
+        let text = argument_at(self.calls.arguments(), index);
+        if text.len() > self.limits.stack as usize - pushed {
+            return Err(Limit::Stack);
+        }
+        if is_deep {
+            return Err(Limit::Depth);
+        }
+        self.frames.push(text);
+        Ok(())
+    }
+
     /// Puts an event back in front.
     pub fn put_back(&mut self, event: E)
         requires { events_ahead self.old.input.ahead < most_events self.old.limits.depth }
@@ -403,6 +476,8 @@ impl<E: Copy> Unread<E> {
         ensures within { IsWithin self.new }
     {
         self.frames.clear();
+        self.calls.clear();
+        drop_kept(&mut self.kept, 1);
     }
 
     /// Whether something is half read.
@@ -490,7 +565,7 @@ impl<E: Copy> Unread<E> {
         if self.kept.len() >= self.limits.conditions as usize {
             return Err(Limit::Conditions);
         }
-        self.kept.push(so).unwrap();
+        self.kept.push((so, self.calls.len() as u32)).unwrap();
         Ok(())
     }
 
@@ -500,7 +575,19 @@ impl<E: Copy> Unread<E> {
         ensures change { self.new ≡ record self.old { input = without_last self.old.input } }
         ensures within { IsWithin self.new }
     {
-        self.kept.pop()
+        match self.kept.pop() {
+            Some(kept) => Some(kept.0),
+            None => None,
+        }
+    }
+
+    /// A line is read of which nothing was read.
+    pub fn begin_line(&mut self)
+        ensures change { self.new ≡ record self.old { input = beginning_line self.old.input } }
+        ensures within { IsWithin self.new }
+    {
+        self.arguments.clear();
+        self.half.clear();
     }
 
     /// Drops the arguments of the line before.
@@ -677,5 +764,39 @@ impl<E: Copy> Unread<E> {
         if let Some(id) = self.frames.newest() {
             self.frames.drop_open(id);
         }
+    }
+}
+
+/// The argument at an index, from 0 on; one that isn't there is empty.
+fn argument_at(arguments: ArgumentList<'_>, index: usize) -> &[u8]
+    ensures { result.now ≡ get_or (listed arguments.entry) index [] }
+{
+    match arguments.get(index) {
+        Some(text) => text,
+        None => &[],
+    }
+}
+
+/// The innermost call is over, and what was kept in its body is kept no more.
+fn end_call(calls: &mut Calls, kept: &mut Vec<(bool, u32)>)
+    requires { calls.old.most_calls < 2 ^ 32 }
+    ensures calls { calls.new ≡ record calls.old { calls = drop 1 calls.old.calls } }
+    ensures results { reverse kept.new.items
+        ≡ kept_below (length calls.old.calls) (reverse kept.old.items) }
+    ensures capacity { vec_capacity kept.new ≡ vec_capacity kept.old }
+{
+    drop_kept(kept, calls.len() as u32);
+    calls.pop();
+}
+
+/// Drops the results that were kept while at least so many calls weren't over.
+fn drop_kept(kept: &mut Vec<(bool, u32)>, calls: u32)
+    ensures results { reverse kept.new.items ≡ kept_below calls (reverse kept.old.items) }
+    ensures capacity { vec_capacity kept.new ≡ vec_capacity kept.old }
+{
+    while let Some(last) = kept.last()
+        && last.1 >= calls
+    {
+        kept.pop();
     }
 }

@@ -62,14 +62,14 @@ text-room m s room text some left =
     let filled = (text.ends some).filled in omega arith
 
 -- the bytes of a whole text are those of its chain
-whole-bytes : (m : Chunks) (s : Strand) → s.at ≡ 0 → length (chain_bytes m s.chunks s.first) ≤ s.rest
+pub whole-bytes : (m : Chunks) (s : Strand) → s.at ≡ 0 → length (chain_bytes m s.chunks s.first) ≤ s.rest
     → bytes_of m s ≡ chain_bytes m s.chunks s.first
 whole-bytes m s whole few =
     ap (λ at. take s.rest (drop at (chain_bytes m s.chunks s.first))) whole
     ∙ take_all s.rest (chain_bytes m s.chunks s.first) few
 
 -- and there are as many as it says
-length-text : (m : Chunks) (s : Strand) → ((chunk : ℕ) → length (content m chunk) ≤ 120)
+pub length-text : (m : Chunks) (s : Strand) → ((chunk : ℕ) → length (content m chunk) ≤ 120)
     → IsFilled m (s.chunks - 1) s.first s.last s.rest → 0 < s.chunks → length (chain_bytes m s.chunks s.first) ≡ s.rest
 length-text m s fits f some =
     let count : suc (s.chunks - 1) ≡ s.chunks = omega arith in

@@ -26,3 +26,4 @@ pub mod Entering
 pub mod Naming
 pub mod Setting
 pub mod Renaming
+pub mod LastBytes

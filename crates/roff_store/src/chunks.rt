@@ -1,8 +1,9 @@
 //! Chunks of bytes, linked into the chains in which texts lie. Strands share them: a chunk that no
 //! strand has any more serves again.
 
-ghost use Rattle.std.specs.Prelude.{◌≡◌, ◌≢◌, ◌==◌, if◌then◌else◌, ℕ, ◌<◌, ◌≤◌, ◌+◌, ◌-◌, ◌*◌, ◌^◌, [], length, take, drop, IfOk};
+ghost use Rattle.std.specs.Prelude.{◌≡◌, ◌≢◌, ◌==◌, if◌then◌else◌, ℕ, ◌<◌, ◌≤◌, ◌+◌, ◌-◌, ◌*◌, ◌^◌, [], length, take, drop, IfOk, None};
 ghost use Rattle.roff_store.specs.Chains.{content, has, link, others, share, shares_in, AreSameChunks, IsExtended, IsShared, IsStrand, IsText, LeavesOthers, bytes_of};
+ghost use Rattle.std.specs.List.{last_or};
 
 use crate::strand::{NO_CHUNK, Strand};
 use arrayvec::ArrayVec;
@@ -66,6 +67,18 @@ impl Chunks {
         let bytes = self.contents[strand.first].as_slice();
         let behind = &bytes[strand.at..];
         &behind[..behind.len().min(strand.rest)]
+    }
+
+    /// The last byte of a text, if it has one.
+    pub(crate) fn last_byte(&self, strand: Strand) -> Option<u8>
+        requires { IsText self.now strand }
+        ensures { result ≡ last_or None (bytes_of self.now strand) }
+    {
+        if strand.rest == 0 {
+            return None;
+        }
+        let bytes = self.contents[strand.last].as_slice();
+        bytes.last().copied()
     }
 
     /// What is left of a strand behind so many of its bytes, where its first chunk has more of it.

@@ -8,18 +8,12 @@ mod chunks;
 pub mod laws;
 mod name_table;
 mod reg_table;
-#[cfg(test)]
-mod reg_table_tests;
 mod register;
 mod strand;
 mod text;
 pub mod text_laws;
 pub mod text_rows;
 mod text_store;
-#[cfg(test)]
-mod text_store_calls;
-#[cfg(test)]
-mod text_store_tests;
 
 pub use reg_table::RegTable;
 pub use register::{Direction, Register};

@@ -1,7 +1,8 @@
 //! Strings, macros and diversions under their names, with texts in the making and leases (manual,
 //! section 7).
 
-ghost use Rattle.std.specs.Prelude.{◌≡◌, ◌<◌, ◌≤◌, ◌+◌, ◌-◌, ℕ, true, false, [], ◌∷◌, All, length, option_map, sum_by, take, IsSome, IsTrue, is_some, ◌↔◌, IfOk, IfSome, IfNone};
+ghost use Rattle.std.specs.Prelude.{◌≡◌, ◌<◌, ◌≤◌, ◌+◌, ◌-◌, ℕ, true, false, [], ◌∷◌, All, length, option_map, sum_by, take, IsSome, IsTrue, is_some, ◌↔◌, IfOk, IfSome, IfNone, None};
+ghost use Rattle.std.specs.List.{last_or};
 ghost use Rattle.roff_store.specs.Chains.{has, share, shares_in, AreSameChunks, IsShared, IsStrand};
 ghost use Rattle.roff_store.specs.Named.{entry_of};
 ghost use Rattle.roff_store.specs.TextStore.Strands.{strands_of};
@@ -141,6 +142,16 @@ impl TextStore {
         match self.names.get(name)? {
             Meaning::Body(strand) => Some(Kind::Body(strand.rest)),
             Meaning::Request(number) => Some(Kind::Request(number)),
+        }
+    }
+
+    /// The last byte of the body of a name. None where the name has no body, or an empty one.
+    pub fn last_byte(&self, name: &Name) -> Option<u8>
+        ensures { result ≡ last_or None (body_of name.now self.now) }
+    {
+        match self.names.get(name)? {
+            Meaning::Body(strand) => self.chunks.last_byte(strand),
+            Meaning::Request(_) => None,
         }
     }
 

@@ -68,28 +68,3 @@ pub fn format_in_memory(
         messages: err.into_kept(),
     })
 }
-
-#[cfg(test)]
-mod tests {
-    use crate::{Limits, Room, Start, Status, format_in_memory};
-    use std::test::Fail;
-
-    const SPREAD: &[u8] = b".pl 2\n.ll 12n\na bb ccc dddd eeeee\n";
-
-    #[test]
-    fn whole_text_in_exact_room(rt: HostRuntime) -> Result<(), Fail> {
-        let room = Room {
-            output: 24,
-            messages: 0,
-        };
-        let limits = Limits::default();
-        let formatted = format_in_memory(rt.alloc(), limits, Start {}, SPREAD, None, room)?;
-        assert_eq!(rt;
-            formatted.output.as_slice(),
-            b"a   bb   ccc\ndddd eeeee\n".as_slice()
-        );
-        assert_eq!(rt; formatted.messages.as_slice(), b"".as_slice());
-        assert_eq!(rt; formatted.status, Status::Done);
-        Ok(())
-    }
-}

@@ -10,8 +10,6 @@ mod job;
 pub mod laws;
 mod memory;
 mod program;
-#[cfg(test)]
-mod tests;
 mod text_sink;
 mod texts;
 mod watched;

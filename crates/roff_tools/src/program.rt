@@ -183,31 +183,3 @@ fn open_part<R: Readers + AllocGlobal>(
         None => Err(StartFault::CannotOpen(String::from_str(rt.alloc(), name)?)),
     }
 }
-
-#[cfg(test)]
-mod tests {
-    use super::*;
-    use crate::MemSink;
-    use std::test::Fail;
-
-    #[test]
-    fn reports_faults(rt: HostRuntime) -> Result<(), Fail> {
-        let rows: [(StartFault, &[u8]); 3] = [
-            (
-                StartFault::CannotOpen(String::from_str(rt.alloc(), "a file")?),
-                b"roff: cannot open a file\n",
-            ),
-            (
-                StartFault::NotText,
-                b"roff: an argument is not UTF-8 text\n",
-            ),
-            (StartFault::OutOfMemory, b"roff: out of memory\n"),
-        ];
-        for (fault, text) in rows {
-            let mut err = MemSink::new(rt.alloc(), 100)?;
-            assert_eq!(rt; report(&fault, &mut err), Exit::NotStarted);
-            assert!(rt; err.kept() == text);
-        }
-        Ok(())
-    }
-}

@@ -18,6 +18,7 @@ known_of facts all = record {
   registers = all;
   newlines = facts.newlines;
   last_width = facts.last_width;
+  arguments = facts.arguments;
 }
 
 -- a change that a request makes

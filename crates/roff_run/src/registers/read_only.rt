@@ -28,7 +28,7 @@ static READ_ONLY: [ReadOnly; 17] = [
     ReadOnly { name: *b".v", query: Query::LineSpacing },
     ReadOnly { name: *b".V", query: Query::LineSpacing },
     ReadOnly { name: *b".H", query: Query::ColumnWidth },
-    ReadOnly { name: *b".$", query: Query::Later },
+    ReadOnly { name: *b".$", query: Query::Arguments },
     ReadOnly { name: *b".d", query: Query::Later },
     ReadOnly { name: *b".o", query: Query::Later },
     ReadOnly { name: *b".p", query: Query::Later },
@@ -82,6 +82,7 @@ impl Query {
             Query::Filling => u64::from(settings.filling),
             Query::LineSpacing => 40,
             Query::ColumnWidth => COLUMN,
+            Query::Arguments => facts.arguments as u64,
             Query::Later => 0,
         };
         answer.min(GREATEST_NUMBER) as u32

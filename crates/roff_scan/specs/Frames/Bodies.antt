@@ -1,6 +1,6 @@
 -- How bodies that are read where they lie stand for their bytes.
 use Rattle.std.specs.Prelude.{ℕ, List, [], ◌∷◌, ◌++◌, map}
-use Rattle.roff_scan.specs.Input.{Ahead, ByteAhead, FreeAhead, EndAhead, DoAhead}
+use Rattle.roff_scan.specs.Input.{Ahead, ByteAhead, FreeAhead, EndAhead, ReturnAhead, DoAhead}
 use Rattle.roff_scan.specs.declared.frames.Frame.{Frame}
 use Rattle.roff_scan.specs.declared.frames.Frame.TheVariants.{Event, Body}
 use Rattle.roff_store.specs.Texts.{Texts, lease_bytes, lease_of}
@@ -10,6 +10,7 @@ abbrev pub items_of : {E : Type 0} → Texts → Ahead (Frame E) → List (Ahead
 items_of t (ByteAhead b) = ByteAhead b ∷ []
 items_of t (FreeAhead b) = FreeAhead b ∷ []
 items_of t EndAhead = EndAhead ∷ []
+items_of t ReturnAhead = ReturnAhead ∷ []
 items_of t (DoAhead (Event event)) = DoAhead event ∷ []
 items_of t (DoAhead (Body id)) = map ByteAhead (lease_bytes (lease_of id.0 t))
 
@@ -24,5 +25,6 @@ leases_in [] = []
 leases_in (ByteAhead b ∷ items) = leases_in items
 leases_in (FreeAhead b ∷ items) = leases_in items
 leases_in (EndAhead ∷ items) = leases_in items
+leases_in (ReturnAhead ∷ items) = leases_in items
 leases_in (DoAhead (Event event) ∷ items) = leases_in items
 leases_in (DoAhead (Body id) ∷ items) = id.0 ∷ leases_in items

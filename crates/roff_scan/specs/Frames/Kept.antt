@@ -1,6 +1,6 @@
 -- What frames keep.
 use Rattle.std.specs.Prelude.{◌≡◌, ◌≢◌, ℕ, ◌<◌, ◌≤◌, ◌^◌, Bool, true, false, List, [], ◌∷◌, length, All, AllPairs, sum_by}
-use Rattle.roff_scan.specs.Input.{Ahead, ByteAhead, FreeAhead, EndAhead, DoAhead, bytes_ahead, ends_ahead, events_ahead, frees_ahead, most_events, most_frees}
+use Rattle.roff_scan.specs.Input.{Ahead, ByteAhead, FreeAhead, EndAhead, ReturnAhead, DoAhead, bytes_ahead, ends_ahead, events_ahead, frees_ahead, most_events, most_frees}
 use Rattle.roff_scan.specs.Frames.Bodies.{leases_in, with_bodies}
 use Rattle.roff_scan.specs.declared.frames.Frame.{Frame}
 use Rattle.roff_scan.specs.declared.frames.Frame.TheVariants.{Event, Body}
@@ -27,12 +27,13 @@ kept_by a = record {
   most_texts = a.slots.most_texts;
 }
 
--- whether an end comes first
+-- whether an end comes first, behind any bytes
 abbrev pub is_end_next : {E : Type 0} → List (Ahead (Frame E)) → Bool
 is_end_next [] = false
-is_end_next (ByteAhead b ∷ items) = false
+is_end_next (ByteAhead b ∷ items) = is_end_next items
 is_end_next (FreeAhead b ∷ items) = false
 is_end_next (EndAhead ∷ items) = true
+is_end_next (ReturnAhead ∷ items) = true
 is_end_next (DoAhead event ∷ items) = false
 
 -- behind each body comes the end of its text
@@ -41,6 +42,7 @@ AreEnded [] = Unit {0}
 AreEnded (ByteAhead b ∷ items) = AreEnded items
 AreEnded (FreeAhead b ∷ items) = AreEnded items
 AreEnded (EndAhead ∷ items) = AreEnded items
+AreEnded (ReturnAhead ∷ items) = AreEnded items
 AreEnded (DoAhead (Event event) ∷ items) = AreEnded items
 AreEnded (DoAhead (Body id) ∷ items) = (is_end_next items ≡ true) × AreEnded items
 
@@ -62,3 +64,4 @@ pub record IsSound {E : Type 0} (a : Inside E) : Type 0 where
   pub events : events_ahead (kept_by a).ahead ≤ most_events a.slots.most_texts
   pub frees : frees_ahead (kept_by a).ahead ≤ most_frees
   pub small : a.slots.most_bytes < 2 ^ 32
+  pub store : a.texts.cap_bytes < 2 ^ 32

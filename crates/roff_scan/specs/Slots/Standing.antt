@@ -1,10 +1,10 @@
 -- How slots and a stack of bytes stand for what is ahead of the source.
 use Rattle.std.specs.Prelude.{◌≡◌, ℕ, ◌≤◌, Bool, false, nat_lt, List, [], ◌∷◌, ◌++◌, map, length, reverse, take, drop, replicate}
-use Rattle.roff_scan.specs.Input.{Ahead, ByteAhead, FreeAhead, EndAhead, DoAhead}
+use Rattle.roff_scan.specs.Input.{Ahead, ByteAhead, FreeAhead, EndAhead, ReturnAhead, DoAhead}
 use Rattle.roff_scan.specs.declared.slots.Front.{Front}
-use Rattle.roff_scan.specs.declared.slots.Front.TheVariants.{Byte as FrontByte, Free as FrontFree, End as FrontEnd, Do as FrontDo}
+use Rattle.roff_scan.specs.declared.slots.Front.TheVariants.{Byte as FrontByte, Free as FrontFree, End as FrontEnd, Return as FrontReturn, Do as FrontDo}
 use Rattle.roff_scan.specs.declared.slots.Mark.{Mark}
-use Rattle.roff_scan.specs.declared.slots.Mark.TheVariants.{Ends, Free, Do}
+use Rattle.roff_scan.specs.declared.slots.Mark.TheVariants.{Ends, Return, Free, Do}
 use Rattle.roff_scan.specs.declared.slots.Slot.{Slot}
 
 -- the item that the code takes
@@ -12,11 +12,13 @@ abbrev pub item_of : {E : Type 0} → Front E → Ahead E
 item_of (FrontByte b) = ByteAhead b
 item_of (FrontFree b) = FreeAhead b
 item_of FrontEnd = EndAhead
+item_of FrontReturn = ReturnAhead
 item_of (FrontDo event) = DoAhead event
 
 -- what a mark stands for
 abbrev pub items_of : {E : Type 0} → Mark E → List (Ahead E)
 items_of (Ends more) = EndAhead ∷ replicate more EndAhead
+items_of Return = ReturnAhead ∷ []
 items_of (Free b) = FreeAhead b ∷ []
 items_of (Do event) = DoAhead event ∷ []
 

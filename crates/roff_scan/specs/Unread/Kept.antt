@@ -1,6 +1,9 @@
 -- What the unread input keeps.
-use Rattle.std.specs.Prelude.{◌≡◌, ◌≤◌, ◌<◌, ◌^◌, reverse, vec_capacity}
+use Rattle.std.specs.Prelude.{◌≡◌, ◌≤◌, ◌<◌, ◌^◌, [], length, reverse, vec_capacity}
+use Rattle.roff_scan.specs.Arguments.{Arguments}
+use Rattle.roff_scan.specs.Input.{returns_ahead}
 use Rattle.roff_scan.specs.Unread.{Unread, IsWithin, texts_within}
+use Rattle.roff_scan.specs.declared.arguments.Place.TheVariants.{Between}
 use Rattle.roff_scan.specs.declared.unread.Unread.TheInside.{Inside}
 use Rattle.roff_store.specs.Named.{EachOnce}
 
@@ -10,6 +13,7 @@ kept_by a = record {
   input = record {
     ahead = a.frames.ahead;
     arguments = a.arguments.arguments;
+    calls = a.calls.calls;
     half = a.half.half;
     kept = reverse a.kept.items;
     charge = a.charge;
@@ -23,6 +27,10 @@ kept_by a = record {
   limits = a.limits;
 }
 
+-- between arguments none is begun
+abbrev pub NoneBegun : Arguments → Type 0
+NoneBegun a = a.place ≡ Between → a.begun ≡ []
+
 -- there is room by the limits, and no count is above its limit
 pub record IsSound {E : Type 0} (a : Inside E) : Type 0 where
   pub bytes : a.frames.most_bytes ≡ a.limits.stack
@@ -30,6 +38,10 @@ pub record IsSound {E : Type 0} (a : Inside E) : Type 0 where
   pub store : a.frames.texts ≡ texts_within a.limits (kept_by a).input
   pub once : EachOnce a.frames.texts.names.entries
   pub arguments : a.arguments.room ≡ a.limits.stack
+  pub begun : NoneBegun a.arguments.arguments
+  pub call_bytes : a.calls.most_bytes ≡ a.limits.stack
+  pub most_calls : a.calls.most_calls ≡ a.limits.depth
+  pub calls : returns_ahead a.frames.ahead ≡ length a.calls.calls
   pub held : a.half.room ≡ a.limits.stack
   pub small : a.limits.stack < 2 ^ 32
   pub results : a.limits.conditions ≤ vec_capacity a.kept

@@ -1,5 +1,5 @@
 use Rattle.std.proofs.Common.{refl}
-use Rattle.roff_engine.proofs.Turns.{front_byte, front_end, front_ended, front_event, front_failed, front_note, front_refused, front_stopped}
+use Rattle.roff_engine.proofs.Turns.{front_byte, front_end, front_return, front_ended, front_event, front_failed, front_note, front_refused, front_stopped}
 use Rattle.roff_engine.proofs.running.Running.turn_item.Goals as goal
 
 pub returns-in-Byte : goal.returns-in-Byte
@@ -11,6 +11,11 @@ pub returns-in-End : goal.returns-in-End
 returns-in-End g c =
     let shown = c.in-End.ensures in
     front_end c.args.self.now _ _ _ _ _ _ shown.failures shown.notes shown.takes
+
+pub returns-in-Return : goal.returns-in-Return
+returns-in-Return g c =
+    let shown = c.in-Return.ensures in
+    rw c.end_call.ensures (front_return c.args.self.now _ _ _ _ _ _ shown.failures shown.notes shown.takes)
 
 pub returns-in-Do : goal.returns-in-Do
 returns-in-Do g c =

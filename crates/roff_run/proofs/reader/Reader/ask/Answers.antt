@@ -18,10 +18,10 @@ pub returns-in-Text : goal.returns-in-Text
 returns-in-Text c = rw (c.in-Some.is, c.in-Text.is) (c.put_string.ensures c.args.env.now)
 
 pub returns-in-Argument : goal.returns-in-Argument
-returns-in-Argument c = rw (c.in-Some.is, c.in-Argument.is) (c.put_nothing.ensures c.args.env.now)
+returns-in-Argument c = rw (c.in-Some.is, c.in-Argument.is) (c.put_argument.ensures c.args.env.now)
 
 pub returns-in-Character : goal.returns-in-Character
-returns-in-Character c = rw (c.in-Some.is, c.in-Character.is) (c.put_nothing-in-Character.ensures c.args.env.now)
+returns-in-Character c = rw (c.in-Some.is, c.in-Character.is) (c.put_nothing.ensures c.args.env.now)
 
 pub returns-in-Font : goal.returns-in-Font
 returns-in-Font c = rw (c.in-Some.is, c.in-Font.is) (c.put_nothing-in-Font.ensures c.args.env.now)

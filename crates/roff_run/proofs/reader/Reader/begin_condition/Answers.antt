@@ -40,4 +40,4 @@ returns c =
     TakesAs-as (λ k. condition_read k u.input keeps (byte_read AboveArguments (choosing u.input).half b)) (λ k. condition_begun k u.input keeps b) env old done.new.self
     u done.new.unread done.result (λ k. rw goes_on refl)
     (TakesAs-less (choosing u.input) (λ k. condition_read k u.input keeps (byte_read AboveArguments (choosing u.input).half b)) env old done.new.self u done.new.unread done.result
-    (NoMore-choosing u.input) refl (subst At c.begin_condition.ensures.change took))
+    (NoMore-choosing u.input) refl refl (subst At c.begin_condition.ensures.change took))

@@ -4,8 +4,8 @@ use Rattle.roff_scan.proofs.TextsHeld.{texts_held-reading_ended}
 use Rattle.roff_scan.specs.Input.{with_half}
 use Rattle.roff_scan.specs.declared.half.Surroundings.TheVariants.{Text as AboveText, Arguments as AboveArguments, Copy as AboveCopy}
 use Rattle.roff_run.specs.Reader.State.{ReaderState}
-use Rattle.roff_run.specs.Reading.{arguments_found, beginning_found, condition_found, string_name_found, string_text_found, going_on, half_ended, message_found, text_found}
-use Rattle.roff_run.specs.declared.reading.Reading.TheVariants.{StringName, StringText, Arguments as InArguments, Branch, Braced, Deciding, LineStart, Text as InText, Telling}
+use Rattle.roff_run.specs.Reading.{arguments_found, beginning_found, call_found, condition_found, definition_found, string_name_found, string_text_found, going_on, half_ended, message_found, text_found}
+use Rattle.roff_run.specs.declared.reading.Reading.TheVariants.{StringName, StringText, Arguments as InArguments, Branch, Braced, Deciding, LineStart, Text as InText, Telling, Calling, Defining}
 use Rattle.roff_run.proofs.TakesAs.{TakesAs-as, TakesAs-meant, TakesAs-read, TakesAs-where, half_ended-dropped}
 use Rattle.roff_run.proofs.reader.Reader.end_half.Goals as goal
 
@@ -124,6 +124,35 @@ returns-in-Telling c =
     (TakesAs-read (λ k i found. message_found k i aborts is_front found) (reading_ended AboveCopy u.input.half) env old done.new.self u read.new.self done.new.unread
     read.result done.result read.ensures.reading (texts_held-reading_ended AboveCopy u.input.half) done.ensures)
 
+pub returns-in-Calling : goal.returns-in-Calling
+returns-in-Calling c =
+    let env = c.args.env.now in
+    let old = c.args.self.now in
+    let u = c.args.unread.now in
+    let name = c.in-Calling.name in
+    let done = c.read_call in
+    let read = c.end_reading-found-in-Calling in
+    let is : old.reading ≡ Calling name = search rules in
+    TakesAs-where (λ k r. half_ended k r u.input) (Calling name) env old done.new.self u done.new.unread done.result is
+    (TakesAs-read (λ k i found. call_found k i name found) (reading_ended AboveArguments u.input.half) env old done.new.self u read.new.self
+    done.new.unread read.result done.result read.ensures.reading (texts_held-reading_ended AboveArguments u.input.half) done.ensures)
+
+pub returns-in-Defining : goal.returns-in-Defining
+returns-in-Defining c =
+    let env = c.args.env.now in
+    let old = c.args.self.now in
+    let u = c.args.unread.now in
+    let name = c.in-Defining.name in
+    let appends = c.in-Defining.appends in
+    let end = c.in-Defining.end in
+    let matched = c.in-Defining.matched in
+    let done = c.read_definition in
+    let read = c.end_reading-found-in-Defining in
+    let is : old.reading ≡ Defining name appends end matched = search rules in
+    TakesAs-where (λ k r. half_ended k r u.input) (Defining name appends end matched) env old done.new.self u done.new.unread done.result is
+    (TakesAs-read (λ k i found. definition_found k i name appends end matched found) (reading_ended AboveCopy u.input.half) env old done.new.self u read.new.self
+    done.new.unread read.result done.result read.ensures.reading (texts_held-reading_ended AboveCopy u.input.half) done.ensures)
+
 pub returns-in_default : goal.returns-in_default
 returns-in_default c =
     let env = c.args.env.now in
@@ -139,7 +168,8 @@ returns-in_default c =
     (λ line is. others.not-Text line (same ∙ is)) (λ breaks request is. others.not-Arguments breaks request (same ∙ is))
     (λ keeps is. others.not-Deciding keeps (same ∙ is)) (λ appends is. others.not-StringName appends (same ∙ is))
     (λ name appends is_front is. others.not-StringText name appends is_front (same ∙ is))
-    (λ aborts is_front is. others.not-Telling aborts is_front (same ∙ is)))
+    (λ aborts is_front is. others.not-Telling aborts is_front (same ∙ is)) (λ name is. others.not-Calling name (same ∙ is))
+    (λ name appends end matched is. others.not-Defining name appends end matched (same ∙ is)))
     (TakesAs-read (λ k i found. going_on i old.reading) read env old old u mid mid c.end_reading.result (Ok m) c.end_reading.ensures.reading
     (texts_held-reading_ended AboveText u.input.half)
     (TakesAs-meant (λ k. going_on mid.input old.reading) old.reading [] env old old mid m (λ k. refl) refl c.nothing.ensures.message c.nothing.ensures.events))

@@ -1,13 +1,13 @@
 use Rattle.std.proofs.Common.{◌≡◌, Bool, true, rules, refl, subst}
 use Rattle.roff_scan.specs.Halves.{byte_read}
-use Rattle.roff_scan.specs.Input.{choosing, kept_last, with_half, without_last}
+use Rattle.roff_scan.specs.Input.{kept_last, without_last}
 use Rattle.roff_scan.specs.declared.half.Surroundings.TheVariants.{Arguments as AboveArguments, Copy as AboveCopy}
 use Rattle.roff_scan.proofs.TextsHeld.{texts_held-byte_read}
 use Rattle.roff_run.specs.Reader.Taken.{PageUnread, TakesAs}
-use Rattle.roff_run.specs.Reading.{arguments_found, branch_taking, condition_found, line_taking, message_found, reads_else, string_name_found}
+use Rattle.roff_run.specs.Reading.{arguments_found, branch_taking, line_taking, message_found, reads_else, string_name_found}
 use Rattle.roff_run.specs.Requests.{row_of}
-use Rattle.roff_run.specs.declared.request.LineReading.TheVariants.{ByArguments, ByCondition, ByElse, ByLastLine, ByMessage, ByString}
-use Rattle.roff_run.proofs.TakesAs.{NoMore-choosing, NoMore-without_last, TakesAs-less, TakesAs-line, TakesAs-read}
+use Rattle.roff_run.specs.declared.request.LineReading.TheVariants.{ByArguments, ByCondition, ByElse, ByLastLine, ByLines, ByMessage, ByString}
+use Rattle.roff_run.proofs.TakesAs.{NoMore-without_last, TakesAs-less, TakesAs-line, TakesAs-read}
 use Rattle.roff_run.proofs.reader.Reader.read_first.Goals as goal
 
 pub returns-in-ByArguments : goal.returns-in-ByArguments
@@ -56,6 +56,22 @@ returns-in-ByLastLine c =
     (TakesAs-read (λ k i found. arguments_found k i breaks request found) (byte_read AboveArguments u.input.half b) env old done.new.self u read.new.self done.new.unread
     read.result done.result read.ensures.reading (texts_held-byte_read AboveArguments b u.input.half) done.ensures)
 
+pub returns-in-ByLines : goal.returns-in-ByLines
+returns-in-ByLines c =
+    let env = c.args.env.now in
+    let old = c.args.self.now in
+    let u = c.args.unread.now in
+    let b = c.args.byte in
+    let breaks = c.args.breaks in
+    let request = c.args.request in
+    let lines = c.in-ByLines.field-0 in
+    let read = c.read_byte-found-in-ByLines in
+    let done = c.read_arguments-in-ByLines in
+    let line : (row_of request).line ≡ ByLines lines = search rules in
+    TakesAs-line (ByLines lines) breaks request b env old done.new.self u done.new.unread done.result line
+    (TakesAs-read (λ k i found. arguments_found k i breaks request found) (byte_read AboveArguments u.input.half b) env old done.new.self u read.new.self done.new.unread
+    read.result done.result read.ensures.reading (texts_held-byte_read AboveArguments b u.input.half) done.ensures)
+
 pub returns-in-ByMessage : goal.returns-in-ByMessage
 returns-in-ByMessage c =
     let env = c.args.env.now in
@@ -94,4 +110,4 @@ returns-in-ByElse c =
     let At : PageUnread → Bool → Type 0 = λ v so. TakesAs (λ k. branch_taking k v.input so b) env old done.new.self v done.new.unread done.result in
     TakesAs-line ByElse breaks request b env old done.new.self u done.new.unread done.result line
     (TakesAs-less (without_last u.input) (λ k. line_taking k u.input breaks request ByElse b) env old done.new.self u done.new.unread done.result
-    (NoMore-without_last u.input) refl (subst (λ (v : PageUnread). At v (reads_else (kept_last u.input))) c.take_kept.ensures.change (subst (λ (so : Bool). At c.take_kept.new.self so) so done.ensures)))
+    (NoMore-without_last u.input) refl refl (subst (λ (v : PageUnread). At v (reads_else (kept_last u.input))) c.take_kept.ensures.change (subst (λ (so : Bool). At c.take_kept.new.self so) so done.ensures)))

@@ -2,8 +2,8 @@ use Rattle.std.proofs.Common.{◌≡◌, [], Ok, refl, rules}
 use Rattle.roff_scan.specs.Halves.{byte_read}
 use Rattle.roff_scan.specs.declared.half.Surroundings.TheVariants.{Text as AboveText, Arguments as AboveArguments, Copy as AboveCopy}
 use Rattle.roff_scan.proofs.TextsHeld.{texts_held-byte_read}
-use Rattle.roff_run.specs.Reading.{arguments_found, beginning_found, condition_found, string_name_found, string_text_found, kept_taking, message_found, text_found}
-use Rattle.roff_run.specs.declared.reading.Reading.TheVariants.{StringName, StringText, Arguments as InArguments, Branch, Braced, Control, Deciding, Dropped, LineStart, Name, Skipping, Text as InText, Telling, Told, Exiting}
+use Rattle.roff_run.specs.Reading.{arguments_found, beginning_found, call_found, condition_found, definition_found, string_name_found, string_text_found, kept_taking, message_found, text_found}
+use Rattle.roff_run.specs.declared.reading.Reading.TheVariants.{StringName, StringText, Arguments as InArguments, Branch, Braced, Control, Deciding, Dropped, LineStart, Name, Skipping, Text as InText, Telling, Told, Exiting, Calling, Defining}
 use Rattle.roff_run.proofs.TakesAs.{TakesAs-meant, TakesAs-read, TakesAs-where}
 use Rattle.roff_run.proofs.reader.Reader.read_kept.Goals as goal
 
@@ -126,6 +126,35 @@ returns-in-StringText c =
     TakesAs-where (λ k r. kept_taking k r u.input c.args.byte) (StringText name appends is_front) env old done.new.self u done.new.unread done.result is
     (TakesAs-read (λ k i found. string_text_found k i name appends is_front found) (byte_read AboveCopy u.input.half c.args.byte) env old done.new.self u read.new.self done.new.unread
     read.result done.result read.ensures.reading (texts_held-byte_read AboveCopy c.args.byte u.input.half) done.ensures)
+
+pub returns-in-Calling : goal.returns-in-Calling
+returns-in-Calling c =
+    let env = c.args.env.now in
+    let old = c.args.self.now in
+    let u = c.args.unread.now in
+    let name = c.in-Calling.name in
+    let done = c.read_call in
+    let read = c.read_byte-found-in-Calling in
+    let is : old.reading ≡ Calling name = search rules in
+    TakesAs-where (λ k r. kept_taking k r u.input c.args.byte) (Calling name) env old done.new.self u done.new.unread done.result is
+    (TakesAs-read (λ k i found. call_found k i name found) (byte_read AboveArguments u.input.half c.args.byte) env old done.new.self u read.new.self
+    done.new.unread read.result done.result read.ensures.reading (texts_held-byte_read AboveArguments c.args.byte u.input.half) done.ensures)
+
+pub returns-in-Defining : goal.returns-in-Defining
+returns-in-Defining c =
+    let env = c.args.env.now in
+    let old = c.args.self.now in
+    let u = c.args.unread.now in
+    let name = c.in-Defining.name in
+    let appends = c.in-Defining.appends in
+    let end = c.in-Defining.end in
+    let matched = c.in-Defining.matched in
+    let done = c.read_definition in
+    let read = c.read_byte-found-in-Defining in
+    let is : old.reading ≡ Defining name appends end matched = search rules in
+    TakesAs-where (λ k r. kept_taking k r u.input c.args.byte) (Defining name appends end matched) env old done.new.self u done.new.unread done.result is
+    (TakesAs-read (λ k i found. definition_found k i name appends end matched found) (byte_read AboveCopy u.input.half c.args.byte) env old done.new.self u read.new.self
+    done.new.unread read.result done.result read.ensures.reading (texts_held-byte_read AboveCopy c.args.byte u.input.half) done.ensures)
 
 pub returns-in-Skipping : goal.returns-in-Skipping
 returns-in-Skipping c =

@@ -4,7 +4,7 @@ use Rattle.roff_run.proofs.reader.Reader.read_unit.Goals.{in_default-via-in-Byte
 use Rattle.roff_run.proofs.reader.Reader.read_unit.Goals as goal
 
 pub returns-in-Byte-eq10 : goal.returns-in-Byte-eq10
-returns-in-Byte-eq10 c = let is : c.args.unit ≡ Byte 10 = search rules in rw is c.obey.ensures
+returns-in-Byte-eq10 c = let is : c.args.unit ≡ Byte 10 = search rules in rw is c.end_arguments.ensures
 
 pub returns-in_default : goal.returns-in_default
 returns-in_default c = elim c.in_default.branch [

@@ -4,6 +4,7 @@ use Rattle.std.proofs.lemmas.List.{reverse-reverse}
 use Rattle.roff_scan.specs.Arguments.{Arguments, kept}
 use Rattle.roff_scan.specs.ArgumentTexts.Ends.{texts_ending}
 use Rattle.roff_scan.specs.ArgumentTexts.Kept.{KeptArguments}
+use Rattle.roff_scan.proofs.ArgumentBlock.{few_texts}
 use Rattle.roff_scan.proofs.arguments.ArgumentTexts.list.Goals as goal
 
 pub returns-clause-keeps : goal.returns-clause-keeps
@@ -13,3 +14,8 @@ returns-clause-keeps c = λ a keeps.
     (sym (reverse-reverse (texts_ending c.self.inside.bytes.items 0 c.self.inside.ends.items))
     ∙ ap (λ (texts : List (List ℕ)). reverse texts) whole
     ∙ reverse-reverse (kept (reverse a.whole)))
+
+pub returns-clause-few : goal.returns-clause-few
+returns-clause-few c =
+    rw (c.as_slice.ensures.value, c.as_slice-2.ensures.value)
+    (few_texts c.self.inside.bytes.items c.self.inside.ends.items c.self.invariant.kept)

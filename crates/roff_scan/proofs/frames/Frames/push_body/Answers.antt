@@ -1,39 +1,39 @@
-use Rattle.std.proofs.Common.{arith, ◌<◌, length}
-use Rattle.roff_scan.proofs.Pushed.{kept-by-pushed, room-for-body, room-for-bytes, room-for-end, room-for-lease, room-for-mark, sound-leased}
+use Rattle.std.proofs.Common.{[], ◌∷◌, ◌++◌, map, arith, refl, ap, ◌∙◌}
+use Rattle.roff_scan.proofs.Bodies.{bytes-with_bodies, ends-with_bodies}
+use Rattle.roff_scan.proofs.Framing.{IsSound-pushing}
 use Rattle.roff_scan.proofs.frames.Frames.push_body.Goals as goal
+use Rattle.roff_scan.specs.Frames.Kept.{Framed}
+use Rattle.roff_scan.specs.Input.{ByteAhead, EndAhead}
 use Rattle.roff_store.specs.Texts.{body_of}
 
 pub push-requires-clause-bytes : goal.push-requires-clause-bytes
 push-requires-clause-bytes g c =
-    room-for-bytes c.self.inside c.args.self.now c.self.invariant c.self.view_is c.args.name.now c.requires.bytes c.requires.ends
+    omega (arith, c.self.invariant.bytes, bytes-with_bodies c.self.inside.texts c.self.inside.slots.ahead)
 
 pub push-requires-clause-ends : goal.push-requires-clause-ends
 push-requires-clause-ends g c =
-    room-for-end c.self.inside c.args.self.now c.self.invariant c.self.view_is c.args.name.now c.requires.bytes c.requires.ends
+    let few = rw (← c.self.view_is) at c.requires.ends in
+    omega (arith, few, ends-with_bodies c.self.inside.texts c.self.inside.slots.ahead)
 
-pub lease-requires-clause-fewer : goal.lease-requires-clause-fewer
-lease-requires-clause-fewer g c =
-    room-for-lease c.self.inside c.args.self.now c.self.invariant c.self.view_is c.args.name.now c.requires.bytes c.requires.ends
+pub put_body-requires-clause-sound : goal.put_body-requires-clause-sound
+put_body-requires-clause-sound g c =
+    let few = rw (← c.self.view_is) at c.requires.ends in
+    rw c.push.ensures (IsSound-pushing c.self.inside [] c.self.invariant (omega (arith, c.self.invariant.bytes)) few)
 
-pub lease-requires-clause-room : goal.lease-requires-clause-room
-lease-requires-clause-room g c =
-    room-for-body c.self.inside c.args.self.now c.self.invariant c.self.view_is c.args.name.now c.requires.bytes c.requires.ends
+pub put_body-requires-clause-end : goal.put_body-requires-clause-end
+put_body-requires-clause-end g c = rw c.push.ensures refl
 
-pub put_back-requires : goal.put_back-requires
-put_back-requires g c =
-    rw c.push.ensures
-    (room-for-mark c.self.inside c.args.self.now c.self.invariant c.self.view_is c.args.name.now c.requires.bytes c.requires.ends)
+pub put_body-requires-clause-bytes : goal.put_body-requires-clause-bytes
+put_body-requires-clause-bytes g c =
+    let fits = rw (← c.self.view_is) at c.requires.bytes in
+    rw c.push.ensures fits
 
-pub invariant_of-self-in-Some : goal.invariant_of-self-in-Some
-invariant_of-self-in-Some g c =
-    let some : 0 < length (body_of c.args.name.now c.self.inside.texts) = omega (arith, c.body_len.ensures, c.if-body_len-eq0.false) in
-    rw (c.put_back.ensures, c.push.ensures, c.in-Some.ensures.leased)
-    (sound-leased c.self.inside c.args.self.now c.self.invariant c.self.view_is c.args.name.now c.requires.bytes c.requires.ends
-    some c.in-Some.lease c.in-Some.ensures.number)
+pub invariant_of-self : goal.invariant_of-self
+invariant_of-self g c = c.put_body.ensures.sound
 
-pub returns-in-Some : goal.returns-in-Some
-returns-in-Some g c =
-    let some : 0 < length (body_of c.args.name.now c.self.inside.texts) = omega (arith, c.body_len.ensures, c.if-body_len-eq0.false) in
-    kept-by-pushed c.self.inside c.args.self.now c.self.invariant c.self.view_is c.args.name.now c.requires.bytes
-    c.requires.ends some c.in-Some.lease c.in-Some.ensures.number c.put_back.new.self c.lease.new.self
-    (rw c.push.ensures at c.put_back.ensures) c.in-Some.ensures.leased
+pub returns : goal.returns
+returns g c =
+    let put = rw c.push.ensures at c.put_body.ensures.kept in
+    let name = c.args.name.now in
+    put
+    ∙ ap (λ (f : Framed _). record f { ahead = map ByteAhead (body_of name f.texts) ++ EndAhead ∷ f.ahead }) c.self.view_is

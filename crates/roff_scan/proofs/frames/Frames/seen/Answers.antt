@@ -1,7 +1,7 @@
 use Rattle.std.proofs.Common.{Some, None, ◌∙◌}
 use Rattle.roff_scan.specs.Input.{ByteAhead, FreeAhead, DoAhead}
 use Rattle.roff_scan.proofs.Leased.{some-giving}
-use Rattle.roff_scan.proofs.Seeing.{first-gives, front-seen, no-end-first, sees}
+use Rattle.roff_scan.proofs.Seeing.{first-gives, front-seen, no-end-first, no-return-first, sees}
 use Rattle.roff_scan.proofs.frames.Frames.seen.Goals as goal
 use Rattle.roff_scan.specs.declared.frames.Frame.TheVariants.{Event, Body}
 use Rattle.roff_store.specs.Texts.{lease_bytes, lease_of}
@@ -46,3 +46,7 @@ returns-in-Some-Free g c =
 pub returns-in-Some-End : goal.returns-in-Some-End
 returns-in-Some-End g c =
     absurd (no-end-first c.self.inside.slots.ahead (rw c.in-Some-End.field-0-is at c.in-Some-End.ensures))
+
+pub returns-in-Some-Return : goal.returns-in-Some-Return
+returns-in-Some-Return g c =
+    absurd (no-return-first c.self.inside.slots.ahead (rw c.in-Some-Return.field-0-is at c.in-Some-Return.ensures))

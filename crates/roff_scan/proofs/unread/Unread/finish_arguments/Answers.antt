@@ -2,6 +2,7 @@ use Rattle.roff_scan.specs.Arguments.{finished}
 use Rattle.roff_scan.specs.Unread.Kept.{kept_by}
 use Rattle.roff_scan.proofs.Changing.{IsWithin-same_held}
 use Rattle.roff_scan.proofs.KeptArguments.{held-finished}
+use Rattle.roff_scan.proofs.LineCalls.{begun-finished}
 use Rattle.roff_scan.proofs.unread.Unread.finish_arguments.Goals as goal
 
 pub invariant_of-self : goal.invariant_of-self
@@ -11,6 +12,10 @@ invariant_of-self g c =
       bytes = c.self.invariant.bytes;
       texts = c.self.invariant.texts;
       arguments = rw c.finish.ensures.value c.self.invariant.arguments;
+      begun = rw c.finish.ensures.value (λ is. begun-finished old c.self.invariant.begun);
+      call_bytes = c.self.invariant.call_bytes;
+      most_calls = c.self.invariant.most_calls;
+      calls = c.self.invariant.calls;
       held = c.self.invariant.held;
       small = c.self.invariant.small;
       store = c.self.invariant.store;

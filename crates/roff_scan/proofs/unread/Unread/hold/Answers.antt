@@ -5,6 +5,7 @@ use Rattle.roff_scan.specs.Unread.{Unread, changing}
 use Rattle.roff_scan.specs.Arguments.{with_unit}
 use Rattle.roff_scan.specs.Unread.Kept.{kept_by}
 use Rattle.roff_scan.proofs.Changing.{hold_past_stack, hold_within, IsWithin-holding}
+use Rattle.roff_scan.proofs.LineCalls.{NoneBegun-with_unit}
 use Rattle.roff_scan.proofs.unread.Unread.hold.Goals as goal
 
 pub returns-then-bytes_more-self-clause-change : goal.returns-then-bytes_more-self-clause-change
@@ -12,7 +13,7 @@ returns-then-bytes_more-self-clause-change g c =
     let kept = kept_by c.self.inside in
     let counted = rw (← c.self.view_is) at c.pushed.ensures in
     subst (λ (u : Unread _). (Err Stack, u) ≡ changing (with_arguments (with_unit u.input.arguments c.args.unit) u.input) u) c.self.view_is
-    (sym (hold_past_stack kept (with_unit kept.input.arguments c.args.unit) c.pushed.result c.bytes_more.result counted c.bytes_more.ensures.value c.if-bytes_more-self.true))
+    (sym (hold_past_stack kept (with_unit kept.input.arguments c.args.unit) c.self.invariant.within c.pushed.result c.bytes_more.result counted c.bytes_more.ensures.value c.if-bytes_more-self.true))
 
 pub invariant_of-self : goal.invariant_of-self
 invariant_of-self g c =
@@ -22,12 +23,16 @@ invariant_of-self g c =
       bytes = c.self.invariant.bytes;
       texts = c.self.invariant.texts;
       arguments = rw c.take.ensures.value c.self.invariant.arguments;
+      begun = rw c.take.ensures.value (NoneBegun-with_unit c.self.inside.arguments.arguments c.args.unit c.self.invariant.begun);
+      call_bytes = c.self.invariant.call_bytes;
+      most_calls = c.self.invariant.most_calls;
+      calls = c.self.invariant.calls;
       held = c.self.invariant.held;
       small = c.self.invariant.small;
       store = c.self.invariant.store;
       once = c.self.invariant.once;
       results = c.self.invariant.results;
-      within = rw c.take.ensures.value (IsWithin-holding kept (with_unit kept.input.arguments c.args.unit) c.pushed.result c.bytes_more.result counted c.bytes_more.ensures.value c.self.invariant.within c.if-bytes_more-self.false);
+      within = rw c.take.ensures.value (IsWithin-holding kept (with_unit kept.input.arguments c.args.unit) c.self.invariant.within c.pushed.result c.bytes_more.result counted c.bytes_more.ensures.value c.if-bytes_more-self.false);
     }
 
 pub returns-clause-change : goal.returns-clause-change
@@ -36,7 +41,7 @@ returns-clause-change g c =
     let counted = rw (← c.self.view_is) at c.pushed.ensures in
     rw c.take.ensures.value
     (subst (λ (u : Unread _). (Ok tt, record kept { input = with_arguments (with_unit kept.input.arguments c.args.unit) kept.input }) ≡ changing (with_arguments (with_unit u.input.arguments c.args.unit) u.input) u) c.self.view_is
-    (sym (hold_within kept (with_unit kept.input.arguments c.args.unit) c.pushed.result c.bytes_more.result counted c.bytes_more.ensures.value c.self.invariant.within c.if-bytes_more-self.false)))
+    (sym (hold_within kept (with_unit kept.input.arguments c.args.unit) c.self.invariant.within c.pushed.result c.bytes_more.result counted c.bytes_more.ensures.value c.if-bytes_more-self.false)))
 
 pub returns-clause-within : goal.returns-clause-within
 returns-clause-within g c = (invariant_of-self g c).within

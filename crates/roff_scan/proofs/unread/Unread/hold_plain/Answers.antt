@@ -5,38 +5,55 @@ use Rattle.roff_scan.specs.Input.{holding_plain}
 use Rattle.roff_scan.specs.Unread.{Unread, changing}
 use Rattle.roff_scan.specs.Unread.Kept.{kept_by}
 use Rattle.roff_scan.proofs.Changing.{plain_past_stack, plain_within, IsWithin-plain}
+use Rattle.roff_scan.proofs.LineCalls.{NoneBegun-with_plain}
 use Rattle.roff_scan.proofs.unread.Unread.hold_plain.Goals as goal
 
 pub returns-then-bytes_of-self-clause-change : goal.returns-then-bytes_of-self-clause-change
 returns-then-bytes_of-self-clause-change g c =
     let kept = kept_by c.self.inside in
     let counted = rw (← c.self.view_is) at c.pushed.ensures in
+    let holding = with_plain kept.input.arguments c.args.unit in
+    let longer = c.bytes_of.ensures kept.input.arguments in
     subst (λ (u : Unread _). (Err Stack, u) ≡ changing (holding_plain c.args.unit u.input) u) c.self.view_is
-    (sym (plain_past_stack kept (with_plain kept.input.arguments c.args.unit) c.pushed.result c.bytes_of.result counted (c.bytes_of.ensures kept.input.arguments) c.if-bytes_of-self.true))
+    (sym (plain_past_stack kept holding c.self.invariant.within c.pushed.result c.bytes_of.result counted longer
+    c.if-bytes_of-self.true))
 
 pub invariant_of-self : goal.invariant_of-self
 invariant_of-self g c =
     let kept = kept_by c.self.inside in
     let counted = rw (← c.self.view_is) at c.pushed.ensures in
+    let holding = with_plain kept.input.arguments c.args.unit in
+    let longer = c.bytes_of.ensures kept.input.arguments in
     record {
       bytes = c.self.invariant.bytes;
       texts = c.self.invariant.texts;
       arguments = rw c.take_plain.ensures c.self.invariant.arguments;
+      begun = rw c.take_plain.ensures (NoneBegun-with_plain c.self.inside.arguments.arguments c.args.unit);
+      call_bytes = c.self.invariant.call_bytes;
+      most_calls = c.self.invariant.most_calls;
+      calls = c.self.invariant.calls;
       held = c.self.invariant.held;
       small = c.self.invariant.small;
       store = c.self.invariant.store;
       once = c.self.invariant.once;
       results = c.self.invariant.results;
-      within = rw c.take_plain.ensures (IsWithin-plain kept (with_plain kept.input.arguments c.args.unit) c.pushed.result c.bytes_of.result counted (c.bytes_of.ensures kept.input.arguments) c.self.invariant.within c.if-bytes_of-self.false);
+      within =
+          rw c.take_plain.ensures
+          (IsWithin-plain kept holding c.self.invariant.within c.pushed.result c.bytes_of.result counted longer
+          c.if-bytes_of-self.false);
     }
 
 pub returns-clause-change : goal.returns-clause-change
 returns-clause-change g c =
     let kept = kept_by c.self.inside in
     let counted = rw (← c.self.view_is) at c.pushed.ensures in
+    let holding = with_plain kept.input.arguments c.args.unit in
+    let longer = c.bytes_of.ensures kept.input.arguments in
     rw c.take_plain.ensures
-    (subst (λ (u : Unread _). (Ok tt, record kept { input = holding_plain c.args.unit kept.input }) ≡ changing (holding_plain c.args.unit u.input) u) c.self.view_is
-    (sym (plain_within kept (with_plain kept.input.arguments c.args.unit) c.pushed.result c.bytes_of.result counted (c.bytes_of.ensures kept.input.arguments) c.self.invariant.within c.if-bytes_of-self.false)))
+    (subst (λ (u : Unread _). (Ok tt, record kept { input = holding_plain c.args.unit kept.input })
+    ≡ changing (holding_plain c.args.unit u.input) u) c.self.view_is
+    (sym (plain_within kept holding c.self.invariant.within c.pushed.result c.bytes_of.result counted longer
+    c.if-bytes_of-self.false)))
 
 pub returns-clause-within : goal.returns-clause-within
 returns-clause-within g c = (invariant_of-self g c).within

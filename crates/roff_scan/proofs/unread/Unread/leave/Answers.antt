@@ -1,3 +1,4 @@
+use Rattle.std.proofs.Common.{refl}
 use Rattle.roff_scan.specs.Unread.Kept.{kept_by}
 use Rattle.roff_scan.proofs.Changing.{IsWithin-leaving}
 use Rattle.roff_scan.proofs.unread.Unread.leave.Goals as goal
@@ -8,12 +9,18 @@ invariant_of-self g c =
       bytes = rw c.clear.ensures c.self.invariant.bytes;
       texts = rw c.clear.ensures c.self.invariant.texts;
       arguments = c.self.invariant.arguments;
+      begun = c.self.invariant.begun;
+      call_bytes = rw c.clear-2.ensures c.self.invariant.call_bytes;
+      most_calls = rw c.clear-2.ensures c.self.invariant.most_calls;
+      calls = rw (c.clear.ensures, c.clear-2.ensures) refl;
       held = c.self.invariant.held;
       small = c.self.invariant.small;
       store = rw c.clear.ensures c.self.invariant.store;
       once = rw c.clear.ensures c.self.invariant.once;
-      results = c.self.invariant.results;
-      within = rw c.clear.ensures (IsWithin-leaving (kept_by c.self.inside) c.self.invariant.within);
+      results = rw c.drop_kept.ensures.capacity c.self.invariant.results;
+      within =
+          rw (c.clear.ensures, c.clear-2.ensures, c.drop_kept.ensures.results)
+          (IsWithin-leaving (kept_by c.self.inside) c.self.invariant.within);
     }
 
 pub returns-clause-within : goal.returns-clause-within

@@ -1,7 +1,8 @@
-use Rattle.std.proofs.Common.{◌≤◌, ◌<◌, ◌-◌, length, sym}
-use Rattle.roff_scan.specs.Input.{body_named, depth}
+use Rattle.std.proofs.Common.{◌≤◌, ◌<◌, ◌-◌, ◌∷◌, length, sym, ◌∙◌}
+use Rattle.roff_scan.specs.Input.{EndAhead, body_named, depth}
 use Rattle.roff_scan.specs.Unread.Kept.{kept_by}
 use Rattle.roff_scan.proofs.Changing.{push_past_stack, push_past_depth, push_within, IsWithin-pushing}
+use Rattle.roff_scan.proofs.Counts.{returns_ahead-bytes}
 use Rattle.roff_scan.proofs.unread.Unread.push_body.Goals as goal
 
 pub returns-then-body_len-self-clause-change : goal.returns-then-body_len-self-clause-change
@@ -10,7 +11,7 @@ returns-then-body_len-self-clause-change g c =
     let body = body_named c.args.name.now kept.input in
     let counted = rw (← c.self.view_is) at c.pushed.ensures in
     let long : kept.limits.stack - c.pushed.result < length body = rw (← c.body_len.ensures) c.if-body_len-self.true in
-    rw (← c.self.view_is) (sym (push_past_stack kept body c.pushed.result counted long))
+    rw (← c.self.view_is) (sym (push_past_stack kept body c.self.invariant.within c.pushed.result counted long))
 
 pub returns-then-is_deep-clause-change : goal.returns-then-is_deep-clause-change
 returns-then-is_deep-clause-change g c =
@@ -19,7 +20,7 @@ returns-then-is_deep-clause-change g c =
     let counted = rw (← c.self.view_is) at c.pushed.ensures in
     let short : length body ≤ kept.limits.stack - c.pushed.result = rw (← c.body_len.ensures) c.if-body_len-self.false in
     let deep : kept.limits.depth ≤ depth kept.input = rw (← c.self.view_is) at (c.is_deep.ensures.deep c.if-is_deep.true) in
-    rw (← c.self.view_is) (sym (push_past_depth kept body c.pushed.result counted c.self.invariant.within short deep))
+    rw (← c.self.view_is) (sym (push_past_depth kept body c.self.invariant.within c.pushed.result counted short deep))
 
 pub invariant_of-self : goal.invariant_of-self
 invariant_of-self g c =
@@ -32,12 +33,16 @@ invariant_of-self g c =
       bytes = rw c.push_body.ensures c.self.invariant.bytes;
       texts = rw c.push_body.ensures c.self.invariant.texts;
       arguments = c.self.invariant.arguments;
+      begun = c.self.invariant.begun;
+      call_bytes = c.self.invariant.call_bytes;
+      most_calls = c.self.invariant.most_calls;
+      calls = rw c.push_body.ensures (returns_ahead-bytes body (EndAhead ∷ c.self.inside.frames.ahead) ∙ c.self.invariant.calls);
       held = c.self.invariant.held;
       small = c.self.invariant.small;
       store = rw c.push_body.ensures c.self.invariant.store;
       once = rw c.push_body.ensures c.self.invariant.once;
       results = c.self.invariant.results;
-      within = rw c.push_body.ensures (IsWithin-pushing kept body c.pushed.result counted c.self.invariant.within short shallow);
+      within = rw c.push_body.ensures (IsWithin-pushing kept body c.self.invariant.within c.pushed.result counted short shallow);
     }
 
 pub returns-clause-change : goal.returns-clause-change
@@ -47,7 +52,7 @@ returns-clause-change g c =
     let counted = rw (← c.self.view_is) at c.pushed.ensures in
     let short : length body ≤ kept.limits.stack - c.pushed.result = rw (← c.body_len.ensures) c.if-body_len-self.false in
     let shallow : depth kept.input < kept.limits.depth = rw (← c.self.view_is) at (c.is_deep.ensures.shallow c.if-is_deep.false) in
-    rw (← c.self.view_is, c.push_body.ensures) (sym (push_within kept body c.pushed.result counted c.self.invariant.within short shallow))
+    rw (← c.self.view_is, c.push_body.ensures) (sym (push_within kept body c.self.invariant.within c.pushed.result counted short shallow))
 
 pub returns-clause-within : goal.returns-clause-within
 returns-clause-within g c = (invariant_of-self g c).within

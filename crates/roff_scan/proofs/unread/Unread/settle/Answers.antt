@@ -2,6 +2,7 @@ use Rattle.roff_scan.specs.Arguments.{settled}
 use Rattle.roff_scan.specs.Unread.Kept.{kept_by}
 use Rattle.roff_scan.proofs.Changing.{IsWithin-same_held}
 use Rattle.roff_scan.proofs.KeptArguments.{held-settled}
+use Rattle.roff_scan.proofs.LineCalls.{NoneBegun-settled}
 use Rattle.roff_scan.proofs.unread.Unread.settle.Goals as goal
 
 pub invariant_of-self : goal.invariant_of-self
@@ -11,6 +12,10 @@ invariant_of-self g c =
       bytes = c.self.invariant.bytes;
       texts = c.self.invariant.texts;
       arguments = rw c.settle.ensures.value c.self.invariant.arguments;
+      begun = rw c.settle.ensures.value (NoneBegun-settled old c.self.invariant.begun);
+      call_bytes = c.self.invariant.call_bytes;
+      most_calls = c.self.invariant.most_calls;
+      calls = c.self.invariant.calls;
       held = c.self.invariant.held;
       small = c.self.invariant.small;
       store = c.self.invariant.store;

@@ -1,0 +1,160 @@
+-- What is left of names and texts behind the line that ends a definition: nothing is given to a request or a body there.
+use Rattle.std.proofs.Common.{◌≡◌, ℕ, Bool, true, false, List, [], length, Option, Some, None, inl, inr, refl, sym, ap, ◌∙◌, subst, ◌==◌}
+use Rattle.std.specs.Prelude.{◌||◌}
+use Rattle.std.proofs.lemmas.Bool.{cases_Bool, eqb-true}
+use Rattle.roff_scan.specs.Bytes.{blank, newline, tab}
+use Rattle.roff_scan.specs.Halves.{byte_read}
+use Rattle.roff_scan.specs.Input.{beginning_line, kept_last, without_last}
+use Rattle.roff_scan.specs.declared.half.Surroundings.TheVariants.{Arguments as AboveArguments}
+use Rattle.roff_store.specs.Named.{Named}
+use Rattle.roff_store.specs.TextCalls.{Call}
+use Rattle.roff_store.specs.Texts.{Entry}
+use Rattle.roff_run.specs.Definitions.{ends_mark}
+use Rattle.roff_run.specs.Reading.{PageInput, Taking, arguments_ended, arguments_read_on, behind_definition, branch_taking, called_taking, calling_all, ended_by, line_ended, line_taking, reads_else}
+use Rattle.roff_run.specs.Registers.{AllRegisters, Change, Known, changed_by_all}
+use Rattle.roff_run.specs.Requests.{Effect, called_by, request_effect, row_of}
+use Rattle.roff_run.specs.declared.reading.ShortName.{ShortName}
+use Rattle.roff_run.specs.declared.request.Called.{Called}
+use Rattle.roff_run.specs.declared.request.Called.TheVariants.{Request as ARequest, Body as ABody, Nothing as Unknown}
+use Rattle.roff_run.specs.declared.request.LineReading.{LineReading}
+use Rattle.roff_run.specs.declared.request.LineReading.TheVariants.{ByArguments, ByCondition, ByElse, ByLastLine, ByMessage, ByString, ByLines}
+use Rattle.roff_run.specs.declared.request.LinesFor.TheVariants.{Macro, Nobody}
+use Rattle.roff_run.specs.declared.request.Request.{Request}
+use Rattle.roff_run.specs.declared.request.Request.TheVariants.{Abort, Adjust, AppendString, AssignFormat, Break, DefineString, Else, Exit, Fill, If, IfElse, Indent, LineLength, NoAdjust, NoFill, NumberRegister, RemoveNames, RemoveRegisters, Rename, Space as SpaceDown, TellMessage, WithoutEffect, LeftOut, AppendMacro, DefineMacro, Ignore}
+
+-- what names stand for, how many did at first, and the texts in the making
+pub record NamesAndTexts : Type 0 where
+  pub names : Named Entry
+  pub first_names : ℕ
+  pub open_texts : List (List ℕ)
+
+abbrev pub names_and_texts : PageInput → NamesAndTexts
+names_and_texts i = record { names = i.names; first_names = i.first_names; open_texts = i.open_texts }
+
+-- a step leaves them as they are in this input, and as many registers have names
+pub record LeavesTexts (i : PageInput) (t : Taking) : Type 0 where
+  pub texts : names_and_texts t.input ≡ names_and_texts i
+  pub registers : (rs : AllRegisters) → length (changed_by_all t.effect.changes rs).named ≡ length rs.named
+
+-- one that changes no register
+still : (i : PageInput) (t : Taking) → names_and_texts t.input ≡ names_and_texts i → t.effect.changes ≡ [] → LeavesTexts i t
+still i t texts none = record {
+  texts = texts;
+  registers = λ rs. ap (λ (changes : List Change). length (changed_by_all changes rs).named) none;
+}
+
+-- an effect calls nothing, and as many registers have names
+record CallsNothing (e : Effect) : Type 0 where
+  calls : e.calls ≡ []
+  registers : (rs : AllRegisters) → length (changed_by_all e.changes rs).named ≡ length rs.named
+
+-- that of a request without arguments
+CallsNothing-request : (k : Known) (breaks : Bool) (request : Request) → CallsNothing (request_effect k breaks request [])
+CallsNothing-request k breaks Abort = record { calls = refl; registers = λ rs. refl }
+CallsNothing-request k breaks Adjust = record { calls = refl; registers = λ rs. refl }
+CallsNothing-request k breaks AssignFormat = record { calls = refl; registers = λ rs. refl }
+CallsNothing-request k breaks AppendMacro = record { calls = refl; registers = λ rs. refl }
+CallsNothing-request k breaks AppendString = record { calls = refl; registers = λ rs. refl }
+CallsNothing-request k breaks Break = record { calls = refl; registers = λ rs. refl }
+CallsNothing-request k breaks DefineMacro = record { calls = refl; registers = λ rs. refl }
+CallsNothing-request k breaks DefineString = record { calls = refl; registers = λ rs. refl }
+CallsNothing-request k breaks Else = record { calls = refl; registers = λ rs. refl }
+CallsNothing-request k breaks Exit = record { calls = refl; registers = λ rs. refl }
+CallsNothing-request k breaks Fill = record { calls = refl; registers = λ rs. refl }
+CallsNothing-request k breaks If = record { calls = refl; registers = λ rs. refl }
+CallsNothing-request k breaks IfElse = record { calls = refl; registers = λ rs. refl }
+CallsNothing-request k breaks Ignore = record { calls = refl; registers = λ rs. refl }
+CallsNothing-request k breaks Indent = record { calls = refl; registers = λ rs. refl }
+CallsNothing-request k breaks LineLength = record { calls = refl; registers = λ rs. refl }
+CallsNothing-request k breaks NoAdjust = record { calls = refl; registers = λ rs. refl }
+CallsNothing-request k breaks NoFill = record { calls = refl; registers = λ rs. refl }
+CallsNothing-request k breaks NumberRegister = record { calls = refl; registers = λ rs. refl }
+CallsNothing-request k breaks RemoveNames = record { calls = refl; registers = λ rs. refl }
+CallsNothing-request k breaks RemoveRegisters = record { calls = refl; registers = λ rs. refl }
+CallsNothing-request k breaks Rename = record { calls = refl; registers = λ rs. refl }
+CallsNothing-request k breaks SpaceDown = record { calls = refl; registers = λ rs. refl }
+CallsNothing-request k breaks TellMessage = record { calls = refl; registers = λ rs. refl }
+CallsNothing-request k breaks (WithoutEffect name) = record { calls = refl; registers = λ rs. refl }
+CallsNothing-request k breaks (LeftOut name) = record { calls = refl; registers = λ rs. refl }
+
+-- the end of the line of a request that calls nothing
+LeavesTexts-ended_by : (i : PageInput) (request : Request) (e : Effect) → CallsNothing e → LeavesTexts i (ended_by (beginning_line i) request e)
+LeavesTexts-ended_by i request e nothing = record {
+  texts = ap (λ (calls : List Call). names_and_texts (calling_all calls (beginning_line i))) nothing.calls;
+  registers = nothing.registers;
+}
+
+LeavesTexts-line_ended : (k : Known) (i : PageInput) (breaks : Bool) (request : Request) → LeavesTexts i (line_ended k (beginning_line i) breaks request)
+LeavesTexts-line_ended k i breaks request = LeavesTexts-ended_by i request (request_effect k breaks request []) (CallsNothing-request k breaks request)
+
+-- and where nothing is given no text is begun
+LeavesTexts-arguments_ended : (k : Known) (i : PageInput) (breaks : Bool) (request : Request) (line : LineReading)
+    → LeavesTexts i (arguments_ended k (beginning_line i) breaks request line)
+LeavesTexts-arguments_ended k i breaks request (ByLines (Macro appends)) = still i _ refl refl
+LeavesTexts-arguments_ended k i breaks request (ByLines Nobody) = still i _ refl refl
+LeavesTexts-arguments_ended k i breaks request ByArguments = LeavesTexts-line_ended k i breaks request
+LeavesTexts-arguments_ended k i breaks request (ByCondition keeps) = LeavesTexts-line_ended k i breaks request
+LeavesTexts-arguments_ended k i breaks request ByElse = LeavesTexts-line_ended k i breaks request
+LeavesTexts-arguments_ended k i breaks request ByLastLine = LeavesTexts-line_ended k i breaks request
+LeavesTexts-arguments_ended k i breaks request (ByMessage aborts) = LeavesTexts-line_ended k i breaks request
+LeavesTexts-arguments_ended k i breaks request (ByString appends) = LeavesTexts-line_ended k i breaks request
+
+-- what holds of each byte that may stand behind the mark
+record BehindMark (P : ℕ → Type 0) : Type 0 where
+  at_blank : P blank
+  at_tab : P tab
+  at_newline : P newline
+
+-- a byte that is one or the other
+by_byte : (P : ℕ → Type 0) (b c : ℕ) (rest : Bool) → ((b == c) || rest) ≡ true → P c → (rest ≡ true → P b) → P b
+by_byte P b c rest is here others = elim (cases_Bool (b == c)) [
+  | inl same ↦ subst P (sym (eqb-true b c same)) here
+  | inr differs ↦ others (sym (ap (λ (d : Bool). d || rest) differs) ∙ is)
+]
+
+of_mark : (P : ℕ → Type 0) (b : ℕ) → BehindMark P → ends_mark b ≡ true → P b
+of_mark P b all is =
+    by_byte P b blank (b == tab || b == newline) is all.at_blank (λ behind.
+    by_byte P b tab (b == newline) behind all.at_tab (λ last. subst P (sym (eqb-true b newline last)) all.at_newline))
+
+-- the first byte of the other branch
+LeavesTexts-branch : (k : Known) (i : PageInput) (so : Bool) → BehindMark (λ b. LeavesTexts i (branch_taking k (without_last (beginning_line i)) so b))
+LeavesTexts-branch k i true = record { at_blank = still i _ refl refl; at_tab = still i _ refl refl; at_newline = still i _ refl refl }
+LeavesTexts-branch k i false = record { at_blank = still i _ refl refl; at_tab = still i _ refl refl; at_newline = still i _ refl refl }
+
+-- the byte behind the name of a request that reads arguments
+LeavesTexts-arguments : (k : Known) (i : PageInput) (breaks : Bool) (request : Request)
+    → BehindMark (λ b. LeavesTexts i (arguments_read_on k (beginning_line i) breaks request (byte_read AboveArguments [] b)))
+LeavesTexts-arguments k i breaks request = record {
+  at_blank = still i _ refl refl;
+  at_tab = still i _ refl refl;
+  at_newline = LeavesTexts-arguments_ended k i breaks request (row_of request).line;
+}
+
+-- and behind any request's name
+LeavesTexts-line : (k : Known) (i : PageInput) (breaks : Bool) (request : Request) (line : LineReading)
+    → BehindMark (λ b. LeavesTexts i (line_taking k (beginning_line i) breaks request line b))
+LeavesTexts-line k i breaks request ByArguments = LeavesTexts-arguments k i breaks request
+LeavesTexts-line k i breaks request ByLastLine = LeavesTexts-arguments k i breaks request
+LeavesTexts-line k i breaks request (ByLines lines) = LeavesTexts-arguments k i breaks request
+LeavesTexts-line k i breaks request (ByCondition true) = record { at_blank = still i _ refl refl; at_tab = still i _ refl refl; at_newline = still i _ refl refl }
+LeavesTexts-line k i breaks request (ByCondition false) = record { at_blank = still i _ refl refl; at_tab = still i _ refl refl; at_newline = still i _ refl refl }
+LeavesTexts-line k i breaks request (ByString appends) = record { at_blank = still i _ refl refl; at_tab = still i _ refl refl; at_newline = still i _ refl refl }
+LeavesTexts-line k i breaks request (ByMessage aborts) = record { at_blank = still i _ refl refl; at_tab = still i _ refl refl; at_newline = still i _ refl refl }
+LeavesTexts-line k i breaks request ByElse = LeavesTexts-branch k i (reads_else (kept_last i))
+
+-- behind a name that a line begins with
+LeavesTexts-called : (k : Known) (i : PageInput) (breaks : Bool) (called : Called)
+    → BehindMark (λ b. LeavesTexts i (called_taking k (beginning_line i) breaks called b))
+LeavesTexts-called k i breaks (ARequest request) = LeavesTexts-line k i breaks request (row_of request).line
+LeavesTexts-called k i breaks (ABody name) = record { at_blank = still i _ refl refl; at_tab = still i _ refl refl; at_newline = still i _ refl refl }
+LeavesTexts-called k i breaks Unknown = record { at_blank = still i _ refl refl; at_tab = still i _ refl refl; at_newline = still i _ refl refl }
+
+-- behind the mark
+LeavesTexts-each : (k : Known) (i : PageInput) (end : Option ShortName) → BehindMark (λ b. LeavesTexts i (behind_definition k i end b))
+LeavesTexts-each k i None = record { at_blank = still i _ refl refl; at_tab = still i _ refl refl; at_newline = still i _ refl refl }
+LeavesTexts-each k i (Some name) = LeavesTexts-called k i true (called_by name i.names)
+
+pub LeavesTexts-behind_definition : (k : Known) (i : PageInput) (end : Option ShortName) (b : ℕ) → ends_mark b ≡ true
+    → LeavesTexts i (behind_definition k i end b)
+LeavesTexts-behind_definition k i end b is = of_mark (λ b. LeavesTexts i (behind_definition k i end b)) b (LeavesTexts-each k i end) is

@@ -1,0 +1,54 @@
+-- The end of a called body is taken: its call is over, and what was kept in it is kept no more.
+use Rattle.std.proofs.Common.{◌≡◌, ◌≤◌, ◌+◌, ℕ, Bool, true, false, List, [], ◌∷◌, length, length-drop, drop, refl, ap, arith}
+use Rattle.std.specs.Prelude.{if◌then◌else◌, nat_le}
+use Rattle.roff_scan.specs.Input.{Ahead, ByteAhead, FreeAhead, EndAhead, ReturnAhead, DoAhead, bytes_ahead, ends_ahead, item_taken, kept_below, live_bytes, returns_ahead}
+use Rattle.roff_scan.specs.Unread.{Unread, IsWithin, ShowsReturn, shown_ahead}
+
+-- no more is kept than before
+fewer-if : (is : Bool) (calls : ℕ) (result : Bool × ℕ) (others : List (Bool × ℕ))
+    → length (kept_below calls others) ≤ length others
+    → length (if is then kept_below calls others else result ∷ others) ≤ length (result ∷ others)
+fewer-if true calls result others fewer = omega (arith, fewer)
+fewer-if false calls result others fewer = omega arith
+
+pub kept_below-few : (calls : ℕ) (kept : List (Bool × ℕ)) → length (kept_below calls kept) ≤ length kept
+kept_below-few calls [] = omega arith
+kept_below-few calls (result ∷ others) = fewer-if (nat_le calls result.1) calls result others (kept_below-few calls others)
+
+-- nor have calls more bytes
+live_bytes-few : (calls : List (List (List ℕ))) → live_bytes (drop 1 calls) ≤ live_bytes calls
+live_bytes-few [] = omega arith
+live_bytes-few (arguments ∷ calls) = omega arith
+
+module _ {E : Type 0} where
+  -- only one item shows the end of a called body
+  pub shows_return : (item : Ahead E) → ShowsReturn ≡ shown_ahead item → item ≡ ReturnAhead
+  shows_return (ByteAhead b) shows = cc
+  shows_return (FreeAhead b) shows = cc
+  shows_return EndAhead shows = cc
+  shows_return ReturnAhead shows = refl
+  shows_return (DoAhead event) shows = cc
+
+  -- behind it one call less isn't over
+  pub returns-over : (ahead behind : List (Ahead E)) (calls : List (List (List ℕ))) → ahead ≡ ReturnAhead ∷ behind
+      → returns_ahead ahead ≡ length calls → returns_ahead behind ≡ length (drop 1 calls)
+  returns-over ahead behind calls first same =
+      let one : returns_ahead ahead ≡ returns_ahead behind + 1 = ap returns_ahead first in
+      omega (arith, one, same, length-drop 1 calls)
+
+  -- and no more is counted
+  pub IsWithin-over : (u : Unread E) (behind : List (Ahead E)) → u.input.ahead ≡ ReturnAhead ∷ behind → IsWithin u
+      → u.input.charge + 1 ≤ u.limits.bytes → IsWithin (record u { input = item_taken ReturnAhead behind u.input })
+  IsWithin-over u behind first within fits =
+      let bytes : bytes_ahead u.input.ahead ≡ bytes_ahead behind = ap bytes_ahead first in
+      let ends : ends_ahead u.input.ahead ≡ ends_ahead behind + 1 = ap ends_ahead first in
+      record {
+        charge = fits;
+        newlines = omega (arith, within.newlines);
+        pushed = omega (arith, bytes, live_bytes-few u.input.calls, within.pushed);
+        depth = omega (arith, ends, within.depth);
+        results = omega (arith, kept_below-few (length u.input.calls) u.input.kept, within.results);
+        stored = within.stored;
+        names = within.names;
+        making = within.making;
+      }

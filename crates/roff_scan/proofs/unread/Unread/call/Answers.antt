@@ -1,0 +1,85 @@
+use Rattle.std.proofs.Common.{◌≡◌, ◌≤◌, ◌<◌, ◌-◌, length, refl, sym, arith}
+use Rattle.roff_scan.specs.Arguments.{held, total_length}
+use Rattle.roff_scan.specs.Input.{arguments_given, body_named, called_text, depth}
+use Rattle.roff_scan.specs.Unread.Kept.{kept_by}
+use Rattle.roff_scan.proofs.Counts.{returns-few}
+use Rattle.roff_scan.proofs.LineCalls.{IsWithin-calling, call_past_depth, call_past_stack, call_within, length-given, returns-calling}
+use Rattle.roff_scan.proofs.unread.Unread.call.Goals as goal
+
+pub returns-then-called_len-self-clause-change : goal.returns-then-called_len-self-clause-change
+returns-then-called_len-self-clause-change g c =
+    let kept = kept_by c.self.inside in
+    let body = body_named c.args.name.now kept.input in
+    let counted = rw (← c.self.view_is) at c.pushed.ensures in
+    let long : kept.limits.stack - c.pushed.result < length (called_text body) =
+    rw (← c.called_len.ensures) c.if-called_len-self.true in
+    rw (← c.self.view_is)
+    (sym (call_past_stack kept body c.self.invariant.within c.self.invariant.begun c.pushed.result counted long))
+
+pub returns-then-is_deep-clause-change : goal.returns-then-is_deep-clause-change
+returns-then-is_deep-clause-change g c =
+    let kept = kept_by c.self.inside in
+    let body = body_named c.args.name.now kept.input in
+    let counted = rw (← c.self.view_is) at c.pushed.ensures in
+    let short : length (called_text body) ≤ kept.limits.stack - c.pushed.result =
+    rw (← c.called_len.ensures) c.if-called_len-self.false in
+    let deep : kept.limits.depth ≤ depth kept.input =
+    rw (← c.self.view_is) at (c.is_deep.ensures.deep c.if-is_deep.true) in
+    rw (← c.self.view_is)
+    (sym (call_past_depth kept body c.self.invariant.within c.self.invariant.begun c.pushed.result counted short deep))
+
+pub push-requires-clause-bytes : goal.push-requires-clause-bytes
+push-requires-clause-bytes g c =
+    let kept = kept_by c.self.inside in
+    let given : total_length (arguments_given kept.input) ≡ held kept.input.arguments =
+    length-given kept.input.arguments c.self.invariant.begun in
+    rw (c.list.ensures.value, c.finish.ensures.value)
+    (omega (arith, given, c.self.invariant.within.pushed, c.self.invariant.call_bytes))
+
+pub push-requires-clause-calls : goal.push-requires-clause-calls
+push-requires-clause-calls g c =
+    let kept = kept_by c.self.inside in
+    let shallow : depth kept.input < kept.limits.depth =
+    rw (← c.self.view_is) at (c.is_deep.ensures.shallow c.if-is_deep.false) in
+    omega (arith, shallow, returns-few c.self.inside.frames.ahead, c.self.invariant.calls, c.self.invariant.most_calls)
+
+pub invariant_of-self : goal.invariant_of-self
+invariant_of-self g c =
+    let kept = kept_by c.self.inside in
+    let body = body_named c.args.name.now kept.input in
+    let counted = rw (← c.self.view_is) at c.pushed.ensures in
+    let short : length (called_text body) ≤ kept.limits.stack - c.pushed.result =
+    rw (← c.called_len.ensures) c.if-called_len-self.false in
+    let shallow : depth kept.input < kept.limits.depth =
+    rw (← c.self.view_is) at (c.is_deep.ensures.shallow c.if-is_deep.false) in
+    record {
+      bytes = rw c.push_call.ensures c.self.invariant.bytes;
+      texts = rw c.push_call.ensures c.self.invariant.texts;
+      arguments = rw (c.clear.ensures.value, c.finish.ensures.value) c.self.invariant.arguments;
+      begun = rw c.clear.ensures.value (λ is. refl);
+      call_bytes = rw c.push.ensures c.self.invariant.call_bytes;
+      most_calls = rw c.push.ensures c.self.invariant.most_calls;
+      calls = rw (c.push_call.ensures, c.push.ensures) (returns-calling body kept.input c.self.invariant.calls);
+      held = c.self.invariant.held;
+      small = c.self.invariant.small;
+      store = rw c.push_call.ensures c.self.invariant.store;
+      once = rw c.push_call.ensures c.self.invariant.once;
+      results = c.self.invariant.results;
+      within = rw (c.push_call.ensures, c.push.ensures, c.clear.ensures.value, c.list.ensures.value, c.finish.ensures.value)
+          (IsWithin-calling kept body c.self.invariant.within c.self.invariant.begun c.pushed.result counted short shallow);
+    }
+
+pub returns-clause-change : goal.returns-clause-change
+returns-clause-change g c =
+    let kept = kept_by c.self.inside in
+    let body = body_named c.args.name.now kept.input in
+    let counted = rw (← c.self.view_is) at c.pushed.ensures in
+    let short : length (called_text body) ≤ kept.limits.stack - c.pushed.result =
+    rw (← c.called_len.ensures) c.if-called_len-self.false in
+    let shallow : depth kept.input < kept.limits.depth =
+    rw (← c.self.view_is) at (c.is_deep.ensures.shallow c.if-is_deep.false) in
+    rw (← c.self.view_is, c.push_call.ensures, c.push.ensures, c.clear.ensures.value, c.list.ensures.value, c.finish.ensures.value)
+    (sym (call_within kept body c.self.invariant.within c.self.invariant.begun c.pushed.result counted short shallow))
+
+pub returns-clause-within : goal.returns-clause-within
+returns-clause-within g c = (invariant_of-self g c).within

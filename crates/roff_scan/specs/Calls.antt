@@ -1,0 +1,2 @@
+-- The arguments of calls.
+pub mod Kept

@@ -1,0 +1,52 @@
+//! What a document gives, as other tests ask for it.
+
+use roff_tools::{Limits, Room, Start, Status, format_in_memory};
+use std::alloc::Global;
+use std::process::Abort;
+use std::test::Fail;
+
+/// Room for what any document here writes or reports.
+const AMPLE: Room = Room {
+    output: 1000,
+    messages: 1000,
+};
+
+/// What a run must give.
+#[derive(Clone, Copy)]
+pub struct Expected<'a> {
+    pub output: &'a str,
+    pub messages: &'a str,
+    pub status: Status,
+}
+
+/// Formats a document within these limits, and compares what was written and said, and how it ended.
+pub fn check(
+    rt: &impl Abort,
+    alloc: Global,
+    limits: Limits,
+    document: &str,
+    expected: Expected<'_>,
+) -> Result<(), Fail> {
+    let given = format_in_memory(alloc, limits, Start {}, document.as_bytes(), None, AMPLE)?;
+    let output = str::from_utf8(given.output.as_slice());
+    let messages = str::from_utf8(given.messages.as_slice());
+    assert_eq!(rt; output, Ok(expected.output), "output of {document:?}");
+    assert_eq!(rt; messages, Ok(expected.messages), "messages of {document:?}");
+    assert_eq!(rt; given.status, expected.status, "status of {document:?}");
+    Ok(())
+}
+
+/// Formats a document that only tells of something (`.tm`), and compares that.
+pub fn check_told(
+    rt: &impl Abort,
+    alloc: Global,
+    document: &str,
+    messages: &str,
+) -> Result<(), Fail> {
+    let expected = Expected {
+        output: "",
+        messages,
+        status: Status::Done,
+    };
+    check(rt, alloc, Limits::default(), document, expected)
+}
