@@ -1,6 +1,7 @@
 //! The block through which lines are written.
 
-ghost use Rattle.std.specs.Prelude.{◌≡◌, ◌≤◌, [], ◌∷◌, ◌++◌, length, replicate, vec_capacity, OnOk, OnErr};
+ghost use Rattle.std.specs.Prelude.{◌≡◌, ◌≤◌, [], ◌∷◌, ◌++◌, length, replicate, vec_capacity, OnOk};
+ghost use Rattle.std.specs.Prelude.{OnErr};
 ghost use Rattle.roff_lines.specs.Columns.{finished_of, line_bytes};
 ghost use Rattle.roff_engine.specs.Sinks.{Fails, HoldsBack, Puts};
 
@@ -11,8 +12,8 @@ use std::alloc::{AllocError, Global};
 /// How many bytes are put at once, at the most.
 const BLOCK: usize = 8_192;
 
-/// A block of bytes, reserved from the start, and empty between two lines. A line that it has room for
-/// is put in one piece.
+/// A block of bytes, reserved from the start, and empty between two lines. A line that it has room
+/// for is put in one piece.
 #[derive(Drop)]
 pub(crate) struct Block {
     bytes: Vec<u8>,

@@ -56,8 +56,8 @@ impl Engine {
         out: &mut O,
         err: &mut E,
     ) -> Status
-        // The source gave items. Whatever it may still give, the run over these items and then that is
-        // the definition's: it ended so, or a sink failed in one of its steps.
+        // The source gave items. Whatever it may still give, the run over these items and then that
+        // is the definition's: it ended so, or a sink failed in one of its steps.
         ensures { Runs self result (S.gives source.old) (S.gives source.new)
             (seen (S.failures source.old) (O.sunk out.old) (E.sunk err.old))
             (seen (S.failures source.new) (O.sunk out.new) (E.sunk err.new)) }

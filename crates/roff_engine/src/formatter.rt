@@ -3,7 +3,12 @@
 ghost use Rattle.std.specs.Prelude.{◌≡◌, ℕ, true, [], ◌∷◌, IfOk, IfSome, IsOkUnless, option_map};
 ghost use Rattle.roff_scan.specs.Bytes.{is_passed};
 ghost use Rattle.roff_run.specs.Reading.{Passes};
-ghost use Rattle.roff_engine.specs.Clauses.{option_to_list, finished_of, fresh_reader, Stands, Gap, Print, WordEnd, LineEnd, Break, message_lines, finished_bytes, DoesMeaning, DoesTaking, PerformsOnly, closing_events, sinks, due, end_taking, half_ended, interrupted, message_begun, message_ended, taking, LineStart, Text, Space, Puts, Sunk, behind_return};
+ghost use Rattle.roff_engine.specs.Clauses.{option_to_list, finished_of, fresh_reader, Stands, Gap};
+ghost use Rattle.roff_engine.specs.Clauses.{Print, WordEnd, LineEnd, Break, message_lines};
+ghost use Rattle.roff_engine.specs.Clauses.{finished_bytes, DoesMeaning, DoesTaking, PerformsOnly};
+ghost use Rattle.roff_engine.specs.Clauses.{closing_events, sinks, due, end_taking, half_ended};
+ghost use Rattle.roff_engine.specs.Clauses.{interrupted, message_begun, message_ended, taking};
+ghost use Rattle.roff_engine.specs.Clauses.{LineStart, Text, Space, Puts, Sunk, behind_return};
 
 use crate::block::Block;
 use crate::halt::Halt;
@@ -180,8 +185,8 @@ impl Formatter {
         out: &mut O,
         err: &mut E,
     ) -> Result<(), Halt>
-        ensures { DoesTaking (λ k. end_taking k self.old.reader.reading unread.old.input) closing_events
-            self.old self.new unread.old unread.new
+        ensures { DoesTaking (λ k. end_taking k self.old.reader.reading unread.old.input)
+            closing_events self.old self.new unread.old unread.new
             (sinks (O.sunk out.old) (E.sunk err.old))
             (sinks (O.sunk out.new) (E.sunk err.new)) result }
     {

@@ -1,4 +1,5 @@
-//! The formatter over its devices: the run from a source to its sinks, and what runs tell about each other.
+//! The formatter over its devices: the run from a source to its sinks, and what runs tell about
+//! each other.
 #![tactic(auto)]
 
 mod block;

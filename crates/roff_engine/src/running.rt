@@ -1,11 +1,14 @@
 //! A run under way: what each item of the input does.
 
-ghost use Rattle.std.specs.Prelude.{◌≡◌, ◌≤◌, ℕ, length, true, None, Some, Result, Err, IsOkUnless, OnOk};
-ghost use Rattle.roff_run.specs.Run.{ahead_taken, awaited, byte_taken, end_met, half_ends, in_front_taken, input_ended, step, waiting};
+ghost use Rattle.std.specs.Prelude.{◌≡◌, ◌≤◌, ℕ, length, true, None, Some, Result, Err, IsOkUnless};
+ghost use Rattle.std.specs.Prelude.{OnOk};
+ghost use Rattle.roff_run.specs.Run.{ahead_taken, awaited, byte_taken, end_met, half_ends};
+ghost use Rattle.roff_run.specs.Run.{in_front_taken, input_ended, step, waiting};
 ghost use Rattle.roff_scan.specs.Halves.{newline_stays};
 ghost use Rattle.roff_scan.specs.Input.{DoAhead};
 ghost use Rattle.roff_scan.specs.Unread.{seen_ahead};
-ghost use Rattle.roff_engine.specs.Clauses.{Outcome, Sunk, Tape, Puts, Seen, seen, due, message_line, ReadFailed, Device, Tells};
+ghost use Rattle.roff_engine.specs.Clauses.{Outcome, Sunk, Tape, Puts, Seen, seen, due};
+ghost use Rattle.roff_engine.specs.Clauses.{message_line, ReadFailed, Device, Tells};
 
 use crate::formatter::Formatter;
 use crate::halt::Halt;
@@ -24,7 +27,8 @@ pub(crate) struct Running {
 }
 
 impl Running {
-    ghost use Rattle.roff_engine.specs.Running.Turning.{Acts, GoesPast, Halts, IsEnded, MayEnd, Settles, TurnsBy, input_ends, line_told};
+    ghost use Rattle.roff_engine.specs.Running.Turning.{Acts, GoesPast, Halts, IsEnded, MayEnd};
+    ghost use Rattle.roff_engine.specs.Running.Turning.{Settles, TurnsBy, input_ends, line_told};
 
     /// Passes over bytes of the source that stand ready and change nothing, if there are some.
     #[inline(always)]
@@ -95,8 +99,8 @@ impl Running {
         }
     }
 
-    /// Takes an item of the input, or ends what is half read; nothing is due. An `Err` is the status
-    /// of a run that ended.
+    /// Takes an item of the input, or ends what is half read; nothing is due. An `Err` is the
+    /// status of a run that ended.
     #[inline(always)]
     pub(crate) fn turn<S: ByteSource, O: ByteSink, E: ByteSink>(
         &mut self,
@@ -118,8 +122,8 @@ impl Running {
         }
     }
 
-    /// The same where what is half read waits: a condition that is read decides, and else what stands
-    /// in front stays, and ends it, or is taken.
+    /// The same where what is half read waits: a condition that is read decides, and else what
+    /// stands in front stays, and ends it, or is taken.
     #[inline(never)]
     fn turn_waiting<S: ByteSource, O: ByteSink, E: ByteSink>(
         &mut self,

@@ -1,6 +1,7 @@
 //! Sinks: what a run writes to.
 
-ghost use Rattle.std.specs.Prelude.{◌≡◌, ◌+◌, ◌<◌, ◌≤◌, OnOk, OnErr, IfSome, IfNone, OnSome, length, min, take};
+ghost use Rattle.std.specs.Prelude.{◌≡◌, ◌+◌, ◌<◌, ◌≤◌, OnOk, OnErr, IfSome, IfNone, OnSome};
+ghost use Rattle.std.specs.Prelude.{length, min, take};
 ghost use Rattle.std.specs.Io.KnownBytes.{Appends, Keeps};
 ghost use Rattle.roff_engine.specs.Sinks.{Puts, Sunk};
 ghost use Rattle.roff_scan.specs.Tape.{last_count};
@@ -14,16 +15,16 @@ pub struct SinkFault;
 
 /// A sink of bytes.
 pub trait ByteSink {
-    /// What the sink tells: the bytes that were written, where it tells them, and how many faults it
-    /// had; the count stays at its last value, that of a `u64`.
+    /// What the sink tells: the bytes that were written, where it tells them, and how many faults
+    /// it had; the count stays at its last value, that of a `u64`.
     ghost sunk: { Self → Sunk };
 
     /// Writes a piece.
     ///
     /// # Errors
     ///
-    /// [`SinkFault`] if not all of it was written. What was written is a beginning of it, and the fault
-    /// is counted.
+    /// [`SinkFault`] if not all of it was written. What was written is a beginning of it, and the
+    /// fault is counted.
     fn put(&mut self, piece: &[u8]) -> Result<(), SinkFault>
         ensures { Puts (sunk self.old) (sunk self.new) piece.now result };
 }
@@ -82,8 +83,8 @@ impl<W: Write + Drop> WriteSink<W> {
         }
     }
 
-    /// Writes a beginning of a piece that isn't empty, by one write: how many bytes of it. None at a
-    /// fault, which is counted.
+    /// Writes a beginning of a piece that isn't empty, by one write: how many bytes of it. None at
+    /// a fault, which is counted.
     fn write_some(&mut self, piece: &[u8]) -> Option<usize>
         ensures count { IfSome result (λ n. (0 < n) × (n ≤ length piece.now)) }
         ensures some { IfSome result

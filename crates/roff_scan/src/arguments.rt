@@ -1,9 +1,13 @@
 //! The arguments of a control line, held while they are read.
 
-ghost use Rattle.std.specs.Prelude.{◌≡◌, ℕ, ◌+◌, ◌<◌, ◌≤◌, ◌∷◌, ◌++◌, length, reverse, slice_get, IfOk, ◌==◌};
+ghost use Rattle.std.specs.Prelude.{◌≡◌, ℕ, ◌+◌, ◌<◌, ◌≤◌, ◌∷◌, ◌++◌, length, reverse, slice_get};
+ghost use Rattle.std.specs.Prelude.{IfOk, ◌==◌};
 ghost use Rattle.std.specs.Option.{option_copied};
-ghost use Rattle.roff_scan.specs.Arguments.{Arguments, no_arguments, with_unit, with_argument_byte, with_kept, with_plain, with_byte, with_whole, settled, finished, held, kept, in_argument, total_length};
-ghost use Rattle.roff_scan.specs.ArgumentTexts.Ends.{is_kept, last_end, EndWithin, EndWithin-prop, texts_ending};
+ghost use Rattle.roff_scan.specs.Arguments.{Arguments, no_arguments, with_unit, with_argument_byte};
+ghost use Rattle.roff_scan.specs.Arguments.{with_kept, with_plain, with_byte, with_whole, settled};
+ghost use Rattle.roff_scan.specs.Arguments.{finished, held, kept, in_argument, total_length};
+ghost use Rattle.roff_scan.specs.ArgumentTexts.Ends.{is_kept, last_end, EndWithin, EndWithin-prop};
+ghost use Rattle.roff_scan.specs.ArgumentTexts.Ends.{texts_ending};
 
 use crate::half::CopyUnit;
 use std::alloc::{AllocError, Global};
@@ -27,8 +31,8 @@ pub enum Place {
 
 /// The arguments of a control line as far as it is read, one after another in one block.
 ///
-/// All its memory is reserved as it is made. An argument without a byte is kept only among the first 32
-/// of its line, as a line may have more of them than any memory.
+/// All its memory is reserved as it is made. An argument without a byte is kept only among the
+/// first 32 of its line, as a line may have more of them than any memory.
 #[derive(Drop)]
 pub(crate) struct ArgumentTexts {
     bytes: Vec<u8>,

@@ -1,7 +1,8 @@
 //! Conditions: what `.if` and `.ie` ask.
 
 ghost use Rattle.std.specs.Prelude.{◌≡◌, ℕ, Option};
-ghost use Rattle.roff_scan.specs.Conditions.{begins_expression, ends_at_backslash, ends_condition, is_read_in_arguments, so_unless, text_is_same};
+ghost use Rattle.roff_scan.specs.Conditions.{begins_expression, ends_at_backslash, ends_condition};
+ghost use Rattle.roff_scan.specs.Conditions.{is_read_in_arguments, so_unless, text_is_same};
 
 use crate::half::ConditionPart;
 

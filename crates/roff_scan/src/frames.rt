@@ -1,7 +1,11 @@
 //! Frames: what stands ahead of the source. Bodies of strings and macros are read where they lie.
 
-ghost use Rattle.std.specs.Prelude.{IsTrue, false, true, ◌≡◌, ◌↔◌, ◌+◌, ◌<◌, ◌≤◌, ◌^◌, [], ◌∷◌, ◌++◌, map, length, option_map, IfOk};
-ghost use Rattle.roff_scan.specs.Input.{is_none_ahead, front_cost, called_text, lacks_newline, ByteAhead, FreeAhead, EndAhead, ReturnAhead, DoAhead, bytes_ahead, ends_ahead, events_ahead, frees_ahead, most_events, most_frees};
+ghost use Rattle.std.specs.Prelude.{IsTrue, false, true, ◌≡◌, ◌↔◌, ◌+◌, ◌<◌, ◌≤◌, ◌^◌, [], ◌∷◌};
+ghost use Rattle.std.specs.Prelude.{◌++◌, map, length, option_map, IfOk};
+ghost use Rattle.roff_scan.specs.Input.{is_none_ahead, front_cost, called_text, lacks_newline};
+ghost use Rattle.roff_scan.specs.Input.{ByteAhead, FreeAhead, EndAhead, ReturnAhead, DoAhead};
+ghost use Rattle.roff_scan.specs.Input.{bytes_ahead, ends_ahead, events_ahead, frees_ahead};
+ghost use Rattle.roff_scan.specs.Input.{most_events, most_frees};
 ghost use Rattle.roff_scan.specs.Frames.Bodies.{with_bodies};
 ghost use Rattle.roff_scan.specs.Frames.Calls.{PutsBytes};
 ghost use Rattle.roff_scan.specs.Frames.Kept.{is_end_next, IsSound};
@@ -24,7 +28,8 @@ pub(crate) enum Frame<E> {
     Body(LeaseId),
 }
 
-/// What stands ahead of the source, and the texts by name. All its memory is reserved as it is made.
+/// What stands ahead of the source, and the texts by name. All its memory is reserved as it is
+/// made.
 #[derive(Drop)]
 pub(crate) struct Frames<E> {
     slots: Slots<Frame<E>>,
@@ -46,7 +51,8 @@ impl<E> Model for Frames<E> {
 impl<E: Copy> Frames<E> {
     ghost use Rattle.roff_scan.specs.Unread.{shown, sighted, seen_ahead, no_texts};
     ghost use Rattle.roff_scan.specs.Frames.Calls.{TakesFront};
-    ghost use Rattle.roff_store.specs.TextCalls.{DropOpen, Enter, Open, PushOpen, Remove, Rename, Set, after, answered};
+    ghost use Rattle.roff_store.specs.TextCalls.{DropOpen, Enter, Open, PushOpen, Remove, Rename};
+    ghost use Rattle.roff_store.specs.TextCalls.{Set, after, answered};
 
     /// Nothing stands ahead, and no name stands for anything. There is room for so many names
     /// beyond the limit.

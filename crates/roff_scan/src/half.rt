@@ -97,8 +97,8 @@ pub(crate) enum HalfRead {
     Name(NameUse, NamePart),
     /// A size behind an escape, which is read without effect.
     Size(SizePart),
-    /// The text behind an escape between two delimiters, and where it begins in the block; without a
-    /// delimiter that comes next.
+    /// The text behind an escape between two delimiters, and where it begins in the block; without
+    /// a delimiter that comes next.
     Delimited(TextUse, Option<u8>, usize),
     /// A text that is measured: its delimiter, its width so far in basic units, and whether it
     /// stands too deep within others to be measured.

@@ -1,21 +1,30 @@
 //! Facts about what is half read, as contracts of functions that do nothing.
 
-ghost use Rattle.std.specs.Prelude.{◌++◌, ◌≡◌, ℕ, ◌*◌, ◌<◌, ◌≤◌, Bool, true, false, not, List, [], ◌∷◌, bytes_eq, codes, length, map, min, replicate, Option, None, Some, ◌==◌};
+ghost use Rattle.std.specs.Prelude.{◌++◌, ◌≡◌, ℕ, ◌*◌, ◌<◌, ◌≤◌, Bool, true, false, not, List, []};
+ghost use Rattle.std.specs.Prelude.{◌∷◌, bytes_eq, codes, length, map, min, replicate, Option};
+ghost use Rattle.std.specs.Prelude.{None, Some, ◌==◌};
 ghost use Rattle.roff_scan.specs.Bytes.{backslash, blank, quote};
 ghost use Rattle.roff_scan.specs.Escapes.{escape_of, is_copied};
 ghost use Rattle.roff_scan.specs.Half.{Half, Comment, Name};
-ghost use Rattle.roff_scan.specs.HalfLaws.{FindsBytes, argument_escape, asked, columns_in, copied, decided, delimits_texts, doubled, is_between, is_only_copied, is_special, long_escape, openings, reads_through, reads_to_end, register_escape, short_escape, string_escape, text_escape, two_texts};
+ghost use Rattle.roff_scan.specs.HalfLaws.{FindsBytes, argument_escape, asked, columns_in, copied};
+ghost use Rattle.roff_scan.specs.HalfLaws.{decided, delimits_texts, doubled, is_between};
+ghost use Rattle.roff_scan.specs.HalfLaws.{is_only_copied, is_special, long_escape, openings};
+ghost use Rattle.roff_scan.specs.HalfLaws.{reads_through, reads_to_end, register_escape};
+ghost use Rattle.roff_scan.specs.HalfLaws.{short_escape, string_escape, text_escape, two_texts};
 ghost use Rattle.roff_scan.specs.Halves.{most_names, reading_ended, reads_text, reads_widths};
 ghost use Rattle.roff_scan.specs.Measures.{columns_of, most_width, motion_of, remarked};
 ghost use Rattle.roff_scan.specs.Nesting.{AreNames, IsNested};
-ghost use Rattle.roff_scan.specs.declared.escapes.Escape.TheVariants.{Name as BeginsName, Text as BeginsText};
+ghost use Rattle.roff_scan.specs.declared.escapes.Escape.TheVariants.{Name as BeginsName};
+ghost use Rattle.roff_scan.specs.declared.escapes.Escape.TheVariants.{Text as BeginsText};
 ghost use Rattle.roff_scan.specs.declared.escapes.NameUse.{NameUse};
-ghost use Rattle.roff_scan.specs.declared.escapes.NameUse.TheVariants.{Argument, Character, Register, Text};
+ghost use Rattle.roff_scan.specs.declared.escapes.NameUse.TheVariants.{Argument, Character};
+ghost use Rattle.roff_scan.specs.declared.escapes.NameUse.TheVariants.{Register, Text};
 ghost use Rattle.roff_scan.specs.declared.escapes.TextUse.TheVariants.{LeftOut as LeftOutText};
 ghost use Rattle.roff_scan.specs.declared.half.CopyUnit.TheVariants.{Byte};
 ghost use Rattle.roff_scan.specs.declared.half.Decision.TheVariants.{Is, OnPages};
 ghost use Rattle.roff_scan.specs.declared.half.NamePart.TheVariants.{Nothing, Opened};
-ghost use Rattle.roff_scan.specs.declared.half.Read.TheVariants.{Asks, Escape, Measures, Motion, Unit as GivesUnit};
+ghost use Rattle.roff_scan.specs.declared.half.Read.TheVariants.{Asks, Escape, Measures, Motion};
+ghost use Rattle.roff_scan.specs.declared.half.Read.TheVariants.{Unit as GivesUnit};
 ghost use Rattle.roff_scan.specs.declared.half.Remark.TheVariants.{BackwardMotion, BadNumber};
 ghost use Rattle.roff_scan.specs.declared.half.Surroundings.{Surroundings};
 ghost use Rattle.roff_scan.specs.declared.half.Surroundings.TheVariants.{Text as InText};
@@ -144,7 +153,8 @@ pub fn left_out_texts()
 pub fn conditions()
     ensures same { (delimiter : ℕ) (first second : List ℕ) → delimits_texts delimiter ≡ true
         → is_between delimiter first ≡ true → is_between delimiter second ≡ true
-        → asked (two_texts delimiter first second) ≡ decided (Is (bytes_eq first second)) (first ++ second) }
+        → asked (two_texts delimiter first second)
+        ≡ decided (Is (bytes_eq first second)) (first ++ second) }
     ensures other { (delimiter : ℕ) (first second : List ℕ) → delimits_texts delimiter ≡ true
         → is_between delimiter first ≡ true → is_between delimiter second ≡ true
         → asked (33 ∷ two_texts delimiter first second)

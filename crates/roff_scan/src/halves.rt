@@ -1,10 +1,25 @@
-//! What is half read: units of copy mode, comments, conditions, and the names, sizes and texts behind escapes.
+//! What is half read: units of copy mode, comments, conditions, and the names, sizes and texts
+//! behind escapes.
 
-ghost use Rattle.std.specs.Prelude.{◌≡◌, ◌≤◌, ◌+◌, ◌==◌, ℕ, true, false, List, Option, Some, None, [], ◌∷◌, drop, length, IfOk, MatchOption};
-ghost use Rattle.roff_scan.specs.Half.{Half, Backslash as BackslashHalf, Delimited as DelimitedHalf, Name as NameHalf, Size as SizeHalf, Condition as ConditionHalf, names_in, text_held, texts_held, widths_in};
-ghost use Rattle.roff_scan.specs.HalfTexts.{BeginsBehind, IsOnTop, begun, holds_text, leaving, names_among, text_on_top, widths_among};
-ghost use Rattle.roff_scan.specs.Halves.{byte_of_text, byte_of_width, byte_read, copied_escape, decides_now, ends_backslash, escape_given, escape_taken, grown, is_of_size, motion_given, name_beginning, name_begun, name_ended, name_given, newline_stays, part_at_first, reading_ended, reads_widths, seen_stays, size_read, surroundings, takes_backslash_alone, text_given, unit_of_name, unit_of_text, unit_taken, width_beginning};
-ghost use Rattle.roff_scan.specs.Conditions.{byte_of_condition, byte_or_backslash, choice_made, condition_ended, delimiter_met, expression_over, to_decide, texts_compared, unit_of_condition};
+ghost use Rattle.std.specs.Prelude.{◌≡◌, ◌≤◌, ◌+◌, ◌==◌, ℕ, true, false, List, Option, Some, None};
+ghost use Rattle.std.specs.Prelude.{[], ◌∷◌, drop, length, IfOk, MatchOption};
+ghost use Rattle.roff_scan.specs.Half.{Half, Backslash as BackslashHalf};
+ghost use Rattle.roff_scan.specs.Half.{Delimited as DelimitedHalf, Name as NameHalf};
+ghost use Rattle.roff_scan.specs.Half.{Size as SizeHalf, Condition as ConditionHalf, names_in};
+ghost use Rattle.roff_scan.specs.Half.{text_held, texts_held, widths_in};
+ghost use Rattle.roff_scan.specs.HalfTexts.{BeginsBehind, IsOnTop, begun, holds_text, leaving};
+ghost use Rattle.roff_scan.specs.HalfTexts.{names_among, text_on_top, widths_among};
+ghost use Rattle.roff_scan.specs.Halves.{byte_of_text, byte_of_width, byte_read, copied_escape};
+ghost use Rattle.roff_scan.specs.Halves.{decides_now, ends_backslash, escape_given, escape_taken};
+ghost use Rattle.roff_scan.specs.Halves.{grown, is_of_size, motion_given, name_beginning};
+ghost use Rattle.roff_scan.specs.Halves.{name_begun, name_ended, name_given, newline_stays};
+ghost use Rattle.roff_scan.specs.Halves.{part_at_first, reading_ended, reads_widths, seen_stays};
+ghost use Rattle.roff_scan.specs.Halves.{size_read, surroundings, takes_backslash_alone};
+ghost use Rattle.roff_scan.specs.Halves.{text_given, unit_of_name, unit_of_text, unit_taken};
+ghost use Rattle.roff_scan.specs.Halves.{width_beginning};
+ghost use Rattle.roff_scan.specs.Conditions.{byte_of_condition, byte_or_backslash, choice_made};
+ghost use Rattle.roff_scan.specs.Conditions.{condition_ended, delimiter_met, expression_over};
+ghost use Rattle.roff_scan.specs.Conditions.{to_decide, texts_compared, unit_of_condition};
 ghost use Rattle.roff_scan.specs.Nesting.{IsNested};
 ghost use Rattle.roff_scan.specs.declared.escapes.NameUse.{NameUse as UseOf};
 ghost use Rattle.roff_scan.specs.declared.escapes.TextUse.{TextUse as PurposeOf};
@@ -35,8 +50,8 @@ const MOST_NAMES: usize = 8;
 /// Within so many texts that are measured a further one isn't measured.
 const MOST_WIDTHS: usize = 8;
 
-/// What is half read: a condition, names and texts within each other, and a backslash, a comment or a
-/// size on top of them.
+/// What is half read: a condition, names and texts within each other, and a backslash, a comment or
+/// a size on top of them.
 ///
 /// All its memory is reserved as it is made.
 #[derive(Drop)]
@@ -376,8 +391,8 @@ impl Halves {
         }
     }
 
-    /// A byte of a size, which is off already: behind no sign a second digit belongs to it where the
-    /// first is 1, 2 or 3.
+    /// A byte of a size, which is off already: behind no sign a second digit belongs to it where
+    /// the first is 1, 2 or 3.
     fn read_size(&mut self, part: SizePart, byte: u8) -> Read
         requires { IsNested (SizeHalf part ∷ self.old.half) }
         ensures { (result, self.new) ≡ leaving (size_read self.old.half part byte) self.old }

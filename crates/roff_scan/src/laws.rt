@@ -1,7 +1,8 @@
 //! Facts about the definitions alone, as contracts of functions that do nothing.
 
 ghost use Rattle.std.specs.Prelude.{◌≡◌};
-ghost use Rattle.roff_scan.specs.Arguments.{Arguments, FirstArgumentsAreKept, finished, held, only_kept, settled, with_unit};
+ghost use Rattle.roff_scan.specs.Arguments.{Arguments, FirstArgumentsAreKept, finished, held};
+ghost use Rattle.roff_scan.specs.Arguments.{only_kept, settled, with_unit};
 ghost use Rattle.roff_scan.specs.Quoting.{QuotedArgumentsReadBack};
 ghost use Rattle.roff_scan.specs.declared.half.CopyUnit.{CopyUnit};
 

@@ -1,5 +1,5 @@
-//! Sources of bytes, what the bytes of a document are, and the unread input: what stands in front of a source,
-//! names that are half read behind backslashes, and the arguments of a line.
+//! Sources of bytes, what the bytes of a document are, and the unread input: what stands in front
+//! of a source, names that are half read behind backslashes, and the arguments of a line.
 #![tactic(auto)]
 
 mod arguments;

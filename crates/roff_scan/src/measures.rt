@@ -2,7 +2,8 @@
 
 ghost use Rattle.std.specs.Prelude.{◌≡◌};
 ghost use Rattle.roff_scan.specs.Escapes.{escape_of as kind_of};
-ghost use Rattle.roff_scan.specs.Measures.{byte_columns, columns_of, escape_measures, motion_of, motion_over, name_measures, remarked, wider};
+ghost use Rattle.roff_scan.specs.Measures.{byte_columns, columns_of, escape_measures, motion_of};
+ghost use Rattle.roff_scan.specs.Measures.{motion_over, name_measures, remarked, wider};
 
 use crate::bytes::is_silent;
 use crate::characters::character;

@@ -1,9 +1,13 @@
 //! What stands ahead of the source: pushed texts, events put back, and bytes in front again.
 
-ghost use Rattle.std.specs.Prelude.{false, ◌≡◌, ◌+◌, ◌<◌, ◌≤◌, ◌^◌, [], ◌∷◌, ◌++◌, map, reverse, length, IfOk, option_map, vec_len, vec_capacity};
+ghost use Rattle.std.specs.Prelude.{false, ◌≡◌, ◌+◌, ◌<◌, ◌≤◌, ◌^◌, [], ◌∷◌, ◌++◌, map, reverse};
+ghost use Rattle.std.specs.Prelude.{length, IfOk, option_map, vec_len, vec_capacity};
 ghost use Rattle.roff_scan.specs.Slots.Held.{most_marks};
-ghost use Rattle.roff_scan.specs.Slots.Standing.{standing, items_of, item_of, is_byte_next, IsStacked};
-ghost use Rattle.roff_scan.specs.Input.{is_none_ahead, first, first_but_ends, ByteAhead, FreeAhead, EndAhead, ReturnAhead, DoAhead, bytes_ahead, ends_ahead, events_ahead, frees_ahead, most_frees};
+ghost use Rattle.roff_scan.specs.Slots.Standing.{standing, items_of, item_of, is_byte_next};
+ghost use Rattle.roff_scan.specs.Slots.Standing.{IsStacked};
+ghost use Rattle.roff_scan.specs.Input.{is_none_ahead, first, first_but_ends, ByteAhead, FreeAhead};
+ghost use Rattle.roff_scan.specs.Input.{EndAhead, ReturnAhead, DoAhead, bytes_ahead, ends_ahead};
+ghost use Rattle.roff_scan.specs.Input.{events_ahead, frees_ahead, most_frees};
 
 use std::alloc::{AllocError, Global};
 use std::marker::Model;

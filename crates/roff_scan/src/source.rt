@@ -1,8 +1,10 @@
 //! Sources: what a run reads from.
 
-ghost use Rattle.std.specs.Prelude.{◌≡◌, ℕ, ◌<◌, ◌≤◌, List, length, map, take, None, vec_len, IfOk, IfSome};
+ghost use Rattle.std.specs.Prelude.{◌≡◌, ℕ, ◌<◌, ◌≤◌, List, length, map, take, None, vec_len, IfOk};
+ghost use Rattle.std.specs.Prelude.{IfSome};
 ghost use Rattle.roff_scan.specs.ReadSource.Given.{given_by};
-ghost use Rattle.roff_scan.specs.Tape.{Tape, Answers, Took, Failed, Gives, Ends, OneByte, OneNote, answer_of, Rises};
+ghost use Rattle.roff_scan.specs.Tape.{Tape, Answers, Took, Failed, Gives, Ends, OneByte, OneNote};
+ghost use Rattle.roff_scan.specs.Tape.{answer_of, Rises};
 
 use arrayvec::ArrayVec;
 use roff_num::Limit;
@@ -44,7 +46,8 @@ pub trait ByteSource {
 
     /// The next item, or how the items end.
     fn next_byte(&mut self) -> Taken
-        // The answer is the front of a tape that the source may give, and what comes is the rest of it.
+        // The answer is the front of a tape that the source may give, and what comes is the rest of
+        // it.
         ensures gives { Answers (gives self.old) (gives self.new) (answer_of result) }
         // Notes run out.
         ensures notes { notes self.new ≤ notes self.old }

@@ -4,10 +4,19 @@ ghost use Rattle.roff_scan.specs.Arguments.{with_unit, settled, finished};
 ghost use Rattle.roff_scan.specs.ArgumentList.{listed};
 ghost use Rattle.roff_store.specs.Named.{entry_of};
 ghost use Rattle.roff_store.specs.Texts.{entry_given, kind_given, kind_of};
-ghost use Rattle.roff_scan.specs.Halves.{byte_read, decides_now, reading_ended, newline_stays, seen_stays};
-ghost use Rattle.std.specs.Prelude.{vec_capacity, reverse, true, false, not, ◌≡◌, ◌==◌, ◌+◌, ◌<◌, ◌≤◌, ◌^◌, [], drop, get_or, length, None, option_map, IfOk, IfSome};
+ghost use Rattle.roff_scan.specs.Halves.{byte_read, decides_now, reading_ended, newline_stays};
+ghost use Rattle.roff_scan.specs.Halves.{seen_stays};
+ghost use Rattle.std.specs.Prelude.{vec_capacity, reverse, true, false, not, ◌≡◌, ◌==◌, ◌+◌, ◌<◌};
+ghost use Rattle.std.specs.Prelude.{◌≤◌, ◌^◌, [], drop, get_or, length, None, option_map, IfOk};
+ghost use Rattle.std.specs.Prelude.{IfSome};
 ghost use Rattle.roff_scan.specs.Tape.{Answer, OneByte, OneNote, Gives, Failed, Rises};
-ghost use Rattle.roff_scan.specs.Input.{is_none_ahead, counting, choosing, keeping, kept_last, leaving, without_last, events_ahead, frees_ahead, most_events, most_frees, holding_plain, holding_text, pushed, depth, pushing, putting_back, freeing, with_arguments, without_arguments, adding, body_named, calling, dropping, entering, kept_below, arguments_live, argument_live, beginning_line, calling_body};
+ghost use Rattle.roff_scan.specs.Input.{is_none_ahead, counting, choosing, keeping, kept_last};
+ghost use Rattle.roff_scan.specs.Input.{leaving, without_last, events_ahead, frees_ahead};
+ghost use Rattle.roff_scan.specs.Input.{most_events, most_frees, holding_plain, holding_text};
+ghost use Rattle.roff_scan.specs.Input.{pushed, depth, pushing, putting_back, freeing};
+ghost use Rattle.roff_scan.specs.Input.{with_arguments, without_arguments, adding, body_named};
+ghost use Rattle.roff_scan.specs.Input.{calling, dropping, entering, kept_below, arguments_live};
+ghost use Rattle.roff_scan.specs.Input.{argument_live, beginning_line, calling_body};
 
 use crate::arguments::{ArgumentList, ArgumentTexts, bytes_of};
 use crate::bytes::{newlines_among, passed_len};
@@ -96,7 +105,9 @@ impl<E> Model for Unread<E> {
 }
 
 impl<E: Copy> Unread<E> {
-    ghost use Rattle.roff_scan.specs.Unread.{initial_unread, is_bare, IsWithin, Shown, shown, ShowsByte, ShowsNote, ShowsEnding, sighted, SeesNote, SeesEnding, taking, taking_answer, changing, reading};
+    ghost use Rattle.roff_scan.specs.Unread.{initial_unread, is_bare, IsWithin, Shown, shown};
+    ghost use Rattle.roff_scan.specs.Unread.{ShowsByte, ShowsNote, ShowsEnding, sighted, SeesNote};
+    ghost use Rattle.roff_scan.specs.Unread.{SeesEnding, taking, taking_answer, changing, reading};
     ghost use Rattle.roff_scan.specs.Unread.Calls.{Takes, Looks, PassesOver};
     ghost use Rattle.roff_store.specs.TextCalls.{Open, Remove, Rename, Set};
 
@@ -142,9 +153,9 @@ impl<E: Copy> Unread<E> {
         self.line
     }
 
-    /// What counts in the limit on the stack: the pushed bytes that aren't read yet, the bytes of the
-    /// arguments and of other texts that are held while they are read, and those of the arguments of
-    /// calls that aren't over.
+    /// What counts in the limit on the stack: the pushed bytes that aren't read yet, the bytes of
+    /// the arguments and of other texts that are held while they are read, and those of the
+    /// arguments of calls that aren't over.
     pub fn pushed(&self) -> usize
         ensures { result ≡ pushed self.now.input }
     {
@@ -154,8 +165,8 @@ impl<E: Copy> Unread<E> {
             + self.calls.byte_count()
     }
 
-    /// What counts in the limit on the depth: the pushed texts, and the bodies that lines called, that
-    /// haven't ended.
+    /// What counts in the limit on the depth: the pushed texts, and the bodies that lines called,
+    /// that haven't ended.
     pub fn depth(&self) -> usize
         ensures { result ≡ depth self.now.input }
     {
@@ -200,9 +211,9 @@ impl<E: Copy> Unread<E> {
         }
     }
 
-    /// Takes a byte of the source that stands ready, if nothing is ahead, none was looked at and the
-    /// limit on bytes allows it. Otherwise nothing happens, and [`take`](Unread::take) tells what is
-    /// in front. Most bytes are taken so.
+    /// Takes a byte of the source that stands ready, if nothing is ahead, none was looked at and
+    /// the limit on bytes allows it. Otherwise nothing happens, and [`take`](Unread::take) tells
+    /// what is in front. Most bytes are taken so.
     #[inline(always)]
     pub fn take_ready<S: ByteSource>(&mut self, source: &mut S) -> Option<u8>
         ensures takes { IfSome result (λ b.
@@ -254,9 +265,9 @@ impl<E: Copy> Unread<E> {
         }
     }
 
-    /// Takes at once the bytes of the source that stand ready, up to the first backslash and, unless
-    /// within a block, the first newline, and no more than the limit on bytes allows. Nothing
-    /// happens where anything is ahead, half read or looked at.
+    /// Takes at once the bytes of the source that stand ready, up to the first backslash and,
+    /// unless within a block, the first newline, and no more than the limit on bytes allows.
+    /// Nothing happens where anything is ahead, half read or looked at.
     #[inline(always)]
     pub fn pass_over<S: ByteSource>(&mut self, source: &mut S, within_block: bool)
         ensures passes { PassesOver (S.gives source.old) (S.gives source.new) (S.ready source.old)
@@ -375,8 +386,8 @@ impl<E: Copy> Unread<E> {
         Ok(())
     }
 
-    /// Puts the body of a name and its end in front, as it is now: it is read where it lies, whatever
-    /// becomes of the name. A name without a body has an empty one.
+    /// Puts the body of a name and its end in front, as it is now: it is read where it lies,
+    /// whatever becomes of the name. A name without a body has an empty one.
     ///
     /// # Errors
     ///
@@ -396,9 +407,9 @@ impl<E: Copy> Unread<E> {
         Ok(())
     }
 
-    /// A line calls the body of a name: it is put in front, as it is now, with a newline behind it if
-    /// it has bytes and none at its end, and the end of the call. The arguments of the line are those
-    /// of the call, until its end is taken.
+    /// A line calls the body of a name: it is put in front, as it is now, with a newline behind it
+    /// if it has bytes and none at its end, and the end of the call. The arguments of the line are
+    /// those of the call, until its end is taken.
     ///
     /// # Errors
     ///
@@ -428,8 +439,8 @@ impl<E: Copy> Unread<E> {
         self.calls.arguments().len()
     }
 
-    /// Puts an argument of that call and its end in front, by its index from 0 on. One that it wasn't
-    /// given is empty.
+    /// Puts an argument of that call and its end in front, by its index from 0 on. One that it
+    /// wasn't given is empty.
     ///
     /// # Errors
     ///

@@ -1,8 +1,11 @@
 //! Chunks of bytes, linked into the chains in which texts lie. Strands share them: a chunk that no
 //! strand has any more serves again.
 
-ghost use Rattle.std.specs.Prelude.{◌≡◌, ◌≢◌, ◌==◌, if◌then◌else◌, ℕ, ◌<◌, ◌≤◌, ◌+◌, ◌-◌, ◌*◌, ◌^◌, [], length, take, drop, IfOk, None};
-ghost use Rattle.roff_store.specs.Chains.{content, has, link, others, share, shares_in, AreSameChunks, IsExtended, IsShared, IsStrand, IsText, LeavesOthers, bytes_of};
+ghost use Rattle.std.specs.Prelude.{◌≡◌, ◌≢◌, ◌==◌, if◌then◌else◌, ℕ, ◌<◌, ◌≤◌, ◌+◌, ◌-◌, ◌*◌, ◌^◌};
+ghost use Rattle.std.specs.Prelude.{[], length, take, drop, IfOk, None};
+ghost use Rattle.roff_store.specs.Chains.{content, has, link, others, share, shares_in};
+ghost use Rattle.roff_store.specs.Chains.{AreSameChunks, IsExtended, IsShared, IsStrand, IsText};
+ghost use Rattle.roff_store.specs.Chains.{LeavesOthers, bytes_of};
 ghost use Rattle.std.specs.List.{last_or};
 
 use crate::strand::{NO_CHUNK, Strand};
@@ -41,7 +44,8 @@ impl Model for Chunks {
 impl Chunks {
     /// Room for so many chunks.
     pub(crate) fn new(alloc: Global, most: usize) -> Result<Self, AllocError>
-        ensures { IfOk result (λ m. m ≡ record { contents = []; links = []; shares = []; most = most }) }
+        ensures { IfOk result (λ m. m
+            ≡ record { contents = []; links = []; shares = []; most = most }) }
     {
         Ok(Chunks {
             contents: Vec::with_capacity(alloc, most)?,
@@ -161,7 +165,8 @@ impl Chunks {
         requires room { 120 * shares_in self.old + strand.rest + length text.now + 119
             ≤ 120 * (self.old.most + strand.chunks) }
         requires short { strand.rest + length text.now < 2 ^ 64 }
-        ensures extended { IsExtended (others self.old strand) self.old strand text.now self.new result }
+        ensures extended { IsExtended (others self.old strand) self.old strand
+            text.now self.new result }
         ensures sum { shares_in self.new + strand.chunks ≡ shares_in self.old + result.chunks }
     {
         let room = self.room_behind(strand);
@@ -254,7 +259,8 @@ impl Chunks {
         requires shared { IsShared self.old strand }
         requires room { strand.rest + length front.now ≤ CHUNK * strand.chunks }
         requires short { strand.rest + length front.now < 2 ^ 64 }
-        ensures extended { IsExtended (others self.old strand) self.old strand front.now self.new result }
+        ensures extended { IsExtended (others self.old strand) self.old strand
+            front.now self.new result }
         ensures last { result.last ≡ strand.last }
         ensures chunks { result.chunks ≡ strand.chunks }
         ensures shares { self.new.shares ≡ self.old.shares }
@@ -280,7 +286,8 @@ impl Chunks {
         requires fits { length piece.now ≤ CHUNK }
         requires room { shares_in self.old < self.old.most }
         requires short { strand.rest + length piece.now < 2 ^ 64 }
-        ensures extended { IsExtended (others self.old strand) self.old strand piece.now self.new result }
+        ensures extended { IsExtended (others self.old strand) self.old strand
+            piece.now self.new result }
         ensures chunks { result.chunks ≡ strand.chunks + 1 }
         ensures sum { shares_in self.new ≡ shares_in self.old + 1 }
     {
@@ -313,7 +320,8 @@ impl Chunks {
         ensures empty { content self.new result ≡ [] }
         ensures end { self.new.most ≤ link self.new result }
         ensures claimed { share self.new result ≡ 1 }
-        ensures shares { (chunk : ℕ) → chunk ≢ result → share self.new chunk ≡ share self.old chunk }
+        ensures shares { (chunk : ℕ) → chunk ≢ result
+            → share self.new chunk ≡ share self.old chunk }
         ensures sum { shares_in self.new ≡ shares_in self.old + 1 }
         ensures others { LeavesOthers (share self.old) self.old.most self.old self.new }
     {

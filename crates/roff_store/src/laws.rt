@@ -1,15 +1,19 @@
 //! Facts about the definitions alone, as contracts of functions that do nothing.
 
-ghost use Rattle.std.specs.Prelude.{◌≡◌, ℕ, ◌+◌, ◌≤◌, List, [], ◌∷◌, length, codes, pos, negsuc, ℤ, Some, None, Ok, Err};
+ghost use Rattle.std.specs.Prelude.{◌≡◌, ℕ, ◌+◌, ◌≤◌, List, [], ◌∷◌, length, codes, pos, negsuc, ℤ};
+ghost use Rattle.std.specs.Prelude.{Some, None, Ok, Err};
 ghost use Rattle.roff_num.specs.declared.format.Format.{Format};
-ghost use Rattle.roff_num.specs.declared.format.Format.TheVariants.{Decimal, RomanLower, AlphaUpper};
+ghost use Rattle.roff_num.specs.declared.format.Format.TheVariants.{Decimal, RomanLower};
+ghost use Rattle.roff_num.specs.declared.format.Format.TheVariants.{AlphaUpper};
 ghost use Rattle.roff_num.specs.declared.limit.Limit.TheVariants.{Names};
 ghost use Rattle.roff_num.specs.declared.num.NumFault.TheVariants.{Range};
 ghost use Rattle.roff_store.specs.declared.register.Direction.TheVariants.{Up, Down};
 ghost use Rattle.roff_store.specs.declared.register.Register.{Register};
 ghost use Rattle.roff_store.specs.Named.{Table, EachOnce, admitted, entry_of};
-ghost use Rattle.roff_store.specs.Registers.{Call, SetFormat, Step, Remove, after, after_all, stepped, unset_register};
-ghost use Rattle.roff_store.specs.Laws.{after_calls, no_registers, number, register, register_after_all, sets, table_after};
+ghost use Rattle.roff_store.specs.Registers.{Call, SetFormat, Step, Remove, after, after_all};
+ghost use Rattle.roff_store.specs.Registers.{stepped, unset_register};
+ghost use Rattle.roff_store.specs.Laws.{after_calls, no_registers, number, register};
+ghost use Rattle.roff_store.specs.Laws.{register_after_all, sets, table_after};
 
 /// What setting a register's value, increment and format gives.
 pub fn setting_rows()

@@ -1,9 +1,11 @@
 //! Entries by name, found through the first two bytes of the name.
 
-ghost use Rattle.std.specs.Prelude.{◌≡◌, ℕ, ◌<◌, ◌≤◌, ◌^◌, ◌+◌, ◌==◌, [], length, slice_index, Option, IfOk, IfSome, IfNone, vec_len, vec_capacity};
+ghost use Rattle.std.specs.Prelude.{◌≡◌, ℕ, ◌<◌, ◌≤◌, ◌^◌, ◌+◌, ◌==◌, [], length, slice_index};
+ghost use Rattle.std.specs.Prelude.{Option, IfOk, IfSome, IfNone, vec_len, vec_capacity};
 ghost use Rattle.roff_store.specs.Named.{EachOnce, entry_of, with_entry, without_entry};
 ghost use Rattle.roff_store.specs.Buckets.{bucket_of};
-ghost use Rattle.roff_store.specs.NameTable.Slots.{buckets_of, entries_in, IsIndexed, LeadsTo, StandsAt};
+ghost use Rattle.roff_store.specs.NameTable.Slots.{buckets_of, entries_in, IsIndexed, LeadsTo};
+ghost use Rattle.roff_store.specs.NameTable.Slots.{StandsAt};
 
 use roff_num::{Limit, Name};
 use std::alloc::{AllocError, Global};
@@ -140,8 +142,8 @@ impl<E: Copy> NameTable<E> {
     }
 }
 
-/// The bucket of a name: its bytes as the digits of a number, of which the remainder is taken. Names
-/// of two printed bytes are apart so.
+/// The bucket of a name: its bytes as the digits of a number, of which the remainder is taken.
+/// Names of two printed bytes are apart so.
 fn bucket_of(name: &Name) -> usize
     ensures value { result ≡ bucket_of name.now }
     ensures within { result < BUCKETS }

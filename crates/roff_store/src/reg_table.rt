@@ -2,7 +2,8 @@
 
 ghost use Rattle.std.specs.Prelude.{◌≡◌, [], length, IfOk, IsTrue, ◌↔◌};
 ghost use Rattle.roff_store.specs.Named.{admitted, entry_of};
-ghost use Rattle.roff_store.specs.Registers.{Set, SetFormat, Step, Remove, after, register_of, stepped};
+ghost use Rattle.roff_store.specs.Registers.{Set, SetFormat, Step, Remove, after, register_of};
+ghost use Rattle.roff_store.specs.Registers.{stepped};
 
 use crate::name_table::NameTable;
 use crate::register::{Direction, Register};

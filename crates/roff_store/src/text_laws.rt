@@ -25,14 +25,14 @@ pub fn refusals()
         → after call t ≡ t }
 {}
 
-/// After every list of calls no name stands twice, and neither the names nor the bytes of bodies and
-/// texts in the making pass their limits.
+/// After every list of calls no name stands twice, and neither the names nor the bytes of bodies
+/// and texts in the making pass their limits.
 pub fn counted()
     ensures { (calls : List Call) (t : Texts) → IsCounted t → IsCounted (after_all calls t) }
 {}
 
-/// A store is a finite map: behind a call that isn't refused each name stands for what the call lets
-/// it stand for.
+/// A store is a finite map: behind a call that isn't refused each name stands for what the call
+/// lets it stand for.
 pub fn finite_map()
     ensures { (call : Call) (t : Texts) (name : List ℕ) → answered call t ≡ Ok tt
         → entry_of name (after call t).names.entries ≡ entry_after call name t }

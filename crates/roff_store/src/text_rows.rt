@@ -3,8 +3,10 @@
 ghost use Rattle.std.specs.Prelude.{◌≡◌, true, false, [], ◌∷◌, codes, Some, None, Ok, Err};
 ghost use Rattle.roff_num.specs.declared.limit.Limit.TheVariants.{Names, Store};
 ghost use Rattle.roff_store.specs.Texts.{Body, Request, kept, live, used};
-ghost use Rattle.roff_store.specs.TextCalls.{Set, Append, Remove, Rename, Open, PushOpen, Enter, DropOpen, Lease, Take, Release, answered};
-ghost use Rattle.roff_store.specs.TextRows.{leases_after, names_after, open_after, sets, store_after};
+ghost use Rattle.roff_store.specs.TextCalls.{Set, Append, Remove, Rename, Open, PushOpen, Enter};
+ghost use Rattle.roff_store.specs.TextCalls.{DropOpen, Lease, Take, Release, answered};
+ghost use Rattle.roff_store.specs.TextRows.{leases_after, names_after, open_after, sets};
+ghost use Rattle.roff_store.specs.TextRows.{store_after};
 
 /// What setting, appending, removing and renaming give.
 pub fn name_rows()
@@ -109,7 +111,7 @@ pub fn count_rows()
     ensures entering_takes_no_bytes { answered (Enter 0 (codes "x") true)
         (store_after 6 1 (sets (codes "x") (codes "old") ∷ Open ∷ PushOpen 0 (codes "new") ∷ []))
         ≡ Ok tt }
-    ensures refused { names_after 3 1 (sets (codes "x") (codes "old") ∷ Append (codes "x") (codes "a")
-        ∷ sets (codes "y") [] ∷ [])
+    ensures refused { names_after 3 1 (sets (codes "x") (codes "old")
+        ∷ Append (codes "x") (codes "a") ∷ sets (codes "y") [] ∷ [])
         ≡ (codes "x", Body (codes "old")) ∷ [] }
 {}

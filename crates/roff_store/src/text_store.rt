@@ -1,7 +1,9 @@
 //! Strings, macros and diversions under their names, with texts in the making and leases (manual,
 //! section 7).
 
-ghost use Rattle.std.specs.Prelude.{◌≡◌, ◌<◌, ◌≤◌, ◌+◌, ◌-◌, ℕ, true, false, [], ◌∷◌, All, length, option_map, sum_by, take, IsSome, IsTrue, is_some, ◌↔◌, IfOk, IfSome, IfNone, None};
+ghost use Rattle.std.specs.Prelude.{◌≡◌, ◌<◌, ◌≤◌, ◌+◌, ◌-◌, ℕ, true, false, [], ◌∷◌, All, length};
+ghost use Rattle.std.specs.Prelude.{option_map, sum_by, take, IsSome, IsTrue, is_some, ◌↔◌, IfOk};
+ghost use Rattle.std.specs.Prelude.{IfSome, IfNone, None};
 ghost use Rattle.std.specs.List.{last_or};
 ghost use Rattle.roff_store.specs.Chains.{has, share, shares_in, AreSameChunks, IsShared, IsStrand};
 ghost use Rattle.roff_store.specs.Named.{entry_of};
@@ -28,8 +30,8 @@ const SPARE: usize = 4;
 
 /// Strings, macros, diversions and requests under their names, texts in the making, and leases.
 ///
-/// All its memory is reserved as it is made. A body is read where it lies, by a lease, which goes on
-/// giving the body's bytes as they were, whatever becomes of its name.
+/// All its memory is reserved as it is made. A body is read where it lies, by a lease, which goes
+/// on giving the body's bytes as they were, whatever becomes of its name.
 #[derive(Drop)]
 pub struct TextStore {
     names: NameTable<Meaning>,
@@ -63,8 +65,12 @@ impl Model for TextStore {
 }
 
 impl TextStore {
-    ghost use Rattle.roff_store.specs.Texts.{IsFree, body_of, entry_given, has_body, kept, kind_given, kind_of, lease_bytes, lease_of, live, newest, next_byte, rest_of, used};
-    ghost use Rattle.roff_store.specs.TextCalls.{Append, DropOpen, Enter, Lease as Leases, Open, PushOpen, Release, Remove, Rename, Set, Take, after, answered};
+    ghost use Rattle.roff_store.specs.Texts.{IsFree, body_of, entry_given, has_body, kept};
+    ghost use Rattle.roff_store.specs.Texts.{kind_given, kind_of, lease_bytes, lease_of, live};
+    ghost use Rattle.roff_store.specs.Texts.{newest, next_byte, rest_of, used};
+    ghost use Rattle.roff_store.specs.TextCalls.{Append, DropOpen, Enter, Lease as Leases, Open};
+    ghost use Rattle.roff_store.specs.TextCalls.{PushOpen, Release, Remove, Rename, Set, Take};
+    ghost use Rattle.roff_store.specs.TextCalls.{after, answered};
 
     /// A store without names, for so many bytes of bodies and texts in the making, so many names,
     /// texts in the making and leases, and so many bytes that leases still give.
@@ -408,7 +414,8 @@ impl TextStore {
     #[inline]
     pub fn lease_front(&self, id: LeaseId) -> &[u8]
         requires { IsSome (lease_of id.0 self.now) }
-        ensures bytes { result.now ≡ take (length result.now) (lease_bytes (lease_of id.0 self.now)) }
+        ensures bytes { result.now
+            ≡ take (length result.now) (lease_bytes (lease_of id.0 self.now)) }
         ensures some { 0 < rest_of (lease_of id.0 self.now) → 0 < length result.now }
     {
         match self.leases[id.0 as usize] {
@@ -476,7 +483,8 @@ fn release_body(chunks: &mut Chunks, meaning: Option<Meaning>)
     requires strands { All (IsStrand chunks.old) (strands_of meaning) }
     requires shared { All (IsShared chunks.old) (strands_of meaning) }
     ensures shares { (chunk : ℕ) → share chunks.new chunk
-        ≡ share chunks.old chunk - sum_by (λ strand. has chunks.old strand chunk) (strands_of meaning) }
+        ≡ share chunks.old chunk
+        - sum_by (λ strand. has chunks.old strand chunk) (strands_of meaning) }
     ensures sum { shares_in chunks.new + sum_by (λ strand. strand.chunks) (strands_of meaning)
         ≡ shares_in chunks.old }
     ensures same { AreSameChunks chunks.old chunks.new }

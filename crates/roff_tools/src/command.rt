@@ -1,7 +1,10 @@
 //! The command line: its commands and options, and what its words ask for.
 
 ghost use Rattle.std.specs.Prelude.{◌≡◌, true, IfOk, IfErr, fold, map};
-ghost use Rattle.roff_tools.specs.Clauses.{Asks, AsksFor, FailsBy, app_of, default_limits, fault_of, file_operand, found_of, kind_of, limit_option, limits_asked_by, limits_set, nroff_app, roff_app, rows_of, rule_of, subcommand_of, takes, with_rule};
+ghost use Rattle.roff_tools.specs.Clauses.{Asks, AsksFor, FailsBy, app_of, default_limits};
+ghost use Rattle.roff_tools.specs.Clauses.{fault_of, file_operand, found_of, kind_of, limit_option};
+ghost use Rattle.roff_tools.specs.Clauses.{limits_asked_by, limits_set, nroff_app, roff_app};
+ghost use Rattle.roff_tools.specs.Clauses.{rows_of, rule_of, subcommand_of, takes, with_rule};
 
 use crate::{Job, Limit, Limits, Start, texts};
 use clap::error::ErrorKind;

@@ -1,7 +1,8 @@
 //! A whole run in memory, from bytes to bytes.
 
 ghost use Rattle.std.specs.Prelude.{◌≡◌, ◌≤◌, length, take, IfOk};
-ghost use Rattle.roff_tools.specs.Clauses.{IsBeginning, IsWholeResult, messages_of, output_of, tape_of_bytes};
+ghost use Rattle.roff_tools.specs.Clauses.{IsBeginning, IsWholeResult, messages_of, output_of};
+ghost use Rattle.roff_tools.specs.Clauses.{tape_of_bytes};
 
 use crate::watched::WatchedSink;
 use crate::{Job, MemSource, run};
@@ -29,8 +30,8 @@ pub struct Formatted {
     pub messages: Vec<u8>,
 }
 
-/// Formats a text that stands in memory. The source fails after `fail_at` of its bytes, if there are so
-/// many. Where the room for the text is passed, the run ends as at a failed write.
+/// Formats a text that stands in memory. The source fails after `fail_at` of its bytes, if there
+/// are so many. Where the room for the text is passed, the run ends as at a failed write.
 ///
 /// # Errors
 ///

@@ -19,7 +19,8 @@ pub enum Job {
 ///
 /// # Errors
 ///
-/// [`AllocError`] if the memory that the limits ask for can't be had. Then nothing was read or written.
+/// [`AllocError`] if the memory that the limits ask for can't be had. Then nothing was read or
+/// written.
 pub fn run<S: ByteSource, O: ByteSink, E: ByteSink>(
     alloc: Global,
     job: Job,
@@ -27,8 +28,8 @@ pub fn run<S: ByteSource, O: ByteSink, E: ByteSink>(
     out: &mut O,
     err: &mut E,
 ) -> Result<Status, AllocError>
-    // The source gave items. Whatever it may still give, the run over these items and then that is the
-    // definition's: it ended so, or a sink failed in one of its steps.
+    // The source gave items. Whatever it may still give, the run over these items and then that is
+    // the definition's: it ended so, or a sink failed in one of its steps.
     ensures nroff { (limits : Limits) (start : Start) → job ≡ Job.Nroff limits start → IfOk result
         (λ status. Runs limits status (S.gives source.old) (S.gives source.new)
         (seen (S.failures source.old) (O.sunk out.old) (E.sunk err.old))

@@ -1,7 +1,10 @@
 //! Facts about the definitions alone, as contracts of functions that do nothing.
 
 ghost use Rattle.std.specs.Prelude.{◌≡◌, [], ◌∷◌, codes};
-ghost use Rattle.roff_tools.specs.Clauses.{ArgumentConflict, DisplayHelp, DisplayVersion, EachOptionSetsItsLimit, InvalidValue, MissingSubcommand, UnknownArgument, ValueValidation, asked, default_limits, fault, formats, limited, numbered};
+ghost use Rattle.roff_tools.specs.Clauses.{ArgumentConflict, DisplayHelp, DisplayVersion};
+ghost use Rattle.roff_tools.specs.Clauses.{EachOptionSetsItsLimit, InvalidValue, MissingSubcommand};
+ghost use Rattle.roff_tools.specs.Clauses.{UnknownArgument, ValueValidation, asked, default_limits};
+ghost use Rattle.roff_tools.specs.Clauses.{fault, formats, limited, numbered};
 
 /// Each limit of the formatter has an option, which sets it alone.
 pub fn limit_options()

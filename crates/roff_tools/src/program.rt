@@ -1,7 +1,10 @@
 //! The program: it reads its words, opens its files, runs the job and tells how it went.
 
 ghost use Rattle.std.specs.Prelude.{◌≡◌, ◌≢◌, ◌≤◌, ◌⊎◌, true, is_ok, IfOk, IfErr, OnErr, map};
-ghost use Rattle.roff_tools.specs.Clauses.{AreMistaken, AreNamed, AskForHelp, Formats, FormatsAsked, IsNamed, NamesFile, NamesOneOf, exit_flushed, exit_status, fault_of, kind_of, limits_of, roff_app, subcommand_of, takes};
+ghost use Rattle.roff_tools.specs.Clauses.{AreMistaken, AreNamed, AskForHelp, Formats};
+ghost use Rattle.roff_tools.specs.Clauses.{FormatsAsked, IsNamed, NamesFile, NamesOneOf};
+ghost use Rattle.roff_tools.specs.Clauses.{exit_flushed, exit_status, fault_of, kind_of, limits_of};
+ghost use Rattle.roff_tools.specs.Clauses.{roff_app, subcommand_of, takes};
 
 use crate::command::{Request, STANDARD_INPUT, parse_words};
 use crate::exit::Exit;
