@@ -3,8 +3,8 @@
 use roff_tools::{Job, Limits, MemSink, MemSource, Start, Status, run};
 use std::test::Fail;
 
-/// A document, after how many bytes its source fails, the room of the output and of the messages, and
-/// what is then written, reported and answered.
+/// A document, after how many bytes its source fails, the room of the output and of the messages,
+/// and what is then written, reported and answered.
 struct Row {
     name: &'static str,
     input: &'static [u8],

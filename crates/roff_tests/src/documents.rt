@@ -19,7 +19,8 @@ pub struct Expected<'a> {
     pub status: Status,
 }
 
-/// Formats a document within these limits, and compares what was written and said, and how it ended.
+/// Formats a document within these limits, and compares what was written and said, and how it
+/// ended.
 pub fn check(
     rt: &impl Abort,
     alloc: Global,

@@ -1,7 +1,9 @@
-//! Tests of the libraries below, by their public calls alone. So those libraries are proved without tests of
-//! their own.
+//! Tests of the libraries below, by their public calls alone. So those libraries are proved without
+//! tests of their own.
 #![tactic(auto)]
 
+#[cfg(test)]
+mod cuts;
 #[cfg(test)]
 mod devices;
 #[cfg(test)]

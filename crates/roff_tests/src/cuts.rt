@@ -1,0 +1,219 @@
+//! Documents whose source fails behind each of their bytes in turn: a line that the fault cuts does
+//! nothing, and a definition that it cuts isn't entered.
+
+use roff_num::Limit;
+use roff_tools::{Formatted, Limits, Room, Start, Status, format_in_memory};
+use std::alloc::{AllocError, Global};
+use std::process::Abort;
+use std::test::Fail;
+
+/// A document, and what it gives. The numbers are of bytes: behind so many of them a piece of text
+/// is written, or of the messages told.
+struct Row {
+    name: &'static str,
+    input: &'static str,
+    limits: Limits,
+    written: &'static [(usize, &'static str)],
+    told: &'static [(usize, &'static str)],
+    /// What is written in the end, when the whole document has been read.
+    output: &'static str,
+    /// How the document ends, and behind how many bytes, if it does so before its source.
+    status: Status,
+    ended_behind: usize,
+}
+
+/// Room for what any row writes or reports.
+const AMPLE: Room = Room {
+    output: 1000,
+    messages: 1000,
+};
+
+/// A run that ends at its source's end.
+const NEVER: usize = usize::MAX;
+
+static ROWS: [Row; 8] = [
+    Row {
+        name: "registers of two macros",
+        input: ".pl 1\n.nr x 0 1\n.de a\n\\\\n+x\n..\n.de b\n\\n+x\n..\n.a\n.a\n.b\n.b\n",
+        limits: Limits::DEFAULT,
+        written: &[],
+        told: &[],
+        output: "2 3 1 1\n",
+        status: Status::Done,
+        ended_behind: NEVER,
+    },
+    Row {
+        name: "a macro that redefines itself",
+        input: ".pl 1\n.nf\n.de m\n.de m\nnew\n\\\\..\nold\n..\n.m\n.m\n",
+        limits: Limits::DEFAULT,
+        written: &[(41, "old\n"), (44, "new\n")],
+        told: &[],
+        output: "old\nnew\n",
+        status: Status::Done,
+        ended_behind: NEVER,
+    },
+    Row {
+        name: "arguments of a call",
+        input: ".pl 1\n.de m\n[\\\\$1][\\\\$2][\\\\$3] \\\\n(.$\n..\n.m \"a b\" \"c\"\"d\" \"\"\n",
+        limits: Limits::DEFAULT,
+        written: &[],
+        told: &[],
+        output: "[a b][c\"d][] 3\n",
+        status: Status::Done,
+        ended_behind: NEVER,
+    },
+    Row {
+        name: "a string in a text",
+        input: ".pl 1\n.ds s \"  x\na\\*sb\n",
+        limits: Limits::DEFAULT,
+        written: &[],
+        told: &[],
+        output: "a  xb\n",
+        status: Status::Done,
+        ended_behind: NEVER,
+    },
+    Row {
+        name: "a macro that is appended to",
+        input: ".pl 1\n.de m\none\n..\n.am m\ntwo\n..\n.m\n",
+        limits: Limits::DEFAULT,
+        written: &[],
+        told: &[],
+        output: "one two\n",
+        status: Status::Done,
+        ended_behind: NEVER,
+    },
+    Row {
+        name: "a string past the store",
+        input: ".pl 1\n.ds a abc\n.as a d\n\\*a\n",
+        limits: Limits {
+            store: 3,
+            ..Limits::DEFAULT
+        },
+        written: &[],
+        told: &[(23, "nroff: line 3: limit store (3) reached\n")],
+        output: "",
+        status: Status::Limit(Limit::Store),
+        ended_behind: 23,
+    },
+    Row {
+        name: "messages, a bad number and an abort",
+        input: ".nf\n.tm \\*s\n.de m\n.tm \\\\$1\n\\\\$1\n..\n.m told\n.in x\n.ab stop\nnever\n",
+        limits: Limits::DEFAULT,
+        written: &[(43, "told\n")],
+        told: &[
+            (12, "\n"),
+            (43, "told\n"),
+            (49, "nroff: line 8: bad number\n"),
+            (58, "stop\n"),
+        ],
+        output: "told\n",
+        status: Status::Aborted,
+        ended_behind: 58,
+    },
+    Row {
+        name: "a definition where no name may be made",
+        input: ".nf\na\n.de m\nb\n..\nc\n",
+        limits: Limits {
+            names: 0,
+            ..Limits::DEFAULT
+        },
+        written: &[(6, "a\n")],
+        told: &[(17, "nroff: line 5: limit names (0) reached\n")],
+        output: "a\n",
+        status: Status::Limit(Limit::Names),
+        ended_behind: 17,
+    },
+];
+
+#[test]
+fn documents_cut_behind_each_byte(rt: HostRuntime) -> Result<(), Fail> {
+    for row in &ROWS {
+        let whole = formatted(rt.alloc(), row, None)?;
+        let name = row.name;
+        assert_eq!(rt;
+            whole.output.as_slice(),
+            row.output.as_bytes(),
+            "output of {name}"
+        );
+        assert_eq!(rt; whole.status, row.status, "status of {name}");
+        check_cuts(&rt, rt.alloc(), row)?;
+    }
+    Ok(())
+}
+
+/// Cuts a document in front of its first byte, and then behind each one.
+fn check_cuts(rt: &impl Abort, alloc: Global, row: &Row) -> Result<(), Fail> {
+    check_cut(rt, alloc, row, 0, 1)?;
+    let mut count = 0usize;
+    let mut newlines = 0usize;
+    for byte in row.input.as_bytes() {
+        count = count.saturating_add(1);
+        check_cut(rt, alloc, row, count, newlines.saturating_add(1))?;
+        if *byte == b'\n' {
+            newlines = newlines.saturating_add(1);
+        }
+    }
+    Ok(())
+}
+
+/// Cuts a document behind so many bytes, the last of which stands on this line.
+fn check_cut(
+    rt: &impl Abort,
+    alloc: Global,
+    row: &Row,
+    count: usize,
+    line: usize,
+) -> Result<(), Fail> {
+    let name = row.name;
+    let given = formatted(alloc, row, Some(count))?;
+    let written = pieces_until(alloc, row.written, count)?;
+    let mut told = pieces_until(alloc, row.told, count)?;
+    let has_ended = row.ended_behind <= count;
+    if !has_ended {
+        let fault = format!(in alloc; "nroff: line {line}: read failed\n")?;
+        told.extend_from_slice(fault.as_bytes())?;
+    }
+    let status = if has_ended {
+        row.status
+    } else {
+        Status::Device
+    };
+    assert_eq!(rt;
+        given.output,
+        written,
+        "output of {name} cut behind {count}"
+    );
+    assert_eq!(rt;
+        given.messages,
+        told,
+        "messages of {name} cut behind {count}"
+    );
+    assert_eq!(rt; given.status, status, "status of {name} cut behind {count}");
+    let begins = row.output.as_bytes().starts_with(given.output.as_slice());
+    assert!(rt;
+        begins,
+        "output of {name} cut behind {count} is no beginning"
+    );
+    Ok(())
+}
+
+/// The pieces that come behind no more than so many bytes, one after another.
+fn pieces_until(
+    alloc: Global,
+    pieces: &[(usize, &str)],
+    count: usize,
+) -> Result<Vec<u8>, AllocError> {
+    let mut text = Vec::new(alloc);
+    for (behind, piece) in pieces {
+        if *behind <= count {
+            text.extend_from_slice(piece.as_bytes())?;
+        }
+    }
+    Ok(text)
+}
+
+/// Formats a row's document, whole or cut behind so many bytes.
+fn formatted(alloc: Global, row: &Row, cut: Option<usize>) -> Result<Formatted, AllocError> {
+    let text = row.input.as_bytes();
+    format_in_memory(alloc, row.limits, Start {}, text, cut, AMPLE)
+}
