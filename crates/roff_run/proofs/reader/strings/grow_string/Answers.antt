@@ -1,7 +1,7 @@
 use Rattle.std.proofs.Common.{◌≡◌, true, is_some, rules}
 use Rattle.roff_scan.specs.declared.half.CopyUnit.TheVariants.{Byte, Kept}
 use Rattle.roff_run.proofs.Strings.{InputBecame-grown}
-use Rattle.roff_run.proofs.reader.grow_string.Goals as goal
+use Rattle.roff_run.proofs.reader.strings.grow_string.Goals as goal
 
 pub returns-in-Byte : goal.returns-in-Byte
 returns-in-Byte c =

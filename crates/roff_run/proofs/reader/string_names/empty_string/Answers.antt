@@ -6,8 +6,8 @@ use Rattle.roff_store.specs.Named.{entry_of}
 use Rattle.roff_store.specs.TextCalls.{Set}
 use Rattle.roff_store.specs.Texts.{Body, kind_given, kind_of}
 use Rattle.roff_run.proofs.Strings.{InputBecame-fresh, InputBecame-new}
-use Rattle.roff_run.proofs.reader.empty_string.Goals.{in_default-via-in-Some-Body+else-appends, in_default-via-in-Some+in_default, in_default-via-in_default}
-use Rattle.roff_run.proofs.reader.empty_string.Goals as goal
+use Rattle.roff_run.proofs.reader.string_names.empty_string.Goals.{in_default-via-in-Some-Body+else-appends, in_default-via-in-Some+in_default, in_default-via-in_default}
+use Rattle.roff_run.proofs.reader.string_names.empty_string.Goals as goal
 
 pub returns-in_default : goal.returns-in_default
 returns-in_default c =

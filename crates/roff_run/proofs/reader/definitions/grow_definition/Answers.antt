@@ -4,8 +4,8 @@ use Rattle.roff_scan.specs.Half.{unit_bytes}
 use Rattle.roff_scan.specs.Input.{adding}
 use Rattle.roff_scan.specs.Unread.{changing}
 use Rattle.roff_run.proofs.BegunDefinitions.{InputBecame-defined}
-use Rattle.roff_run.proofs.reader.grow_definition.Goals.{in-Byte, in-Kept}
-use Rattle.roff_run.proofs.reader.grow_definition.Goals as goal
+use Rattle.roff_run.proofs.reader.definitions.grow_definition.Goals.{in-Byte, in-Kept}
+use Rattle.roff_run.proofs.reader.definitions.grow_definition.Goals as goal
 
 pub returns : goal.returns
 returns c =

@@ -2,8 +2,8 @@ use Rattle.std.proofs.Common.{◌≡◌, ◌∙◌, ℕ, List, Some, None, ap, s
 use Rattle.std.specs.Prelude.{reverse}
 use Rattle.roff_run.specs.Request.Coded.{name_in}
 use Rattle.roff_run.proofs.RemovedNames.{texts_stay, without_none, without_one}
-use Rattle.roff_run.proofs.reader.remove_names_given.Goals.{in-Some, in_default}
-use Rattle.roff_run.proofs.reader.remove_names_given.Goals as goal
+use Rattle.roff_run.proofs.reader.obeying.remove_names_given.Goals.{in-Some, in_default}
+use Rattle.roff_run.proofs.reader.obeying.remove_names_given.Goals as goal
 
 pub loop-index-preserved : goal.loop-index-preserved
 loop-index-preserved c =

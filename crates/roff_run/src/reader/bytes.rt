@@ -1,0 +1,140 @@
+//! A byte that was taken: what it means, and whether it means little.
+
+ghost use Rattle.std.specs.Prelude.{◌≡◌, ℕ, [], ◌∷◌, None, true, IfSome};
+ghost use Rattle.roff_lines.specs.declared.event.Event.TheVariants.{Gap, Print, WordEnd};
+ghost use Rattle.roff_lines.specs.declared.glyph.Glyph.TheVariants.{Printed};
+ghost use Rattle.roff_run.specs.Requests.{Text};
+ghost use Rattle.roff_run.specs.Registers.{Known as KnownOf};
+ghost use Rattle.roff_run.specs.Clauses.{Passes, TakesAs, meaning_events, is_passed, kept_taking};
+ghost use Rattle.roff_run.specs.Clauses.{taking, due};
+
+use super::{Meaning, Reader};
+use crate::event::PageEvent;
+use crate::reading::Reading;
+use roff_lines::Env;
+use roff_num::Limit;
+use roff_scan::{Surroundings, Unread};
+
+impl Reader {
+    /// Whether a byte is a glyph behind another on a text line, and does nothing else. Most are.
+    #[inline(always)]
+    pub fn goes_on_with(&self, byte: u8, unread: &Unread<PageEvent>) -> bool
+        ensures { result ≡ true → (k : KnownOf) → taking k self.now.reading unread.now.input byte
+            ≡ meaning_events unread.now.input self.now.reading (Text (Print (Printed byte)) ∷ []) }
+    {
+        match self.reading {
+            Reading::Text(line) => line.goes_on_with(byte) && unread.is_bare(),
+            _ => false,
+        }
+    }
+
+    /// Whether a byte is a gap behind a glyph on a text line, and does nothing else.
+    #[inline(always)]
+    pub fn goes_on_with_gap(&self, byte: u8, unread: &Unread<PageEvent>) -> bool
+        ensures { result ≡ true → (k : KnownOf) → taking k self.now.reading unread.now.input byte
+            ≡ meaning_events unread.now.input self.now.reading
+            (Text WordEnd ∷ Text (Gap 1) ∷ []) }
+    {
+        match self.reading {
+            Reading::Text(line) => line.goes_on_with_gap(byte) && unread.is_bare(),
+            _ => false,
+        }
+    }
+
+    /// Whether bytes change nothing but backslashes and perhaps newlines: in a line that is
+    /// dropped, and in a branch that is skipped. Then, whether newlines change nothing either:
+    /// within a block of the branch.
+    #[inline(always)]
+    pub fn passes_over(&self) -> Option<bool>
+        ensures passes { IfSome result (λ within_block. (b : ℕ) → is_passed within_block b ≡ true
+            → Passes self.now.reading b) }
+        ensures none_due { IfSome result (λ within_block. due self.now.reading ≡ None) }
+    {
+        match self.reading {
+            Reading::Dropped => Some(false),
+            Reading::Skipping {
+                opened,
+                closed,
+                behind: false,
+            } => Some(opened > closed),
+            _ => None,
+        }
+    }
+
+    /// The same of a byte that isn't dropped.
+    pub(super) fn read_kept(
+        &mut self,
+        byte: u8,
+        env: &Env,
+        unread: &mut Unread<PageEvent>,
+    ) -> Result<Meaning, Limit>
+        ensures { TakesAs (λ k. kept_taking k self.old.reading unread.old.input byte)
+            env.now self.old self.new unread.old unread.new result }
+    {
+        match self.reading {
+            Reading::LineStart => {
+                let found = unread.read_byte(Surroundings::Text, byte);
+                self.begin_line(Reading::LineStart, found, env, unread)
+            }
+            Reading::Branch => {
+                let found = unread.read_byte(Surroundings::Text, byte);
+                self.begin_line(Reading::Branch, found, env, unread)
+            }
+            Reading::Braced => {
+                let found = unread.read_byte(Surroundings::Text, byte);
+                self.begin_line(Reading::Braced, found, env, unread)
+            }
+            Reading::Text(line) => {
+                let found = unread.read_byte(Surroundings::Text, byte);
+                self.read_text(line, found, env, unread)
+            }
+            Reading::Control { breaks } => Ok(self.read_on(Reading::behind_control(breaks, byte))),
+            Reading::Name { breaks, first } => self.end_name(breaks, first, byte, env, unread),
+            Reading::Arguments { breaks, request } => {
+                let found = unread.read_byte(Surroundings::Arguments, byte);
+                self.read_arguments(breaks, request, found, env, unread)
+            }
+            Reading::Deciding { keeps } => {
+                let found = unread.read_byte(Surroundings::Arguments, byte);
+                self.read_condition(keeps, found, env, unread)
+            }
+            Reading::StringName { appends } => {
+                let found = unread.read_byte(Surroundings::Arguments, byte);
+                self.read_string_name(appends, found, env, unread)
+            }
+            Reading::StringText {
+                name,
+                appends,
+                is_front,
+            } => {
+                let found = unread.read_byte(Surroundings::Copy, byte);
+                self.read_string(name, appends, is_front, found, env, unread)
+            }
+            Reading::Calling { name } => {
+                let found = unread.read_byte(Surroundings::Arguments, byte);
+                self.read_call(name, found, env, unread)
+            }
+            Reading::Defining {
+                name,
+                appends,
+                end,
+                matched,
+            } => {
+                let found = unread.read_byte(Surroundings::Copy, byte);
+                self.read_definition(name, appends, end, matched, found, env, unread)
+            }
+            Reading::Skipping {
+                opened,
+                closed,
+                behind,
+            } => Ok(self.read_on(Reading::behind_skipped(opened, closed, behind, byte))),
+            Reading::Dropped => Ok(self.read_on(Reading::behind_dropped(byte))),
+            Reading::Telling { aborts, is_front } => {
+                let read = unread.read_byte(Surroundings::Copy, byte);
+                self.read_message(aborts, is_front, read, env, unread)
+            }
+            Reading::Told { aborts } => Ok(self.read_on(Reading::Told { aborts })),
+            Reading::Exiting => Ok(self.read_on(Reading::Exiting)),
+        }
+    }
+}

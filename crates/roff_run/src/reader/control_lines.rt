@@ -1,0 +1,153 @@
+//! The names of control lines, and how what is behind one is read.
+
+ghost use Rattle.std.specs.Prelude.{◌≡◌, Ok};
+ghost use Rattle.roff_run.specs.Clauses.{Env, NameOf, TakesAs, behind_name, kept_taking};
+ghost use Rattle.roff_run.specs.Clauses.{line_taking, row_of, name_ended_taking, called_by};
+
+use super::{Meaning, Reader};
+use crate::event::PageEvent;
+use crate::reading::{Reading, ShortName, ends_name};
+use crate::request::{Called, LineReading, Request};
+use roff_lines::Env;
+use roff_num::Limit;
+use roff_scan::{Surroundings, Unread};
+use roff_store::Kind;
+
+impl Reader {
+    /// The byte behind the first one of a name.
+    pub(super) fn end_name(
+        &mut self,
+        breaks: bool,
+        first: u8,
+        byte: u8,
+        env: &Env,
+        unread: &mut Unread<PageEvent>,
+    ) -> Result<Meaning, Limit>
+        ensures { TakesAs (λ k. kept_taking k (NameOf breaks first) unread.old.input byte)
+            env.now self.old self.new unread.old unread.new result }
+    {
+        if ends_name(byte) {
+            let name = ShortName {
+                first,
+                second: None,
+            };
+            return self.read_behind_name(breaks, name, byte, env, unread);
+        }
+        let name = ShortName {
+            first,
+            second: Some(byte),
+        };
+        match called_by(name, unread) {
+            Called::Request(request) => Ok(self.begin_request(breaks, request, unread)),
+            Called::Body(name) => Ok(self.read_on(Reading::Calling { name })),
+            Called::Nothing => Ok(self.read_on(Reading::Dropped)),
+        }
+    }
+
+    /// The first byte behind a name, which doesn't belong to it.
+    pub(super) fn read_behind_name(
+        &mut self,
+        breaks: bool,
+        name: ShortName,
+        byte: u8,
+        env: &Env,
+        unread: &mut Unread<PageEvent>,
+    ) -> Result<Meaning, Limit>
+        ensures { TakesAs (λ k. name_ended_taking k unread.old.input breaks name byte)
+            env.now self.old self.new unread.old unread.new result }
+    {
+        match called_by(name, unread) {
+            Called::Request(request) => self.read_first(breaks, request, byte, env, unread),
+            Called::Body(name) => {
+                let found = unread.read_byte(Surroundings::Arguments, byte);
+                self.read_call(name, found, env, unread)
+            }
+            Called::Nothing => Ok(self.read_on(Reading::behind_dropped(byte))),
+        }
+    }
+
+    /// The first byte behind a request's name, which ends the name.
+    fn read_first(
+        &mut self,
+        breaks: bool,
+        request: Request,
+        byte: u8,
+        env: &Env,
+        unread: &mut Unread<PageEvent>,
+    ) -> Result<Meaning, Limit>
+        ensures { TakesAs (λ k. line_taking k unread.old.input breaks request
+            (row_of request).line byte)
+            env.now self.old self.new unread.old unread.new result }
+    {
+        match request.row().line {
+            LineReading::ByArguments => {
+                let found = unread.read_byte(Surroundings::Arguments, byte);
+                self.read_arguments(breaks, request, found, env, unread)
+            }
+            LineReading::ByCondition { keeps } => self.begin_condition(keeps, byte, env, unread),
+            LineReading::ByString { appends } => {
+                let found = unread.read_byte(Surroundings::Arguments, byte);
+                self.read_string_name(appends, found, env, unread)
+            }
+            LineReading::ByLastLine => {
+                let found = unread.read_byte(Surroundings::Arguments, byte);
+                self.read_arguments(breaks, request, found, env, unread)
+            }
+            LineReading::ByMessage { aborts } => {
+                let read = unread.read_byte(Surroundings::Copy, byte);
+                self.read_message(aborts, true, read, env, unread)
+            }
+            LineReading::ByLines(_) => {
+                let found = unread.read_byte(Surroundings::Arguments, byte);
+                self.read_arguments(breaks, request, found, env, unread)
+            }
+            LineReading::ByElse => {
+                let so = unread.take_kept() == Some(false);
+                self.begin_branch(so, Some(byte), env, unread)
+            }
+        }
+    }
+
+    /// What is read behind a request's name.
+    fn begin_request(
+        &mut self,
+        breaks: bool,
+        request: Request,
+        unread: &mut Unread<PageEvent>,
+    ) -> Meaning
+        ensures { (env : Env)
+            → TakesAs (λ k. behind_name unread.old.input breaks request (row_of request).line)
+            env self.old self.new unread.old unread.new (Ok result) }
+    {
+        let reading = match request.row().line {
+            LineReading::ByArguments => Reading::Arguments { breaks, request },
+            LineReading::ByLines(_) => Reading::Arguments { breaks, request },
+            LineReading::ByCondition { keeps } => {
+                unread.begin_condition();
+                Reading::Deciding { keeps }
+            }
+            LineReading::ByString { appends } => Reading::StringName { appends },
+            LineReading::ByLastLine => Reading::Arguments { breaks, request },
+            LineReading::ByMessage { aborts } => Reading::Telling {
+                aborts,
+                is_front: true,
+            },
+            LineReading::ByElse => Reading::branch(unread.take_kept() == Some(false)),
+        };
+        self.read_on(reading)
+    }
+}
+
+/// What a line does that begins with a name.
+fn called_by(name: ShortName, unread: &Unread<PageEvent>) -> Called
+    ensures { result ≡ called_by name unread.now.input.names }
+{
+    match unread.get(&name.name()) {
+        Some(Kind::Request(number)) => match Request::numbered(number as usize) {
+            Some(request) => Called::Request(request),
+            None => Called::Nothing,
+        },
+        Some(Kind::Body(_)) => Called::Body(name),
+        None => Called::Nothing,
+    }
+}

@@ -1,0 +1,80 @@
+//! Number registers: their values and texts, and those that go.
+
+ghost use Rattle.std.specs.Prelude.{◌≡◌, ℕ, List, IfSome, slice_get};
+ghost use Rattle.std.specs.Option.{option_copied};
+ghost use Rattle.roff_run.specs.Clauses.{AllRegisters, PageHistory, Remove, Stands, TakesAs};
+ghost use Rattle.roff_run.specs.Clauses.{changed_by, interpolating, known_at, known_of, listed};
+ghost use Rattle.roff_run.specs.Clauses.{names_given, register_named, text_of, value_in_force};
+
+use super::{Meaning, Reader};
+use crate::event::{Events, PageEvent};
+use crate::registers::Facts;
+use crate::request::{name_given, register_named};
+use roff_lines::Env;
+use roff_num::{Limit, Name, Num};
+use roff_scan::{ArgumentList, Unread};
+use roff_store::Direction;
+
+impl Reader {
+    /// A register is read in the place of its escape: its text is put in front.
+    pub(super) fn interpolate(
+        &mut self,
+        step: Option<Direction>,
+        name: &Name,
+        env: &Env,
+        unread: &mut Unread<PageEvent>,
+    ) -> Result<Meaning, Limit>
+        ensures { TakesAs (λ k. interpolating k unread.old.input self.old.reading step name.now)
+            env.now self.old self.new unread.old unread.new result }
+    {
+        let facts = facts(env, unread);
+        let given = self.registers.interpolate(step, name, facts);
+        unread.push(&given.text)?;
+        Ok(Meaning {
+            message: given.message,
+            events: Events::new(),
+        })
+    }
+
+    /// The value in force of the register that a first argument names; 0 if it names none.
+    pub(super) fn in_force(&self, first: Option<&[u8]>, facts: Facts) -> Num
+        ensures { (as_given : List (List ℕ)) → option_copied first.entry ≡ slice_get as_given 0
+            → IfSome (register_named as_given)
+            (λ name. result ≡ value_in_force (known_of facts self.now.registers.all) name) }
+    {
+        match register_named(first) {
+            Some(name) => self.registers.value_in_force(&name, facts),
+            None => Num(0),
+        }
+    }
+
+    /// Removes the registers that arguments name.
+    pub(super) fn remove_given(&mut self, arguments: ArgumentList<'_>)
+        ensures { self.new ≡ record self.old {
+          registers = record self.old.registers {
+            all = changed_by (Remove (names_given (listed arguments.entry))) self.old.registers.all;
+          };
+        } }
+    {
+        for index in 0..arguments.len() {
+            if let Some(text) = arguments.get(index) {
+                if let Some(name) = name_given(text) {
+                    self.registers.remove(&name);
+                }
+            }
+        }
+    }
+}
+
+/// What is known of the run beside its registers.
+pub(super) fn facts(env: &Env, unread: &Unread<PageEvent>) -> Facts
+    ensures { (cap : ℕ) (h : PageHistory) (all : AllRegisters) → Stands cap (text_of h) env.now
+        → known_of result all ≡ known_at h all unread.now.input }
+{
+    Facts {
+        settings: env.settings(),
+        newlines: unread.newlines(),
+        last_width: env.last_width(),
+        arguments: unread.argument_count(),
+    }
+}
