@@ -1,5 +1,5 @@
 -- What the code takes: the definition's step to what a taking means, what was done of it, and limits that refuse it.
-use Rattle.std.proofs.Common.{◌≡◌, ℕ, Bool, List, [], ◌++◌, None, Some, Result, Ok, Err, OnOk, ap, append-nil, refl, sym, ◌∙◌}
+use Rattle.std.proofs.Common.{◌≡◌, ℕ, Bool, List, [], ◌++◌, None, Some, Result, Ok, Err, OnOk, ap, append-nil, refl, subst, sym, ◌∙◌}
 use Rattle.std.specs.Option.{option_to_list}
 use Rattle.roff_num.specs.declared.limit.Limit.{Limit}
 use Rattle.roff_num.specs.declared.limits.Limits.{Limits}
@@ -16,6 +16,7 @@ use Rattle.roff_engine.proofs.Appending.{Writes-nothing}
 use Rattle.roff_engine.proofs.Performed.{does_events, does_halted, messages_told}
 use Rattle.roff_run.specs.Output.{PageHistory, text_of}
 use Rattle.roff_run.specs.Reader.Taken.{Became, IsReady, PageUnread, TakesAs}
+use Rattle.roff_run.specs.Reader.State.{ReaderState}
 use Rattle.roff_run.specs.Reading.{PageInput, Taking, meaning_events}
 use Rattle.roff_run.specs.Registers.{AllRegisters, Known, changed_by_all}
 use Rattle.roff_run.specs.Run.{State, counts_in, first_passed, known_at, taken_as, unless_refused}
@@ -73,6 +74,11 @@ refused_taking t more old new before behind told limit takes = record {
       taking_refused before.limits from tape before.input old.reader.reading old.reader.registers.all h messages is_closing (more ++ rest) (t k) opens
       t0 start (seen failures told.out told.err) limit reached (takes.takes before.limits.line h stood ready);
 }
+
+-- what the code took is what its answer says
+pub took_so : {t : Known → Taking} {env : Env} {old new : ReaderState} {before behind : PageUnread} (r s : Result Meaning Limit) → TakesAs t env old new before behind r → r ≡ s
+    → TakesAs t env old new before behind s
+took_so {t} {env} {old} {new} {before} {behind} r s takes same = subst (λ (x : Result Meaning Limit). TakesAs t env old new before behind x) same takes
 
 -- the code took something, and has come to what it means
 module _ (t : Known → Taking) (old mid : Formatter) (before behind : PageUnread) (m : Meaning) (takes : TakesAs t old.env old.reader mid.reader before behind (Ok m)) (same : mid.env ≡ old.env)

@@ -114,9 +114,10 @@ impl Formatter {
             (sinks (O.sunk out.old) (E.sunk err.old))
             (sinks (O.sunk out.new) (E.sunk err.new)) result }
     {
-        match self.reader.read(byte, &self.env, unread) {
+        let read = self.reader.read(byte, &self.env, unread);
+        match &read {
             Ok(meaning) => self.act(meaning, unread.line(), out, err),
-            Err(limit) => Err(Halt::Refused(limit)),
+            Err(limit) => Err(Halt::Refused(*limit)),
         }
     }
 
@@ -132,9 +133,10 @@ impl Formatter {
             (sinks (O.sunk out.old) (E.sunk err.old))
             (sinks (O.sunk out.new) (E.sunk err.new)) result }
     {
-        match self.reader.end_half(&self.env, unread) {
+        let read = self.reader.end_half(&self.env, unread);
+        match &read {
             Ok(meaning) => self.act(meaning, unread.line(), out, err),
-            Err(limit) => Err(Halt::Refused(limit)),
+            Err(limit) => Err(Halt::Refused(*limit)),
         }
     }
 
@@ -175,7 +177,7 @@ impl Formatter {
             (sinks (O.sunk out.new) (E.sunk err.new)) result }
     {
         let meaning = self.reader.end_message(aborts);
-        self.act(meaning, unread.line(), out, err)
+        self.act(&meaning, unread.line(), out, err)
     }
 
     /// The end of the input: an unfinished line ends, and the pending line is placed.
@@ -191,7 +193,7 @@ impl Formatter {
             (sinks (O.sunk out.new) (E.sunk err.new)) result }
     {
         match self.reader.end_line_of_input(&self.env, unread) {
-            Ok(meaning) => match self.act(meaning, unread.line(), out, err) {
+            Ok(meaning) => match self.act(&meaning, unread.line(), out, err) {
                 Ok(()) => self.perform_all(&CLOSING, out),
                 Err(halt) => Err(halt),
             },
@@ -204,12 +206,12 @@ impl Formatter {
     #[tactic(auto, using(crate::proofs::Performed::told_then_performed))]
     fn act<O: ByteSink, E: ByteSink>(
         &mut self,
-        meaning: Meaning,
+        meaning: &Meaning,
         line: u32,
         out: &mut O,
         err: &mut E,
     ) -> Result<(), Halt>
-        ensures { DoesMeaning line (option_to_list meaning.message) meaning.events.items
+        ensures { DoesMeaning line (option_to_list meaning.now.message) meaning.now.events.items
             self.old self.new
             (sinks (O.sunk out.old) (E.sunk err.old))
             (sinks (O.sunk out.new) (E.sunk err.new)) result }
