@@ -24,7 +24,7 @@ use Rattle.roff_engine.specs.Sinks.{Sunk}
 use Rattle.roff_run.specs.Output.{PageHistory, text_of}
 use Rattle.roff_run.specs.Reader.State.{ReaderState}
 use Rattle.roff_run.specs.Reader.Taken.{Became, IsReady, PageUnread}
-use Rattle.roff_run.specs.Reading.{call_read, definition_read, PageInput, Taking, arguments_read_on, beginning_read, condition_read, going_on, half_ended, interrupted, message_begun, message_read, settling, string_name_read, string_text_read, text_read}
+use Rattle.roff_run.specs.Reading.{call_read, definition_read, PageInput, Taking, arguments_read_on, beginning_read, condition_read, going_on, half_ended, interrupted, line_ends_first, message_read, settling, string_name_read, string_text_read, text_read}
 use Rattle.roff_run.specs.Registers.{AllRegisters, Known}
 use Rattle.roff_run.specs.Run.{State, initial, ahead_taken, counts_in, ending_as, half_ends, input_ended, known_at, made, step, taken_as, unless_refused, first_passed, grown}
 use Rattle.roff_run.specs.declared.event.PageEvent.{PageEvent}
@@ -408,10 +408,10 @@ by_no_half (first ∷ others) none some is = cc (eqb-suc-zero (length others))
 
 -- at the input's end what is half read ends, if something is
 pub input_ends-half : (s : State) → not (length s.input.half == 0) ≡ true → input_ends s ≡ half_ends s
-input_ends-half s is = by_half s.input.half (input_ended (message_begun s.reading) s) (half_ends s) is
+input_ends-half s is = by_half s.input.half (input_ended (line_ends_first s.reading) s) (half_ends s) is
 
--- and else a message, or the input's end is met
-pub input_ends-no_half : (s : State) (message : Option Bool) → not (length s.input.half == 0) ≡ false → message_begun s.reading ≡ message
-    → input_ends s ≡ input_ended message s
-input_ends-no_half s message is begun =
-    by_no_half s.input.half (input_ended (message_begun s.reading) s) (half_ends s) is ∙ ap (λ (o : Option Bool). input_ended o s) begun
+-- and else a control line, or the input's end is met
+pub input_ends-no_half : (s : State) (first : Bool) → not (length s.input.half == 0) ≡ false → line_ends_first s.reading ≡ first
+    → input_ends s ≡ input_ended first s
+input_ends-no_half s first is ends =
+    by_no_half s.input.half (input_ended (line_ends_first s.reading) s) (half_ends s) is ∙ ap (λ (b : Bool). input_ended b s) ends

@@ -11,4 +11,5 @@ pub mod WholeRuns
 pub mod Outcomes
 pub mod TwoRuns
 pub mod Passing
+pub mod PassingAhead
 pub mod Settling

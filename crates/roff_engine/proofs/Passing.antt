@@ -23,7 +23,7 @@ use Rattle.roff_run.proofs.Leads.{Leads-trans}
 use Rattle.roff_run.proofs.PassingRuns.{IsPlain, IsPlain-lines_taken, after-passed, turns_within-lines_taken}
 
 -- each byte of these changes nothing
-all_pass : (reading : Reading) (within_block : Bool) (bytes : List ℕ) → ((b : ℕ) → is_passed within_block b ≡ true → Passes reading b)
+pub all_pass : (reading : Reading) (within_block : Bool) (bytes : List ℕ) → ((b : ℕ) → is_passed within_block b ≡ true → Passes reading b)
     → AllByRecursion (λ b. is_passed within_block b ≡ true) bytes → AllByRecursion (λ b. Passes reading b) bytes
 all_pass reading within_block [] passes plain = tt
 all_pass reading within_block (b ∷ bytes) passes plain = (passes b plain.0, all_pass reading within_block bytes passes plain.1)
@@ -107,7 +107,7 @@ past-nothing gave gives notes now old stays = record {
 }
 
 -- no byte was passed over
-past-none : (gave gives : Tape → Type 0) (notes : ℕ) (now : Seen) (old : Coded) (after : PageUnread) → after ≡ old.unread → Stays gave gives
+pub past-none : (gave gives : Tape → Type 0) (notes : ℕ) (now : Seen) (old : Coded) (after : PageUnread) → after ≡ old.unread → Stays gave gives
     → GoesPast gave gives notes notes old (record old { unread = after }) now now
 past-none gave gives notes now old after same stays =
     subst (λ (u : PageUnread). GoesPast gave gives notes notes old (record old { unread = u }) now now) (sym same) (past-nothing gave gives notes now old stays)

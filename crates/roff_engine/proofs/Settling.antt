@@ -1,5 +1,5 @@
 -- What is due before anything more is taken: a message is told, or ends the run, or the input is left.
-use Rattle.std.proofs.Common.{◌≡◌, ℕ, Bool, true, false, List, [], ◌++◌, Option, Some, None, Ok, Err, inl, inr, refl, sym, subst, ap, ◌∙◌, arith, append-nil}
+use Rattle.std.proofs.Common.{◌≡◌, ℕ, Bool, true, false, List, [], ◌++◌, Option, Some, None, Ok, Err, inl, inr, refl, sym, ap, ◌∙◌, arith, append-nil}
 use Rattle.roff_num.specs.declared.limit.Limit.{Limit}
 use Rattle.roff_scan.specs.Arguments.{no_arguments}
 use Rattle.roff_scan.specs.Input.{leaving}
@@ -8,7 +8,7 @@ use Rattle.roff_run.specs.Messages.{told_line}
 use Rattle.roff_run.specs.Output.{PageHistory}
 use Rattle.roff_run.specs.Reader.Taken.{PageUnread}
 use Rattle.roff_run.specs.Reading.{due, message_text_read}
-use Rattle.roff_run.specs.Run.{State, aborted, counts_in, end_met, first_passed, message_told, output, reading_by, reported, step, unless_refused}
+use Rattle.roff_run.specs.Run.{State, aborted, counts_in, end_met, first_passed, message_told, reading_by, reported, step, unless_refused}
 use Rattle.roff_run.specs.declared.reading.Due.{Due}
 use Rattle.roff_run.specs.declared.reading.Due.TheVariants.{Leaves as LeavesInput, Tells}
 use Rattle.roff_run.specs.declared.reading.Reading.TheVariants.{LineStart}

@@ -1,6 +1,6 @@
 -- Turns of a run of the code: a call of the unread input, and what is done with what it shows.
-use Rattle.std.proofs.Common.{◌≡◌, ◌⊎◌, inl, inr, ℕ, ◌+◌, ◌<◌, ◌≤◌, List, [], ◌∷◌, length, Bool, Result, Ok, Err, OnOk, None, Some, refl, sym, ap, subst, ◌∙◌, arith}
-use Rattle.std.specs.Prelude.{IsOkUnless, IsSome, not, true, ◌==◌}
+use Rattle.std.proofs.Common.{◌≡◌, ◌⊎◌, inl, inr, ℕ, ◌+◌, ◌<◌, ◌≤◌, List, [], ◌∷◌, length, Result, Ok, Err, OnOk, None, refl, sym, ap, subst, ◌∙◌, arith}
+use Rattle.std.specs.Prelude.{IsOkUnless, not, true, ◌==◌}
 use Rattle.roff_num.specs.declared.limit.Limit.{Limit}
 use Rattle.roff_num.specs.declared.limits.Limits.{Limits}
 use Rattle.roff_scan.specs.Input.{DoAhead}
@@ -15,9 +15,9 @@ use Rattle.roff_run.specs.declared.status.Status.TheVariants.{Device, Limit as L
 use Rattle.roff_run.specs.Messages.{message_line}
 use Rattle.roff_run.specs.Output.{PageHistory}
 use Rattle.roff_run.specs.Reader.Taken.{PageUnread}
-use Rattle.roff_run.specs.Reading.{PageInput, interrupted, message_begun}
+use Rattle.roff_run.specs.Reading.{PageInput, interrupted, line_ends_first}
 use Rattle.roff_run.specs.declared.reading.Reading.{Reading}
-use Rattle.roff_run.specs.declared.reading.Reading.TheVariants.{LineStart, Branch, Braced, Text as InText, Control, Name, Arguments as InArguments, Deciding, StringName, StringText, Skipping, Dropped, Telling, Told, Exiting, Calling, Defining}
+use Rattle.roff_run.specs.declared.reading.Reading.TheVariants.{Arguments as InArguments}
 use Rattle.roff_run.specs.Run.{State, ahead_taken, byte_taken, ending_input, half_ends, in_front_taken, input_ended, known, made}
 use Rattle.roff_run.specs.TurnsToCome.{begun, turns_to_come, turns_within}
 use Rattle.roff_engine.specs.declared.halt.Halt.TheVariants.{Refused}
@@ -29,7 +29,7 @@ use Rattle.roff_engine.proofs.Calls.{EndsThere, EndsThere-takes, Leaves, Leaves-
 use Rattle.roff_engine.proofs.Items.{end_passed, moved, return_passed, returned, note_told, refused, source_failed, source_stopped, took}
 use Rattle.roff_run.proofs.InFront.{Given-asked, IsEnding, in_front, items_asked, over_unread, over_unread-ending, shown_step}
 use Rattle.roff_run.proofs.Readings.{begun-behind_return}
-use Rattle.roff_run.proofs.TurnsToCome.{IsTaken, turns_to_come-taking, turns_within-byte, turns_within-half_ended}
+use Rattle.roff_run.proofs.TurnsToCome.{IsTaken, turns_to_come-taking, turns_within-byte, turns_within-half_ended, turns_within-line_ends}
 
 -- fewer turns are to come of the run that goes on
 abbrev pub Falls : ℕ → ℕ → Coded → Coded → Result (Unit {0}) Status → Type 0
@@ -110,38 +110,17 @@ turns-interrupted bytes (_) i = refl
 
 -- what ends at the input's end, by what is half read
 ending_input-made : (l : Limits) (half : List Half) (s : State)
-    → ending_input l half s ≡ made l s (elim half [ [] ↦ input_ended (message_begun s.reading) s | first ∷ others ↦ half_ends s ])
+    → ending_input l half s ≡ made l s (elim half [ [] ↦ input_ended (line_ends_first s.reading) s | first ∷ others ↦ half_ends s ])
 ending_input-made l [] s = refl
 ending_input-made l (first ∷ others) s = refl
 
--- where the line of a message ends with the input, a turn fewer is to come
-message-input_ended : (bytes : ℕ) (reading : Reading) (s : State) → s.reading ≡ reading → IsSome (message_begun reading)
-    → let ended : State = input_ended (message_begun reading) s in
-    turns_within bytes ended.input + begun ended.reading < turns_within bytes s.input + begun s.reading
-message-input_ended bytes (Telling aborts is_front) s is some = let two : begun s.reading ≡ 2 = ap begun is in omega (arith, two)
-message-input_ended bytes LineStart s is some = absurd (cc)
-message-input_ended bytes Branch s is some = absurd (cc)
-message-input_ended bytes Braced s is some = absurd (cc)
-message-input_ended bytes (InText line) s is some = absurd (cc)
-message-input_ended bytes (Control breaks) s is some = absurd (cc)
-message-input_ended bytes (Name breaks first) s is some = absurd (cc)
-message-input_ended bytes (InArguments breaks request) s is some = absurd (cc)
-message-input_ended bytes (Deciding keeping) s is some = absurd (cc)
-message-input_ended bytes (StringName appends) s is some = absurd (cc)
-message-input_ended bytes (StringText name appends is_front) s is some = absurd (cc)
-message-input_ended bytes (Calling name) s is some = absurd (cc)
-message-input_ended bytes (Defining name appends end matched) s is some = absurd (cc)
-message-input_ended bytes (Skipping opened closed behind) s is some = absurd (cc)
-message-input_ended bytes Dropped s is some = absurd (cc)
-message-input_ended bytes (Told aborts) s is some = absurd (cc)
-message-input_ended bytes Exiting s is some = absurd (cc)
-
--- so it is where something is half read, or a message
+-- where something is half read, or a control line ends first, a turn fewer is to come
 half-input_ends : (bytes : ℕ) (half : List Half) (s : State) → IsEnded half s.reading → s.input.half ≡ half
-    → let ended : State = elim half [ [] ↦ input_ended (message_begun s.reading) s | first ∷ others ↦ half_ends s ] in
+    → let ended : State = elim half [ [] ↦ input_ended (line_ends_first s.reading) s | first ∷ others ↦ half_ends s ] in
     turns_within bytes ended.input + begun ended.reading < turns_within bytes s.input + begun s.reading
 half-input_ends bytes [] s (inl some) is = absurd (omega (arith, some))
-half-input_ends bytes [] s (inr some) is = message-input_ended bytes s.reading s refl some
+half-input_ends bytes [] s (inr first) is =
+    rw first (omega (arith, turns_within-line_ends bytes (known s) s.reading s.input first is))
 half-input_ends bytes (first ∷ others) s some is =
     let one : 1 ≤ length s.input.half = rw is (omega arith) in omega (arith, turns_within-half_ended bytes (known s) s.reading s.input one)
 
@@ -161,8 +140,8 @@ module _ {gave gives : Tape → Type 0} {left : PageUnread} {item : Shown PageEv
   ends_front : IsEnding item → EndsThere old.unread left taken
   ends_front = subst (λ (c : Shown PageEvent × PageUnread). IsEnding c.0 → EndsThere old.unread c.1 taken) left_is (EndsThere-takes old.unread call.answer)
 
-  falls_front : IsTaken item → turns_to_come left + 4 ≤ turns_to_come old.unread
-  falls_front = subst (λ (c : Shown PageEvent × PageUnread). IsTaken c.0 → turns_to_come c.1 + 4 ≤ turns_to_come old.unread) left_is (turns_to_come-taking call.answer old.unread)
+  falls_front : IsTaken item → turns_to_come left + 5 ≤ turns_to_come old.unread
+  falls_front = subst (λ (c : Shown PageEvent × PageUnread). IsTaken c.0 → turns_to_come c.1 + 5 ≤ turns_to_come old.unread) left_is (turns_to_come-taking call.answer old.unread)
 
   -- the step that takes the item is what the call shows
   shown_front : old.unread.limits ≡ old.limits → (tape : Tape) → gives tape → (h : PageHistory) (ms : List ℕ)
@@ -191,10 +170,6 @@ on_ok (Err status) holds = tt
 pub some_half : (half : List Half) (reading : Reading) (r : Result (Unit {0}) Status) → not (length half == 0) ≡ true → OnOk r (IsEnded half reading)
 some_half [] reading r is = cc
 some_half (first ∷ others) reading r is = on_ok r (inl (omega arith))
-
--- and where a message is
-pub some_message : (half : List Half) (reading : Reading) (aborts : Bool) (r : Result (Unit {0}) Status) → message_begun reading ≡ Some aborts → OnOk r (IsEnded half reading)
-some_message half reading aborts r is = on_ok r (inr (rw is refl))
 
 -- where a run goes on, one follows from the other
 pub on_ok-then : {A B : Type 0} (r : Result (Unit {0}) Status) → (A → B) → OnOk r A → OnOk r B

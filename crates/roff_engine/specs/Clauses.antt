@@ -4,7 +4,7 @@ pub use Rattle.roff_engine.specs.Formatter.Performing.{DoesMeaning, DoesTaking, 
 pub use Rattle.roff_run.specs.Messages.{message_line, message_lines, text_told, told_line}
 pub use Rattle.roff_run.specs.Output.{finished_bytes}
 pub use Rattle.roff_run.specs.Reader.State.{fresh_reader}
-pub use Rattle.roff_run.specs.Reading.{due, end_taking, half_ended, interrupted, message_begun, message_ended, taking, behind_return}
+pub use Rattle.roff_run.specs.Reading.{due, end_taking, half_ended, interrupted, line_ends_first, taking, behind_return}
 pub use Rattle.roff_run.specs.declared.reading.Due.TheVariants.{Tells}
 pub use Rattle.roff_run.specs.declared.reading.Reading.TheVariants.{LineStart}
 pub use Rattle.roff_run.specs.declared.event.PageEvent.TheVariants.{Text, Space}

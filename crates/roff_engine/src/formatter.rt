@@ -7,7 +7,7 @@ ghost use Rattle.roff_engine.specs.Clauses.{option_to_list, finished_of, fresh_r
 ghost use Rattle.roff_engine.specs.Clauses.{Print, WordEnd, LineEnd, Break, message_lines};
 ghost use Rattle.roff_engine.specs.Clauses.{finished_bytes, DoesMeaning, DoesTaking, PerformsOnly};
 ghost use Rattle.roff_engine.specs.Clauses.{closing_events, sinks, due, end_taking, half_ended};
-ghost use Rattle.roff_engine.specs.Clauses.{interrupted, message_begun, message_ended, taking};
+ghost use Rattle.roff_engine.specs.Clauses.{interrupted, line_ends_first, taking};
 ghost use Rattle.roff_engine.specs.Clauses.{LineStart, Text, Space, Puts, Sunk, behind_return};
 
 use crate::block::Block;
@@ -156,28 +156,29 @@ impl Formatter {
         self.reader.begin_next_line();
     }
 
-    /// Whether the text of a message is read, and then whether it aborts the run.
-    pub(crate) fn message_begun(&self) -> Option<bool>
-        ensures { result ≡ message_begun self.now.reader.reading }
+    /// Whether a control line is read that ends where the input does, before that end is met.
+    pub(crate) fn line_ends_first(&self) -> bool
+        ensures { result ≡ line_ends_first self.now.reader.reading }
     {
-        self.reader.message_begun()
+        self.reader.line_ends_first()
     }
 
-    /// The line of a message ends where the input does.
-    pub(crate) fn end_message<O: ByteSink, E: ByteSink>(
+    /// Ends the line that is unfinished where the input ends.
+    pub(crate) fn end_input_line<O: ByteSink, E: ByteSink>(
         &mut self,
-        aborts: bool,
-        unread: &Unread<PageEvent>,
+        unread: &mut Unread<PageEvent>,
         out: &mut O,
         err: &mut E,
     ) -> Result<(), Halt>
-        ensures { DoesTaking (λ k. message_ended unread.now.input aborts) []
-            self.old self.new unread.now unread.now
+        ensures { DoesTaking (λ k. end_taking k self.old.reader.reading unread.old.input) []
+            self.old self.new unread.old unread.new
             (sinks (O.sunk out.old) (E.sunk err.old))
             (sinks (O.sunk out.new) (E.sunk err.new)) result }
     {
-        let meaning = self.reader.end_message(aborts);
-        self.act(&meaning, unread.line(), out, err)
+        match self.reader.end_line_of_input(&self.env, unread) {
+            Ok(meaning) => self.act(&meaning, unread.line(), out, err),
+            Err(limit) => Err(Halt::Refused(limit)),
+        }
     }
 
     /// The end of the input: an unfinished line ends, and the pending line is placed.

@@ -30,7 +30,8 @@ impl Running {
     ghost use Rattle.roff_engine.specs.Running.Turning.{Acts, GoesPast, Halts, IsEnded, MayEnd};
     ghost use Rattle.roff_engine.specs.Running.Turning.{Settles, TurnsBy, input_ends, line_told};
 
-    /// Passes over bytes of the source that stand ready and change nothing, if there are some.
+    /// Passes over bytes of the source that stand ready, or of a body ahead, and change nothing, if
+    /// there are some.
     #[inline(always)]
     pub(crate) fn pass_over<S: ByteSource>(&mut self, source: &mut S)
         ensures { (out err : Sunk) → GoesPast
@@ -39,7 +40,11 @@ impl Running {
             (seen (S.failures source.old) out err) (seen (S.failures source.new) out err) }
     {
         if let Some(within_block) = self.formatter.passes_over() {
-            self.unread.pass_over(source, within_block);
+            if self.unread.is_none_ahead() {
+                self.unread.pass_over(source, within_block);
+            } else {
+                self.unread.pass_over_ahead(within_block);
+            }
         }
     }
 
@@ -278,7 +283,7 @@ impl Running {
         }
     }
 
-    /// The end of the input: what is half read ends first, then a message, and then the run.
+    /// The end of the input: what is half read ends first, then a control line, and then the run.
     #[inline(never)]
     fn end_input<O: ByteSink, E: ByteSink>(
         &mut self,
@@ -289,33 +294,28 @@ impl Running {
             → Acts self.old.unread.input.line input_ends self.old self.new
             (seen failures (O.sunk out.old) (E.sunk err.old))
             (seen failures (O.sunk out.new) (E.sunk err.new)) result }
-        // It goes on only where something was half read, or a message.
+        // It goes on only where something was half read, or a control line.
         ensures some { OnOk result (IsEnded self.old.unread.input.half
             self.old.formatter.reader.reading) }
     {
         if self.unread.is_half_read() {
             return self.end_half(out, err);
         }
-        match self.formatter.message_begun() {
-            Some(aborts) => self.end_message(aborts, out, err),
-            None => Err(self.finish(out, err)),
+        if self.formatter.line_ends_first() {
+            return self.end_line(out, err);
         }
+        Err(self.finish(out, err))
     }
 
-    /// Ends the line of a message, with nothing half read.
-    fn end_message<O: ByteSink, E: ByteSink>(
-        &mut self,
-        aborts: bool,
-        out: &mut O,
-        err: &mut E,
-    ) -> Result<(), Status>
-        ensures { (failures : ℕ) → Acts self.old.unread.input.line (input_ended (Some aborts))
+    /// Ends a control line, with nothing half read.
+    fn end_line<O: ByteSink, E: ByteSink>(&mut self, out: &mut O, err: &mut E) -> Result<(), Status>
+        ensures { (failures : ℕ) → Acts self.old.unread.input.line (input_ended true)
             self.old self.new
             (seen failures (O.sunk out.old) (E.sunk err.old))
             (seen failures (O.sunk out.new) (E.sunk err.new)) result }
     {
         let line = self.unread.line();
-        match self.formatter.end_message(aborts, &self.unread, out, err) {
+        match self.formatter.end_input_line(&mut self.unread, out, err) {
             Ok(()) => Ok(()),
             Err(halt) => Err(self.halted(halt, line, line, err)),
         }

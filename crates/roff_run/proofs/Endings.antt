@@ -3,9 +3,6 @@ use Rattle.std.proofs.Common.{◌≡◌, ◌⊎◌, inl, inr, ◌≤◌, ◌+◌
 use Rattle.std.specs.Prelude.{IsSome, if◌then◌else◌}
 use Rattle.roff_num.specs.declared.limits.Limits.{Limits}
 use Rattle.roff_run.specs.declared.status.Status.{Status}
-use Rattle.roff_run.specs.Reading.{message_begun}
-use Rattle.roff_run.specs.declared.reading.Reading.{Reading as BeingRead}
-use Rattle.roff_run.specs.declared.reading.Reading.TheVariants.{LineStart, Branch, Braced, Text as InText, Control, Name, Arguments as InArguments, Deciding, StringName, StringText, Skipping, Dropped, Telling, Told, Exiting, Calling, Defining}
 use Rattle.roff_run.specs.Requests.{PageEvent}
 use Rattle.roff_run.specs.Results.{turn, turns, last_state}
 use Rattle.roff_run.specs.ResultLaws.{EveryRunEnds, StepsLeadToTheLastState, NoOtherStateIsLast}
@@ -16,7 +13,8 @@ use Rattle.roff_run.specs.TurnsToCome.{begun, endings_of, free_ahead}
 use Rattle.roff_run.proofs.HalfCounts.{some_ending}
 use Rattle.roff_run.proofs.Leads.{Leads-refl, Leads-trans, Leads-step, after-add}
 use Rattle.roff_run.proofs.PerformedOrStopped.{PerformedOrStopped, Performed, StoppedAt, performed_or_stopped}
-use Rattle.roff_run.proofs.Readings.{ReadsOn, LimitStops, AheadTaken, ByteTaken, NoteTaken, HalfEnds, InputEnds, InputLeft, MessageEnds, MessageTold, RunAborts, SourceFails, SourceStops, ReadsOn-reading_on, Behind-byte_taken, Behind-ahead_taken, Behind-half_ends}
+use Rattle.roff_run.proofs.TurnsToCome.{begun-line_ends_first}
+use Rattle.roff_run.proofs.Readings.{ReadsOn, LimitStops, AheadTaken, ByteTaken, NoteTaken, HalfEnds, InputEnds, InputLeft, LineEnds, MessageTold, RunAborts, SourceFails, SourceStops, ReadsOn-reading_on, Behind-byte_taken, Behind-ahead_taken, Behind-half_ends, Behind-line_ends}
 
 -- a run has ended, or it hasn't
 pub ended_or_not : (o : Option Status) → IsSome o ⊎ (o ≡ None)
@@ -71,12 +69,14 @@ all_performed l (e ∷ es) s to_do =
           subst Goal (sym is) (first_performed l e es s (performing l e es s) (performed_or_stopped l e es s) (all_performed l es))
     ]
 
--- How many turns are enough before the end of the input. What is still to be charged may begin something, whose end
--- takes a turn too, and so may a free byte; what is half read, and an item of the source, takes one; and two end the run.
--- A condition takes two endings, and the escape that begins it one more: the first byte of its request's name begins
--- nothing, and one is kept for it.
+-- How many turns are enough before the end of the input. What is still to be charged may begin something that ends, and a
+-- line that ends behind that, and so may a free byte; an item of the source takes one; and two end the run. A condition takes
+-- two endings, and the escape that begins it one more: the first byte of its request's name begins nothing, and some are kept
+-- for it.
 abbrev turns_needed : Limits → State → ℕ
-turns_needed l s = 3 * (l.bytes - s.input.charge) + 3 * free_ahead s.input.ahead + endings_of s.input.half + begun s.reading + length s.tape.items + 2
+turns_needed l s =
+    5 * (l.bytes - s.input.charge) + 5 * free_ahead s.input.ahead + 2 * endings_of s.input.half + begun s.reading
+    + length s.tape.items + 2
 
 -- so many turns are enough: one behind the end of the input, and before it as many as it needs
 data HasTurns (l : Limits) (n : ℕ) (s : State) : Type 0 where
@@ -112,26 +112,6 @@ items-behind_front tape item gives =
 fewer_needed : (l : Limits) (n : ℕ) (s t : State) → turns_needed l s ≤ suc n → turns_needed l t + 1 ≤ turns_needed l s → EndsWithin l n t
 fewer_needed l n s t enough fewer = inr (Reading (omega (arith, enough, fewer)))
 
--- the line of a message needs two turns behind the input's end
-begun-message : (reading : BeingRead) (aborts : Bool) → message_begun reading ≡ Some aborts → begun reading ≡ 2
-begun-message (Telling aborts is_front) other is = refl
-begun-message LineStart aborts is = absurd (cc)
-begun-message Branch aborts is = absurd (cc)
-begun-message Braced aborts is = absurd (cc)
-begun-message (InText line) aborts is = absurd (cc)
-begun-message (Control breaks) aborts is = absurd (cc)
-begun-message (Name breaks first) aborts is = absurd (cc)
-begun-message (InArguments breaks request) aborts is = absurd (cc)
-begun-message (Deciding keeping) aborts is = absurd (cc)
-begun-message (StringName appends) aborts is = absurd (cc)
-begun-message (StringText name appends is_front) aborts is = absurd (cc)
-begun-message (Calling name) aborts is = absurd (cc)
-begun-message (Defining name appends end matched) aborts is = absurd (cc)
-begun-message (Skipping opened closed behind) aborts is = absurd (cc)
-begun-message Dropped aborts is = absurd (cc)
-begun-message (Told other) aborts is = absurd (cc)
-begun-message Exiting aborts is = absurd (cc)
-
 -- what was read, or how the run ended
 EndsWithin-read : (l : Limits) (n : ℕ) (s t : State) → ReadsOn l s t → turns_needed l s ≤ suc n → EndsWithin l n t
 EndsWithin-read l n s t (LimitStops limit) enough = inl refl
@@ -151,8 +131,10 @@ EndsWithin-read l n s t (HalfEnds first others half is_made) enough =
     let some : 1 ≤ endings_of s.input.half = rw half (omega (arith, some_ending first others)) in
     fewer_needed l n s t enough (omega (arith, read.input.charge, read.input.free, read.input.half, some))
 EndsWithin-read l n s t (InputEnds none half ends is_made) enough = inr (Closing refl (omega (arith, enough)))
-EndsWithin-read l n s t (MessageEnds aborts begins is_made) enough =
-    fewer_needed l n s t enough (omega (arith, begun-message s.reading aborts begins))
+EndsWithin-read l n s t (LineEnds first none is_made) enough =
+    let read = Behind-line_ends s first none in
+    let some = begun-line_ends_first s.reading first in
+    fewer_needed l n s t enough (omega (arith, read.input.charge, read.input.free, read.input.half, some))
 EndsWithin-read l n s t (MessageTold told is_made) enough =
     let one : begun s.reading ≡ 1 = ap begun told in fewer_needed l n s t enough (omega (arith, one))
 EndsWithin-read l n s t (RunAborts told) enough = inl refl
@@ -216,7 +198,7 @@ ended-turns l (suc n) s within =
 
 -- every run ends
 pub every_run_ends : EveryRunEnds
-every_run_ends l tape = ended-turns l (3 * l.bytes + length tape.items + 2) (initial tape) (inr (Reading (omega arith)))
+every_run_ends l tape = ended-turns l (5 * l.bytes + length tape.items + 2) (initial tape) (inr (Reading (omega arith)))
 
 -- turns are steps
 Leads-turns : (l : Limits) (n : ℕ) (s : State) → Leads l s (turns l n s)
@@ -231,7 +213,7 @@ Leads-turns l (suc n) s =
 
 -- steps lead to the last state
 pub steps_lead_to_the_last_state : StepsLeadToTheLastState
-steps_lead_to_the_last_state l tape = Leads-turns l (3 * l.bytes + length tape.items + 2) (initial tape)
+steps_lead_to_the_last_state l tape = Leads-turns l (5 * l.bytes + length tape.items + 2) (initial tape)
 
 -- what holds behind each number of steps holds of the last state
 pub at_last_state : (P : State → Type 0) (l : Limits) (tape : Tape) → ((n : ℕ) → P (after l n (initial tape))) → P (last_state l tape)

@@ -150,7 +150,7 @@ Leaves-valued rest negated text (Ok r) = omega arith
 Leaves-valued rest negated text (Err fault) = omega arith
 
 -- the byte that says what is asked
-Leaves-choice_made : (rest : List Half) (negated : Bool) (text : List ℕ) (b : ℕ) → Leaves (endings_of rest + 2) (choice_made rest negated text b)
+pub Leaves-choice_made : (rest : List Half) (negated : Bool) (text : List ℕ) (b : ℕ) → Leaves (endings_of rest + 2) (choice_made rest negated text b)
 Leaves-choice_made rest negated text b =
     Leaves-if _ (b == blank && not negated) _ _ (omega arith)
     (Leaves-if _ (b == 33 && not negated) _ _ (omega arith)

@@ -2,7 +2,7 @@
 --
 -- Each function f of reading has its lemma here, with a line for each of its cases: Stays-f where it leaves the input,
 -- and else Keeps-f.
-use Rattle.std.proofs.Common.{◌≡◌, ℕ, ◌+◌, ◌-◌, ◌≤◌, Bool, true, false, List, [], ◌∷◌, ◌++◌, map, Option, Some, None, refl, ap, sym, subst, ◌∙◌, arith}
+use Rattle.std.proofs.Common.{◌≡◌, ℕ, ◌+◌, ◌*◌, ◌-◌, ◌≤◌, Bool, true, false, List, [], ◌∷◌, ◌++◌, map, Option, Some, None, refl, ap, sym, subst, ◌∙◌, arith}
 use Rattle.std.specs.Prelude.{◌&&◌, ◌||◌, decimal, length, nat_le, if◌then◌else◌, ◌==◌}
 use Rattle.roff_lines.specs.declared.glyph.Glyph.TheVariants.{Printed}
 use Rattle.roff_scan.specs.Bytes.{tab, newline, blank, apostrophe, quote, dot, backslash, is_silent, is_dropped}
@@ -41,25 +41,25 @@ use Rattle.roff_run.specs.declared.definition.DefinitionLine.TheVariants.{MayBeL
 use Rattle.roff_run.specs.Definitions.{end_mark, ends_mark, front_of, line_from, matched_behind}
 use Rattle.roff_run.specs.ShortNames.{name_at, name_bytes, name_or_none}
 use Rattle.roff_run.specs.declared.request.Request.{Request}
-use Rattle.roff_run.specs.Reading.{PageInput, Taking, fresh_line, glyph_taking, blank_taking, text_taking, escape_meant, escape_taking, character_printed, character_taking, argument_named, asking, measuring, name_taking, settling, line_begun, first_taking, first_escape, beginning_found, text_found, unit_found, no_unit_found, arguments_ended, arguments_found, message_found, message_unit, reading_behind, skipping_taking, branch_of, branch_taking, is_so, decided, kept_if, condition_found, reads_else, dropped_taking, ends_name, line_taking, called_taking, name_ended_taking, behind_called, behind_name, kept_taking, interrupted, taking, half_ended, end_taking, going_on, calling_all, ended_by, holding, holding_call, name_read, string_begun, string_emptied, string_entered, string_grown, string_line_ended, string_name_behind, string_name_found, string_name_or_text, string_name_unit, string_text_found, string_unit, lines_begun, definition_begun, definition_named, definition_dropped, definition_grown, behind_definition, definition_unit, definition_line, definition_found, call_unit, call_found, condition_begun}
+use Rattle.roff_run.specs.Reading.{PageInput, Taking, fresh_line, glyph_taking, blank_taking, text_taking, escape_meant, escape_taking, character_printed, character_taking, argument_named, asking, measuring, name_taking, settling, line_begun, first_taking, first_escape, beginning_found, text_found, unit_found, no_unit_found, arguments_ended, arguments_found, message_found, message_unit, reading_behind, skipping_taking, branch_of, branch_taking, is_so, decided, kept_if, condition_found, reads_else, dropped_taking, ends_name, line_taking, called_taking, name_ended_taking, behind_called, behind_name, kept_taking, interrupted, taking, half_ended, end_taking, line_ends_first, going_on, calling_all, ended_by, holding, holding_call, name_read, string_begun, string_emptied, string_entered, string_grown, string_line_ended, string_name_behind, string_name_found, string_name_or_text, string_name_unit, string_text_found, string_unit, lines_begun, definition_begun, definition_named, definition_dropped, definition_grown, behind_definition, definition_unit, definition_line, definition_found, call_unit, call_found, condition_begun}
 use Rattle.roff_scan.specs.Arguments.{no_arguments}
-use Rattle.roff_scan.specs.Input.{body_named, calling, calling_on}
+use Rattle.roff_scan.specs.Input.{body_named, calling, calling_body, calling_on}
 use Rattle.roff_store.specs.TextCalls.{Call, DropOpen, PushOpen, Enter}
 use Rattle.roff_store.specs.Texts.{newest}
 use Rattle.roff_run.specs.Registers.{Known, known_behind, step_changes, text_of_register}
 use Rattle.roff_run.specs.Requests.{Effect, PageEvent, called_by, row_of, request_effect}
 use Rattle.roff_run.specs.TurnsToCome.{begun, endings_of, free_ahead}
-use Rattle.roff_run.proofs.HalfCounts.{Falls, Leaves, freed_endings, endings-byte_read, endings-reading_ended}
-use Rattle.roff_run.proofs.MarkEnds.{ends-line_from, ends_mark-begins_nothing}
+use Rattle.roff_run.proofs.HalfCounts.{Falls, Leaves, freed_endings, endings-byte_read, endings-reading_ended, some_ending}
+use Rattle.roff_run.proofs.MarkEnds.{ends-line_from, ends_mark-begins_nothing, ends_mark-chooses_nothing}
 
 -- an input behind another, in which this is read: of the same counts, with as many free bytes ahead, and no more than so
--- many endings to come
+-- many turns to come of what is half read and of what is read
 pub record Keeps (most : ℕ) (i j : PageInput) (reading : Reading) : Type 0 where
   pub charge : j.charge ≡ i.charge
   pub newlines : j.newlines ≡ i.newlines
   pub line : j.line ≡ i.line
   pub free : free_ahead j.ahead ≡ free_ahead i.ahead
-  pub half : endings_of j.half + begun reading ≤ most
+  pub half : 2 * endings_of j.half + begun reading ≤ most
 
 -- the same of what is done with an item
 abbrev KeepsBy : ℕ → PageInput → Taking → Type 0
@@ -249,7 +249,7 @@ Keeps-holding_text most i j reading unit keeps = record {
 }
 
 -- this is half read otherwise
-Keeps-with_half : (less most : ℕ) (i j : PageInput) (old reading : Reading) (half : List Half) → Keeps less i j old → endings_of half + begun reading ≤ most
+Keeps-with_half : (less most : ℕ) (i j : PageInput) (old reading : Reading) (half : List Half) → Keeps less i j old → 2 * endings_of half + begun reading ≤ most
     → Keeps most i (record j { half = half }) reading
 Keeps-with_half less most i j old reading half keeps few =
     record { charge = keeps.charge; newlines = keeps.newlines; line = keeps.line; free = keeps.free; half = few }
@@ -403,49 +403,51 @@ Keeps-ended_by most i j old request effect keeps =
     (unnamed-reading_behind (row_of request).line)
 
 -- a definition begins
-Keeps-definition_begun : (most : ℕ) (i j : PageInput) (breaks : Bool) (request : Request) (name : Option ShortName) (appends : Bool) (end : Option ShortName)
-    → Keeps most i j (InArguments breaks request) → KeepsBy most i (definition_begun j name appends end)
-Keeps-definition_begun most i j breaks request name appends end keeps =
-    Keeps-no_more most i j (InArguments breaks request) (string_begun name j) (Defining name appends end (Some 0)) keeps (Alike-string_begun name j) (omega arith)
+Keeps-definition_begun : (most : ℕ) (i j : PageInput) (old : Reading) (name : Option ShortName) (appends : Bool)
+    (end : Option ShortName) → Keeps most i j old → 3 ≤ begun old → KeepsBy most i (definition_begun j name appends end)
+Keeps-definition_begun most i j old name appends end keeps some =
+    Keeps-no_more most i j old (string_begun name j) (Defining name appends end (Some 0)) keeps (Alike-string_begun name j) some
 
-Keeps-definition_named : (most : ℕ) (i j : PageInput) (breaks : Bool) (request : Request) (appends : Bool) (name : Option (Option ShortName)) (end : Option ShortName)
-    → Keeps most i j (InArguments breaks request) → KeepsBy most i (definition_named j appends name end)
-Keeps-definition_named most i j breaks request appends None end keeps =
-    Keeps-alike most i j (InArguments breaks request) _ LineStart keeps (record { charge = refl; newlines = refl; line = refl; ahead = refl; half = refl }) refl
-Keeps-definition_named most i j breaks request appends (Some None) end keeps =
-    Keeps-alike most i j (InArguments breaks request) _ LineStart keeps (record { charge = refl; newlines = refl; line = refl; ahead = refl; half = refl }) refl
-Keeps-definition_named most i j breaks request appends (Some (Some name)) end keeps =
-    Keeps-definition_begun most i j breaks request (Some name) appends end keeps
+Keeps-definition_named : (most : ℕ) (i j : PageInput) (old : Reading) (appends : Bool) (name : Option (Option ShortName))
+    (end : Option ShortName) → Keeps most i j old → 3 ≤ begun old → KeepsBy most i (definition_named j appends name end)
+Keeps-definition_named most i j old appends None end keeps some =
+    Keeps-alike most i j old _ LineStart keeps (record { charge = refl; newlines = refl; line = refl; ahead = refl; half = refl }) refl
+Keeps-definition_named most i j old appends (Some None) end keeps some =
+    Keeps-alike most i j old _ LineStart keeps (record { charge = refl; newlines = refl; line = refl; ahead = refl; half = refl }) refl
+Keeps-definition_named most i j old appends (Some (Some name)) end keeps some =
+    Keeps-definition_begun most i j old (Some name) appends end keeps some
 
-Keeps-lines_begun : (most : ℕ) (i j : PageInput) (breaks : Bool) (request : Request) (lines : LinesFor) (as_given : List (List ℕ))
-    → Keeps most i j (InArguments breaks request) → KeepsBy most i (lines_begun j lines as_given)
-Keeps-lines_begun most i j breaks request (Macro appends) as_given keeps =
-    Keeps-definition_named most i j breaks request appends (name_at 0 as_given) (name_or_none (name_at 1 as_given)) keeps
-Keeps-lines_begun most i j breaks request Nobody as_given keeps =
-    Keeps-definition_begun most i j breaks request None false (name_or_none (name_at 0 as_given)) keeps
+Keeps-lines_begun : (most : ℕ) (i j : PageInput) (old : Reading) (lines : LinesFor) (as_given : List (List ℕ))
+    → Keeps most i j old → 3 ≤ begun old → KeepsBy most i (lines_begun j lines as_given)
+Keeps-lines_begun most i j old (Macro appends) as_given keeps some =
+    Keeps-definition_named most i j old appends (name_at 0 as_given) (name_or_none (name_at 1 as_given)) keeps some
+Keeps-lines_begun most i j old Nobody as_given keeps some =
+    Keeps-definition_begun most i j old None false (name_or_none (name_at 0 as_given)) keeps some
 
--- the end of a line of arguments
-Keeps-arguments_ended : (most : ℕ) (k : Known) (i j : PageInput) (breaks : Bool) (request : Request) (line : LineReading) → Keeps most i j (InArguments breaks request)
-    → KeepsBy most i (arguments_ended k j breaks request line)
-Keeps-arguments_ended most k i j breaks request (ByLines lines) keeps = Keeps-lines_begun most i j breaks request lines (arguments_given j) keeps
-Keeps-arguments_ended most k i j breaks request ByArguments keeps =
-    Keeps-ended_by most i j (InArguments breaks request) request (request_effect k breaks request (arguments_given j)) keeps
-Keeps-arguments_ended most k i j breaks request (ByCondition keeping) keeps =
-    Keeps-ended_by most i j (InArguments breaks request) request (request_effect k breaks request (arguments_given j)) keeps
-Keeps-arguments_ended most k i j breaks request ByElse keeps =
-    Keeps-ended_by most i j (InArguments breaks request) request (request_effect k breaks request (arguments_given j)) keeps
-Keeps-arguments_ended most k i j breaks request ByLastLine keeps =
-    Keeps-ended_by most i j (InArguments breaks request) request (request_effect k breaks request (arguments_given j)) keeps
-Keeps-arguments_ended most k i j breaks request (ByMessage aborts) keeps =
-    Keeps-ended_by most i j (InArguments breaks request) request (request_effect k breaks request (arguments_given j)) keeps
-Keeps-arguments_ended most k i j breaks request (ByString appends) keeps =
-    Keeps-ended_by most i j (InArguments breaks request) request (request_effect k breaks request (arguments_given j)) keeps
+-- the end of a line of arguments, behind which a definition may begin
+Keeps-arguments_ended : (most : ℕ) (k : Known) (i j : PageInput) (old : Reading) (breaks : Bool) (request : Request)
+    (line : LineReading) → Keeps most i j old → 3 ≤ begun old → KeepsBy most i (arguments_ended k j breaks request line)
+Keeps-arguments_ended most k i j old breaks request (ByLines lines) keeps some =
+    Keeps-lines_begun most i j old lines (arguments_given j) keeps some
+Keeps-arguments_ended most k i j old breaks request ByArguments keeps some =
+    Keeps-ended_by most i j old request (request_effect k breaks request (arguments_given j)) keeps
+Keeps-arguments_ended most k i j old breaks request (ByCondition keeping) keeps some =
+    Keeps-ended_by most i j old request (request_effect k breaks request (arguments_given j)) keeps
+Keeps-arguments_ended most k i j old breaks request ByElse keeps some =
+    Keeps-ended_by most i j old request (request_effect k breaks request (arguments_given j)) keeps
+Keeps-arguments_ended most k i j old breaks request ByLastLine keeps some =
+    Keeps-ended_by most i j old request (request_effect k breaks request (arguments_given j)) keeps
+Keeps-arguments_ended most k i j old breaks request (ByMessage aborts) keeps some =
+    Keeps-ended_by most i j old request (request_effect k breaks request (arguments_given j)) keeps
+Keeps-arguments_ended most k i j old breaks request (ByString appends) keeps some =
+    Keeps-ended_by most i j old request (request_effect k breaks request (arguments_given j)) keeps
 
 -- a unit of a line of arguments
 Keeps-unit_found : (most : ℕ) (k : Known) (i j : PageInput) (breaks : Bool) (request : Request) (unit : CopyUnit) → Keeps most i j (InArguments breaks request)
     → KeepsBy most i (unit_found k j breaks request unit)
 Keeps-unit_found most k i j breaks request (Byte b) keeps =
-    Keeps-if most i (b == newline) _ _ (Keeps-arguments_ended most k i j breaks request (row_of request).line keeps)
+    Keeps-if most i (b == newline) _ _
+    (Keeps-arguments_ended most k i j (InArguments breaks request) breaks request (row_of request).line keeps (omega arith))
     (record { charge = keeps.charge; newlines = keeps.newlines; line = keeps.line; free = keeps.free; half = keeps.half })
 Keeps-unit_found most k i j breaks request (Kept b) keeps =
     record { charge = keeps.charge; newlines = keeps.newlines; line = keeps.line; free = keeps.free; half = keeps.half }
@@ -580,25 +582,30 @@ Keeps-message_found most k i j aborts is_front (Measures width) keeps = Keeps-no
 Keeps-message_found most k i j aborts is_front (Tells remark) keeps = Keeps-no_unit_found most k i j (Telling aborts is_front) (Tells remark) keeps
 Keeps-message_found most k i j aborts is_front (Decides decision freed) keeps = Keeps-no_unit_found most k i j (Telling aborts is_front) (Decides decision freed) keeps
 
+-- a body that a line calls is in front
+Keeps-called : (most : ℕ) (i j : PageInput) (old : Reading) (name : ShortName) → Keeps most i j old
+    → KeepsBy most i (going_on (calling_body (body_named (name_bytes name) j) j) LineStart)
+Keeps-called most i j old name keeps = record {
+  charge = keeps.charge;
+  newlines = keeps.newlines;
+  line = keeps.line;
+  free = free_ahead-called (called_text (body_named (name_bytes name) j)) j.ahead ∙ keeps.free;
+  half = omega (arith, keeps.half);
+}
+
 -- a unit behind the name of a body that a line calls
 Keeps-call_unit : (most : ℕ) (i j : PageInput) (name : ShortName) (unit : CopyUnit) → Keeps most i j (Calling name) → KeepsBy most i (call_unit j name unit)
 Keeps-call_unit most i j name (Byte b) keeps =
-    Keeps-if most i (b == newline) _ _
-    (record {
-      charge = keeps.charge;
-      newlines = keeps.newlines;
-      line = keeps.line;
-      free = free_ahead-called (called_text (body_named (name_bytes name) j)) j.ahead ∙ keeps.free;
-      half = keeps.half;
-    })
-    (Keeps-if most i (b == quote) _ _ (Keeps-alike most i j (Calling name) _ (Calling name) keeps (Alike-holding_call (Byte b) j) refl)
-    (Keeps-alike most i (settling j) (Calling name) _ (Calling name)
+    Keeps-if most i (b == newline) _ _ (Keeps-called most i j (Calling name) name keeps)
+    (Keeps-if most i (b == quote) _ _
+    (Keeps-no_more most i j (Calling name) _ (Calling name) keeps (Alike-holding_call (Byte b) j) (omega arith))
+    (Keeps-no_more most i (settling j) (Calling name) _ (Calling name)
     (record { charge = keeps.charge; newlines = keeps.newlines; line = keeps.line; free = keeps.free; half = keeps.half })
-    (Alike-holding_call (Byte b) (settling j)) refl))
+    (Alike-holding_call (Byte b) (settling j)) (omega arith)))
 Keeps-call_unit most i j name (Kept b) keeps =
-    Keeps-alike most i (settling j) (Calling name) _ (Calling name)
+    Keeps-no_more most i (settling j) (Calling name) _ (Calling name)
     (record { charge = keeps.charge; newlines = keeps.newlines; line = keeps.line; free = keeps.free; half = keeps.half })
-    (Alike-holding_call (Kept b) (settling j)) refl
+    (Alike-holding_call (Kept b) (settling j)) (omega arith)
 
 -- what was found there
 Keeps-call_found : (most : ℕ) (k : Known) (i j : PageInput) (name : ShortName) (found : Read) → Keeps most i j (Calling name)
@@ -614,7 +621,7 @@ Keeps-call_found most k i j name (Tells remark) keeps = Keeps-settled most k i j
 Keeps-call_found most k i j name (Decides decision freed) keeps = Keeps-settled most k i j (Calling name) (Decides decision freed) keeps
 
 -- the first byte of a branch
-Keeps-branch_taking : (less most : ℕ) (k : Known) (i j : PageInput) (old : Reading) (so : Bool) (b : ℕ) → Keeps less i j old → less + 1 ≤ most
+Keeps-branch_taking : (less most : ℕ) (k : Known) (i j : PageInput) (old : Reading) (so : Bool) (b : ℕ) → Keeps less i j old → less + 2 ≤ most
     → KeepsBy most i (branch_taking k j so b)
 Keeps-branch_taking less most k i j old true b keeps one_more =
     let read : Leaves (endings_of j.half + 1) (byte_read AboveText j.half b) = endings-byte_read AboveText j.half b in
@@ -631,20 +638,20 @@ Keeps-kept_if most i j reading false so keeps = keeps
 
 -- a condition decided
 Keeps-decided : (less most : ℕ) (k : Known) (i j : PageInput) (old : Reading) (decision : Decision) (so : Bool) (freed : Option ℕ) → Keeps less i j old
-    → less + freed_endings (Decides decision freed) ≤ most → KeepsBy most i (decided k j so freed)
+    → less + 2 * freed_endings (Decides decision freed) ≤ most → KeepsBy most i (decided k j so freed)
 Keeps-decided less most k i j old decision so None keeps few =
     Keeps-with_half less most i j old (branch_of so) j.half keeps (omega (arith, keeps.half, few, unnamed-branch_of so))
 Keeps-decided less most k i j old decision so (Some b) keeps few = Keeps-branch_taking less most k i j old so b keeps few
 
 -- or didn't yet
-Keeps-undecided : (less most : ℕ) (k : Known) (i j : PageInput) (reading : Reading) (found : Read) → Keeps less i j reading → less + freed_endings found ≤ most
+Keeps-undecided : (less most : ℕ) (k : Known) (i j : PageInput) (reading : Reading) (found : Read) → Keeps less i j reading → less + 2 * freed_endings found ≤ most
     → KeepsBy most i (no_unit_found k j reading found)
 Keeps-undecided less most k i j reading found keeps few =
     Keeps-no_unit_found most k i j reading found (Keeps-with_half less most i j reading reading j.half keeps (omega (arith, keeps.half, few)))
 
 -- what was found of a condition, by whether its result is kept
 Keeps-condition_found : (less most : ℕ) (k : Known) (i j : PageInput) (keeping : Bool) (found : Read) → Keeps less i j (Deciding keeping)
-    → less + freed_endings found ≤ most → KeepsBy most i (condition_found k j keeping found)
+    → less + 2 * freed_endings found ≤ most → KeepsBy most i (condition_found k j keeping found)
 Keeps-condition_found less most k i j keeping (Decides decision freed) keeps few =
     Keeps-decided less most k i _ (Deciding keeping) decision (is_so k decision) freed
     (Keeps-kept_if less i j (Deciding keeping) keeping (is_so k decision) keeps) few
@@ -659,7 +666,7 @@ Keeps-condition_found less most k i j keeping (Motion columns remark) keeps few 
 
 -- two endings more are to come at the most
 abbrev pub KeepsTwoMore : PageInput → Reading → PageInput → Reading → Type 0
-KeepsTwoMore i old j reading = Keeps (endings_of i.half + begun old + 2) i j reading
+KeepsTwoMore i old j reading = Keeps (2 * endings_of i.half + begun old + 4) i j reading
 
 -- the same of what is done with an item
 abbrev TwoMore : PageInput → Reading → Taking → Type 0
@@ -681,10 +688,12 @@ Keeps-same_reading base i reading b =
     Keeps-with_half _ _ i i reading reading (byte_read base i.half b).1 (KeepsTwoMore-same i reading) (omega (arith, read))
 
 -- a byte that begins so many endings more at the most, behind a name or the line that ends a definition
-module _ (some most : ℕ) (k : Known) (i j : PageInput) (b : ℕ) (keeps : Keeps (endings_of j.half) i j LineStart)
-    (reads : (base : Surroundings) → Leaves (endings_of j.half + some) (byte_read base j.half b)) (few : endings_of j.half + some + 3 ≤ most) where
+module _ (some most : ℕ) (k : Known) (i j : PageInput) (b : ℕ) (keeps : Keeps (2 * endings_of j.half) i j LineStart)
+    (reads : (base : Surroundings) → Leaves (endings_of j.half + some) (byte_read base j.half b))
+    (chooses : Leaves (2 + some) (byte_read AboveArguments (choosing j).half b))
+    (few : 2 * (endings_of j.half + some) + 4 ≤ most) where
   -- what it reads, where this is read
-  Keeps-begins : (base : Surroundings) (reading : Reading) → begun reading ≤ 3 → Keeps most i (record j { half = (byte_read base j.half b).1 }) reading
+  Keeps-begins : (base : Surroundings) (reading : Reading) → begun reading ≤ 4 → Keeps most i (record j { half = (byte_read base j.half b).1 }) reading
   Keeps-begins base reading less =
       let read : Leaves (endings_of j.half + some) (byte_read base j.half b) = reads base in
       Keeps-with_half _ most i j LineStart reading (byte_read base j.half b).1 keeps (omega (arith, read, few, less))
@@ -693,12 +702,11 @@ module _ (some most : ℕ) (k : Known) (i j : PageInput) (b : ℕ) (keeps : Keep
   Keeps-condition_begun : (keeping : Bool) → KeepsBy most i (condition_begun k j keeping b)
   Keeps-condition_begun keeping =
       let half : List Half = (choosing j).half in
-      let read : Leaves (endings_of half + 1) (byte_read AboveArguments half b) = endings-byte_read AboveArguments half b in
       Keeps-if most i (b == newline) _ _
-      (Keeps-condition_found (endings_of j.half) most k i j keeping (Decides (Is false) (Some b))
+      (Keeps-condition_found (2 * endings_of j.half) most k i j keeping (Decides (Is false) (Some b))
       (record { charge = keeps.charge; newlines = keeps.newlines; line = keeps.line; free = keeps.free; half = omega arith }) (omega (arith, few)))
-      (Keeps-condition_found (endings_of (byte_read AboveArguments half b).1) most k i (record j { half = (byte_read AboveArguments half b).1 }) keeping (byte_read AboveArguments half b).0
-      (Keeps-with_half _ _ i j LineStart (Deciding keeping) (byte_read AboveArguments half b).1 keeps (omega arith)) (omega (arith, read, few)))
+      (Keeps-condition_found (2 * endings_of (byte_read AboveArguments half b).1) most k i (record j { half = (byte_read AboveArguments half b).1 }) keeping (byte_read AboveArguments half b).0
+      (Keeps-with_half _ _ i j LineStart (Deciding keeping) (byte_read AboveArguments half b).1 keeps (omega arith)) (omega (arith, chooses, few)))
 
   -- the first byte behind a request's name
   Keeps-line_taking : (breaks : Bool) (request : Request) (line : LineReading) → KeepsBy most i (line_taking k j breaks request line b)
@@ -714,7 +722,7 @@ module _ (some most : ℕ) (k : Known) (i j : PageInput) (b : ℕ) (keeps : Keep
   Keeps-line_taking breaks request (ByLines lines) =
       Keeps-arguments_found most k i _ breaks request (byte_read AboveArguments j.half b).0 (Keeps-begins AboveArguments (InArguments breaks request) (omega arith))
   Keeps-line_taking breaks request ByElse =
-      Keeps-branch_taking (endings_of j.half) most k i (without_last j) LineStart (reads_else (kept_last j)) b
+      Keeps-branch_taking (2 * endings_of j.half) most k i (without_last j) LineStart (reads_else (kept_last j)) b
       (record { charge = keeps.charge; newlines = keeps.newlines; line = keeps.line; free = keeps.free; half = omega arith }) (omega (arith, few))
 
   -- a byte behind a name that it doesn't belong to
@@ -729,46 +737,46 @@ module _ (some most : ℕ) (k : Known) (i j : PageInput) (b : ℕ) (keeps : Keep
   Keeps-name_ended_taking breaks name = Keeps-called_taking breaks (called_by name j.names)
 
 -- the line that ends a definition
-Keeps-behind_definition : (most : ℕ) (k : Known) (i j : PageInput) (end : Option ShortName) (b : ℕ) → ends_mark b ≡ true → Keeps most i j LineStart → 3 ≤ most
+Keeps-behind_definition : (most : ℕ) (k : Known) (i j : PageInput) (end : Option ShortName) (b : ℕ) → ends_mark b ≡ true → Keeps most i j LineStart → 4 ≤ most
     → KeepsBy most i (behind_definition k j end b)
 Keeps-behind_definition most k i j None b ends keeps few = Keeps-stays most i j LineStart _ keeps (Stays-dropped_taking j b)
 Keeps-behind_definition most k i j (Some name) b ends keeps few =
     Keeps-name_ended_taking 0 most k i (beginning_line j) b
     (record { charge = keeps.charge; newlines = keeps.newlines; line = keeps.line; free = keeps.free; half = omega arith })
-    (λ base. ends_mark-begins_nothing base b ends) few true name
+    (λ base. ends_mark-begins_nothing base b ends) (ends_mark-chooses_nothing b ends) few true name
 
 -- a unit of a definition's text, where its line is this
 Keeps-definition_unit : (most : ℕ) (k : Known) (i j : PageInput) (name : Option ShortName) (appends : Bool) (end : Option ShortName) (matched : Option ℕ) (front : List ℕ) (unit : CopyUnit)
-    (line : DefinitionLine) → ((b : ℕ) → line ≡ IsLast b → ends_mark b ≡ true) → Keeps most i j (Defining name appends end matched)
+    (line : DefinitionLine) → ((b : ℕ) → line ≡ IsLast b → ends_mark b ≡ true) → Keeps most i j (Defining name appends end matched) → 4 ≤ most
     → KeepsBy most i (definition_unit k j name appends end front unit line)
-Keeps-definition_unit most k i j name appends end matched front unit (MayBeLast more) ends keeps =
+Keeps-definition_unit most k i j name appends end matched front unit (MayBeLast more) ends keeps few =
     Keeps-no_more most i j (Defining name appends end matched) j (Defining name appends end (Some more)) keeps (Alike-same j) (omega arith)
-Keeps-definition_unit most k i j name appends end matched front unit (IsLast b) ends keeps =
+Keeps-definition_unit most k i j name appends end matched front unit (IsLast b) ends keeps few =
     Keeps-behind_definition most k i (string_entered name appends j) end b (ends b refl)
     (Keeps-alike most i j (Defining name appends end matched) (string_entered name appends j) LineStart keeps (Alike-string_entered name appends j) refl)
-    (omega (arith, keeps.half))
-Keeps-definition_unit most k i j name appends end matched front unit IsText ends keeps =
+    few
+Keeps-definition_unit most k i j name appends end matched front unit IsText ends keeps few =
     Keeps-no_more most i j (Defining name appends end matched) (definition_grown name (front ++ unit_bytes unit) j) (Defining name appends end (matched_behind unit)) keeps
     (Alike-definition_grown name (front ++ unit_bytes unit) j) (omega arith)
 
 Keeps-definition_line : (most : ℕ) (k : Known) (i j : PageInput) (name : Option ShortName) (appends : Bool) (end : Option ShortName) (matched : Option ℕ) (unit : CopyUnit)
-    → Keeps most i j (Defining name appends end matched) → KeepsBy most i (definition_line k j name appends end matched unit)
-Keeps-definition_line most k i j name appends end matched unit keeps =
+    → Keeps most i j (Defining name appends end matched) → 4 ≤ most → KeepsBy most i (definition_line k j name appends end matched unit)
+Keeps-definition_line most k i j name appends end matched unit keeps few =
     Keeps-definition_unit most k i j name appends end matched (front_of (end_mark end) matched) unit (line_from (end_mark end) matched unit)
-    (λ b last. ends-line_from (end_mark end) matched unit b last) keeps
+    (λ b last. ends-line_from (end_mark end) matched unit b last) keeps few
 
 -- what was found of a definition's text
 Keeps-definition_found : (most : ℕ) (k : Known) (i j : PageInput) (name : Option ShortName) (appends : Bool) (end : Option ShortName) (matched : Option ℕ) (found : Read)
-    → Keeps most i j (Defining name appends end matched) → KeepsBy most i (definition_found k j name appends end matched found)
-Keeps-definition_found most k i j name appends end matched (GivesUnit unit) keeps = Keeps-definition_line most k i j name appends end matched unit keeps
-Keeps-definition_found most k i j name appends end matched (Escape b) keeps = Keeps-definition_line most k i j name appends end matched (Kept b) keeps
-Keeps-definition_found most k i j name appends end matched GoesOn keeps = Keeps-no_unit_found most k i j (Defining name appends end matched) GoesOn keeps
-Keeps-definition_found most k i j name appends end matched (Asks purpose text) keeps = Keeps-no_unit_found most k i j (Defining name appends end matched) (Asks purpose text) keeps
-Keeps-definition_found most k i j name appends end matched (Holds unit) keeps = Keeps-no_unit_found most k i j (Defining name appends end matched) (Holds unit) keeps
-Keeps-definition_found most k i j name appends end matched (Motion columns remark) keeps = Keeps-no_unit_found most k i j (Defining name appends end matched) (Motion columns remark) keeps
-Keeps-definition_found most k i j name appends end matched (Measures width) keeps = Keeps-no_unit_found most k i j (Defining name appends end matched) (Measures width) keeps
-Keeps-definition_found most k i j name appends end matched (Tells remark) keeps = Keeps-no_unit_found most k i j (Defining name appends end matched) (Tells remark) keeps
-Keeps-definition_found most k i j name appends end matched (Decides decision freed) keeps = Keeps-no_unit_found most k i j (Defining name appends end matched) (Decides decision freed) keeps
+    → Keeps most i j (Defining name appends end matched) → 4 ≤ most → KeepsBy most i (definition_found k j name appends end matched found)
+Keeps-definition_found most k i j name appends end matched (GivesUnit unit) keeps few = Keeps-definition_line most k i j name appends end matched unit keeps few
+Keeps-definition_found most k i j name appends end matched (Escape b) keeps few = Keeps-definition_line most k i j name appends end matched (Kept b) keeps few
+Keeps-definition_found most k i j name appends end matched GoesOn keeps few = Keeps-no_unit_found most k i j (Defining name appends end matched) GoesOn keeps
+Keeps-definition_found most k i j name appends end matched (Asks purpose text) keeps few = Keeps-no_unit_found most k i j (Defining name appends end matched) (Asks purpose text) keeps
+Keeps-definition_found most k i j name appends end matched (Holds unit) keeps few = Keeps-no_unit_found most k i j (Defining name appends end matched) (Holds unit) keeps
+Keeps-definition_found most k i j name appends end matched (Motion columns remark) keeps few = Keeps-no_unit_found most k i j (Defining name appends end matched) (Motion columns remark) keeps
+Keeps-definition_found most k i j name appends end matched (Measures width) keeps few = Keeps-no_unit_found most k i j (Defining name appends end matched) (Measures width) keeps
+Keeps-definition_found most k i j name appends end matched (Tells remark) keeps few = Keeps-no_unit_found most k i j (Defining name appends end matched) (Tells remark) keeps
+Keeps-definition_found most k i j name appends end matched (Decides decision freed) keeps few = Keeps-no_unit_found most k i j (Defining name appends end matched) (Decides decision freed) keeps
 
 -- what is read behind a request's name
 Keeps-behind_name : (i : PageInput) (breaks : Bool) (first : ℕ) (request : Request) (line : LineReading) → TwoMore i (Name breaks first) (behind_name i breaks request line)
@@ -801,13 +809,14 @@ Keeps-kept_taking k (Control breaks) i b =
 Keeps-kept_taking k (Name breaks first) i b =
     Keeps-if _ i (ends_name b) _ _
     (Keeps-name_ended_taking 1 _ k i i b (record { charge = refl; newlines = refl; line = refl; free = refl; half = omega arith })
-    (λ base. endings-byte_read base i.half b) (omega arith) breaks (record { first = first; second = None }))
+    (λ base. endings-byte_read base i.half b) (endings-byte_read AboveArguments (choosing i).half b) (omega arith) breaks
+    (record { first = first; second = None }))
     (Keeps-behind_called i breaks first (called_by (record { first = first; second = Some b }) i.names))
 Keeps-kept_taking k (InArguments breaks request) i b =
     Keeps-arguments_found _ k i _ breaks request (byte_read AboveArguments i.half b).0 (Keeps-same_reading AboveArguments i (InArguments breaks request) b)
 Keeps-kept_taking k (Deciding keeping) i b =
     let read : Leaves (endings_of i.half + 1) (byte_read AboveArguments i.half b) = endings-byte_read AboveArguments i.half b in
-    Keeps-condition_found (endings_of (byte_read AboveArguments i.half b).1) _ k i (record i { half = (byte_read AboveArguments i.half b).1 }) keeping (byte_read AboveArguments i.half b).0
+    Keeps-condition_found (2 * endings_of (byte_read AboveArguments i.half b).1) _ k i (record i { half = (byte_read AboveArguments i.half b).1 }) keeping (byte_read AboveArguments i.half b).0
     (Keeps-with_half _ _ i i (Deciding keeping) (Deciding keeping) (byte_read AboveArguments i.half b).1 (KeepsTwoMore-same i (Deciding keeping)) (omega arith)) (omega (arith, read))
 Keeps-kept_taking k (StringName appends) i b =
     Keeps-string_name_found _ k i _ appends (byte_read AboveArguments i.half b).0 (Keeps-same_reading AboveArguments i (StringName appends) b)
@@ -818,6 +827,7 @@ Keeps-kept_taking k (Calling name) i b =
     Keeps-call_found _ k i _ name (byte_read AboveArguments i.half b).0 (Keeps-same_reading AboveArguments i (Calling name) b)
 Keeps-kept_taking k (Defining name appends end matched) i b =
     Keeps-definition_found _ k i _ name appends end matched (byte_read AboveCopy i.half b).0 (Keeps-same_reading AboveCopy i (Defining name appends end matched) b)
+    (omega arith)
 Keeps-kept_taking k (Skipping opened closed behind) i b = TwoMore-stays i (Skipping opened closed behind) _ (Stays-skipping_taking i opened closed behind b)
 Keeps-kept_taking k Dropped i b = TwoMore-stays i Dropped _ (Stays-dropped_taking i b)
 Keeps-kept_taking k (Telling aborts is_front) i b =
@@ -849,9 +859,9 @@ Keeps-interrupted Exiting i = KeepsTwoMore-same i Exiting
 pub Keeps-taking : (k : Known) (reading : Reading) (i : PageInput) (b : ℕ) → TwoMore i reading (taking k reading i b)
 Keeps-taking k reading i b = Keeps-if _ i (is_dropped b) _ _ (Keeps-interrupted reading i) (Keeps-kept_taking k reading i b)
 
--- one ending fewer is to come
+-- one turn fewer is to come
 abbrev pub KeepsOneFewer : PageInput → Reading → PageInput → Reading → Type 0
-KeepsOneFewer i old j reading = Keeps (endings_of i.half + begun old - 1) i j reading
+KeepsOneFewer i old j reading = Keeps (2 * endings_of i.half + begun old - 1) i j reading
 
 -- the same of what is done where something ends
 abbrev OneFewer : PageInput → Reading → Taking → Type 0
@@ -883,7 +893,7 @@ Keeps-half_ended k (InArguments breaks request) i first others is =
     Keeps-arguments_found _ k i _ breaks request (reading_ended AboveArguments i.half).0 (Keeps-ended AboveArguments i (InArguments breaks request) first others is)
 Keeps-half_ended k (Deciding keeping) i first others is =
     let fewer : Falls (endings_of i.half) (reading_ended AboveArguments i.half) = falls_ended AboveArguments i.half first others is in
-    Keeps-condition_found (endings_of (reading_ended AboveArguments i.half).1) _ k i (record i { half = (reading_ended AboveArguments i.half).1 }) keeping (reading_ended AboveArguments i.half).0
+    Keeps-condition_found (2 * endings_of (reading_ended AboveArguments i.half).1) _ k i (record i { half = (reading_ended AboveArguments i.half).1 }) keeping (reading_ended AboveArguments i.half).0
     (Keeps-with_half _ _ i i (Deciding keeping) (Deciding keeping) (reading_ended AboveArguments i.half).1 (KeepsTwoMore-same i (Deciding keeping)) (omega arith)) (omega (arith, fewer))
 Keeps-half_ended k (StringName appends) i first others is =
     Keeps-string_name_found _ k i _ appends (reading_ended AboveArguments i.half).0 (Keeps-ended AboveArguments i (StringName appends) first others is)
@@ -893,6 +903,7 @@ Keeps-half_ended k (Calling name) i first others is =
     Keeps-call_found _ k i _ name (reading_ended AboveArguments i.half).0 (Keeps-ended AboveArguments i (Calling name) first others is)
 Keeps-half_ended k (Defining name appends end matched) i first others is =
     Keeps-definition_found _ k i _ name appends end matched (reading_ended AboveCopy i.half).0 (Keeps-ended AboveCopy i (Defining name appends end matched) first others is)
+    (let some : 1 ≤ endings_of i.half = rw is (omega (arith, some_ending first others)) in omega (arith, some))
 Keeps-half_ended k (Skipping opened closed behind) i first others is = Keeps-ended AboveText i (Skipping opened closed behind) first others is
 Keeps-half_ended k Dropped i first others is = Keeps-ended AboveText i Dropped first others is
 Keeps-half_ended k (Telling aborts is_front) i first others is =
@@ -921,3 +932,71 @@ Keeps-end_taking k Dropped i = Keeps-kept_taking k Dropped i newline
 Keeps-end_taking k (Telling aborts is_front) i = Keeps-kept_taking k (Telling aborts is_front) i newline
 Keeps-end_taking k (Told aborts) i = Keeps-kept_taking k (Told aborts) i newline
 Keeps-end_taking k Exiting i = Keeps-kept_taking k Exiting i newline
+
+-- an input where nothing is half read
+abbrev plain : PageInput → PageInput
+plain i = record i { half = [] }
+
+Keeps-plain : (i : PageInput) (most : ℕ) (reading : Reading) → begun reading ≤ most → Keeps most (plain i) (plain i) reading
+Keeps-plain i most reading few = record { charge = refl; newlines = refl; line = refl; free = refl; half = omega (arith, few) }
+
+-- what a newline gives there where a line is read: a definition may begin
+module _ (k : Known) (i : PageInput) (breaks : Bool) where
+  -- the end of a line of arguments
+  Keeps-last_arguments : (request : Request)
+      → KeepsBy 3 (plain i) (arguments_ended k (plain i) breaks request (row_of request).line)
+  Keeps-last_arguments request =
+      let old : Reading = Defining None false None None in
+      Keeps-arguments_ended 3 k (plain i) (plain i) old breaks request (row_of request).line
+      (Keeps-plain i 3 old (omega arith)) (omega arith)
+
+  -- and of a request without any
+  Keeps-last_line : (request : Request) (line : LineReading)
+      → KeepsBy 3 (plain i) (line_taking k (plain i) breaks request line newline)
+  Keeps-last_line request ByArguments = Keeps-last_arguments request
+  Keeps-last_line request (ByCondition keeping) =
+      Keeps-condition_found 0 3 k (plain i) (plain i) keeping (Decides (Is false) (Some newline))
+      (Keeps-plain i 0 (Deciding keeping) (omega arith)) (omega arith)
+  Keeps-last_line request (ByString appends) =
+      Keeps-string_line_ended 3 (plain i) (plain i) LineStart appends (name_at 0 (arguments_given (plain i)))
+      (Keeps-plain i 3 LineStart (omega arith))
+  Keeps-last_line request ByLastLine = Keeps-last_arguments request
+  Keeps-last_line request (ByMessage aborts) = Keeps-plain i 3 (Told aborts) (omega arith)
+  Keeps-last_line request (ByLines lines) = Keeps-last_arguments request
+  Keeps-last_line request ByElse =
+      Keeps-branch_taking 0 3 k (plain i) (without_last (plain i)) LineStart (reads_else (kept_last (plain i))) newline
+      (record { charge = refl; newlines = refl; line = refl; free = refl; half = omega arith }) (omega arith)
+
+  -- what a line does that ends behind a name
+  Keeps-last_name : (called : Called) → KeepsBy 3 (plain i) (called_taking k (plain i) breaks called newline)
+  Keeps-last_name (ARequest request) = Keeps-last_line request (row_of request).line
+  Keeps-last_name (ABody name) = Keeps-called 3 (plain i) (plain i) LineStart name (Keeps-plain i 3 LineStart (omega arith))
+  Keeps-last_name Unknown = Keeps-plain i 3 LineStart (omega arith)
+
+-- a control line that ends first
+ends_plain : (k : Known) (reading : Reading) (i : PageInput) → line_ends_first reading ≡ true
+    → OneFewer (plain i) reading (end_taking k reading (plain i))
+ends_plain k (Name breaks first) i is = Keeps-last_name k i breaks (called_by (record { first = first; second = None }) i.names)
+ends_plain k (InArguments breaks request) i is = Keeps-last_arguments k i breaks request
+ends_plain k (Calling name) i is = Keeps-called 0 (plain i) (plain i) LineStart name (Keeps-plain i 0 LineStart (omega arith))
+ends_plain k (Telling aborts is_front) i is = Keeps-plain i 1 (Told aborts) (omega arith)
+ends_plain k LineStart i is = absurd (cc)
+ends_plain k Branch i is = absurd (cc)
+ends_plain k Braced i is = absurd (cc)
+ends_plain k (InText line) i is = absurd (cc)
+ends_plain k (Control breaks) i is = absurd (cc)
+ends_plain k (Deciding keeping) i is = absurd (cc)
+ends_plain k (StringName appends) i is = absurd (cc)
+ends_plain k (StringText name appends is_front) i is = absurd (cc)
+ends_plain k (Skipping opened closed behind) i is = absurd (cc)
+ends_plain k (Defining name appends end matched) i is = absurd (cc)
+ends_plain k Dropped i is = absurd (cc)
+ends_plain k (Told aborts) i is = absurd (cc)
+ends_plain k Exiting i is = absurd (cc)
+
+pub Keeps-line_ends : (k : Known) (reading : Reading) (i : PageInput) → line_ends_first reading ≡ true → i.half ≡ []
+    → OneFewer i reading (end_taking k reading i)
+Keeps-line_ends k reading i is none =
+    let with_half : List Half → PageInput = λ half. record i { half = half } in
+    subst (λ (half : List Half). OneFewer (with_half half) reading (end_taking k reading (with_half half))) (sym none)
+    (ends_plain k reading i is)

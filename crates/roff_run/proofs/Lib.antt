@@ -42,5 +42,9 @@ pub mod HalfCounts
 pub mod Skipping
 pub mod SkippingRuns
 pub mod PassingRuns
+pub mod PassingBodies
 pub mod CalledBodies
 pub mod BegunDefinitions
+pub mod PlainRuns
+pub mod CallLaws
+pub mod DefinitionLaws

@@ -3,14 +3,16 @@ use Rattle.std.proofs.Common.{◌≡◌, ℕ, ◌+◌, Bool, true, false, List, 
 use Rattle.std.specs.Prelude.{drop, if◌then◌else◌}
 use Rattle.std.proofs.lemmas.Bool.{cases_Bool, eqb-true}
 use Rattle.roff_scan.specs.Bytes.{backslash}
-use Rattle.roff_scan.specs.Half.{unit_bytes}
+use Rattle.roff_scan.specs.Half.{Condition, unit_bytes}
 use Rattle.roff_scan.specs.Halves.{byte_read}
+use Rattle.roff_scan.specs.declared.half.ConditionPart.TheVariants.{Choice}
 use Rattle.roff_scan.specs.declared.half.CopyUnit.{CopyUnit}
 use Rattle.roff_scan.specs.declared.half.Surroundings.{Surroundings}
+use Rattle.roff_scan.specs.declared.half.Surroundings.TheVariants.{Arguments as AboveArguments}
 use Rattle.roff_run.specs.Definitions.{ends_mark, line_from, line_with}
 use Rattle.roff_run.specs.declared.definition.DefinitionLine.{DefinitionLine}
 use Rattle.roff_run.specs.declared.definition.DefinitionLine.TheVariants.{IsLast, IsText}
-use Rattle.roff_run.proofs.HalfCounts.{Leaves}
+use Rattle.roff_run.proofs.HalfCounts.{Leaves, Leaves-choice_made}
 
 -- behind the whole mark a byte that ends the definition is one that may stand there
 IsLast-byte : (b c : ℕ) (ends : Bool) → ends ≡ ends_mark c → (if ends then IsLast c else IsText) ≡ IsLast b → ends_mark b ≡ true
@@ -41,3 +43,8 @@ no_backslash b ends = elim (cases_Bool (b == backslash)) [
 
 pub ends_mark-begins_nothing : (base : Surroundings) (b : ℕ) → ends_mark b ≡ true → Leaves 0 (byte_read base [] b)
 ends_mark-begins_nothing base b ends = rw (no_backslash b ends) (omega arith)
+
+-- nor does it begin anything where it is the first byte of a condition
+pub ends_mark-chooses_nothing : (b : ℕ) → ends_mark b ≡ true
+    → Leaves 2 (byte_read AboveArguments (Condition (Choice false) [] ∷ []) b)
+ends_mark-chooses_nothing b ends = rw (no_backslash b ends) (Leaves-choice_made [] false [] b)

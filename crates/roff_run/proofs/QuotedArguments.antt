@@ -127,7 +127,7 @@ itself-quoted argument themselves =
     (All-append StandsForItself (flat_map quoted_byte argument) (quote ∷ []) (itself-quoted_bytes argument themselves) itself-quote)
 
 -- and all of them
-itself-quoted_line : (arguments : List (List ℕ)) → All (All StandsForItself) arguments → All StandsForItself (quoted_line arguments)
+pub itself-quoted_line : (arguments : List (List ℕ)) → All (All StandsForItself) arguments → All StandsForItself (quoted_line arguments)
 itself-quoted_line [] themselves = All-nil StandsForItself
 itself-quoted_line (argument ∷ []) themselves = itself-quoted argument (All-head (All StandsForItself) argument [] themselves)
 itself-quoted_line (argument ∷ next ∷ arguments) themselves =

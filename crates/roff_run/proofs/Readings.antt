@@ -1,7 +1,7 @@
 -- The step with nothing to do has few outcomes, where a run isn't closing. What is proved of each holds of it.
 --
 -- Each function f of the run has its lemma ReadsOn-f here, with a line for each of its cases.
-use Rattle.std.proofs.Common.{◌≡◌, ℕ, ◌+◌, ◌≤◌, Bool, true, false, List, [], ◌∷◌, ◌++◌, ◌-◌, Option, Some, None, refl, arith}
+use Rattle.std.proofs.Common.{◌≡◌, ℕ, ◌+◌, ◌*◌, ◌≤◌, Bool, true, false, List, [], ◌∷◌, ◌++◌, ◌-◌, Option, Some, None, refl, arith}
 use Rattle.std.specs.Prelude.{nat_lt, if◌then◌else◌}
 use Rattle.std.proofs.lemmas.Bool.Decides.{nat_tests}
 use Rattle.roff_num.specs.declared.limit.Limit.{Limit}
@@ -13,7 +13,7 @@ use Rattle.roff_scan.specs.Tape.{Answer, OneByte, OneNote, Ended, Failed, Stoppe
 use Rattle.roff_scan.specs.Unread.{Sighted, SeesByte, SeesNothing, SeesNote, SeesEnding, seen_ahead}
 use Rattle.roff_scan.specs.Half.{Half}
 use Rattle.roff_run.specs.Requests.{PageEvent}
-use Rattle.roff_run.specs.Reading.{behind_return, due, message_begun}
+use Rattle.roff_run.specs.Reading.{behind_return, due, line_ends_first}
 use Rattle.roff_run.specs.declared.reading.Due.{Due}
 use Rattle.roff_run.specs.declared.reading.Due.TheVariants.{Leaves, Tells as TellsText}
 use Rattle.roff_run.specs.declared.reading.Reading.{Reading}
@@ -22,7 +22,7 @@ use Rattle.roff_run.specs.Run.{waiting, State, known, ending_as, ending_with, st
 use Rattle.roff_run.specs.declared.message.Message.TheVariants.{ReadFailed}
 use Rattle.roff_run.specs.declared.status.Status.TheVariants.{Device, Limit as Limited}
 use Rattle.roff_run.specs.TurnsToCome.{begun, endings_of}
-use Rattle.roff_run.proofs.Keeping.{Keeps, KeepsTwoMore-same, Keeps-taking, Keeps-interrupted, Keeps-half_ended}
+use Rattle.roff_run.proofs.Keeping.{Keeps, KeepsTwoMore-same, Keeps-taking, Keeps-interrupted, Keeps-half_ended, Keeps-line_ends}
 
 -- no count passes its limit in a state
 abbrev pub IsMade : Limits → State → Type 0
@@ -40,9 +40,9 @@ behind_byte b s = byte_taken b (moved (record s { input = counting b s.input }))
 abbrev pub behind_note : List ℕ → State → State
 behind_note message s = moved (record s { messages = s.messages ++ message })
 
--- behind the end of a message's line with the input
-abbrev pub message_ends : Bool → State → State
-message_ends aborts s = input_ended (Some aborts) s
+-- behind the end of a control line with the input
+abbrev pub line_ends : State → State
+line_ends s = input_ended true s
 
 -- what a step came to
 pub data ReadsOn (l : Limits) (s : State) : State → Type 0 where
@@ -60,8 +60,8 @@ pub data ReadsOn (l : Limits) (s : State) : State → Type 0 where
   HalfEnds : (first : Half) (others : List Half) → s.input.half ≡ first ∷ others → IsMade l (half_ends s) → ReadsOn l s (half_ends s)
   -- the input ended, with nothing half read
   InputEnds : s.input.ahead ≡ [] → s.input.half ≡ [] → front s.tape ≡ Ends Ended → IsMade l (end_met s) → ReadsOn l s (end_met s)
-  -- it ended in the line of a message
-  MessageEnds : (aborts : Bool) → message_begun s.reading ≡ Some aborts → IsMade l (message_ends aborts s) → ReadsOn l s (message_ends aborts s)
+  -- it ended in a control line that ends first
+  LineEnds : line_ends_first s.reading ≡ true → s.input.half ≡ [] → IsMade l (line_ends s) → ReadsOn l s (line_ends s)
   -- a message was told
   MessageTold : s.reading ≡ Told false → IsMade l (message_told s) → ReadsOn l s (message_told s)
   -- a message ended the run
@@ -105,15 +105,15 @@ ReadsOn-taking_byte l b s none gives =
     (λ goes. ReadsOn-made l s (behind_byte b s) (ByteTaken b none gives (within l.bytes (s.input.charge + 1) goes)))
 
 -- the end of the input, with nothing half read
-ReadsOn-input_ended : (l : Limits) (message : Option Bool) (s : State) → s.input.ahead ≡ [] → s.input.half ≡ [] → front s.tape ≡ Ends Ended → message_begun s.reading ≡ message
-    → ReadsOn l s (made l s (input_ended message s))
-ReadsOn-input_ended l None s none half ends is = ReadsOn-made l s (end_met s) (InputEnds none half ends)
-ReadsOn-input_ended l (Some aborts) s none half ends is = ReadsOn-made l s (message_ends aborts s) (MessageEnds aborts is)
+ReadsOn-input_ended : (l : Limits) (first : Bool) (s : State) → s.input.ahead ≡ [] → s.input.half ≡ [] → front s.tape ≡ Ends Ended
+    → line_ends_first s.reading ≡ first → ReadsOn l s (made l s (input_ended first s))
+ReadsOn-input_ended l false s none half ends is = ReadsOn-made l s (end_met s) (InputEnds none half ends)
+ReadsOn-input_ended l true s none half ends is = ReadsOn-made l s (line_ends s) (LineEnds is half)
 
 -- the end of the input
 ReadsOn-ending_input : (l : Limits) (half : List Half) (s : State) → s.input.ahead ≡ [] → s.input.half ≡ half → front s.tape ≡ Ends Ended
     → ReadsOn l s (ending_input l half s)
-ReadsOn-ending_input l [] s none is ends = ReadsOn-input_ended l (message_begun s.reading) s none is ends refl
+ReadsOn-ending_input l [] s none is ends = ReadsOn-input_ended l (line_ends_first s.reading) s none is ends refl
 ReadsOn-ending_input l (first ∷ others) s none is ends = ReadsOn-made l s (half_ends s) (HalfEnds first others is)
 
 -- the source answered
@@ -232,7 +232,7 @@ pub record Behind (most : ℕ) (s t : State) : Type 0 where
   pub last_message : t.last_message ≡ s.last_message
 
 -- a byte
-pub Behind-byte_taken : (b : ℕ) (s : State) → Behind (endings_of s.input.half + begun s.reading + 2) s (byte_taken b s)
+pub Behind-byte_taken : (b : ℕ) (s : State) → Behind (2 * endings_of s.input.half + begun s.reading + 4) s (byte_taken b s)
 Behind-byte_taken b s = record {
   input = Keeps-taking (known s) s.reading s.input b;
   tape = refl;
@@ -263,7 +263,7 @@ begun-behind_return (Told aborts) = refl
 begun-behind_return Exiting = refl
 
 -- an item ahead of the source
-pub Behind-ahead_taken : (item : Ahead PageEvent) (s : State) → Behind (endings_of s.input.half + begun s.reading + 2) s (ahead_taken item s)
+pub Behind-ahead_taken : (item : Ahead PageEvent) (s : State) → Behind (2 * endings_of s.input.half + begun s.reading + 4) s (ahead_taken item s)
 Behind-ahead_taken (ByteAhead b) s = Behind-byte_taken b s
 Behind-ahead_taken (FreeAhead b) s = Behind-byte_taken b s
 Behind-ahead_taken EndAhead s =
@@ -280,9 +280,21 @@ Behind-ahead_taken (DoAhead event) s =
     record { input = Keeps-interrupted s.reading s.input; tape = refl; history = refl; is_closing = refl; ended = refl; last_message = refl }
 
 -- what is half read
-pub Behind-half_ends : (s : State) (first : Half) (others : List Half) → s.input.half ≡ first ∷ others → Behind (endings_of s.input.half + begun s.reading - 1) s (half_ends s)
+pub Behind-half_ends : (s : State) (first : Half) (others : List Half) → s.input.half ≡ first ∷ others → Behind (2 * endings_of s.input.half + begun s.reading - 1) s (half_ends s)
 Behind-half_ends s first others is = record {
   input = Keeps-half_ended (known s) s.reading s.input first others is;
+  tape = refl;
+  history = refl;
+  is_closing = refl;
+  ended = refl;
+  last_message = refl;
+}
+
+-- a control line that ends with the input
+pub Behind-line_ends : (s : State) → line_ends_first s.reading ≡ true → s.input.half ≡ []
+    → Behind (2 * endings_of s.input.half + begun s.reading - 1) s (line_ends s)
+Behind-line_ends s first none = record {
+  input = Keeps-line_ends (known s) s.reading s.input first none;
   tape = refl;
   history = refl;
   is_closing = refl;

@@ -14,7 +14,7 @@ use Rattle.roff_run.specs.Requests.{PageEvent, Text, Space}
 use Rattle.roff_run.specs.Run.{State, known, counts, first_passed, refusal, initial, grown, input_left, moved, step_with, step, after}
 use Rattle.roff_run.proofs.Keeping.{Keeps-end_taking}
 use Rattle.roff_run.proofs.PerformedOrStopped.{PerformedOrStopped, Performed, StoppedAt, performed_or_stopped}
-use Rattle.roff_run.proofs.Readings.{IsMade, ReadsOn, LimitStops, AheadTaken, ByteTaken, NoteTaken, HalfEnds, InputEnds, InputLeft, MessageEnds, MessageTold, RunAborts, SourceFails, SourceStops, ReadsOn-reading_on, Behind-byte_taken, Behind-ahead_taken, Behind-half_ends, within}
+use Rattle.roff_run.proofs.Readings.{IsMade, ReadsOn, LimitStops, AheadTaken, ByteTaken, NoteTaken, HalfEnds, InputEnds, InputLeft, LineEnds, MessageTold, RunAborts, SourceFails, SourceStops, ReadsOn-reading_on, Behind-byte_taken, Behind-ahead_taken, Behind-half_ends, Behind-line_ends, within}
 use Rattle.roff_scan.specs.Input.{counting, item_taken}
 
 -- a state of the same input, registers and history
@@ -91,7 +91,8 @@ IsWithin-read l s t (HalfEnds first others half is_made) is =
     IsWithin-made l s t (rw (Behind-half_ends s first others half).input.charge is.bytes) refl is_made is
 IsWithin-read l s t (InputEnds none half ends is_made) is =
     IsWithin-made l s t (rw (Keeps-end_taking (known s) s.reading s.input).charge is.bytes) refl is_made is
-IsWithin-read l s t (MessageEnds aborts begins is_made) is = IsWithin-made l s t is.bytes refl is_made is
+IsWithin-read l s t (LineEnds first none is_made) is =
+    IsWithin-made l s t (rw (Behind-line_ends s first none).input.charge is.bytes) refl is_made is
 IsWithin-read l s t (MessageTold told is_made) is = IsWithin-made l s t is.bytes refl is_made is
 IsWithin-read l s t (RunAborts told) is = IsWithin-same l s t refl refl refl is
 IsWithin-read l s t (InputLeft leaves is_made) is =

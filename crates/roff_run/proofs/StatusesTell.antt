@@ -16,7 +16,7 @@ use Rattle.roff_scan.specs.Input.{item_taken}
 use Rattle.roff_scan.specs.Tape.{Tape, Item, Ending, Ends, Ended, Failed, Stopped, front}
 use Rattle.roff_run.proofs.Endings.{at_last_state, ended_or_not, step-ended, step-going}
 use Rattle.roff_run.proofs.PerformedOrStopped.{PerformedOrStopped, Performed, StoppedAt, performed_or_stopped}
-use Rattle.roff_run.proofs.Readings.{ReadsOn, LimitStops, AheadTaken, ByteTaken, NoteTaken, HalfEnds, InputEnds, InputLeft, MessageEnds, MessageTold, RunAborts, SourceFails, SourceStops, ReadsOn-reading_on, Behind, Behind-ahead_taken}
+use Rattle.roff_run.proofs.Readings.{ReadsOn, LimitStops, AheadTaken, ByteTaken, NoteTaken, HalfEnds, InputEnds, InputLeft, LineEnds, MessageTold, RunAborts, SourceFails, SourceStops, ReadsOn-reading_on, Behind, Behind-ahead_taken}
 
 -- what is known of a run while it goes on: it has no last message yet, and where it is closing it met the end, or left its
 -- input
@@ -76,7 +76,7 @@ IsTold-read l s t (NoteTaken message gives) going quiet is_open = IsTold-going l
 IsTold-read l s t (HalfEnds first others half is_made) going quiet is_open = IsTold-going l t going (GoesOn-open t quiet is_open)
 IsTold-read l s t (InputEnds none half ends is_made) going quiet is_open =
     IsTold-going l t going (record { quiet = quiet; closing = λ closing. inl (HasMet-front s.tape.items s.tape.ending Ended ends) })
-IsTold-read l s t (MessageEnds aborts begins is_made) going quiet is_open = IsTold-going l t going (GoesOn-open t quiet is_open)
+IsTold-read l s t (LineEnds first none is_made) going quiet is_open = IsTold-going l t going (GoesOn-open t quiet is_open)
 IsTold-read l s t (MessageTold told is_made) going quiet is_open = IsTold-going l t going (GoesOn-open t quiet is_open)
 IsTold-read l s t (RunAborts told) going quiet is_open = (told, refl)
 IsTold-read l s t (InputLeft leaves is_made) going quiet is_open =

@@ -13,7 +13,7 @@ use Rattle.roff_scan.specs.Tape.{Answer, Gives, Ends, OneByte, OneNote, Ended, F
 use Rattle.roff_scan.specs.Unread.{Sighted, SeesByte, SeesNothing, SeesNote, SeesEnding, seen_ahead}
 use Rattle.roff_scan.specs.Half.{Half}
 use Rattle.roff_run.specs.Laws.{OnlyCuts}
-use Rattle.roff_run.specs.Reading.{due, message_begun}
+use Rattle.roff_run.specs.Reading.{due, line_ends_first}
 use Rattle.roff_run.specs.declared.reading.Due.{Due}
 use Rattle.roff_run.specs.declared.reading.Due.TheVariants.{Leaves, Tells as TellsText}
 use Rattle.roff_run.specs.Requests.{PageEvent}
@@ -69,9 +69,9 @@ pub OnlyCuts-end_met : (s : State) → OnlyCuts s (end_met s)
 OnlyCuts-end_met s = OnlyCuts-message s _ _ refl refl
 
 -- with nothing half read
-pub OnlyCuts-input_ended : (message : Option Bool) (s : State) → OnlyCuts s (input_ended message s)
-OnlyCuts-input_ended None s = OnlyCuts-end_met s
-OnlyCuts-input_ended (Some aborts) s = OnlyCuts-message s _ _ refl refl
+pub OnlyCuts-input_ended : (first : Bool) (s : State) → OnlyCuts s (input_ended first s)
+OnlyCuts-input_ended false s = OnlyCuts-end_met s
+OnlyCuts-input_ended true s = OnlyCuts-message s _ _ refl refl
 
 -- a message is told
 pub OnlyCuts-message_told : (s : State) → OnlyCuts s (message_told s)
@@ -116,7 +116,7 @@ OnlyCuts-taking_byte l b s =
 
 -- the end of the input
 pub OnlyCuts-ending_input : (l : Limits) (half : List Half) (s : State) → OnlyCuts s (ending_input l half s)
-OnlyCuts-ending_input l [] s = OnlyCuts-made l s _ (OnlyCuts-input_ended (message_begun s.reading) s)
+OnlyCuts-ending_input l [] s = OnlyCuts-made l s _ (OnlyCuts-input_ended (line_ends_first s.reading) s)
 OnlyCuts-ending_input l (first ∷ others) s = OnlyCuts-made l s _ (OnlyCuts-half_ends s)
 
 -- the source answered

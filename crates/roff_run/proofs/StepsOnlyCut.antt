@@ -19,7 +19,7 @@ use Rattle.roff_scan.specs.Unread.{Sighted, SeesByte, SeesNothing, SeesNote, See
 use Rattle.roff_scan.specs.Half.{Half}
 use Rattle.roff_run.specs.Laws.{OnlyCuts, over}
 use Rattle.roff_run.specs.Limits.{AreWithin}
-use Rattle.roff_run.specs.Reading.{due, message_begun}
+use Rattle.roff_run.specs.Reading.{due, line_ends_first}
 use Rattle.roff_run.specs.declared.reading.Due.{Due}
 use Rattle.roff_run.specs.declared.reading.Due.TheVariants.{Leaves, Tells as TellsText}
 use Rattle.roff_run.specs.Requests.{PageEvent}
@@ -150,13 +150,13 @@ module _ (Beside : Tape → Tape → Type 0) (IsCause : Status → Type 0) where
         (Cut-made s (byte_done b s) _ tape (behind_front tape) beside beside_next refl appends)
 
     -- both meet the end of the input, with nothing half read
-    pub Cut-input_ended : (message : Option Bool) (s : State) (tape : Tape) → Beside s.tape tape → Cut (made small s (input_ended message s)) (made large (over tape s) (input_ended message (over tape s)))
-    Cut-input_ended None s tape beside = Cut-made s _ _ tape tape beside beside refl (OnlyCuts-end_met (over tape s))
-    Cut-input_ended (Some aborts) s tape beside = Cut-made s _ _ tape tape beside beside refl (OnlyCuts-input_ended (Some aborts) (over tape s))
+    pub Cut-input_ended : (first : Bool) (s : State) (tape : Tape) → Beside s.tape tape → Cut (made small s (input_ended first s)) (made large (over tape s) (input_ended first (over tape s)))
+    Cut-input_ended false s tape beside = Cut-made s _ _ tape tape beside beside refl (OnlyCuts-end_met (over tape s))
+    Cut-input_ended true s tape beside = Cut-made s _ _ tape tape beside beside refl (OnlyCuts-input_ended true (over tape s))
 
     -- both meet the end of the input
     pub Cut-ending_input : (half : List Half) (s : State) (tape : Tape) → Beside s.tape tape → Cut (ending_input small half s) (ending_input large half (over tape s))
-    Cut-ending_input [] s tape beside = Cut-input_ended (message_begun s.reading) s tape beside
+    Cut-ending_input [] s tape beside = Cut-input_ended (line_ends_first s.reading) s tape beside
     Cut-ending_input (first ∷ others) s tape beside = Cut-half_ends s tape beside
 
     -- both sources give the same answer

@@ -19,7 +19,7 @@ use Rattle.roff_scan.specs.Tape.{Tape, Item, Ending, OneByte, OneNote, Gives, fr
 use Rattle.roff_run.proofs.Endings.{at_last_state}
 use Rattle.roff_run.proofs.Keeping.{Keeps-end_taking}
 use Rattle.roff_run.proofs.PerformedOrStopped.{PerformedOrStopped, Performed, StoppedAt, performed_or_stopped}
-use Rattle.roff_run.proofs.Readings.{ReadsOn, LimitStops, AheadTaken, ByteTaken, NoteTaken, HalfEnds, InputEnds, InputLeft, MessageEnds, MessageTold, RunAborts, SourceFails, SourceStops, ReadsOn-reading_on, Behind, Behind-byte_taken, Behind-ahead_taken, Behind-half_ends, behind_note}
+use Rattle.roff_run.proofs.Readings.{ReadsOn, LimitStops, AheadTaken, ByteTaken, NoteTaken, HalfEnds, InputEnds, InputLeft, LineEnds, MessageTold, RunAborts, SourceFails, SourceStops, ReadsOn-reading_on, Behind, Behind-byte_taken, Behind-ahead_taken, Behind-half_ends, Behind-line_ends, behind_note}
 use Rattle.roff_run.proofs.RunsStayWithin.{no_limit_is_passed}
 
 -- the bytes of two lists of items
@@ -136,7 +136,7 @@ Takes-read tape l s t (HalfEnds first others half is_made) takes = Takes-behind 
 Takes-read tape l s t (InputEnds none half ends is_made) takes =
     let read = Keeps-end_taking (known s) s.reading s.input in
     Takes-same tape s t refl (rw read.charge (omega arith)) read.newlines read.line takes
-Takes-read tape l s t (MessageEnds aborts begins is_made) takes = Takes-unread tape s t refl refl takes
+Takes-read tape l s t (LineEnds first none is_made) takes = Takes-behind tape _ s t (Behind-line_ends s first none) takes
 Takes-read tape l s t (MessageTold told is_made) takes = Takes-same tape s t refl (omega arith) refl refl takes
 Takes-read tape l s t (RunAborts told) takes = Takes-unread tape s t refl refl takes
 Takes-read tape l s t (InputLeft leaves is_made) takes =

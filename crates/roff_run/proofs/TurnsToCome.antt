@@ -8,13 +8,14 @@ use Rattle.roff_scan.specs.Input.{Ahead, ByteAhead, FreeAhead, EndAhead, ReturnA
 use Rattle.roff_scan.specs.Tape.{Answer, Gives, Ends, OneByte, OneNote}
 use Rattle.roff_scan.specs.Unread.{Unread, Shown, ShowsByte, ShowsEnd, ShowsReturn, ShowsDo, ShowsNote, ShowsEnding, ShowsRefusal, taking, taking_answer, answer_behind}
 use Rattle.roff_scan.specs.Half.{Half}
-use Rattle.roff_run.specs.Reading.{PageInput, half_ended, taking as byte_taking}
+use Rattle.roff_run.specs.Reading.{PageInput, end_taking, half_ended, line_ends_first, taking as byte_taking}
 use Rattle.roff_run.specs.Registers.{Known}
 use Rattle.roff_run.specs.Requests.{PageEvent}
 use Rattle.roff_run.specs.declared.reading.Reading.{Reading}
+use Rattle.roff_run.specs.declared.reading.Reading.TheVariants.{LineStart, Branch, Braced, Text as InText, Control, Name, Arguments as InArguments, Deciding, StringName, StringText, Skipping, Dropped, Telling, Told, Exiting, Calling, Defining}
 use Rattle.roff_run.specs.TurnsToCome.{begun, endings_of, turns_within, turns_to_come}
 use Rattle.roff_run.proofs.HalfCounts.{some_ending}
-use Rattle.roff_run.proofs.Keeping.{KeepsTwoMore, Keeps-taking, Keeps-half_ended}
+use Rattle.roff_run.proofs.Keeping.{KeepsTwoMore, Keeps-taking, Keeps-half_ended, Keeps-line_ends}
 
 -- a call took a byte, the end of a text or of a body, or an event
 abbrev pub IsTaken : Shown PageEvent → Type 0
@@ -28,16 +29,16 @@ IsTaken (ShowsRefusal limit) = ⊥
 
 -- fewer turns are to come behind a call, if it took something
 abbrev Falls : Unread PageEvent → Shown PageEvent × Unread PageEvent → Type 0
-Falls u call = IsTaken call.0 → turns_to_come call.1 + 4 ≤ turns_to_come u
+Falls u call = IsTaken call.0 → turns_to_come call.1 + 5 ≤ turns_to_come u
 
 -- unless the limit on bytes refuses the item
 falls_unless : (limit count : ℕ) (refused : Bool) → nat_lt limit count ≡ refused → (u left : Unread PageEvent) (call : Shown PageEvent × Unread PageEvent)
-    → (count ≤ limit → turns_to_come call.1 + 4 ≤ turns_to_come u) → Falls u (if refused then (ShowsRefusal Bytes, left) else call)
+    → (count ≤ limit → turns_to_come call.1 + 5 ≤ turns_to_come u) → Falls u (if refused then (ShowsRefusal Bytes, left) else call)
 falls_unless limit count true is u left call falls taken = absurd taken
 falls_unless limit count false is u left call falls taken = falls (ltb-false limit count is)
 
 falls-item : (item : Ahead PageEvent) (items : List (Ahead PageEvent)) (bytes : ℕ) (i : PageInput) → i.charge + cost item ≤ bytes
-    → turns_within bytes (item_taken item items i) + 4 ≤ turns_within bytes (record i { ahead = item ∷ items })
+    → turns_within bytes (item_taken item items i) + 5 ≤ turns_within bytes (record i { ahead = item ∷ items })
 falls-item (ByteAhead b) items bytes i room = omega arith
 falls-item (FreeAhead b) items bytes i room = omega arith
 falls-item EndAhead items bytes i room = omega arith
@@ -56,18 +57,18 @@ falls-taking (item ∷ items) a i looked v =
     let u : Unread PageEvent = record v { input = record i { ahead = item ∷ items }; looked = looked } in
     falls_unless v.limits.bytes (i.charge + cost item) _ refl u _ _ (falls-item item items v.limits.bytes u.input)
 
--- behind each item that is taken, fewer turns are to come, by four
-pub turns_to_come-taking : (a : Answer) (u : Unread PageEvent) → IsTaken (taking a u).0 → turns_to_come (taking a u).1 + 4 ≤ turns_to_come u
+-- behind each item that is taken, fewer turns are to come, by five
+pub turns_to_come-taking : (a : Answer) (u : Unread PageEvent) → IsTaken (taking a u).0 → turns_to_come (taking a u).1 + 5 ≤ turns_to_come u
 turns_to_come-taking a u taken = falls-taking u.input.ahead a u.input u.looked u taken
 
--- what keeps the input's counts, and leaves two endings more to come, leaves two turns more at most
+-- what keeps the input's counts, and leaves two endings more to come, leaves four turns more at most
 turns-two_more : (bytes : ℕ) (i j : PageInput) (old reading : Reading) → KeepsTwoMore i old j reading
-    → turns_within bytes j + begun reading ≤ turns_within bytes i + begun old + 2
+    → turns_within bytes j + begun reading ≤ turns_within bytes i + begun old + 4
 turns-two_more bytes i j old reading keeps = omega (arith, keeps.charge, keeps.free, keeps.half)
 
 -- and so does a byte
 pub turns_within-byte : (bytes : ℕ) (k : Known) (reading : Reading) (i : PageInput) (b : ℕ)
-    → turns_within bytes (byte_taking k reading i b).input + begun (byte_taking k reading i b).reading ≤ turns_within bytes i + begun reading + 2
+    → turns_within bytes (byte_taking k reading i b).input + begun (byte_taking k reading i b).reading ≤ turns_within bytes i + begun reading + 4
 turns_within-byte bytes k reading i b = turns-two_more bytes i _ reading _ (Keeps-taking k reading i b)
 
 -- what is half read where a newline stays
@@ -87,3 +88,30 @@ ended bytes k reading i (first ∷ others) is some =
 pub turns_within-half_ended : (bytes : ℕ) (k : Known) (reading : Reading) (i : PageInput) → 1 ≤ length i.half
     → turns_within bytes (half_ended k reading i).input + begun (half_ended k reading i).reading + 1 ≤ turns_within bytes i + begun reading
 turns_within-half_ended bytes k reading i some = ended bytes k reading i i.half refl some
+
+-- what a control line reads that ends first needs a turn
+pub begun-line_ends_first : (reading : Reading) → line_ends_first reading ≡ true → 1 ≤ begun reading
+begun-line_ends_first (Name breaks first) is = omega arith
+begun-line_ends_first (InArguments breaks request) is = omega arith
+begun-line_ends_first (Calling name) is = omega arith
+begun-line_ends_first (Telling aborts is_front) is = omega arith
+begun-line_ends_first LineStart is = absurd (cc)
+begun-line_ends_first Branch is = absurd (cc)
+begun-line_ends_first Braced is = absurd (cc)
+begun-line_ends_first (InText line) is = absurd (cc)
+begun-line_ends_first (Control breaks) is = absurd (cc)
+begun-line_ends_first (Deciding keeping) is = absurd (cc)
+begun-line_ends_first (StringName appends) is = absurd (cc)
+begun-line_ends_first (StringText name appends is_front) is = absurd (cc)
+begun-line_ends_first (Skipping opened closed behind) is = absurd (cc)
+begun-line_ends_first (Defining name appends end matched) is = absurd (cc)
+begun-line_ends_first Dropped is = absurd (cc)
+begun-line_ends_first (Told aborts) is = absurd (cc)
+begun-line_ends_first Exiting is = absurd (cc)
+
+-- so where it ends with the input, a turn fewer is to come
+pub turns_within-line_ends : (bytes : ℕ) (k : Known) (reading : Reading) (i : PageInput) → line_ends_first reading ≡ true
+    → i.half ≡ [] → turns_within bytes (end_taking k reading i).input + begun (end_taking k reading i).reading + 1 ≤ turns_within bytes i + begun reading
+turns_within-line_ends bytes k reading i first none =
+    let keeps = Keeps-line_ends k reading i first none in
+    omega (arith, keeps.charge, keeps.free, keeps.half, begun-line_ends_first reading first)

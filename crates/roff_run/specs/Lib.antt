@@ -21,6 +21,8 @@ pub mod ConditionLaws
 pub mod WidthLaws
 pub mod Quoting
 pub mod MessageLaws
+pub mod CallLaws
+pub mod DefinitionLaws
 pub mod ResultLaws
 pub mod Taken
 pub mod Statuses

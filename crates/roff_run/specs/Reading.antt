@@ -688,14 +688,14 @@ due (Told aborts) = Some (TellsText aborts)
 due Exiting = Some Leaves
 due (_) = None
 
--- whether the text of a message is read, and then whether it aborts the run
-abbrev pub message_begun : Reading → Option Bool
-message_begun (Telling aborts is_front) = Some aborts
-message_begun (_) = None
-
--- the line of a message ends where the input does
-abbrev pub message_ended : PageInput → Bool → Taking
-message_ended i aborts = going_on i (Told aborts)
+-- whether a control line is read behind whose end there may be more to do: where the input ends, that line ends first, and
+-- then a called body is read, a message is told, or a definition has begun
+abbrev pub line_ends_first : Reading → Bool
+line_ends_first (Name breaks first) = true
+line_ends_first (InArguments breaks request) = true
+line_ends_first (Calling name) = true
+line_ends_first (Telling aborts is_front) = true
+line_ends_first (_) = false
 
 -- the text of a message, as it was read
 abbrev pub message_text_read : PageInput → List ℕ

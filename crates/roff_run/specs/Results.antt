@@ -14,10 +14,10 @@ abbrev pub turns : Limits → ℕ → State → State
 turns l zero s = s
 turns l (suc n) s = elim s.ended [ None ↦ turns l n (turn l s) | Some status ↦ s ]
 
--- the state in which a run ends: what is charged takes a turn, and may begin something whose end takes two more; each
+-- the state in which a run ends: what is charged takes a turn, and may begin something whose end takes four more; each
 -- item of the source that isn't charged takes one, the input's end takes one, and the run's end one
 abbrev pub last_state : Limits → Tape → State
-last_state l tape = turns l (3 * l.bytes + length tape.items + 2) (initial tape)
+last_state l tape = turns l (5 * l.bytes + length tape.items + 2) (initial tape)
 
 -- what a run writes
 abbrev pub output_of : Limits → Tape → List ℕ

@@ -16,7 +16,7 @@ use Rattle.roff_scan.specs.Arguments.{no_arguments}
 use Rattle.roff_scan.specs.Half.{Half}
 use Rattle.roff_run.specs.Messages.{message_line, message_lines, told_line}
 use Rattle.roff_run.specs.Output.{PageHistory, text_of, written}
-use Rattle.roff_run.specs.Reading.{PageInput, Taking, taking, half_ended, end_taking, interrupted, due, message_begun, message_ended, message_text_read, behind_return}
+use Rattle.roff_run.specs.Reading.{PageInput, Taking, taking, half_ended, end_taking, interrupted, due, line_ends_first, message_text_read, behind_return}
 use Rattle.roff_run.specs.Registers.{AllRegisters, Known, no_registers, changed_by_all}
 use Rattle.roff_run.specs.Requests.{PageEvent, Text, Space, Effect, first_entries, requests}
 use Rattle.roff_run.specs.declared.message.Message.{Message}
@@ -169,10 +169,10 @@ half_ends s = taken_as (half_ended (known s) s.reading s.input) s
 abbrev pub end_met : State → State
 end_met s = taken_as (end_taking (known s) s.reading s.input) (record s { is_closing = true; to_do = Text WordEnd ∷ Text Break ∷ [] })
 
--- with nothing half read the end of the input is met, unless a message is read: then its line ends first
-abbrev pub input_ended : Option Bool → State → State
-input_ended None s = end_met s
-input_ended (Some aborts) s = taken_as (message_ended s.input aborts) s
+-- with nothing half read the end of the input is met, unless a control line is to end first: that ends as by a newline
+abbrev pub input_ended : Bool → State → State
+input_ended false s = end_met s
+input_ended true s = taken_as (end_taking (known s) s.reading s.input) s
 
 -- a message is told, and its text is released
 abbrev pub message_told : State → State
@@ -212,7 +212,7 @@ taking_byte l b s =
 
 -- the end of the input: what is half read ends first, one after another
 abbrev pub ending_input : Limits → List Half → State → State
-ending_input l [] s = made l s (input_ended (message_begun s.reading) s)
+ending_input l [] s = made l s (input_ended (line_ends_first s.reading) s)
 ending_input l (first ∷ others) s = made l s (half_ends s)
 
 -- the source was asked, with nothing ahead of it, and answered this. At the limit a byte is looked at and not taken.

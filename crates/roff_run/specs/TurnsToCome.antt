@@ -7,7 +7,7 @@ use Rattle.roff_scan.specs.declared.half.ConditionPart.TheVariants.{Decided}
 use Rattle.roff_run.specs.Reading.{PageInput}
 use Rattle.roff_run.specs.Requests.{PageEvent}
 use Rattle.roff_run.specs.declared.reading.Reading.{Reading}
-use Rattle.roff_run.specs.declared.reading.Reading.TheVariants.{Name, Arguments as InArguments, Telling, Told, Defining}
+use Rattle.roff_run.specs.declared.reading.Reading.TheVariants.{Name, Arguments as InArguments, Telling, Told, Calling, Defining}
 
 -- the bytes ahead that cost nothing
 abbrev pub free_ahead : List (Ahead PageEvent) → ℕ
@@ -26,20 +26,21 @@ endings_of (Condition (Decided decision None) text ∷ rest) = endings_of rest +
 endings_of (Condition part text ∷ rest) = endings_of rest + 2
 endings_of (half ∷ rest) = endings_of rest + 1
 
--- What is read may need turns of its own. Behind a name's first byte a condition or a line of arguments may begin, and behind
--- that line a definition, at whose end a name's line begins again; a condition ends in two turns. A message's line ends where
--- the input does, and then the message is told.
+-- What is read may need turns of its own. A control line that ends where the input does takes one, and behind it a message
+-- is told, or a definition begins; what ends in a definition may end that, and begin a line of arguments or a condition.
 abbrev pub begun : Reading → ℕ
-begun (Name breaks first) = 2
-begun (InArguments breaks request) = 3
+begun (Name breaks first) = 4
+begun (InArguments breaks request) = 4
+begun (Calling name) = 1
 begun (Telling aborts is_front) = 2
 begun (Told aborts) = 1
 begun (Defining name appends end matched) = 3
 begun (_) = 0
 
--- what falls with each turn beside that, within so many bytes: each item is paid for or free, and may begin three endings
+-- what falls with each turn beside that, within so many bytes: each item is paid for or free, and may begin two endings;
+-- each ending takes a turn, and may begin a line whose end takes another one
 abbrev pub turns_within : ℕ → PageInput → ℕ
-turns_within bytes i = 4 * (bytes - i.charge) + 4 * free_ahead i.ahead + endings_of i.half
+turns_within bytes i = 5 * (bytes - i.charge) + 5 * free_ahead i.ahead + 2 * endings_of i.half
 
 -- the same of the unread input, within its limit
 abbrev pub turns_to_come : Unread PageEvent → ℕ

@@ -2,8 +2,10 @@
 //! requests, the number registers, the messages, and laws over whole runs.
 #![tactic(auto)]
 
+pub mod call_laws;
 pub mod condition_laws;
 mod definition;
+pub mod definition_laws;
 mod event;
 pub mod interpolation_laws;
 pub mod laws;

@@ -2,8 +2,8 @@
 
 ghost use Rattle.std.specs.Prelude.{◌≡◌, [], None, IfOk, Ok};
 ghost use Rattle.roff_run.specs.Clauses.{Env, LineStart, PageUnread, TakesAs, fresh_reader};
-ghost use Rattle.roff_run.specs.Clauses.{interrupted, first_unread, taking, due, message_begun};
-ghost use Rattle.roff_run.specs.Clauses.{message_ended, behind_return};
+ghost use Rattle.roff_run.specs.Clauses.{interrupted, first_unread, taking, due, line_ends_first};
+ghost use Rattle.roff_run.specs.Clauses.{behind_return};
 
 mod arguments;
 mod bytes;
@@ -98,19 +98,11 @@ impl Reader {
         self.reading.due()
     }
 
-    /// Whether the text of a message is read, and then whether it aborts the run.
-    pub fn message_begun(&self) -> Option<bool>
-        ensures { result ≡ message_begun self.now.reading }
+    /// Whether a control line is read that ends where the input does, before the input's end is met.
+    pub fn line_ends_first(&self) -> bool
+        ensures { result ≡ line_ends_first self.now.reading }
     {
-        self.reading.message_begun()
-    }
-
-    /// The line of a message ends where the input does.
-    pub fn end_message(&mut self, aborts: bool) -> Meaning
-        ensures { (env : Env) (u : PageUnread)
-            → TakesAs (λ k. message_ended u.input aborts) env self.old self.new u u (Ok result) }
-    {
-        self.read_on(Reading::Told { aborts })
+        self.reading.line_ends_first()
     }
 
     /// A line begins.

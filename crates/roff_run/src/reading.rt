@@ -3,7 +3,7 @@
 ghost use Rattle.std.specs.Prelude.{◌≡◌, ℕ, ◌≤◌, ◌+◌, ◌++◌, ◌∷◌, [], length, map, true, min};
 ghost use Rattle.roff_lines.specs.declared.event.Event.TheVariants.{Gap, Print, WordEnd};
 ghost use Rattle.roff_lines.specs.declared.glyph.Glyph.TheVariants.{Printed};
-ghost use Rattle.roff_run.specs.Reading.{PageInput, due, message_begun, name_bytes, reading_behind, short_name, branch_of, counted_if, going_on, kept_taking, dropped_taking, skipping_taking, ends_name, brace_taking, character_taking, escape_taking, fresh_line, glyph_taking, glyphs_taking, blank_taking, leading_blank_events, leading_glyph, left_out_taking, meaning_events, most_leading, motion_taking, other_taking, taking, told_taking, text_line_end, text_taking, behind_return};
+ghost use Rattle.roff_run.specs.Reading.{PageInput, due, line_ends_first, name_bytes, reading_behind, short_name, branch_of, counted_if, going_on, kept_taking, dropped_taking, skipping_taking, ends_name, brace_taking, character_taking, escape_taking, fresh_line, glyph_taking, glyphs_taking, blank_taking, leading_blank_events, leading_glyph, left_out_taking, meaning_events, most_leading, motion_taking, other_taking, taking, told_taking, text_line_end, text_taking, behind_return};
 ghost use Rattle.std.specs.Option.{option_to_list};
 ghost use Rattle.roff_run.specs.Messages.{remark_messages};
 ghost use Rattle.roff_run.specs.Requests.{Text};
@@ -179,13 +179,16 @@ impl Reading {
         }
     }
 
-    /// Whether the text of a message is read, and then whether it aborts the run.
-    pub(crate) fn message_begun(self) -> Option<bool>
-        ensures { result ≡ message_begun self }
+    /// Whether a control line is read that ends where the input does, before the input's end is met.
+    pub(crate) fn line_ends_first(self) -> bool
+        ensures { result ≡ line_ends_first self }
     {
         match self {
-            Reading::Telling { aborts, .. } => Some(aborts),
-            _ => None,
+            Reading::Name { .. } => true,
+            Reading::Arguments { .. } => true,
+            Reading::Calling { .. } => true,
+            Reading::Telling { .. } => true,
+            _ => false,
         }
     }
 

@@ -1,9 +1,9 @@
 -- Calls that are lent the source, by what they find.
 use Rattle.std.proofs.Common.{Bool, true, false, ◌&&◌, ◌≡◌, ℕ, List, [], ◌∷◌, Option, Some, None, refl, sym, ap, ◌∙◌}
-use Rattle.std.specs.Prelude.{is_none}
+use Rattle.std.specs.Prelude.{IfSome, is_none}
 use Rattle.roff_scan.specs.Input.{Ahead, ByteAhead, FreeAhead, EndAhead, ReturnAhead, DoAhead, is_none_ahead}
 use Rattle.roff_scan.specs.Tape.{Tape, Answer, Answers, Gives, Ends, OneByte, Ending, Ended}
-use Rattle.roff_scan.specs.Unread.{Unread, Asked, Stays, Shown, Sighted, SeesByte, SeesNote, SeesEnding, answer_behind, taking, taking_first, taking_answer, asks_to_take, looking, looking_past, looking_at, asks_to_look, seen_ahead}
+use Rattle.roff_scan.specs.Unread.{Unread, Asked, Stays, Shown, ShowsByte, Sighted, SeesByte, SeesNote, SeesEnding, answer_behind, taking, taking_first, taking_answer, asks_to_take, looking, looking_past, looking_at, asks_to_look, seen_ahead}
 use Rattle.roff_scan.specs.Unread.Calls.{Takes, Looks}
 
 -- a source that isn't lent stays
@@ -64,6 +64,13 @@ module _ {E : Type 0} (tapes : Tape → Type 0) (kept before after : Unread E) (
     asked = asked_by tapes new a (asks_to_take before) (asks_by None none looked) answers;
     taken = taken ∙ sym (taken_by None a none looked);
   }
+
+-- a byte ahead is taken, if one is
+pub takes_ready : {E : Type 0} (tapes : Tape → Type 0) (kept before after : Unread E) → kept ≡ before → is_none_ahead kept.input.ahead ≡ false
+    → (byte : Option ℕ) → IfSome byte (λ b. (a : Answer) → (ShowsByte b, after) ≡ taking a before)
+    → IfSome byte (λ b. Takes tapes tapes before after (ShowsByte b))
+takes_ready tapes kept before after is some None taken = tt
+takes_ready tapes kept before after is some (Some b) taken = takes_ahead tapes kept before after is (ShowsByte b) some taken
 
 module _ {E : Type 0} (tapes : Tape → Type 0) (kept before : Unread E) (is : kept ≡ before) where
   -- what stands ahead is seen

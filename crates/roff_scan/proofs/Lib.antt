@@ -28,6 +28,7 @@ pub mod Copying
 pub mod ConditionHalves
 pub mod ConditionsRead
 pub mod Passing
+pub mod PassingAhead
 pub mod Bodies
 pub mod Framing
 pub mod Leased

@@ -51,7 +51,7 @@ plain_front : (p : ℕ → Bool) (b : ℕ) (t : Bool) (front : List ℕ) → p b
 plain_front p b true front passes plain = (passes, plain)
 plain_front p b false front passes plain = tt
 
-take_while-plain : (p : ℕ → Bool) (bytes : List ℕ) → AllByRecursion (λ b. p b ≡ true) (take_while p bytes)
+pub take_while-plain : (p : ℕ → Bool) (bytes : List ℕ) → AllByRecursion (λ b. p b ≡ true) (take_while p bytes)
 take_while-plain p [] = tt
 take_while-plain p (b ∷ bytes) = rw (take_while-cons p b bytes) (plain_front p b (p b) (take_while p bytes) refl (take_while-plain p bytes))
 

@@ -243,6 +243,11 @@ item_taken item behind i = record i {
   kept = kept_behind item i.calls i.kept;
 }
 
+-- these bytes that stand ahead are taken, one after another, and these items stand behind them
+abbrev pub bytes_taken : {E : Type 0} → List ℕ → List (Ahead E) → Input E → Input E
+bytes_taken [] behind i = i
+bytes_taken (b ∷ bytes) behind i = bytes_taken bytes behind (item_taken (ByteAhead b) (map ByteAhead bytes ++ behind) i)
+
 -- a byte of the source is taken: it stands on its line, and a newline on the line that it ends
 abbrev pub counting : {E : Type 0} → ℕ → Input E → Input E
 counting b i = record i {

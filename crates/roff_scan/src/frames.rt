@@ -1,17 +1,20 @@
 //! Frames: what stands ahead of the source. Bodies of strings and macros are read where they lie.
 
 ghost use Rattle.std.specs.Prelude.{IsTrue, false, true, ◌≡◌, ◌↔◌, ◌+◌, ◌<◌, ◌≤◌, ◌^◌, [], ◌∷◌};
-ghost use Rattle.std.specs.Prelude.{◌++◌, map, length, option_map, IfOk};
+ghost use Rattle.std.specs.Prelude.{◌++◌, map, length, option_map, IfOk, IfSome, None, take};
+ghost use Rattle.std.specs.Prelude.{take_while};
 ghost use Rattle.roff_scan.specs.Input.{is_none_ahead, front_cost, called_text, lacks_newline};
 ghost use Rattle.roff_scan.specs.Input.{ByteAhead, FreeAhead, EndAhead, ReturnAhead, DoAhead};
 ghost use Rattle.roff_scan.specs.Input.{bytes_ahead, ends_ahead, events_ahead, frees_ahead};
 ghost use Rattle.roff_scan.specs.Input.{most_events, most_frees};
 ghost use Rattle.roff_scan.specs.Frames.Bodies.{with_bodies};
 ghost use Rattle.roff_scan.specs.Frames.Calls.{PutsBytes};
+ghost use Rattle.roff_scan.specs.Bytes.{is_passed};
 ghost use Rattle.roff_scan.specs.Frames.Kept.{is_end_next, IsSound};
 ghost use Rattle.roff_store.specs.Named.{entry_of};
 ghost use Rattle.roff_store.specs.Texts.{body_of, entry_given, kind_given, kind_of, newest};
 
+use crate::bytes::passed_len;
 use crate::slots::{Front, Slots};
 use crate::unread::{Item, Sight};
 use roff_num::{Limit, Limits, Name};
@@ -50,7 +53,7 @@ impl<E> Model for Frames<E> {
 
 impl<E: Copy> Frames<E> {
     ghost use Rattle.roff_scan.specs.Unread.{shown, sighted, seen_ahead, no_texts};
-    ghost use Rattle.roff_scan.specs.Frames.Calls.{TakesFront};
+    ghost use Rattle.roff_scan.specs.Frames.Calls.{PassesFront, TakesFront};
     ghost use Rattle.roff_store.specs.TextCalls.{DropOpen, Enter, Open, PushOpen, Remove, Rename};
     ghost use Rattle.roff_store.specs.TextCalls.{Set, after, answered};
 
@@ -243,6 +246,55 @@ impl<E: Copy> Frames<E> {
         }
     }
 
+    /// Takes the byte in front, if it is one of a text or of a body that goes on behind it.
+    #[inline(always)]
+    pub(crate) fn take_ready(&mut self) -> Option<u8>
+        ensures taken { IfSome result (λ b.
+            self.old ≡ record self.new { ahead = ByteAhead b ∷ self.new.ahead }) }
+        ensures kept { result ≡ None → self.new ≡ self.old }
+    {
+        match self.slots.front() {
+            Some(Front::Byte(byte)) => {
+                self.slots.take();
+                Some(byte)
+            }
+            Some(Front::Do(Frame::Body(lease))) => {
+                if self.texts.lease_rest(lease) < 2 {
+                    return None;
+                }
+                let byte = self.texts.lease_front(lease)[0];
+                self.texts.lease_pass(lease, 1);
+                Some(byte)
+            }
+            Some(Front::Do(Frame::Event(_))) => None,
+            Some(Front::Free(_)) => None,
+            Some(Front::End) => None,
+            Some(Front::Return) => None,
+            None => None,
+        }
+    }
+
+    /// Passes over bytes of a body in front that lie together, so many at most, up to the first
+    /// that isn't passed. The last byte of a body stays. Returns how many.
+    pub(crate) fn pass_over(&mut self, within_block: bool, most: usize) -> usize
+        ensures { PassesFront self.old self.new within_block most result }
+    {
+        match self.slots.front() {
+            Some(Front::Do(Frame::Body(lease))) => {
+                let most = most.min(self.texts.lease_rest(lease) - 1);
+                let passed = passed_of(self.texts.lease_front(lease), within_block, most);
+                self.texts.lease_pass(lease, passed);
+                passed
+            }
+            Some(Front::Do(Frame::Event(_))) => 0,
+            Some(Front::Byte(_)) => 0,
+            Some(Front::Free(_)) => 0,
+            Some(Front::End) => 0,
+            Some(Front::Return) => 0,
+            None => 0,
+        }
+    }
+
     /// Drops all that stands ahead.
     pub(crate) fn clear(&mut self)
         ensures { self.new ≡ record self.old { ahead = [] } }
@@ -375,6 +427,15 @@ impl<E: Copy> Frames<E> {
     {
         self.texts.drop_open(id);
     }
+}
+
+/// How many of these bytes are passed over, and no more than so many.
+fn passed_of(bytes: &[u8], within_block: bool, most: usize) -> usize
+    ensures within { result ≤ most }
+    ensures passed { take result bytes.now ≡ take_while (is_passed within_block) (take most bytes.now) }
+    ensures among { result ≤ length bytes.now }
+{
+    passed_len(bytes.split_at(most.min(bytes.len())).0, within_block)
 }
 
 /// How many bytes the body of a name has.

@@ -108,7 +108,7 @@ impl<E: Copy> Unread<E> {
     ghost use Rattle.roff_scan.specs.Unread.{initial_unread, is_bare, IsWithin, Shown, shown};
     ghost use Rattle.roff_scan.specs.Unread.{ShowsByte, ShowsNote, ShowsEnding, sighted, SeesNote};
     ghost use Rattle.roff_scan.specs.Unread.{SeesEnding, taking, taking_answer, changing, reading};
-    ghost use Rattle.roff_scan.specs.Unread.Calls.{Takes, Looks, PassesOver};
+    ghost use Rattle.roff_scan.specs.Unread.Calls.{Takes, Looks, PassesAhead, PassesOver};
     ghost use Rattle.roff_store.specs.TextCalls.{Open, Remove, Rename, Set};
 
     /// The input before anything is read. So many names stand for something then: they are to be
@@ -173,10 +173,18 @@ impl<E: Copy> Unread<E> {
         self.frames.depth()
     }
 
+    /// Whether nothing stands ahead of the source.
+    #[inline(always)]
+    pub fn is_none_ahead(&self) -> bool
+        ensures { result ≡ is_none_ahead self.now.input.ahead }
+    {
+        self.frames.is_empty()
+    }
+
     /// Whether the source's next byte is the next one: nothing is ahead, nothing half read, and
     /// nothing looked at.
     #[inline(always)]
-    pub fn is_bare(&self) -> bool
+    fn is_bare(&self) -> bool
         ensures { result ≡ is_bare self.now }
     {
         self.frames.is_empty() && self.looked.is_none() && self.half.is_empty()
@@ -211,7 +219,7 @@ impl<E: Copy> Unread<E> {
         }
     }
 
-    /// Takes a byte of the source that stands ready, if nothing is ahead, none was looked at and
+    /// Takes a byte that stands ready, ahead or in the source behind nothing that was looked at, if
     /// the limit on bytes allows it. Otherwise nothing happens, and [`take`](Unread::take) tells
     /// what is in front. Most bytes are taken so.
     #[inline(always)]
@@ -223,13 +231,37 @@ impl<E: Copy> Unread<E> {
         ensures failures { S.failures source.old ≤ S.failures source.new }
         ensures within { IsWithin self.new }
     {
-        if !self.frames.is_empty() || self.looked.is_some() || self.charge >= self.limits.bytes {
+        if !self.frames.is_empty() {
+            return self.take_ready_ahead();
+        }
+        if self.looked.is_some() || self.charge >= self.limits.bytes {
             return None;
         }
         match source.ready_byte() {
             None => None,
             Some(byte) => {
                 self.count(byte);
+                Some(byte)
+            }
+        }
+    }
+
+    /// The same of a byte ahead.
+    #[inline(always)]
+    fn take_ready_ahead(&mut self) -> Option<u8>
+        requires { is_none_ahead self.old.input.ahead ≡ false }
+        ensures takes { IfSome result (λ b.
+            (a : Answer) → (ShowsByte b, self.new) ≡ taking a self.old) }
+        ensures kept { result ≡ None → self.new ≡ self.old }
+        ensures within { IsWithin self.new }
+    {
+        if self.limits.bytes - self.charge == 0 {
+            return None;
+        }
+        match self.frames.take_ready() {
+            None => None,
+            Some(byte) => {
+                self.charge += 1;
                 Some(byte)
             }
         }
@@ -301,6 +333,21 @@ impl<E: Copy> Unread<E> {
             self.newlines += newlines_among(front);
             self.count(*last);
             source.pass(len);
+        }
+    }
+
+    /// Takes at once bytes of a body in front, as they lie together, up to the first backslash and,
+    /// unless within a block, the first newline, each at its cost and no more than the limit on
+    /// bytes allows. Nothing happens where anything is half read.
+    #[inline(never)]
+    pub fn pass_over_ahead(&mut self, within_block: bool)
+        ensures passes { PassesAhead self.old self.new within_block }
+        ensures within { IsWithin self.new }
+    {
+        if self.half.is_empty() {
+            let most = (self.limits.bytes - self.charge) as usize;
+            let passed = self.frames.pass_over(within_block, most);
+            self.charge += passed as u32;
         }
     }
 
@@ -492,6 +539,7 @@ impl<E: Copy> Unread<E> {
     }
 
     /// Whether something is half read.
+    #[inline(always)]
     pub fn is_half_read(&self) -> bool
         ensures { result ≡ not (length self.now.input.half == 0) }
     {

@@ -1,5 +1,5 @@
 -- How far a run of the code has come, as a run of the definition.
-use Rattle.std.specs.Prelude.{◌≡◌, ◌⊎◌, ℕ, ◌+◌, ◌<◌, ◌≤◌, true, false, List, [], ◌∷◌, length, None, Some, IsSome, OnOk, Result, Ok, Err}
+use Rattle.std.specs.Prelude.{◌≡◌, ◌⊎◌, ℕ, ◌+◌, ◌<◌, ◌≤◌, true, false, List, [], ◌∷◌, length, None, IsSome, OnOk, Result, Ok, Err}
 use Rattle.std.specs.Io.KnownBytes.{Appends}
 use Rattle.roff_num.specs.declared.limit.Limit.{Limit}
 use Rattle.roff_num.specs.declared.limits.Limits.{Limits}
@@ -17,7 +17,7 @@ use Rattle.roff_engine.specs.Formatter.Performing.{Opens, going}
 use Rattle.roff_run.specs.Reader.State.{fresh_reader}
 use Rattle.roff_run.specs.Reader.Taken.{IsReady, PageUnread}
 use Rattle.roff_run.specs.TurnsToCome.{begun, turns_to_come}
-use Rattle.roff_run.specs.Reading.{due, message_begun}
+use Rattle.roff_run.specs.Reading.{due, line_ends_first}
 use Rattle.roff_run.specs.declared.reading.Reading.{Reading}
 use Rattle.roff_run.specs.declared.reading.Reading.TheVariants.{Exiting}
 use Rattle.roff_scan.specs.Half.{Half}
@@ -31,11 +31,11 @@ state_at tape run h messages =
 
 -- the end of the input: what is half read ends first, one after another
 abbrev pub input_ends : State → State
-input_ends s = elim s.input.half [ [] ↦ input_ended (message_begun s.reading) s | first ∷ others ↦ half_ends s ]
+input_ends s = elim s.input.half [ [] ↦ input_ended (line_ends_first s.reading) s | first ∷ others ↦ half_ends s ]
 
--- something is half read where the input ends, or a message is
+-- something is half read where the input ends, or a control line that ends first
 abbrev pub IsEnded : List Half → Reading → Type 0
-IsEnded half reading = (1 ≤ length half) ⊎ IsSome (message_begun reading)
+IsEnded half reading = (1 ≤ length half) ⊎ (line_ends_first reading ≡ true)
 
 -- how many turns are to come of a run at the most
 abbrev pub turns_left : Coded → ℕ

@@ -23,7 +23,7 @@ impl Reader {
             ≡ meaning_events unread.now.input self.now.reading (Text (Print (Printed byte)) ∷ []) }
     {
         match self.reading {
-            Reading::Text(line) => line.goes_on_with(byte) && unread.is_bare(),
+            Reading::Text(line) => line.goes_on_with(byte) && !unread.is_half_read(),
             _ => false,
         }
     }
@@ -36,7 +36,7 @@ impl Reader {
             (Text WordEnd ∷ Text (Gap 1) ∷ []) }
     {
         match self.reading {
-            Reading::Text(line) => line.goes_on_with_gap(byte) && unread.is_bare(),
+            Reading::Text(line) => line.goes_on_with_gap(byte) && !unread.is_half_read(),
             _ => false,
         }
     }

@@ -1,8 +1,8 @@
 -- What a call tells that is lent the source.
-use Rattle.std.specs.Prelude.{◌≡◌, ◌⊎◌, ℕ, ◌+◌, ◌≤◌, Bool, true, List, [], length, map, None}
+use Rattle.std.specs.Prelude.{◌≡◌, ◌⊎◌, ℕ, ◌+◌, ◌≤◌, Bool, true, List, [], ◌++◌, length, map, None}
 use Rattle.std.specs.List.{AllByRecursion}
 use Rattle.roff_scan.specs.Bytes.{is_passed}
-use Rattle.roff_scan.specs.Input.{lines_taken}
+use Rattle.roff_scan.specs.Input.{Ahead, ByteAhead, bytes_taken, lines_taken}
 use Rattle.roff_scan.specs.Tape.{Tape, Answer, OneByte, items_then}
 use Rattle.roff_scan.specs.Unread.{Unread, Asked, Stays, Shown, Sighted, asks_to_take, asks_to_look, passed_over, taking, looking}
 
@@ -35,4 +35,15 @@ pub record PassesOver {E : Type 0} (old new : Tape → Type 0) (ready : List ℕ
   pub some : (bytes ≡ []) ⊎ ((t : Tape) × new t)
   pub stays : bytes ≡ [] → Stays old new
   pub input : after ≡ record before { input = lines_taken bytes before.input }
+  pub within : before.input.charge + length bytes ≤ before.limits.bytes
+
+-- These bytes that stand ahead were passed over at once, each at its cost, where nothing is half read; or there are none, and
+-- nothing changed.
+pub record PassesAhead {E : Type 0} (before after : Unread E) (within_block : Bool) : Type 0 where
+  pub bytes : List ℕ
+  pub behind : List (Ahead E)
+  pub in_front : before.input.ahead ≡ map ByteAhead bytes ++ behind
+  pub plain : AllByRecursion (λ b. is_passed within_block b ≡ true) bytes
+  pub none_half : (bytes ≡ []) ⊎ (before.input.half ≡ [])
+  pub input : after ≡ record before { input = bytes_taken bytes behind before.input }
   pub within : before.input.charge + length bytes ≤ before.limits.bytes

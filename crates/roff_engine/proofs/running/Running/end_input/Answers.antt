@@ -1,8 +1,8 @@
-use Rattle.std.proofs.Common.{Some, None, inl, inr, sym, ◌∙◌}
+use Rattle.std.proofs.Common.{true, false, inl, inr, sym, ◌∙◌}
 use Rattle.roff_run.specs.Run.{half_ends, input_ended}
 use Rattle.roff_engine.specs.Running.Turning.{input_ends, state_at}
 use Rattle.roff_engine.proofs.Acting.{Acts-as, input_ends-half, input_ends-no_half}
-use Rattle.roff_engine.proofs.Turns.{some_half, some_message}
+use Rattle.roff_engine.proofs.Turns.{some_half, on_ok}
 use Rattle.roff_engine.proofs.running.Running.end_input.Goals as goal
 
 pub returns-then-is_half_read-clause-acts : goal.returns-then-is_half_read-clause-acts
@@ -15,20 +15,20 @@ pub returns-then-is_half_read-clause-some : goal.returns-then-is_half_read-claus
 returns-then-is_half_read-clause-some g c =
     some_half c.args.self.now.unread.input.half c.args.self.now.formatter.reader.reading c.end_half.result (sym c.is_half_read.ensures ∙ c.if-is_half_read.true)
 
-pub returns-in-Some-clause-acts : goal.returns-in-Some-clause-acts
-returns-in-Some-clause-acts g c = λ none failures.
-    Acts-as input_ends (input_ended (Some c.in-Some.aborts)) _ _ _ _ _ _
-    (λ tape h messages. input_ends-no_half (state_at tape c.args.self.now h messages) (Some c.in-Some.aborts) (sym c.is_half_read.ensures ∙ c.if-is_half_read.false)
-    (sym c.message_begun.ensures ∙ c.in-Some.is))
-    (c.end_message.ensures failures)
+pub returns-then-line_ends_first-clause-acts : goal.returns-then-line_ends_first-clause-acts
+returns-then-line_ends_first-clause-acts g c = λ none failures.
+    Acts-as input_ends (input_ended true) _ _ _ _ _ _
+    (λ tape h messages. input_ends-no_half (state_at tape c.args.self.now h messages) true (sym c.is_half_read.ensures ∙ c.if-is_half_read.false)
+    (sym c.line_ends_first.ensures ∙ c.if-line_ends_first.true))
+    (c.end_line.ensures failures)
 
-pub returns-in-Some-clause-some : goal.returns-in-Some-clause-some
-returns-in-Some-clause-some g c =
-    some_message c.args.self.now.unread.input.half c.args.self.now.formatter.reader.reading c.in-Some.aborts c.end_message.result (sym c.message_begun.ensures ∙ c.in-Some.is)
+pub returns-then-line_ends_first-clause-some : goal.returns-then-line_ends_first-clause-some
+returns-then-line_ends_first-clause-some g c =
+    on_ok c.end_line.result (inr (sym c.line_ends_first.ensures ∙ c.if-line_ends_first.true))
 
-pub returns-in-None-clause-acts : goal.returns-in-None-clause-acts
-returns-in-None-clause-acts g c = λ none failures.
-    Acts-as input_ends (input_ended None) _ _ _ _ _ _
-    (λ tape h messages. input_ends-no_half (state_at tape c.args.self.now h messages) None (sym c.is_half_read.ensures ∙ c.if-is_half_read.false)
-    (sym c.message_begun.ensures ∙ c.in-None.is))
+pub returns-clause-acts : goal.returns-clause-acts
+returns-clause-acts g c = λ none failures.
+    Acts-as input_ends (input_ended false) _ _ _ _ _ _
+    (λ tape h messages. input_ends-no_half (state_at tape c.args.self.now h messages) false (sym c.is_half_read.ensures ∙ c.if-is_half_read.false)
+    (sym c.line_ends_first.ensures ∙ c.if-line_ends_first.false))
     (c.finish.ensures (inl none) failures)

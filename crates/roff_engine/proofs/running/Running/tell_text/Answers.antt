@@ -1,4 +1,3 @@
-use Rattle.std.proofs.Common.{sym}
 use Rattle.roff_engine.proofs.Settling.{aborted_settles, failed_settles, told_settles}
 use Rattle.roff_engine.proofs.running.Running.tell_text.Goals as goal
 

@@ -1,6 +1,6 @@
 use Rattle.std.proofs.Common.{drop, arith}
 use Rattle.roff_scan.specs.Slots.Standing.{item_of}
-use Rattle.roff_scan.proofs.BodyTaken.{with_body-taken, with_body-first, IsSound-passed, TakesFront-passed, IsSound-released, TakesFront-released}
+use Rattle.roff_scan.proofs.BodyTaken.{with_body-taken, with_body-first, IsSound-passed_byte, TakesFront-passed, IsSound-released, TakesFront-released}
 use Rattle.roff_scan.proofs.frames.Frames.take.Goals as goal
 
 pub invariant_of-self-then-lease_rest-eq1 : goal.invariant_of-self-then-lease_rest-eq1
@@ -31,7 +31,7 @@ invariant_of-self-in-Some-Do-Body g c =
     let lease = c.in-Some-Do-Body.lease in
     let front = rw (c.in-Some-Do-Body.field-0-is, c.in-Some-Do-Body.field-0-0-is) at c.in-Some-Do-Body.ensures in
     let behind = record inside.slots { ahead = drop 1 inside.slots.ahead } in
-    let passed = IsSound-passed inside.texts inside.slots behind lease (with_body-first inside.slots lease front) c.self.invariant
+    let passed = IsSound-passed_byte inside.texts inside.slots behind lease (with_body-first inside.slots lease front) c.self.invariant
     c.lease_front.result.now c.lease_front.ensures.bytes c.lease_front.ensures.some in
     rw c.lease_pass.ensures (passed (rw c.lease_rest.ensures at c.if-lease_rest-eq1.false))
 

@@ -2,7 +2,7 @@ use Rattle.std.proofs.Common.{◌≡◌, ◌+◌, ◌<◌, false, Option, Some, 
 use Rattle.std.specs.Prelude.{is_some, nat_lt}
 use Rattle.std.proofs.lemmas.Bool.{le-ltb}
 use Rattle.roff_scan.specs.Tape.{Gives, OneByte}
-use Rattle.roff_scan.proofs.Asking.{takes_asked}
+use Rattle.roff_scan.proofs.Asking.{takes_asked, takes_ready}
 use Rattle.roff_scan.proofs.unread.Unread.take_ready.Goals as goal
 
 nothing_looked : {A : Type 0} (looked : Option A) → is_some looked ≡ false → looked ≡ None
@@ -18,3 +18,8 @@ returns-in-Some-clause-takes g c =
     takes_asked (g.S.ByteSource.gives c.args.source.now) _ _ _ c.self.view_is _ (g.S.ByteSource.gives c.ready_byte.new.self) (Gives (OneByte b))
     (sym c.is_empty.ensures ∙ c.if-not-is_empty.false) (nothing_looked c.self.inside.looked (sym c.is_some.ensures ∙ c.if-is_some.false)) c.in-Some.ensures.gives
     (rw (room, c.count.ensures.counts) refl)
+
+pub returns-then-not-is_empty-clause-takes : goal.returns-then-not-is_empty-clause-takes
+returns-then-not-is_empty-clause-takes g c =
+    takes_ready (g.S.ByteSource.gives c.args.source.now) _ c.args.self.now c.take_ready_ahead.new.self c.self.view_is
+    (sym c.is_empty.ensures ∙ c.if-not-is_empty.true) c.take_ready_ahead.result c.take_ready_ahead.ensures.takes
