@@ -5,9 +5,13 @@
     bench/make_text.py requests MEGABYTES   the same with a request after every 2 to 5 lines
     bench/make_text.py registers MEGABYTES  the same with a register set after every 2 to 5 lines, and one read in each line
     bench/make_text.py skipped MEGABYTES    running text as the branch of a condition that is false
+    bench/make_text.py macros MEGABYTES     running text with macros, strings and registers of its own
+    bench/make_text.py loop MEGABYTES       macros that call each other until so many bytes of them were read; writes nothing
 """
 import random
 import sys
+
+KINDS = ("text", "requests", "registers", "skipped", "macros", "loop")
 
 MEGABYTE = 1_000_000
 
@@ -76,6 +80,64 @@ READINGS = ["\\na", "\\nb", "\\nc", "\\n(xy", "\\n+a", "\\n-(xy", "\\n(.l"]
 # What stands before and behind text that is skipped.
 SKIPPED = (b".if 0 \\{\\\n", b".\\}\n")
 
+# The macros of a document that has its own: a heading, a paragraph, an item with a number, and a note.
+MACROS = """\
+.ds fm formatter
+.ds Co the company of the river
+.ds ch part
+.nr hn 0
+.nr it 0
+.de hd
+.\\\\" a heading: its number and its words
+.br
+.in 0
+.sp
+.nr hn +1
+.nr it 0
+\\\\*(ch \\\\n(hn: \\\\$1
+.br
+..
+.de pa
+.\\\\" a paragraph, set in if it is given how far
+.br
+.ie !'\\\\$1'' .in \\\\$1n
+.el .in 0
+.sp
+..
+.de li
+.\\\\" an item
+.nr it +1
+.br
+.in 5n
+(\\\\n(it) \\\\$1 \\\\$2:
+..
+.de no
+.\\\\" a note
+.if \\\\n(it .sp
+Note of \\\\*(Co in \\\\*(ch \\\\n(hn (\\\\$1):
+..
+"""
+
+# What stands in the text of such a document, and between its lines.
+STRINGS = ["\\*(fm", "\\*(Co", "\\*(ch", "\\n(hn", "\\n(it"]
+
+CALLS = [
+    '.hd "the first of many"',
+    ".hd again",
+    ".pa",
+    ".pa 3",
+    ".li first thing",
+    ".li 'second' \\*(fm",
+    ".no \\n(it",
+    '.ds ch "chapter',
+    ".ds ch part",
+]
+
+# The body of the innermost macro of a loop, and the names of those that call it, each ten times as often as the one before.
+LOOPED = '.\\\\" counted in a register\n.nr a +1\n.if \\\\na<0 .tm below\n'
+
+CALLERS = "bcdefg"
+
 
 class Writer:
     def __init__(self):
@@ -122,6 +184,8 @@ class Writer:
                 lines = self.with_requests(lines, REQUESTS)
             elif kind == "registers":
                 lines = self.with_requests([f"{line} {self.one_of(READINGS)}" for line in lines], SETTINGS)
+            elif kind == "macros":
+                lines = self.with_requests([f"{line} {self.one_of(STRINGS)}" for line in lines], CALLS)
             part = "\n".join(lines) + "\n\n"
             parts.append(part)
             length += len(part)
@@ -139,8 +203,25 @@ class Writer:
         return mixed
 
 
+def loop(size):
+    """Returns macros, and calls that read so many bytes of the innermost body, but for less than one reading."""
+    parts = [f".nr a 0\n.de xa\n{LOOPED}..\n"]
+    for called, caller in zip("a" + CALLERS, CALLERS):
+        calls = f".x{called}\n" * 10
+        parts.append(f".de x{caller}\n{calls}..\n")
+    count = size // len(LOOPED)
+    for name in "a" + CALLERS[:-1]:
+        count, times = divmod(count, 10)
+        parts.append(f".x{name}\n" * times)
+    parts.append(f".x{CALLERS[-1]}\n" * count)
+    return "".join(parts).encode()
+
+
 def write_document(kind, size, file):
-    front, behind = SKIPPED if kind == "skipped" else (b"", b"")
+    if kind == "loop":
+        file.write(loop(size))
+        return
+    front, behind = {"skipped": SKIPPED, "macros": (MACROS.encode(), b"")}.get(kind, (b"", b""))
     size -= len(front + behind)
     text = Writer().document(kind, min(size, NEW_TEXT))
     whole = size // len(text) if text else 0
@@ -152,7 +233,7 @@ def write_document(kind, size, file):
 
 
 def main():
-    if len(sys.argv) != 3 or sys.argv[1] not in ("text", "requests", "registers", "skipped"):
+    if len(sys.argv) != 3 or sys.argv[1] not in KINDS:
         sys.exit(__doc__.strip())
     write_document(sys.argv[1], int(float(sys.argv[2]) * MEGABYTE), sys.stdout.buffer)
 

@@ -1,6 +1,6 @@
 -- Lines that call a body lead to where it is read, and lines whose names stand for nothing do nothing.
 use Rattle.std.proofs.Common.{◌≡◌, ℕ, zero, suc, ◌+◌, ◌≤◌, Bool, true, false, List, [], ◌∷◌, ◌++◌, length, Option, Some, None, refl, ap, sym, subst, ◌∙◌, arith, append_assoc}
-use Rattle.std.specs.Prelude.{All, ◌||◌, map, nat_le, not, reverse, sum_by, take, IsTrue, if◌then◌else◌, ◌==◌}
+use Rattle.std.specs.Prelude.{All, ◌||◌, map, nat_le, reverse, sum_by, take, if◌then◌else◌, ◌==◌}
 use Rattle.std.specs.List.{flat_map}
 use Rattle.std.proofs.Math.Seq.{take-nil}
 use Rattle.std.proofs.lemmas.Bool.{eqb-true}
@@ -28,7 +28,7 @@ use Rattle.roff_run.proofs.QuotedArguments.{itself-quoted_line}
 use Rattle.roff_run.specs.CallLaws.{BeginsLine, BelongsToName, BodiesAreCalled, BodiesAreCalledFromTheSource, BlankBehind, IsApostrophe, IsBehindName, IsCall, IsControl, IsDot, IsUnknown, NothingBehind, UnknownNamesDoNothing, UnknownNamesOfTheSourceDoNothing, behind_call, call_line, named_line, with_call}
 use Rattle.roff_run.specs.InterpolationLaws.{StandsForItself}
 use Rattle.roff_run.specs.Laws.{IsWithin}
-use Rattle.roff_run.specs.Reading.{PageInput, Taking, behind_called, call_read, called_taking, due, ends_name, going_on, holding, holding_call, kept_taking, name_ended_taking, name_whole_taking, settling, taking}
+use Rattle.roff_run.specs.Reading.{PageInput, Taking, behind_called, call_read, called_taking, due, ends_name, going_on, holding_call, kept_taking, name_ended_taking, name_whole_taking, settling, taking}
 use Rattle.roff_run.specs.Registers.{Known}
 use Rattle.roff_run.specs.Requests.{called_as, called_by}
 use Rattle.roff_run.specs.Run.{State, after, byte_taken, known, taken_as}

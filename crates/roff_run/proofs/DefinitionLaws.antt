@@ -13,7 +13,6 @@ use Rattle.roff_scan.specs.Bytes.{backslash, is_dropped, newline}
 use Rattle.roff_scan.specs.Half.{Half, Backslash}
 use Rattle.roff_scan.specs.Halves.{byte_read}
 use Rattle.roff_scan.specs.Input.{body_named, calling_on, lines_taken, stored}
-use Rattle.roff_scan.specs.Tape.{Tape}
 use Rattle.roff_scan.specs.declared.half.CopyUnit.TheVariants.{Byte}
 use Rattle.roff_scan.specs.declared.half.Read.TheVariants.{GoesOn, Unit as GivesUnit}
 use Rattle.roff_scan.specs.declared.half.Surroundings.TheVariants.{Copy as AboveCopy}
@@ -21,9 +20,9 @@ use Rattle.roff_store.specs.Named.{Named, with_entry}
 use Rattle.roff_store.specs.TextCalls.{Enter, PushOpen}
 use Rattle.roff_store.specs.Texts.{Body, Entry, newest}
 use Rattle.roff_run.proofs.Interpolation.{FromAhead, FromSource, IsRead-itself, Origin, ahead_at, not-first, not-second, tape_at}
-use Rattle.roff_run.proofs.PlainRuns.{HasRoom, HasRoom-start, Here, Most, Onward, Path, Path-append, Stage, Turns, after-last, behind_byte, behind_bytes, counted, counted-ahead, counted-last, counted-source, input_at, is-run_at, run_at}
-use Rattle.roff_run.specs.DefinitionLaws.{AreItsLines, BeginsDefinition, DefinitionsEnterTheirLines, DefinitionsOfTheSourceEnterTheirLines, HasRoomFor, IgnoredLinesEnterNothing, IgnoredLinesOfTheSourceEnterNothing, IsTextLine, LinesBeginBehindTwoDots, behind_end, definition_bytes, is_end, text_of_lines, with_definition}
-use Rattle.roff_run.specs.Definitions.{end_mark, ends_mark, front_of, line_from, line_with, matched_behind}
+use Rattle.roff_run.proofs.PlainRuns.{HasRoom, HasRoom-start, Here, Most, Onward, Path, Stage, Turns, after-last, behind_byte, behind_bytes, counted, counted-ahead, counted-last, counted-source, input_at, is-run_at, run_at}
+use Rattle.roff_run.specs.DefinitionLaws.{AreItsLines, BeginsDefinition, DefinitionsEnterTheirLines, DefinitionsOfTheSourceEnterTheirLines, IgnoredLinesEnterNothing, IgnoredLinesOfTheSourceEnterNothing, IsTextLine, LinesBeginBehindTwoDots, behind_end, definition_bytes, is_end, text_of_lines, with_definition}
+use Rattle.roff_run.specs.Definitions.{end_mark, front_of, line_from, line_with, matched_behind}
 use Rattle.roff_run.specs.InterpolationLaws.{StandsForItself}
 use Rattle.roff_run.specs.Laws.{IsWithin}
 use Rattle.roff_run.specs.Output.{PageHistory}
@@ -31,7 +30,6 @@ use Rattle.roff_run.specs.Reading.{PageInput, Taking, behind_definition, definit
 use Rattle.roff_run.specs.Registers.{AllRegisters, Known}
 use Rattle.roff_run.specs.Run.{State, after, byte_taken, known, known_at, taken_as}
 use Rattle.roff_run.specs.ShortNames.{name_bytes}
-use Rattle.roff_run.specs.declared.definition.DefinitionLine.{DefinitionLine}
 use Rattle.roff_run.specs.declared.definition.DefinitionLine.TheVariants.{IsLast, IsText, MayBeLast}
 use Rattle.roff_run.specs.declared.reading.Reading.{Reading}
 use Rattle.roff_run.specs.declared.reading.Reading.TheVariants.{Defining}

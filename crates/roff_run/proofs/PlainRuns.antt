@@ -1,5 +1,5 @@
 -- Runs over bytes that change what is read, the arguments of the line and the texts in the making, and nothing else.
-use Rattle.std.proofs.Common.{◌≡◌, ℕ, ◌+◌, ◌-◌, ◌≤◌, List, [], ◌∷◌, ◌++◌, length, Option, Some, None, refl, ap, sym, ◌∙◌, arith, append_assoc}
+use Rattle.std.proofs.Common.{◌≡◌, ℕ, ◌+◌, ◌-◌, ◌≤◌, List, [], ◌∷◌, ◌++◌, length, None, refl, ap, sym, ◌∙◌, arith}
 use Rattle.std.specs.Prelude.{map, sum_by, if◌then◌else◌, ◌==◌}
 use Rattle.std.proofs.lemmas.List.{length-append}
 use Rattle.roff_lines.specs.Lines.{pending_length}
@@ -183,10 +183,12 @@ after-Path l s names from most _ q _ more i on (Here p) room = (refl, room)
 after-Path l s names from most p _ _ more i on (Onward _ next q b bytes none_due turns small grows path) room =
     let behind : HasRoom l s names from most next (bytes ++ more) (behind_byte from b i) = HasRoom-behind l s names from most p next b (bytes ++ more) i grows room in
     let few : i.charge + 1 ≤ l.bytes = omega (arith, room.charged) in
-    let others = after-Path l s names from most next q bytes more (behind_byte from b i) on path behind in
-    (ap (after l (length bytes))
-    (step-turns l s names from p next b (bytes ++ more) i on none_due few turns (IsWithin-HasRoom l s names from most next (bytes ++ more) (behind_byte from b i) small behind))
-    ∙ others.0, others.1)
+    let others = after-Path l s names from most next q bytes more (behind_byte from b i) on path behind in (
+      ap (after l (length bytes))
+          (step-turns l s names from p next b (bytes ++ more) i on none_due few turns (IsWithin-HasRoom l s names from most next (bytes ++ more) (behind_byte from b i) small behind))
+          ∙ others.0,
+      others.1,
+    )
 
 -- what is counted of bytes, by where they come from
 pub behind_bytes-ahead : (rest : List (Ahead PageEvent)) (bytes : List ℕ) (i : PageInput)

@@ -1,5 +1,5 @@
 -- Laws of control lines that call a body, and of those whose names stand for nothing (manual, section 7).
-use Rattle.std.specs.Prelude.{◌≡◌, ℕ, ◌+◌, ◌≤◌, Bool, false, not, ◌||◌, List, [], ◌∷◌, ◌++◌, length, map, take, All, IsTrue, Option, Some, None, ◌==◌}
+use Rattle.std.specs.Prelude.{◌≡◌, ℕ, ◌+◌, ◌≤◌, false, not, ◌||◌, List, [], ◌∷◌, ◌++◌, length, map, take, All, IsTrue, Some, None, ◌==◌}
 use Rattle.roff_num.specs.declared.limits.Limits.{Limits}
 use Rattle.roff_scan.specs.Arguments.{no_arguments}
 use Rattle.roff_scan.specs.Bytes.{apostrophe, blank, dot, is_dropped, newline}
@@ -43,25 +43,31 @@ abbrev pub call_line : ℕ → ShortName → List (List ℕ) → List ℕ
 call_line control name arguments = control ∷ name_bytes name ++ behind_call arguments ++ newline ∷ []
 
 -- a control line may be so: it calls a body by its name, with arguments of bytes that stand for themselves
-pub record IsCall (names : Named Entry) (control : ℕ) (name : ShortName) (body : List ℕ) (arguments : List (List ℕ)) : Type 0 where
+pub record IsCall (names : Named Entry) (control : ℕ) (name : ShortName) (body : List ℕ) (given : List (List ℕ)) : Type 0 where
   pub begins : IsControl control
   pub is_name : All BelongsToName (name_bytes name)
   pub stands_for : entry_of (name_bytes name) names ≡ Some (Body body)
-  pub plain : All (All StandsForItself) arguments
+  pub plain : All (All StandsForItself) given
 
 -- a called body stands in front, as it is read, and its end; up to that the first nine of these arguments are in force
 abbrev pub with_call : List ℕ → List (List ℕ) → PageInput → PageInput
-with_call body arguments i = record i { ahead = map ByteAhead (called_text body) ++ ReturnAhead ∷ i.ahead; calls = take 9 arguments ∷ i.calls }
+with_call body arguments i = record i {
+  ahead = map ByteAhead (called_text body) ++ ReturnAhead ∷ i.ahead;
+  calls = take 9 arguments ∷ i.calls;
+}
 
 -- Reading a line that calls a body leads to where the body stands in front of what stood behind the line, and a line begins.
 -- So many steps lead there as the line has bytes, and each byte costs one.
 abbrev pub BodiesAreCalled : Type 0
 BodiesAreCalled =
-    (l : Limits) (s : State) (control : ℕ) (name : ShortName) (body : List ℕ) (arguments : List (List ℕ)) (rest : List (Ahead PageEvent)) →
-    BeginsLine s → IsCall s.input.names control name body arguments → s.input.ahead ≡ map ByteAhead (call_line control name arguments) ++ rest →
-    let steps : ℕ = length (call_line control name arguments) in
-    let called : State = record s { input = with_call body arguments (record s.input { ahead = rest; charge = s.input.charge + steps }) } in
-    IsWithin l s → IsWithin l called → after l steps s ≡ called
+    (l : Limits) (s : State) (control : ℕ) (name : ShortName) (body : List ℕ) (arguments : List (List ℕ))
+    (rest : List (Ahead PageEvent)) →
+    BeginsLine s → IsCall s.input.names control name body arguments →
+    let line : List ℕ = call_line control name arguments in
+    s.input.ahead ≡ map ByteAhead line ++ rest →
+    let behind : PageInput = record s.input { ahead = rest; charge = s.input.charge + length line } in
+    let called : State = record s { input = with_call body arguments behind } in
+    IsWithin l s → IsWithin l called → after l (length line) s ≡ called
 
 -- and so it is where the line stands in the source itself, with nothing ahead of it
 abbrev pub BodiesAreCalledFromTheSource : Type 0
@@ -93,10 +99,10 @@ pub record IsUnknown (names : Named Entry) (control : ℕ) (name : ShortName) (b
 abbrev pub UnknownNamesDoNothing : Type 0
 UnknownNamesDoNothing =
     (l : Limits) (s : State) (control : ℕ) (name : ShortName) (behind : List ℕ) (rest : List (Ahead PageEvent)) →
-    BeginsLine s → IsUnknown s.input.names control name behind → s.input.ahead ≡ map ByteAhead (named_line control name behind) ++ rest →
-    let steps : ℕ = length (named_line control name behind) in
-    IsWithin l s → s.input.charge + steps ≤ l.bytes →
-    after l steps s ≡ record s { input = record s.input { ahead = rest; charge = s.input.charge + steps } }
+    BeginsLine s → IsUnknown s.input.names control name behind →
+    let line : List ℕ = named_line control name behind in
+    s.input.ahead ≡ map ByteAhead line ++ rest → IsWithin l s → s.input.charge + length line ≤ l.bytes →
+    after l (length line) s ≡ record s { input = record s.input { ahead = rest; charge = s.input.charge + length line } }
 
 -- and so it is where the line stands in the source itself, with nothing ahead of it
 abbrev pub UnknownNamesOfTheSourceDoNothing : Type 0

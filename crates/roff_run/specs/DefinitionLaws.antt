@@ -71,43 +71,52 @@ behind_end end s = taken_as (behind_definition (known s) s.input end newline) s
 -- one that ends them have bytes, and each costs one. Behind it the name of its mark is called.
 abbrev pub DefinitionsEnterTheirLines : Type 0
 DefinitionsEnterTheirLines =
-    (l : Limits) (s : State) (name : ShortName) (appends : Bool) (end : Option ShortName) (before lines : List (List ℕ)) (rest : List (Ahead PageEvent)) →
+    (l : Limits) (s : State) (name : ShortName) (appends : Bool) (end : Option ShortName) (before lines : List (List ℕ))
+    (rest : List (Ahead PageEvent)) →
     BeginsDefinition s (Some name) appends end → s.input.open_texts ≡ before ++ [] ∷ [] → AreItsLines end lines →
-    s.input.ahead ≡ map ByteAhead (definition_bytes end lines) ++ rest →
-    let steps : ℕ = length (definition_bytes end lines) in
-    let entered : State = record s { input = with_definition name appends (text_of_lines lines) before (record s.input { ahead = rest; charge = s.input.charge + steps }) } in
-    HasRoomFor l s (definition_bytes end lines) (text_of_lines lines) → IsWithin l s → IsWithin l (behind_end end entered) →
-    after l steps s ≡ behind_end end entered
+    let bytes : List ℕ = definition_bytes end lines in
+    let text : List ℕ = text_of_lines lines in
+    s.input.ahead ≡ map ByteAhead bytes ++ rest →
+    let behind : PageInput = record s.input { ahead = rest; charge = s.input.charge + length bytes } in
+    let entered : State = record s { input = with_definition name appends text before behind } in
+    HasRoomFor l s bytes text → IsWithin l s → IsWithin l (behind_end end entered) →
+    after l (length bytes) s ≡ behind_end end entered
 
 -- and so it is where they stand in the source itself, with nothing ahead of them
 abbrev pub DefinitionsOfTheSourceEnterTheirLines : Type 0
 DefinitionsOfTheSourceEnterTheirLines =
-    (l : Limits) (s : State) (name : ShortName) (appends : Bool) (end : Option ShortName) (before lines : List (List ℕ)) (tape : Tape) →
-    BeginsDefinition s (Some name) appends end → s.input.open_texts ≡ before ++ [] ∷ [] → AreItsLines end lines → s.input.ahead ≡ [] →
-    s.tape ≡ items_then (map OneByte (definition_bytes end lines)) tape →
+    (l : Limits) (s : State) (name : ShortName) (appends : Bool) (end : Option ShortName) (before lines : List (List ℕ))
+    (tape : Tape) →
+    BeginsDefinition s (Some name) appends end → s.input.open_texts ≡ before ++ [] ∷ [] → AreItsLines end lines →
     let bytes : List ℕ = definition_bytes end lines in
-    let entered : State = record s { tape = tape; input = with_definition name appends (text_of_lines lines) before (lines_taken bytes s.input) } in
-    HasRoomFor l s bytes (text_of_lines lines) → IsWithin l s → IsWithin l (behind_end end entered) →
+    let text : List ℕ = text_of_lines lines in
+    s.input.ahead ≡ [] → s.tape ≡ items_then (map OneByte bytes) tape →
+    let behind : PageInput = lines_taken bytes s.input in
+    let entered : State = record s { tape = tape; input = with_definition name appends text before behind } in
+    HasRoomFor l s bytes text → IsWithin l s → IsWithin l (behind_end end entered) →
     after l (length bytes) s ≡ behind_end end entered
 
 -- lines that are ignored enter nothing
 abbrev pub IgnoredLinesEnterNothing : Type 0
 IgnoredLinesEnterNothing =
     (l : Limits) (s : State) (appends : Bool) (end : Option ShortName) (lines : List (List ℕ)) (rest : List (Ahead PageEvent)) →
-    BeginsDefinition s None appends end → AreItsLines end lines → s.input.ahead ≡ map ByteAhead (definition_bytes end lines) ++ rest →
-    let steps : ℕ = length (definition_bytes end lines) in
-    let passed : State = record s { input = record s.input { ahead = rest; charge = s.input.charge + steps } } in
-    s.input.charge + steps ≤ l.bytes → IsWithin l s → IsWithin l (behind_end end passed) → after l steps s ≡ behind_end end passed
+    BeginsDefinition s None appends end → AreItsLines end lines →
+    let bytes : List ℕ = definition_bytes end lines in
+    s.input.ahead ≡ map ByteAhead bytes ++ rest →
+    let passed : State = record s { input = record s.input { ahead = rest; charge = s.input.charge + length bytes } } in
+    s.input.charge + length bytes ≤ l.bytes → IsWithin l s → IsWithin l (behind_end end passed) →
+    after l (length bytes) s ≡ behind_end end passed
 
 -- and so it is where they stand in the source itself, with nothing ahead of them
 abbrev pub IgnoredLinesOfTheSourceEnterNothing : Type 0
 IgnoredLinesOfTheSourceEnterNothing =
     (l : Limits) (s : State) (appends : Bool) (end : Option ShortName) (lines : List (List ℕ)) (tape : Tape) →
-    BeginsDefinition s None appends end → AreItsLines end lines → s.input.ahead ≡ [] →
-    s.tape ≡ items_then (map OneByte (definition_bytes end lines)) tape →
+    BeginsDefinition s None appends end → AreItsLines end lines →
     let bytes : List ℕ = definition_bytes end lines in
+    s.input.ahead ≡ [] → s.tape ≡ items_then (map OneByte bytes) tape →
     let passed : State = record s { tape = tape; input = lines_taken bytes s.input } in
-    s.input.charge + length bytes ≤ l.bytes → IsWithin l s → IsWithin l (behind_end end passed) → after l (length bytes) s ≡ behind_end end passed
+    s.input.charge + length bytes ≤ l.bytes → IsWithin l s → IsWithin l (behind_end end passed) →
+    after l (length bytes) s ≡ behind_end end passed
 
 -- where no mark was named, two dots end a definition, and behind their line a line begins
 abbrev pub LinesBeginBehindTwoDots : Type 0

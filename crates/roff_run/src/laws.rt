@@ -219,6 +219,9 @@ pub fn message_rows()
     ensures aborted { formatted (codes "ab\n.ab stop\n") ≡ gives [] (codes "stop\n") Aborted }
     ensures user_abort { formatted (codes "a\n.ab") ≡ gives [] (codes "User Abort\n") Aborted }
     ensures left { formatted (codes ".pl 1\na\n.ex b\nc\n") ≡ gives (codes "a\n") [] Done }
+    ensures called_at_the_end { formatted (codes ".ds m ab\n.m") ≡ gives (codes "ab\n") [] Done }
+    ensures begun_at_the_end { formatted (codes "a\n.de m")
+        ≡ gives (codes "a\n") (codes "nroff: line 2: definition not ended\n") Done }
 {}
 
 /// A line of a message that has no escape, and no byte that is dropped, tells its text: without the

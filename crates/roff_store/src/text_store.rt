@@ -454,6 +454,7 @@ impl TextStore {
     }
 
     /// How many bytes a lease still gives.
+    #[inline]
     pub fn lease_rest(&self, id: LeaseId) -> usize
         requires { IsSome (lease_of id.0 self.now) }
         ensures { result ≡ rest_of (lease_of id.0 self.now) }

@@ -1,4 +1,5 @@
 use Rattle.std.proofs.Common.{refl}
+use Rattle.std.specs.Fmt.{digits}
 use Rattle.roff_run.proofs.laws.message_rows.Goals as goal
 
 pub returns-clause-told : goal.returns-clause-told
@@ -18,3 +19,10 @@ returns-clause-user_abort c = refl
 
 pub returns-clause-left : goal.returns-clause-left
 returns-clause-left c = refl
+
+pub returns-clause-called_at_the_end : goal.returns-clause-called_at_the_end
+returns-clause-called_at_the_end c = refl
+
+pub returns-clause-begun_at_the_end : goal.returns-clause-begun_at_the_end
+unfolding digits
+returns-clause-begun_at_the_end c = refl
