@@ -41,7 +41,7 @@ use Rattle.roff_run.specs.declared.request.Called.TheVariants.{Body as ABody, No
 
 -- a stage
 abbrev stage : Reading → Arguments → List (List ℕ) → Stage
-stage reading a texts = record { reading = reading; arguments = a; texts = texts }
+stage reading a texts = record { reading = reading; half = []; arguments = a; texts = texts }
 
 -- what begins a control line
 turns-control : (names : Named Entry) (a : Arguments) (texts : List (List ℕ)) (control : ℕ) → IsControl control
@@ -107,8 +107,8 @@ onward : (most : Most) (names : Named Entry) (a : Arguments) (texts : List (List
     → Turns names (stage from a texts) b (stage there a texts) → Allows most a texts → Path most names (stage there a texts) bytes r
     → Path most names (stage from a texts) (b ∷ bytes) r
 onward most names a texts from there b bytes r none_due turns allows path =
-    Onward (stage from a texts) (stage there a texts) r b bytes none_due turns
-    (record { held_few = allows.held_few; stored_few = allows.stored_few; texts_few = allows.texts_few }) (omega arith) path
+    Onward (stage from a texts) (stage there a texts) r b bytes none_due refl turns
+    (record { none_half = refl; held_few = allows.held_few; stored_few = allows.stored_few; texts_few = allows.texts_few }) (omega arith) path
 
 -- the name of a line, of one byte or two
 reads-name_of : (most : Most) (names : Named Entry) (a : Arguments) (texts : List (List ℕ)) (control first : ℕ) (second : Option ℕ) (there : Reading)
@@ -272,9 +272,9 @@ onward-call : (names : Named Entry) (name : ShortName) (texts : List (List ℕ))
     → call_byte a b ≡ there → held there ≤ held a + 1 → held there ≤ most → Path (most_of most texts) names (stage (Calling name) there texts) bytes r
     → Path (most_of most texts) names (stage (Calling name) a texts) (b ∷ bytes) r
 onward-call names name texts most a there b bytes r itself is grows few path =
-    Onward (stage (Calling name) a texts) (stage (Calling name) there texts) r b bytes refl
+    Onward (stage (Calling name) a texts) (stage (Calling name) there texts) r b bytes refl refl
     (subst (λ (all : Arguments). Turns names (stage (Calling name) a texts) b (stage (Calling name) all texts)) is (turns-call names name a texts b itself))
-    (record { held_few = few; stored_few = omega arith; texts_few = omega arith }) grows path
+    (record { none_half = refl; held_few = few; stored_few = omega arith; texts_few = omega arith }) grows path
 
 -- a byte within quotes is written so, and others behind it
 path-quoted_byte : (names : Named Entry) (name : ShortName) (texts : List (List ℕ)) (most : ℕ) (whole : List (List ℕ)) (begun : List ℕ) (b : ℕ) (is_quote : Bool) (bytes more : List ℕ) (r : Stage)
@@ -490,7 +490,7 @@ called-from l s from control name body arguments begins call ahead tape within w
     (omega (arith, within_called.bytes, behind_bytes-charge from line s.input)) (omega (arith, within_called.stack)) within.store within.making in
     ap (after l (length line)) (sym is)
     ∙ after-last l s names from (most_of most texts) start (stage reads.reading reads.there texts) front newline s.input (called_from s from line body arguments)
-    begins.takes reads.path room reads.does.none_due
+    begins.takes reads.path room reads.does.none_due refl
     (newline-calls s from name body front arguments reads.reading reads.there begins call.stands_for reads.given reads.does) within_called
 
 pub bodies_are_called : BodiesAreCalled
@@ -618,7 +618,7 @@ unknown-from l s from control name behind begins unknown ahead tape within charg
     HasRoom-start l s names from most start line s.input (subst (IsWithin l) (sym is) within) charged (omega (arith, within.stack)) within.store within.making in
     ap (after l (length line)) (sym is)
     ∙ after-last l s names from most start (stage reads.reading no_arguments texts) front newline s.input (passed_from s from line)
-    begins.takes reads.path room reads.does.none_due (newline-drops s from front reads.reading begins reads.does) (within-passed l s from line ahead within charged)
+    begins.takes reads.path room reads.does.none_due refl (newline-drops s from front reads.reading begins reads.does) (within-passed l s from line ahead within charged)
 
 pub unknown_names_do_nothing : UnknownNamesDoNothing
 unknown_names_do_nothing l s control name behind rest begins unknown ahead within charged =

@@ -1,6 +1,6 @@
 -- The lines of definitions enter their names as they are.
 use Rattle.std.proofs.Common.{◌≡◌, ℕ, ◌+◌, ◌-◌, ◌≤◌, Bool, true, false, List, [], ◌∷◌, ◌++◌, length, Option, Some, None, refl, ap, sym, subst, ◌∙◌, arith, append_assoc}
-use Rattle.std.specs.Prelude.{All, ◌||◌, drop, remove, set, sum_by, take, if◌then◌else◌, ◌==◌}
+use Rattle.std.specs.Prelude.{All, IsTrue, ◌&&◌, ◌||◌, not, drop, remove, set, sum_by, take, if◌then◌else◌, ◌==◌}
 use Rattle.std.proofs.Math.Seq.{drop-append_seam, drop-length, get_or-append_seam, set-append_seam, take-append_seam}
 use Rattle.std.proofs.lemmas.Bool.{eqb-false, eqb-true, ne_eqb}
 use Rattle.std.proofs.lemmas.List.{append-nil, length-append}
@@ -9,11 +9,14 @@ use Rattle.std.proofs.lemmas.List.Elements.{All-head, All-tail}
 use Rattle.std.proofs.lemmas.List.Sums.{sum_by-append, sum_by-cons}
 use Rattle.roff_num.specs.declared.limits.Limits.{Limits}
 use Rattle.roff_scan.specs.Arguments.{Arguments, held}
-use Rattle.roff_scan.specs.Bytes.{backslash, is_dropped, newline}
-use Rattle.roff_scan.specs.Half.{Half, Backslash}
-use Rattle.roff_scan.specs.Halves.{byte_read}
+use Rattle.roff_scan.specs.Bytes.{backslash, dot, is_dropped, newline, tab}
+use Rattle.roff_scan.proofs.Copying.{taken-copied}
+use Rattle.roff_scan.specs.Half.{Half, Backslash, unit_bytes}
+use Rattle.roff_scan.specs.HalfLaws.{begins_reading, copied, copied_escape, is_only_copied}
+use Rattle.roff_scan.specs.Halves.{byte_read, unit_taken}
 use Rattle.roff_scan.specs.Input.{body_named, calling_on, lines_taken, stored}
-use Rattle.roff_scan.specs.declared.half.CopyUnit.TheVariants.{Byte}
+use Rattle.roff_scan.specs.declared.half.CopyUnit.{CopyUnit}
+use Rattle.roff_scan.specs.declared.half.CopyUnit.TheVariants.{Byte, Kept}
 use Rattle.roff_scan.specs.declared.half.Read.TheVariants.{GoesOn, Unit as GivesUnit}
 use Rattle.roff_scan.specs.declared.half.Surroundings.TheVariants.{Copy as AboveCopy}
 use Rattle.roff_store.specs.Named.{Named, with_entry}
@@ -21,7 +24,8 @@ use Rattle.roff_store.specs.TextCalls.{Enter, PushOpen}
 use Rattle.roff_store.specs.Texts.{Body, Entry, newest}
 use Rattle.roff_run.proofs.Interpolation.{FromAhead, FromSource, IsRead-itself, Origin, ahead_at, not-first, not-second, tape_at}
 use Rattle.roff_run.proofs.PlainRuns.{HasRoom, HasRoom-start, Here, Most, Onward, Path, Stage, Turns, after-last, behind_byte, behind_bytes, counted, counted-ahead, counted-last, counted-source, input_at, is-run_at, run_at}
-use Rattle.roff_run.specs.DefinitionLaws.{AreItsLines, BeginsDefinition, DefinitionsEnterTheirLines, DefinitionsOfTheSourceEnterTheirLines, IgnoredLinesEnterNothing, IgnoredLinesOfTheSourceEnterNothing, IsTextLine, LinesBeginBehindTwoDots, behind_end, definition_bytes, is_end, text_of_lines, with_definition}
+use Rattle.roff_run.specs.ConditionLaws.{is_whole}
+use Rattle.roff_run.specs.DefinitionLaws.{AreItsLines, BeginsDefinition, DefinitionsEnterTheirLines, DefinitionsOfTheSourceEnterTheirLines, IgnoredLinesEnterNothing, IgnoredLinesOfTheSourceEnterNothing, IsTextLine, LinesBeginBehindTwoDots, behind_end, IsOfLine, bytes_of_lines, definition_bytes, is_end, text_of_lines, with_definition}
 use Rattle.roff_run.specs.Definitions.{end_mark, front_of, line_from, line_with, matched_behind}
 use Rattle.roff_run.specs.InterpolationLaws.{StandsForItself}
 use Rattle.roff_run.specs.Laws.{IsWithin}
@@ -51,7 +55,7 @@ making (Some name) before others text = before ++ text ∷ []
 -- where so many bytes of its mark stand in front of its line, if that may be the last one
 abbrev defining : Definition → Arguments → List ℕ → Option ℕ → Stage
 defining d a text matched =
-    record { reading = Defining d.name d.appends d.end matched; arguments = a; texts = making d.name d.before d.others text }
+    record { reading = Defining d.name d.appends d.end matched; half = []; arguments = a; texts = making d.name d.before d.others text }
 
 -- the newest of some texts is the last
 newest-last : (before : List (List ℕ)) (text : List ℕ) → newest (before ++ text ∷ []) ≡ Some (length before)
@@ -70,38 +74,52 @@ grown-by (Some name) before others text bytes i =
     ∙ ap (λ (own : List ℕ). record i { open_texts = set texts (length before) (own ++ bytes) }) (get_or-append_seam before text [] [])
     ∙ ap (λ (all : List (List ℕ)). record i { open_texts = all }) (set-append_seam before text [] (text ++ bytes))
 
--- a byte of it is copied
-copied-byte : (names : Named Entry) (d : Definition) (a : Arguments) (text : List ℕ) (matched : Option ℕ) (b : ℕ) (k : Known) (i : PageInput)
-    → (b == backslash) ≡ false → is_dropped b ≡ false
-    → let here : PageInput = input_at names (defining d a text matched) i in
-    taking k (Defining d.name d.appends d.end matched) here b ≡ definition_line k here d.name d.appends d.end matched (Byte b)
-copied-byte names d a text matched b k i plain is_kept =
-    let reading : Reading = Defining d.name d.appends d.end matched in
-    let here : PageInput = input_at names (defining d a text matched) i in
-    let unit : byte_read AboveCopy [] b ≡ (GivesUnit (Byte b), []) = ap (λ (c : Bool). if c then (GoesOn, Backslash ∷ []) else (GivesUnit (Byte b), [])) plain in
-    ap (λ (c : Bool). if c then going_on here reading else kept_taking k reading here b) is_kept
-    ∙ ap (definition_read k here d.name d.appends d.end matched) unit
+-- where a backslash was read of it
+abbrev escaping : Definition → Arguments → List ℕ → Option ℕ → Stage
+escaping d a text matched = record (defining d a text matched) { half = Backslash ∷ [] }
 
--- a byte behind which the line isn't the last one
-turns-text : (names : Named Entry) (d : Definition) (a : Arguments) (text front : List ℕ) (matched : Option ℕ) (b : ℕ) → (b == backslash) ≡ false → is_dropped b ≡ false
-    → front_of (end_mark d.end) matched ≡ front → line_from (end_mark d.end) matched (Byte b) ≡ IsText
-    → Turns names (defining d a text matched) b (defining d a (text ++ (front ++ b ∷ [])) (matched_behind (Byte b)))
-turns-text names d a text front matched b plain is_kept is_front is_text k i =
+-- a unit of its text is copied
+abbrev Copies : Named Entry → Definition → Arguments → CopyUnit → List ℕ → Option ℕ → List ℕ → Option ℕ → Type 0
+Copies names d a unit text matched there m =
+    (k : Known) (i : PageInput) → definition_line k (input_at names (defining d a text matched) i) d.name d.appends d.end matched unit
+    ≡ going_on (input_at names (defining d a there m) i) (Defining d.name d.appends d.end m)
+
+-- one behind which the line isn't the last one
+copies-text : (names : Named Entry) (d : Definition) (a : Arguments) (unit : CopyUnit) (text front : List ℕ) (matched : Option ℕ)
+    → front_of (end_mark d.end) matched ≡ front → line_from (end_mark d.end) matched unit ≡ IsText
+    → Copies names d a unit text matched (text ++ (front ++ unit_bytes unit)) (matched_behind unit)
+copies-text names d a unit text front matched is_front is_text k i =
     let here : PageInput = input_at names (defining d a text matched) i in
-    copied-byte names d a text matched b k i plain is_kept
-    ∙ ap (definition_unit k here d.name d.appends d.end (front_of (end_mark d.end) matched) (Byte b)) is_text
-    ∙ ap (λ (f : List ℕ). going_on (definition_grown d.name (f ++ b ∷ []) here) (Defining d.name d.appends d.end (matched_behind (Byte b)))) is_front
-    ∙ ap (λ (j : PageInput). going_on j (Defining d.name d.appends d.end (matched_behind (Byte b))))
-    (grown-by d.name d.before d.others text (front ++ b ∷ []) here)
+    ap (definition_unit k here d.name d.appends d.end (front_of (end_mark d.end) matched) unit) is_text
+    ∙ ap (λ (f : List ℕ). going_on (definition_grown d.name (f ++ unit_bytes unit) here) (Defining d.name d.appends d.end (matched_behind unit))) is_front
+    ∙ ap (λ (j : PageInput). going_on j (Defining d.name d.appends d.end (matched_behind unit)))
+    (grown-by d.name d.before d.others text (front ++ unit_bytes unit) here)
 
 -- one behind which it still may be
-turns-mark : (names : Named Entry) (d : Definition) (a : Arguments) (text : List ℕ) (matched m : ℕ) (b : ℕ) → (b == backslash) ≡ false → is_dropped b ≡ false
-    → line_from (end_mark d.end) (Some matched) (Byte b) ≡ MayBeLast m
-    → Turns names (defining d a text (Some matched)) b (defining d a text (Some m))
-turns-mark names d a text matched m b plain is_kept may k i =
-    let here : PageInput = input_at names (defining d a text (Some matched)) i in
-    copied-byte names d a text (Some matched) b k i plain is_kept
-    ∙ ap (definition_unit k here d.name d.appends d.end (front_of (end_mark d.end) (Some matched)) (Byte b)) may
+copies-mark : (names : Named Entry) (d : Definition) (a : Arguments) (unit : CopyUnit) (text : List ℕ) (matched m : ℕ)
+    → line_from (end_mark d.end) (Some matched) unit ≡ MayBeLast m → Copies names d a unit text (Some matched) text (Some m)
+copies-mark names d a unit text matched m may k i =
+    ap (definition_unit k (input_at names (defining d a text (Some matched)) i) d.name d.appends d.end (front_of (end_mark d.end) (Some matched)) unit) may
+
+-- a byte that gives a unit, where this is half read
+reads-unit : (names : Named Entry) (d : Definition) (a : Arguments) (text : List ℕ) (matched : Option ℕ) (half : List Half) (unit : CopyUnit) (b : ℕ) (k : Known) (i : PageInput)
+    → is_dropped b ≡ false → byte_read AboveCopy half b ≡ (GivesUnit unit, [])
+    → taking k (Defining d.name d.appends d.end matched) (record (input_at names (defining d a text matched) i) { half = half }) b
+    ≡ definition_line k (input_at names (defining d a text matched) i) d.name d.appends d.end matched unit
+reads-unit names d a text matched half unit b k i is_kept reads =
+    let reading : Reading = Defining d.name d.appends d.end matched in
+    let here : PageInput = record (input_at names (defining d a text matched) i) { half = half } in
+    ap (λ (c : Bool). if c then going_on here reading else kept_taking k reading here b) is_kept
+    ∙ ap (definition_read k here d.name d.appends d.end matched) reads
+
+-- a byte that is no backslash gives itself
+reads-itself : (b : ℕ) → (b == backslash) ≡ false → byte_read AboveCopy [] b ≡ (GivesUnit (Byte b), [])
+reads-itself b plain = ap (λ (c : Bool). if c then (GoesOn, Backslash ∷ []) else (GivesUnit (Byte b), [])) plain
+
+-- the bytes that give a unit: a byte that stands for itself, or a backslash and the byte behind it
+data Writes : CopyUnit → List ℕ → Type 0 where
+  AsItself : (b : ℕ) → StandsForItself b → Writes (Byte b) (b ∷ [])
+  Escaped : (unit : CopyUnit) (b : ℕ) → is_dropped b ≡ false → byte_read AboveCopy (Backslash ∷ []) b ≡ (GivesUnit unit, []) → Writes unit (backslash ∷ b ∷ [])
 
 -- as much may be held as texts of so many bytes make of it
 record Allows (most : Most) (d : Definition) (a : Arguments) (bound : ℕ) : Type 0 where
@@ -109,13 +127,14 @@ record Allows (most : Most) (d : Definition) (a : Arguments) (bound : ℕ) : Typ
   stored_few : (text : List ℕ) → length text ≤ bound → sum_by length (making d.name d.before d.others text) ≤ most.stored
   texts_few : (text : List ℕ) → length (making d.name d.before d.others text) ≤ most.texts
 
--- a byte of a definition, and others behind it
+-- a byte that gives a unit, and others behind it
 onward : (most : Most) (names : Named Entry) (d : Definition) (a : Arguments) (bound : ℕ) (text there : List ℕ) (matched m : Option ℕ) (b : ℕ) (bytes : List ℕ) (r : Stage)
-    → Allows most d a bound → length there ≤ bound → Turns names (defining d a text matched) b (defining d a there m)
+    → Allows most d a bound → length there ≤ bound → (b == backslash) ≡ false → is_dropped b ≡ false → Copies names d a (Byte b) text matched there m
     → Path most names (defining d a there m) bytes r → Path most names (defining d a text matched) (b ∷ bytes) r
-onward most names d a bound text there matched m b bytes r allows small turns path =
-    Onward (defining d a text matched) (defining d a there m) r b bytes refl turns
-    (record { held_few = allows.held_few; stored_few = allows.stored_few there small; texts_few = allows.texts_few there }) (omega arith) path
+onward most names d a bound text there matched m b bytes r allows small plain is_kept copies path =
+    Onward (defining d a text matched) (defining d a there m) r b bytes refl refl
+    (λ k i. reads-unit names d a text matched [] (Byte b) b k i is_kept (reads-itself b plain) ∙ copies k i)
+    (record { none_half = refl; held_few = allows.held_few; stored_few = allows.stored_few there small; texts_few = allows.texts_few there }) (omega arith) path
 
 -- what is known of a byte that stands for itself
 no_backslash : (b : ℕ) → StandsForItself b → (b == backslash) ≡ false
@@ -127,127 +146,245 @@ none_dropped b itself = not-first (is_dropped b) (b == newline) (IsRead-itself b
 no_newline : (b : ℕ) → StandsForItself b → (b == newline) ≡ false
 no_newline b itself = not-second (is_dropped b) (b == newline) (IsRead-itself b itself)
 
--- behind it no part of the mark stands in front of the line
-matched_behind-plain : (b : ℕ) → StandsForItself b → matched_behind (Byte b) ≡ None
-matched_behind-plain b itself = ap (λ (c : Bool). if c then Some 0 else None) (no_newline b itself)
+-- the bytes of a unit, and others behind them
+onward-unit : (most : Most) (names : Named Entry) (d : Definition) (a : Arguments) (bound : ℕ) (text there : List ℕ) (matched m : Option ℕ) (unit : CopyUnit) (written bytes : List ℕ) (r : Stage)
+    → Allows most d a bound → length text ≤ bound → length there ≤ bound → Writes unit written → Copies names d a unit text matched there m
+    → Path most names (defining d a there m) bytes r → Path most names (defining d a text matched) (written ++ bytes) r
+onward-unit most names d a bound text there matched m _ _ bytes r allows before small (AsItself b itself) copies path =
+    onward most names d a bound text there matched m b bytes r allows small (no_backslash b itself) (none_dropped b itself) copies path
+onward-unit most names d a bound text there matched m unit _ bytes r allows before small (Escaped _ b is_kept reads) copies path =
+    Onward (defining d a text matched) (escaping d a text matched) r backslash (b ∷ bytes) refl refl (λ k i. refl)
+    (record { none_half = refl; held_few = allows.held_few; stored_few = allows.stored_few text before; texts_few = allows.texts_few text }) (omega arith)
+    (Onward (escaping d a text matched) (defining d a there m) r b bytes refl refl
+    (λ k i. reads-unit names d a text matched (Backslash ∷ []) unit b k i is_kept reads ∙ copies k i)
+    (record { none_half = refl; held_few = allows.held_few; stored_few = allows.stored_few there small; texts_few = allows.texts_few there }) (omega arith) path)
 
--- such a byte of a line that isn't the last one
-onward-plain : (most : Most) (names : Named Entry) (d : Definition) (a : Arguments) (bound : ℕ) (text front : List ℕ) (matched : Option ℕ) (b : ℕ) (bytes : List ℕ) (r : Stage)
-    → Allows most d a bound → length text + length front + 1 ≤ bound → StandsForItself b
-    → front_of (end_mark d.end) matched ≡ front → line_from (end_mark d.end) matched (Byte b) ≡ IsText
-    → Path most names (defining d a (text ++ (front ++ b ∷ [])) None) bytes r → Path most names (defining d a text matched) (b ∷ bytes) r
-onward-plain most names d a bound text front matched b bytes r allows small itself is_front is_text path =
-    let there : List ℕ = text ++ (front ++ b ∷ []) in
-    onward most names d a bound text there matched None b bytes r allows (omega (arith, small, length-append text (front ++ b ∷ []), length-append front (b ∷ [])))
-    (subst (λ (m : Option ℕ). Turns names (defining d a text matched) b (defining d a there m)) (matched_behind-plain b itself)
-    (turns-text names d a text front matched b (no_backslash b itself) (none_dropped b itself) is_front is_text))
-    path
+-- a unit of a line that isn't the last one
+onward-text : (most : Most) (names : Named Entry) (d : Definition) (a : Arguments) (bound : ℕ) (text front : List ℕ) (matched : Option ℕ) (unit : CopyUnit) (written bytes : List ℕ) (r : Stage)
+    → Allows most d a bound → length text + length front + length (unit_bytes unit) ≤ bound → Writes unit written → matched_behind unit ≡ None
+    → front_of (end_mark d.end) matched ≡ front → line_from (end_mark d.end) matched unit ≡ IsText
+    → Path most names (defining d a (text ++ (front ++ unit_bytes unit)) None) bytes r → Path most names (defining d a text matched) (written ++ bytes) r
+onward-text most names d a bound text front matched unit written bytes r allows small writes behind is_front is_text path =
+    let there : List ℕ = text ++ (front ++ unit_bytes unit) in
+    onward-unit most names d a bound text there matched None unit written bytes r allows (omega (arith, small))
+    (omega (arith, small, length-append text (front ++ unit_bytes unit), length-append front (unit_bytes unit))) writes
+    (subst (λ (m : Option ℕ). Copies names d a unit text matched there m) behind (copies-text names d a unit text front matched is_front is_text)) path
+
+-- a line without its newline, and what it is copied to: its units don't end it
+data IsCopied : List ℕ → List ℕ → Type 0 where
+  NoUnit : IsCopied [] []
+  OneUnit : (unit : CopyUnit) (written line text : List ℕ) → Writes unit written → matched_behind unit ≡ None → IsCopied line text
+      → IsCopied (written ++ line) (unit_bytes unit ++ text)
+
+-- bytes in front of a line and of others
+regrouped : (written line more : List ℕ) → ((written ++ line) ++ newline ∷ []) ++ more ≡ written ++ ((line ++ newline ∷ []) ++ more)
+regrouped written line more =
+    ap (λ (front : List ℕ). front ++ more) (append_assoc written line (newline ∷ [])) ∙ append_assoc written (line ++ newline ∷ []) more
 
 -- the rest of such a line
-path-in_text : (most : Most) (names : Named Entry) (d : Definition) (a : Arguments) (bound : ℕ) (text line more : List ℕ) (r : Stage)
-    → Allows most d a bound → All StandsForItself line → length text + length line + 1 ≤ bound
-    → Path most names (defining d a (text ++ (line ++ newline ∷ [])) (Some 0)) more r
+path-in_text : (most : Most) (names : Named Entry) (d : Definition) (a : Arguments) (bound : ℕ) (text line copy more : List ℕ) (r : Stage)
+    → Allows most d a bound → IsCopied line copy → length text + length copy + 1 ≤ bound
+    → Path most names (defining d a (text ++ (copy ++ newline ∷ [])) (Some 0)) more r
     → Path most names (defining d a text None) ((line ++ newline ∷ []) ++ more) r
-path-in_text most names d a bound text [] more r allows plain small path =
-    onward most names d a bound text (text ++ newline ∷ []) None (Some 0) newline more r allows (omega (arith, small, length-append text (newline ∷ [])))
-    (turns-text names d a text [] None newline refl refl refl refl) path
-path-in_text most names d a bound text (b ∷ line) more r allows plain small path =
-    onward-plain most names d a bound text [] None b ((line ++ newline ∷ []) ++ more) r allows (omega (arith, small)) (All-head StandsForItself b line plain) refl refl
-    (path-in_text most names d a bound (text ++ b ∷ []) line more r allows (All-tail StandsForItself b line plain) (omega (arith, small, length-append text (b ∷ [])))
-    (subst (λ (all : List ℕ). Path most names (defining d a all (Some 0)) more r) (sym (append_assoc text (b ∷ []) (line ++ newline ∷ []))) path))
+path-in_text most names d a bound text _ _ more r allows NoUnit small path =
+    onward most names d a bound text (text ++ newline ∷ []) None (Some 0) newline more r allows (omega (arith, small, length-append text (newline ∷ []))) refl refl
+    (copies-text names d a (Byte newline) text [] None refl refl) path
+path-in_text most names d a bound text _ _ more r allows (OneUnit unit written line copy writes behind others) small path =
+    let bytes : List ℕ = unit_bytes unit in
+    let same : (text ++ bytes) ++ (copy ++ newline ∷ []) ≡ text ++ ((bytes ++ copy) ++ newline ∷ []) =
+    append_assoc text bytes (copy ++ newline ∷ []) ∙ ap (λ (rest : List ℕ). text ++ rest) (sym (append_assoc bytes copy (newline ∷ []))) in
+    subst (λ (all : List ℕ). Path most names (defining d a text None) all r) (sym (regrouped written line more))
+    (onward-text most names d a bound text [] None unit written ((line ++ newline ∷ []) ++ more) r allows (omega (arith, small, length-append bytes copy)) writes behind refl refl
+    (path-in_text most names d a bound (text ++ bytes) line copy more r allows others (omega (arith, small, length-append bytes copy, length-append text bytes))
+    (subst (λ (all : List ℕ). Path most names (defining d a all (Some 0)) more r) (sym same) path)))
 
 -- where a part of the mark stands in front, the rest of it is what the line is compared with
-line_from-part : (mark done todo : List ℕ) (b : ℕ) → mark ≡ done ++ todo → line_from mark (Some (length done)) (Byte b) ≡ line_with todo (length done) (b ∷ [])
-line_from-part mark done todo b is =
-    ap (λ (rest : List ℕ). line_with rest (length done) (b ∷ [])) (ap (λ (all : List ℕ). drop (length done) all) is ∙ drop-append_seam done todo)
+line_from-part : (mark done todo : List ℕ) (unit : CopyUnit) → mark ≡ done ++ todo → line_from mark (Some (length done)) unit ≡ line_with todo (length done) (unit_bytes unit)
+line_from-part mark done todo unit is =
+    ap (λ (rest : List ℕ). line_with rest (length done) (unit_bytes unit)) (ap (λ (all : List ℕ). drop (length done) all) is ∙ drop-append_seam done todo)
 
 front_of-part : (mark done todo : List ℕ) → mark ≡ done ++ todo → front_of mark (Some (length done)) ≡ done
 front_of-part mark done todo is = ap (λ (all : List ℕ). take (length done) all) is ∙ take-append_seam done todo
 
--- a byte that isn't the next one of the mark, and the rest of the line
-onward-other : (most : Most) (names : Named Entry) (d : Definition) (a : Arguments) (bound : ℕ) (text done todo : List ℕ) (b : ℕ) (line more : List ℕ) (r : Stage)
-    → Allows most d a bound → All StandsForItself (b ∷ line) → length text + length done + length (b ∷ line) + 1 ≤ bound → end_mark d.end ≡ done ++ todo
-    → line_with todo (length done) (b ∷ []) ≡ IsText
-    → Path most names (defining d a (text ++ (done ++ (b ∷ line ++ newline ∷ []))) (Some 0)) more r
-    → Path most names (defining d a text (Some (length done))) ((b ∷ line ++ newline ∷ []) ++ more) r
-onward-other most names d a bound text done todo b line more r allows plain small is is_text path =
-    let there : List ℕ = text ++ (done ++ b ∷ []) in
-    let same : there ++ (line ++ newline ∷ []) ≡ text ++ (done ++ (b ∷ line ++ newline ∷ [])) =
-    append_assoc text (done ++ b ∷ []) (line ++ newline ∷ []) ∙ ap (λ (others : List ℕ). text ++ others) (append_assoc done (b ∷ []) (line ++ newline ∷ [])) in
-    onward-plain most names d a bound text done (Some (length done)) b ((line ++ newline ∷ []) ++ more) r allows (omega (arith, small)) (All-head StandsForItself b line plain)
-    (front_of-part (end_mark d.end) done todo is) (line_from-part (end_mark d.end) done todo b is ∙ is_text)
-    (path-in_text most names d a bound there line more r allows (All-tail StandsForItself b line plain)
-    (omega (arith, small, length-append text (done ++ b ∷ []), length-append done (b ∷ [])))
-    (subst (λ (all : List ℕ). Path most names (defining d a all (Some 0)) more r) (sym same) path))
+-- a unit that isn't the next one of the mark, and the rest of the line
+onward-other : (most : Most) (names : Named Entry) (d : Definition) (a : Arguments) (bound : ℕ) (text done todo : List ℕ) (unit : CopyUnit) (written line copy more : List ℕ) (r : Stage)
+    → Allows most d a bound → Writes unit written → matched_behind unit ≡ None → IsCopied line copy → length text + length done + length (unit_bytes unit ++ copy) + 1 ≤ bound
+    → end_mark d.end ≡ done ++ todo → line_with todo (length done) (unit_bytes unit) ≡ IsText
+    → Path most names (defining d a (text ++ (done ++ ((unit_bytes unit ++ copy) ++ newline ∷ []))) (Some 0)) more r
+    → Path most names (defining d a text (Some (length done))) (((written ++ line) ++ newline ∷ []) ++ more) r
+onward-other most names d a bound text done todo unit written line copy more r allows writes behind others small is is_text path =
+    let bytes : List ℕ = unit_bytes unit in
+    let there : List ℕ = text ++ (done ++ bytes) in
+    let same : there ++ (copy ++ newline ∷ []) ≡ text ++ (done ++ ((bytes ++ copy) ++ newline ∷ [])) =
+    append_assoc text (done ++ bytes) (copy ++ newline ∷ [])
+    ∙ ap (λ (rest : List ℕ). text ++ rest)
+    (append_assoc done bytes (copy ++ newline ∷ []) ∙ ap (λ (rest : List ℕ). done ++ rest) (sym (append_assoc bytes copy (newline ∷ [])))) in
+    subst (λ (all : List ℕ). Path most names (defining d a text (Some (length done))) all r) (sym (regrouped written line more))
+    (onward-text most names d a bound text done (Some (length done)) unit written ((line ++ newline ∷ []) ++ more) r allows (omega (arith, small, length-append bytes copy)) writes behind
+    (front_of-part (end_mark d.end) done todo is) (line_from-part (end_mark d.end) done todo unit is ∙ is_text)
+    (path-in_text most names d a bound there line copy more r allows others
+    (omega (arith, small, length-append bytes copy, length-append text (done ++ bytes), length-append done bytes))
+    (subst (λ (all : List ℕ). Path most names (defining d a all (Some 0)) more r) (sym same) path)))
 
 -- the next byte of the mark
-onward-mark : (most : Most) (names : Named Entry) (d : Definition) (a : Arguments) (bound : ℕ) (text done todo : List ℕ) (b c : ℕ) (bytes : List ℕ) (r : Stage)
-    → Allows most d a bound → StandsForItself b → length text ≤ bound → end_mark d.end ≡ done ++ c ∷ todo → (b == c) ≡ true
-    → Path most names (defining d a text (Some (length done + 1))) bytes r → Path most names (defining d a text (Some (length done))) (b ∷ bytes) r
-onward-mark most names d a bound text done todo b c bytes r allows itself small is same path =
-    onward most names d a bound text text (Some (length done)) (Some (length done + 1)) b bytes r allows small
-    (turns-mark names d a text (length done) (length done + 1) b (no_backslash b itself) (none_dropped b itself)
-    (line_from-part (end_mark d.end) done (c ∷ todo) b is ∙ ap (λ (x : Bool). if x then MayBeLast (length done + 1) else IsText) same))
+onward-mark : (most : Most) (names : Named Entry) (d : Definition) (a : Arguments) (bound : ℕ) (text done todo : List ℕ) (b c : ℕ) (written bytes : List ℕ) (r : Stage)
+    → Allows most d a bound → Writes (Byte b) written → length text ≤ bound → end_mark d.end ≡ done ++ c ∷ todo → (b == c) ≡ true
+    → Path most names (defining d a text (Some (length done + 1))) bytes r → Path most names (defining d a text (Some (length done))) (written ++ bytes) r
+onward-mark most names d a bound text done todo b c written bytes r allows writes small is same path =
+    onward-unit most names d a bound text text (Some (length done)) (Some (length done + 1)) (Byte b) written bytes r allows small small writes
+    (copies-mark names d a (Byte b) text (length done) (length done + 1)
+    (line_from-part (end_mark d.end) done (c ∷ todo) (Byte b) is ∙ ap (λ (x : Bool). if x then MayBeLast (length done + 1) else IsText) same))
     path
 
 -- a line that doesn't end the definition, behind a part of the mark: by whether its next byte is the mark's
-path-compared : (most : Most) (names : Named Entry) (d : Definition) (a : Arguments) (bound : ℕ) (text done todo : List ℕ) (b c : ℕ) (line more : List ℕ) (r : Stage) (is_same : Bool)
-    → (b == c) ≡ is_same → Allows most d a bound → All StandsForItself (b ∷ line) → length text + length done + length (b ∷ line) + 1 ≤ bound → end_mark d.end ≡ done ++ c ∷ todo
-    → Path most names (defining d a (text ++ (done ++ (b ∷ line ++ newline ∷ []))) (Some 0)) more r
+path-compared : (most : Most) (names : Named Entry) (d : Definition) (a : Arguments) (bound : ℕ) (text done todo : List ℕ) (b c : ℕ) (written line copy more : List ℕ) (r : Stage) (is_same : Bool)
+    → (b == c) ≡ is_same → Allows most d a bound → Writes (Byte b) written → matched_behind (Byte b) ≡ None → IsCopied line copy
+    → length text + length done + length (b ∷ copy) + 1 ≤ bound → end_mark d.end ≡ done ++ c ∷ todo
+    → Path most names (defining d a (text ++ (done ++ (b ∷ copy ++ newline ∷ []))) (Some 0)) more r
     → (is_same ≡ true → Path most names (defining d a text (Some (length done + 1))) ((line ++ newline ∷ []) ++ more) r)
-    → Path most names (defining d a text (Some (length done))) ((b ∷ line ++ newline ∷ []) ++ more) r
-path-compared most names d a bound text done todo b c line more r true same allows plain small is path others =
-    onward-mark most names d a bound text done todo b c ((line ++ newline ∷ []) ++ more) r allows (All-head StandsForItself b line plain) (omega (arith, small)) is same (others refl)
-path-compared most names d a bound text done todo b c line more r false same allows plain small is path others =
-    onward-other most names d a bound text done (c ∷ todo) b line more r allows plain small is
+    → Path most names (defining d a text (Some (length done))) (((written ++ line) ++ newline ∷ []) ++ more) r
+path-compared most names d a bound text done todo b c written line copy more r true same allows writes behind others small is path next =
+    subst (λ (all : List ℕ). Path most names (defining d a text (Some (length done))) all r) (sym (regrouped written line more))
+    (onward-mark most names d a bound text done todo b c written ((line ++ newline ∷ []) ++ more) r allows writes (omega (arith, small)) is same (next refl))
+path-compared most names d a bound text done todo b c written line copy more r false same allows writes behind others small is path next =
+    onward-other most names d a bound text done (c ∷ todo) (Byte b) written line copy more r allows writes behind others small is
     (ap (λ (x : Bool). if x then MayBeLast (length done + 1) else IsText) same) path
 
+-- behind the whole mark a unit goes on with the line if its first byte does
+goes_on-unit : (unit : CopyUnit) (matched : ℕ) (copy : List ℕ) → is_end [] (unit_bytes unit ++ copy) ≡ false → line_with [] matched (unit_bytes unit) ≡ IsText
+goes_on-unit (Byte b) matched copy goes_on = ap (λ (x : Bool). if x then IsLast b else IsText) goes_on
+goes_on-unit (Kept b) matched copy goes_on = refl
+
+-- bytes that are equal the other way
+other_way : (b c : ℕ) → (c == b) ≡ false → (b == c) ≡ false
+other_way b c is = ne_eqb b c (λ same. eqb-false c b is (sym same))
+
 -- a line that doesn't end the definition
-path-line : (most : Most) (names : Named Entry) (d : Definition) (a : Arguments) (bound : ℕ) (text done todo line more : List ℕ) (r : Stage)
-    → Allows most d a bound → All StandsForItself todo → All StandsForItself line → length text + length done + length line + 1 ≤ bound
-    → end_mark d.end ≡ done ++ todo → is_end todo line ≡ false
-    → Path most names (defining d a (text ++ (done ++ (line ++ newline ∷ []))) (Some 0)) more r
+path-line : (most : Most) (names : Named Entry) (d : Definition) (a : Arguments) (bound : ℕ) (text done todo line copy more : List ℕ) (r : Stage)
+    → Allows most d a bound → All StandsForItself todo → IsCopied line copy → length text + length done + length copy + 1 ≤ bound
+    → end_mark d.end ≡ done ++ todo → is_end todo copy ≡ false
+    → Path most names (defining d a (text ++ (done ++ (copy ++ newline ∷ []))) (Some 0)) more r
     → Path most names (defining d a text (Some (length done))) ((line ++ newline ∷ []) ++ more) r
-path-line most names d a bound text done [] [] more r allows mark plain small is goes_on path = absurd (cc)
-path-line most names d a bound text done [] (b ∷ line) more r allows mark plain small is goes_on path =
-    onward-other most names d a bound text done [] b line more r allows plain small is (ap (λ (x : Bool). if x then IsLast b else IsText) goes_on) path
-path-line most names d a bound text done (c ∷ todo) [] more r allows mark plain small is goes_on path =
-    let other : (newline == c) ≡ false = ne_eqb newline c (λ same. eqb-false c newline (no_newline c (All-head StandsForItself c todo mark)) (sym same)) in
+path-line most names d a bound text done [] _ _ more r allows mark NoUnit small is goes_on path = absurd (cc)
+path-line most names d a bound text done [] _ _ more r allows mark (OneUnit unit written line copy writes behind others) small is goes_on path =
+    onward-other most names d a bound text done [] unit written line copy more r allows writes behind others small is (goes_on-unit unit (length done) copy goes_on) path
+path-line most names d a bound text done (c ∷ todo) _ _ more r allows mark NoUnit small is goes_on path =
+    let other : (newline == c) ≡ false = other_way newline c (no_newline c (All-head StandsForItself c todo mark)) in
     onward most names d a bound text (text ++ (done ++ newline ∷ [])) (Some (length done)) (Some 0) newline more r allows
-    (omega (arith, small, length-append text (done ++ newline ∷ []), length-append done (newline ∷ [])))
-    (turns-text names d a text done (Some (length done)) newline refl refl (front_of-part (end_mark d.end) done (c ∷ todo) is)
-    (line_from-part (end_mark d.end) done (c ∷ todo) newline is ∙ ap (λ (x : Bool). if x then MayBeLast (length done + 1) else IsText) other))
+    (omega (arith, small, length-append text (done ++ newline ∷ []), length-append done (newline ∷ []))) refl refl
+    (copies-text names d a (Byte newline) text done (Some (length done)) (front_of-part (end_mark d.end) done (c ∷ todo) is)
+    (line_from-part (end_mark d.end) done (c ∷ todo) (Byte newline) is ∙ ap (λ (x : Bool). if x then MayBeLast (length done + 1) else IsText) other))
     path
-path-line most names d a bound text done (c ∷ todo) (b ∷ line) more r allows mark plain small is goes_on path =
-    path-compared most names d a bound text done todo b c line more r (b == c) refl allows plain small is path
+path-line most names d a bound text done (c ∷ todo) _ _ more r allows mark (OneUnit (Kept b) written line copy writes behind others) small is goes_on path =
+    let other : (backslash == c) ≡ false = other_way backslash c (no_backslash c (All-head StandsForItself c todo mark)) in
+    onward-other most names d a bound text done (c ∷ todo) (Kept b) written line copy more r allows writes behind others small is
+    (ap (λ (x : Bool). if x then line_with todo (length done + 1) (b ∷ []) else IsText) other) path
+path-line most names d a bound text done (c ∷ todo) _ _ more r allows mark (OneUnit (Byte b) written line copy writes behind others) small is goes_on path =
+    path-compared most names d a bound text done todo b c written line copy more r (b == c) refl allows writes behind others small is path
     (λ same.
     let next : List ℕ = done ++ c ∷ [] in
     let as_long : length next ≡ length done + 1 = omega (arith, length-append done (c ∷ [])) in
-    let goes : is_end todo line ≡ false = ap (λ (x : Bool). if x then is_end todo line else false) (sym same) ∙ goes_on in
-    let all : text ++ (next ++ (line ++ newline ∷ [])) ≡ text ++ (done ++ (b ∷ line ++ newline ∷ [])) =
-    ap (λ (others : List ℕ). text ++ others)
-    (append_assoc done (c ∷ []) (line ++ newline ∷ []) ∙ ap (λ (e : ℕ). done ++ (e ∷ line ++ newline ∷ [])) (sym (eqb-true b c same))) in
+    let goes : is_end todo copy ≡ false = ap (λ (x : Bool). if x then is_end todo copy else false) (sym same) ∙ goes_on in
+    let all : text ++ (next ++ (copy ++ newline ∷ [])) ≡ text ++ (done ++ (b ∷ copy ++ newline ∷ [])) =
+    ap (λ (rest : List ℕ). text ++ rest)
+    (append_assoc done (c ∷ []) (copy ++ newline ∷ []) ∙ ap (λ (e : ℕ). done ++ (e ∷ copy ++ newline ∷ [])) (sym (eqb-true b c same))) in
     subst (λ (m : ℕ). Path most names (defining d a text (Some m)) ((line ++ newline ∷ []) ++ more) r) as_long
-    (path-line most names d a bound text next todo line more r allows (All-tail StandsForItself c todo mark) (All-tail StandsForItself b line plain)
+    (path-line most names d a bound text next todo line copy more r allows (All-tail StandsForItself c todo mark) others
     (omega (arith, small, as_long)) (is ∙ sym (append_assoc done (c ∷ []) todo)) goes
     (subst (λ (t : List ℕ). Path most names (defining d a t (Some 0)) more r) (sym all) path)))
+
+-- the unit that the byte behind a backslash gives
+abbrev escape_unit : Bool → Bool → Bool → ℕ → CopyUnit
+escape_unit is_backslash is_dot is_tab b = if is_backslash then Byte backslash else if is_dot then Byte dot else if is_tab then Byte tab else Kept b
+
+reads-escape_unit : (is_newline is_backslash is_dot is_tab : Bool) (b : ℕ) → is_newline ≡ false
+    → (if is_newline then (GoesOn, []) else if is_backslash then unit_taken [] (Byte backslash) else if is_dot then unit_taken [] (Byte dot) else if is_tab then unit_taken [] (Byte tab) else unit_taken [] (Kept b))
+    ≡ (GivesUnit (escape_unit is_backslash is_dot is_tab b), [])
+reads-escape_unit true is_backslash is_dot is_tab b is = absurd (cc)
+reads-escape_unit false true is_dot is_tab b is = refl
+reads-escape_unit false false true is_tab b is = refl
+reads-escape_unit false false false true b is = refl
+reads-escape_unit false false false false b is = refl
+
+bytes-escape_unit : (is_newline is_backslash is_dot is_tab : Bool) (b : ℕ) → is_newline ≡ false
+    → unit_bytes (escape_unit is_backslash is_dot is_tab b)
+    ≡ (if is_newline then [] else if is_backslash then backslash ∷ [] else if is_dot then dot ∷ [] else if is_tab then tab ∷ [] else backslash ∷ b ∷ [])
+bytes-escape_unit true is_backslash is_dot is_tab b is = absurd (cc)
+bytes-escape_unit false true is_dot is_tab b is = refl
+bytes-escape_unit false false true is_tab b is = refl
+bytes-escape_unit false false false true b is = refl
+bytes-escape_unit false false false false b is = refl
+
+behind-escape_unit : (is_backslash is_dot is_tab : Bool) (b : ℕ) → matched_behind (escape_unit is_backslash is_dot is_tab b) ≡ None
+behind-escape_unit true is_dot is_tab b = refl
+behind-escape_unit false true is_tab b = refl
+behind-escape_unit false false true b = refl
+behind-escape_unit false false false b = refl
+
+-- a byte of a line that is no backslash stands for itself
+stands-itself : (is_backslash is_else : Bool) → is_backslash ≡ false → IsTrue (not is_else) → IsTrue (not (is_backslash || is_else))
+stands-itself true is_else is none = absurd (cc)
+stands-itself false is_else is none = none
+
+-- a line of a definition's text is copied
+both_hold : (a b : Bool) → (a && b) ≡ true → (a ≡ true) × (b ≡ true)
+both_hold true b both = (refl, both)
+both_hold false b both = absurd (cc)
+
+not-true : (c : Bool) → not c ≡ true → c ≡ false
+not-true true is = absurd (cc)
+not-true false is = refl
+
+copied-itself : (b : ℕ) (line copy : List ℕ) → IsOfLine b → (b == backslash) ≡ false → IsCopied line copy → IsCopied (b ∷ line) (b ∷ copy)
+copied-itself b line copy of_line plain others =
+    let itself : StandsForItself b = stands-itself (b == backslash) (is_dropped b || b == newline) plain of_line in
+    OneUnit (Byte b) (b ∷ []) line copy (AsItself b itself) (ap (λ (c : Bool). if c then Some 0 else None) (no_newline b itself)) others
+
+copied-two : (is : Bool) (b c : ℕ) (line : List ℕ) → (b == backslash) ≡ is → IsOfLine b → IsOfLine c
+    → (if is then not (begins_reading c) && is_only_copied line else is_only_copied (c ∷ line)) ≡ true → (if is then is_whole line else is_whole (c ∷ line)) ≡ true
+    → (is_only_copied line ≡ true → is_whole line ≡ true → IsCopied line (copied line))
+    → (is_only_copied (c ∷ line) ≡ true → is_whole (c ∷ line) ≡ true → IsCopied (c ∷ line) (copied (c ∷ line)))
+    → IsCopied (b ∷ c ∷ line) (if is then copied_escape c ++ copied line else b ∷ copied (c ∷ line))
+copied-two true b c line is of_line of_line_too only whole behind behind_plain =
+    let both = both_hold (not (begins_reading c)) (is_only_copied line) only in
+    let none : (c == newline) ≡ false = not-second (is_dropped c) (c == newline) of_line_too in
+    let unit : CopyUnit = escape_unit (c == backslash) (c == dot) (c == 116) c in
+    let reads : byte_read AboveCopy (Backslash ∷ []) c ≡ (GivesUnit unit, []) =
+    taken-copied AboveCopy c refl (not-true (begins_reading c) both.0) ∙ reads-escape_unit (c == newline) (c == backslash) (c == dot) (c == 116) c none in
+    let all : IsCopied (backslash ∷ c ∷ line) (unit_bytes unit ++ copied line) =
+    OneUnit unit (backslash ∷ c ∷ []) line (copied line) (Escaped unit c (not-first (is_dropped c) (c == newline) of_line_too) reads)
+    (behind-escape_unit (c == backslash) (c == dot) (c == 116) c) (behind both.1 whole) in
+    subst (λ (e : ℕ). IsCopied (e ∷ c ∷ line) (copied_escape c ++ copied line)) (sym (eqb-true b backslash is))
+    (subst (λ (bytes : List ℕ). IsCopied (backslash ∷ c ∷ line) (bytes ++ copied line)) (bytes-escape_unit (c == newline) (c == backslash) (c == dot) (c == 116) c none) all)
+copied-two false b c line is of_line of_line_too only whole behind behind_plain =
+    copied-itself b (c ∷ line) (copied (c ∷ line)) of_line is (behind_plain only whole)
+
+copied-line : (line : List ℕ) → All IsOfLine line → is_only_copied line ≡ true → is_whole line ≡ true → IsCopied line (copied line)
+copied-line [] bytes only whole = NoUnit
+copied-line (b ∷ []) bytes only whole = copied-itself b [] [] (All-head IsOfLine b [] bytes) (not-true (b == backslash) whole) NoUnit
+copied-line (b ∷ c ∷ line) bytes only whole =
+    let others : All IsOfLine (c ∷ line) = All-tail IsOfLine b (c ∷ line) bytes in
+    copied-two (b == backslash) b c line refl (All-head IsOfLine b (c ∷ line) bytes) (All-head IsOfLine c line others) only whole
+    (copied-line line (All-tail IsOfLine c line others)) (copied-line (c ∷ line) others)
 
 -- all its lines
 path-lines : (most : Most) (names : Named Entry) (d : Definition) (a : Arguments) (bound : ℕ) (text : List ℕ) (lines : List (List ℕ)) (more : List ℕ) (r : Stage)
     → Allows most d a bound → All StandsForItself (end_mark d.end) → All (IsTextLine d.end) lines → length text + length (text_of_lines lines) ≤ bound
     → Path most names (defining d a (text ++ text_of_lines lines) (Some 0)) more r
-    → Path most names (defining d a text (Some 0)) (text_of_lines lines ++ more) r
+    → Path most names (defining d a text (Some 0)) (bytes_of_lines lines ++ more) r
 path-lines most names d a bound text [] more r allows mark texts small path =
     subst (λ (all : List ℕ). Path most names (defining d a all (Some 0)) more r) (append-nil text) path
 path-lines most names d a bound text (line ∷ lines) more r allows mark texts small path =
     let first : IsTextLine d.end line = All-head (IsTextLine d.end) line lines texts in
-    let whole : List ℕ = line ++ newline ∷ [] in
+    let copy : List ℕ = copied line in
+    let whole : List ℕ = copy ++ newline ∷ [] in
     let others : List ℕ = text_of_lines lines in
-    let sizes : length (whole ++ others) ≡ length line + 1 + length others = omega (arith, length-append whole others, length-append line (newline ∷ [])) in
-    subst (λ (bytes : List ℕ). Path most names (defining d a text (Some 0)) bytes r) (sym (append_assoc whole others more))
-    (path-line most names d a bound text [] (end_mark d.end) line (others ++ more) r allows mark first.plain (omega (arith, small, sizes)) refl first.goes_on
+    let sizes : length (whole ++ others) ≡ length copy + 1 + length others = omega (arith, length-append whole others, length-append copy (newline ∷ [])) in
+    subst (λ (bytes : List ℕ). Path most names (defining d a text (Some 0)) bytes r) (sym (append_assoc (line ++ newline ∷ []) (bytes_of_lines lines) more))
+    (path-line most names d a bound text [] (end_mark d.end) line copy (bytes_of_lines lines ++ more) r allows mark (copied-line line first.bytes first.only_copied first.whole)
+    (omega (arith, small, sizes)) refl first.goes_on
     (path-lines most names d a bound (text ++ whole) lines more r allows mark (All-tail (IsTextLine d.end) line lines texts)
-    (omega (arith, small, sizes, length-append text whole, length-append line (newline ∷ [])))
+    (omega (arith, small, sizes, length-append text whole, length-append copy (newline ∷ [])))
     (subst (λ (all : List ℕ). Path most names (defining d a all (Some 0)) more r) (sym (append_assoc text whole others)) path)))
 
 -- and the mark in front of the line that ends it
@@ -265,7 +402,7 @@ path-mark most names d a bound text done (c ∷ todo) allows small mark is =
     let end : Stage = defining d a text (Some (length (end_mark d.end))) in
     let next : List ℕ = done ++ c ∷ [] in
     let as_long : length next ≡ length done + 1 = omega (arith, length-append done (c ∷ [])) in
-    onward-mark most names d a bound text done todo c c todo end allows (All-head StandsForItself c todo mark) small is (same_byte c (c == c) refl)
+    onward-mark most names d a bound text done todo c c (c ∷ []) todo end allows (AsItself c (All-head StandsForItself c todo mark)) small is (same_byte c (c == c) refl)
     (subst (λ (m : ℕ). Path most names (defining d a text (Some m)) todo end) as_long
     (path-mark most names d a bound text next todo allows small (All-tail StandsForItself c todo mark) (is ∙ sym (append_assoc done (c ∷ []) todo))))
 
@@ -304,7 +441,7 @@ ends-line : (names : Named Entry) (d : Definition) (a : Arguments) (text : List 
 ends-line names d a text k i =
     let n : ℕ = length (end_mark d.end) in
     let here : PageInput = input_at names (defining d a text (Some n)) i in
-    copied-byte names d a text (Some n) newline k i refl refl
+    reads-unit names d a text (Some n) [] (Byte newline) newline k i refl refl
     ∙ ap (definition_unit k here d.name d.appends d.end (front_of (end_mark d.end) (Some n)) (Byte newline)) (line_from-newline (end_mark d.end))
     ∙ ap (λ (j : PageInput). behind_definition k j d.end newline) (entered-by d.name d.appends d.before d.others text here)
 
@@ -376,7 +513,7 @@ defined-by l s from name appends end before lines begins own its ahead tape char
     let a : Arguments = s.input.arguments in
     let bytes : List ℕ = definition_bytes end lines in
     let text : List ℕ = text_of_lines lines in
-    let front : List ℕ = text ++ end_mark end in
+    let front : List ℕ = bytes_of_lines lines ++ end_mark end in
     let d : Definition = record { name = name; appends = appends; end = end; before = before; others = s.input.open_texts } in
     let most : Most = record { held = held a; stored = sum_by length s.input.open_texts + beside name (length text); texts = length s.input.open_texts } in
     let start : Stage = defining d a [] (Some 0) in
@@ -394,7 +531,7 @@ defined-by l s from name appends end before lines begins own its ahead tape char
     HasRoom-start l s names from most start bytes s.input (subst (IsWithin l) (sym is) within) charged (omega (arith, within.stack)) (omega (arith, stored_few)) within.making in
     ap (after l (length bytes)) (sym is)
     ∙ after-last l s names from most start last front newline s.input (defined_from s from bytes d text)
-    begins.takes path room refl (newline-ends s from front d text begins.half refl) within_behind
+    begins.takes path room refl refl (newline-ends s from front d text begins.half refl) within_behind
 
 pub definitions_enter_their_lines : DefinitionsEnterTheirLines
 definitions_enter_their_lines l s name appends end before lines rest begins own its ahead room within within_behind =

@@ -1,12 +1,13 @@
 -- Runs over bytes that change what is read, the arguments of the line and the texts in the making, and nothing else.
-use Rattle.std.proofs.Common.{◌≡◌, ℕ, ◌+◌, ◌-◌, ◌≤◌, List, [], ◌∷◌, ◌++◌, length, None, refl, ap, sym, ◌∙◌, arith}
+use Rattle.std.proofs.Common.{◌≡◌, ℕ, ◌+◌, ◌-◌, ◌≤◌, false, List, [], ◌∷◌, ◌++◌, length, Some, None, refl, ap, sym, ◌∙◌, arith}
 use Rattle.std.specs.Prelude.{map, sum_by, if◌then◌else◌, ◌==◌}
 use Rattle.std.proofs.lemmas.List.{length-append}
 use Rattle.roff_lines.specs.Lines.{pending_length}
 use Rattle.roff_num.specs.declared.limits.Limits.{Limits}
 use Rattle.roff_scan.specs.Arguments.{Arguments, held}
 use Rattle.roff_scan.specs.Bytes.{newline}
-use Rattle.roff_scan.specs.Half.{Half}
+use Rattle.roff_scan.specs.Half.{Half, texts_held}
+use Rattle.roff_scan.specs.Halves.{seen_stays}
 use Rattle.roff_scan.specs.Input.{Ahead, ByteAhead, bytes_ahead, ends_ahead, lines_taken, live_bytes}
 use Rattle.roff_scan.specs.Tape.{Tape}
 use Rattle.roff_store.specs.Named.{Named}
@@ -22,15 +23,16 @@ use Rattle.roff_run.specs.Requests.{PageEvent}
 use Rattle.roff_run.specs.Run.{State, after, byte_taken, known, made, step, taken_as}
 use Rattle.roff_run.specs.declared.reading.Reading.{Reading}
 
--- what bytes change: what is read, the arguments of the line, and the texts in the making
+-- what bytes change: what is read, what is half read, the arguments of the line, and the texts in the making
 pub record Stage : Type 0 where
   pub reading : Reading
+  pub half : List Half
   pub arguments : Arguments
   pub texts : List (List ℕ)
 
--- the input at a stage, where names stand for these and nothing is half read
+-- the input at a stage, where names stand for these
 abbrev pub input_at : Named Entry → Stage → PageInput → PageInput
-input_at names p i = record i { half = []; arguments = p.arguments; names = names; open_texts = p.texts }
+input_at names p i = record i { half = p.half; arguments = p.arguments; names = names; open_texts = p.texts }
 
 -- a byte leads from one stage to another
 abbrev pub Turns : Named Entry → Stage → ℕ → Stage → Type 0
@@ -64,27 +66,27 @@ run_at s names p from bytes i = record s {
 
 -- a step at a byte
 pub step-taken : (l : Limits) (s : State) (names : Named Entry) (from : Origin) (p : Stage) (b : ℕ) (bytes : List ℕ) (i : PageInput) (t : State)
-    → TakesItems s → due p.reading ≡ None → i.charge + 1 ≤ l.bytes → byte_taken b (run_at s names p from bytes (behind_byte from b i)) ≡ t → IsWithin l t
+    → TakesItems s → due p.reading ≡ None → seen_stays p.half (Some b) ≡ false → i.charge + 1 ≤ l.bytes → byte_taken b (run_at s names p from bytes (behind_byte from b i)) ≡ t → IsWithin l t
     → step l (run_at s names p from (b ∷ bytes) i) ≡ t
-step-taken l s names (FromAhead rest) p b bytes i t on none_due few is within =
+step-taken l s names (FromAhead rest) p b bytes i t on none_due stays few is within =
     let before : State = run_at s names p (FromAhead rest) (b ∷ bytes) i in
     bytes_ahead_are_taken l before b (map ByteAhead bytes ++ rest) (record { going = on.going; not_closing = on.not_closing; idle = on.idle; none_due = none_due })
-    refl refl (omega (arith, few))
+    refl stays (omega (arith, few))
     ∙ ap (made l before) is ∙ made-Fits l before t (Fits-IsWithin l t within)
-step-taken l s names (FromSource tape) p b bytes i t on none_due few is within =
+step-taken l s names (FromSource tape) p b bytes i t on none_due stays few is within =
     let before : State = run_at s names p (FromSource tape) (b ∷ bytes) i in
     bytes_of_the_source_are_taken l before b (record { going = on.going; not_closing = on.not_closing; idle = on.idle; none_due = none_due })
-    refl refl refl (omega (arith, few))
+    refl refl stays (omega (arith, few))
     ∙ ap (made l before) is ∙ made-Fits l before t (Fits-IsWithin l t within)
 
 -- one that leads to another stage
 step-turns : (l : Limits) (s : State) (names : Named Entry) (from : Origin) (p q : Stage) (b : ℕ) (bytes : List ℕ) (i : PageInput)
-    → TakesItems s → due p.reading ≡ None → i.charge + 1 ≤ l.bytes → Turns names p b q → IsWithin l (run_at s names q from bytes (behind_byte from b i))
+    → TakesItems s → due p.reading ≡ None → seen_stays p.half (Some b) ≡ false → i.charge + 1 ≤ l.bytes → Turns names p b q → IsWithin l (run_at s names q from bytes (behind_byte from b i))
     → step l (run_at s names p from (b ∷ bytes) i) ≡ run_at s names q from bytes (behind_byte from b i)
-step-turns l s names from p q b bytes i on none_due few turns within =
+step-turns l s names from p q b bytes i on none_due stays few turns within =
     let taken : State = run_at s names p from bytes (behind_byte from b i) in
     let there : PageInput = record (behind_byte from b i) { ahead = ahead_at from bytes } in
-    step-taken l s names from p b bytes i (run_at s names q from bytes (behind_byte from b i)) on none_due few
+    step-taken l s names from p b bytes i (run_at s names q from bytes (behind_byte from b i)) on none_due stays few
     (ap (λ (t : Taking). taken_as t taken) (turns (known taken) there) ∙ taken_as-going_on (input_at names q there) q.reading taken)
     within
 
@@ -94,24 +96,26 @@ pub record Most : Type 0 where
   pub stored : ℕ
   pub texts : ℕ
 
--- no more is held at a stage
+-- no more is held at a stage, and nothing of what is half read
 pub record IsSmall (most : Most) (p : Stage) : Type 0 where
+  pub none_half : texts_held p.half ≡ 0
   pub held_few : held p.arguments ≤ most.held
   pub stored_few : sum_by length p.texts ≤ most.stored
   pub texts_few : length p.texts ≤ most.texts
 
--- bytes that lead from stage to stage: nothing is due before one, and of each one byte more is held at the most
+-- bytes that lead from stage to stage: nothing is due before one, none ends what is half read, and of each one byte more is held
+-- at the most
 pub data Path (most : Most) (names : Named Entry) : Stage → List ℕ → Stage → Type 0 where
   Here : (p : Stage) → Path most names p [] p
-  Onward : (p q r : Stage) (b : ℕ) (bytes : List ℕ) → due p.reading ≡ None → Turns names p b q → IsSmall most q → held q.arguments ≤ held p.arguments + 1
+  Onward : (p q r : Stage) (b : ℕ) (bytes : List ℕ) → due p.reading ≡ None → seen_stays p.half (Some b) ≡ false → Turns names p b q → IsSmall most q → held q.arguments ≤ held p.arguments + 1
       → Path most names q bytes r → Path most names p (b ∷ bytes) r
 
 -- one path behind another
 pub Path-append : (most : Most) (names : Named Entry) (p q r : Stage) (front behind : List ℕ)
     → Path most names p front q → Path most names q behind r → Path most names p (front ++ behind) r
 Path-append most names _ q r _ behind (Here p) others = others
-Path-append most names p _ r _ behind (Onward _ next q b bytes none_due turns small grows path) others =
-    Onward p next r b (bytes ++ behind) none_due turns small grows (Path-append most names next q r bytes behind path others)
+Path-append most names p _ r _ behind (Onward _ next q b bytes none_due stays turns small grows path) others =
+    Onward p next r b (bytes ++ behind) none_due stays turns small grows (Path-append most names next q r bytes behind path others)
 
 -- the stack has room for what is held of bytes to come: those of them that stand ahead count already
 abbrev stack_room : Limits → Origin → Most → Stage → List ℕ → PageInput → Type 0
@@ -164,7 +168,7 @@ IsWithin-HasRoom : (l : Limits) (s : State) (names : Named Entry) (from : Origin
     → IsSmall most p → HasRoom l s names from most p bytes i → IsWithin l (run_at s names p from bytes i)
 IsWithin-HasRoom l s names from most p bytes i small room = record {
   bytes = omega (arith, room.charged);
-  stack = omega (arith, pushed-stack_room l from most p bytes i small.held_few room.stack);
+  stack = omega (arith, pushed-stack_room l from most p bytes i small.held_few room.stack, small.none_half);
   depth = room.depth;
   store = omega (arith, room.store, small.stored_few);
   texts = room.texts;
@@ -180,12 +184,12 @@ pub after-Path : (l : Limits) (s : State) (names : Named Entry) (from : Origin) 
     → (after l (length bytes) (run_at s names p from (bytes ++ more) i) ≡ run_at s names q from more (behind_bytes from bytes i))
     × HasRoom l s names from most q more (behind_bytes from bytes i)
 after-Path l s names from most _ q _ more i on (Here p) room = (refl, room)
-after-Path l s names from most p _ _ more i on (Onward _ next q b bytes none_due turns small grows path) room =
+after-Path l s names from most p _ _ more i on (Onward _ next q b bytes none_due stays turns small grows path) room =
     let behind : HasRoom l s names from most next (bytes ++ more) (behind_byte from b i) = HasRoom-behind l s names from most p next b (bytes ++ more) i grows room in
     let few : i.charge + 1 ≤ l.bytes = omega (arith, room.charged) in
     let others = after-Path l s names from most next q bytes more (behind_byte from b i) on path behind in (
       ap (after l (length bytes))
-          (step-turns l s names from p next b (bytes ++ more) i on none_due few turns (IsWithin-HasRoom l s names from most next (bytes ++ more) (behind_byte from b i) small behind))
+          (step-turns l s names from p next b (bytes ++ more) i on none_due stays few turns (IsWithin-HasRoom l s names from most next (bytes ++ more) (behind_byte from b i) small behind))
           ∙ others.0,
       others.1,
     )
@@ -236,29 +240,29 @@ counted-source tape bytes i none =
     ∙ sym (behind_bytes-counts (FromSource tape) bytes i) ∙ behind_bytes-source tape bytes i
 
 -- a run that stands at these bytes is at this stage
-pub is-run_at : (s : State) (from : Origin) (bytes : List ℕ) (p : Stage) → s.reading ≡ p.reading → s.input.half ≡ [] → s.input.arguments ≡ p.arguments
+pub is-run_at : (s : State) (from : Origin) (bytes : List ℕ) (p : Stage) → s.reading ≡ p.reading → s.input.half ≡ p.half → s.input.arguments ≡ p.arguments
     → s.input.open_texts ≡ p.texts → s.input.ahead ≡ ahead_at from bytes → s.tape ≡ tape_at from bytes s.tape → run_at s s.input.names p from bytes s.input ≡ s
 is-run_at s from bytes p reading half arguments texts ahead tape =
     let of : Tape → List (Ahead PageEvent) → Reading → List Half → Arguments → List (List ℕ) → State = λ t items r h a made.
     record s { tape = t; input = record s.input { ahead = items; half = h; arguments = a; open_texts = made }; reading = r } in
-    ap (λ (t : Tape). of t (ahead_at from bytes) p.reading [] p.arguments p.texts) (sym tape)
-    ∙ ap (λ (items : List (Ahead PageEvent)). of s.tape items p.reading [] p.arguments p.texts) (sym ahead)
-    ∙ ap (λ (r : Reading). of s.tape s.input.ahead r [] p.arguments p.texts) (sym reading)
+    ap (λ (t : Tape). of t (ahead_at from bytes) p.reading p.half p.arguments p.texts) (sym tape)
+    ∙ ap (λ (items : List (Ahead PageEvent)). of s.tape items p.reading p.half p.arguments p.texts) (sym ahead)
+    ∙ ap (λ (r : Reading). of s.tape s.input.ahead r p.half p.arguments p.texts) (sym reading)
     ∙ ap (λ (h : List Half). of s.tape s.input.ahead s.reading h p.arguments p.texts) (sym half)
     ∙ ap (λ (a : Arguments). of s.tape s.input.ahead s.reading s.input.half a p.texts) (sym arguments)
     ∙ ap (λ (made : List (List ℕ)). of s.tape s.input.ahead s.reading s.input.half s.input.arguments made) (sym texts)
 
 -- the steps at bytes that lead from stage to stage, and at the one behind them
 pub after-last : (l : Limits) (s : State) (names : Named Entry) (from : Origin) (most : Most) (p q : Stage) (bytes : List ℕ) (b : ℕ) (i : PageInput) (t : State)
-    → TakesItems s → Path most names p bytes q → HasRoom l s names from most p (bytes ++ b ∷ []) i → due q.reading ≡ None
+    → TakesItems s → Path most names p bytes q → HasRoom l s names from most p (bytes ++ b ∷ []) i → due q.reading ≡ None → seen_stays q.half (Some b) ≡ false
     → byte_taken b (run_at s names q from [] (behind_byte from b (behind_bytes from bytes i))) ≡ t → IsWithin l t
     → after l (length (bytes ++ b ∷ [])) (run_at s names p from (bytes ++ b ∷ []) i) ≡ t
-after-last l s names from most p q bytes b i t on path room none_due is within =
+after-last l s names from most p q bytes b i t on path room none_due stays is within =
     let there = after-Path l s names from most p q bytes (b ∷ []) i on path room in
     ap (λ (n : ℕ). after l n (run_at s names p from (bytes ++ b ∷ []) i)) (length-append bytes (b ∷ []))
     ∙ after-add l (length bytes) 1 (run_at s names p from (bytes ++ b ∷ []) i)
     ∙ ap (after l 1) there.0
-    ∙ step-taken l s names from q b [] (behind_bytes from bytes i) t on none_due (omega (arith, there.1.charged)) is within
+    ∙ step-taken l s names from q b [] (behind_bytes from bytes i) t on none_due stays (omega (arith, there.1.charged)) is within
 
 -- what was taken
 pub behind_bytes-charge : (from : Origin) (bytes : List ℕ) (i : PageInput) → (behind_bytes from bytes i).charge ≡ i.charge + length bytes

@@ -1,12 +1,14 @@
 -- Laws of what the lines of a definition enter, and of what is read behind them (manual, sections 7.1 and 20).
-use Rattle.std.specs.Prelude.{◌≡◌, ℕ, ◌+◌, ◌≤◌, Bool, true, false, List, [], ◌∷◌, ◌++◌, length, map, All, Option, Some, None, if◌then◌else◌, ◌==◌}
+use Rattle.std.specs.Prelude.{◌≡◌, ℕ, ◌+◌, ◌≤◌, Bool, true, false, List, [], ◌∷◌, ◌++◌, length, map, All, IsTrue, Option, Some, None, ◌||◌, not, if◌then◌else◌, ◌==◌}
 use Rattle.std.specs.List.{flat_map}
 use Rattle.roff_num.specs.declared.limits.Limits.{Limits}
-use Rattle.roff_scan.specs.Bytes.{newline}
+use Rattle.roff_scan.specs.Bytes.{is_dropped, newline}
+use Rattle.roff_scan.specs.HalfLaws.{copied, is_only_copied}
 use Rattle.roff_scan.specs.Input.{Ahead, ByteAhead, body_named, lines_taken, stored}
 use Rattle.roff_scan.specs.Tape.{Tape, OneByte, items_then}
 use Rattle.roff_store.specs.Named.{with_entry}
 use Rattle.roff_store.specs.Texts.{Body}
+use Rattle.roff_run.specs.ConditionLaws.{is_whole}
 use Rattle.roff_run.specs.Definitions.{end_mark, ends_mark}
 use Rattle.roff_run.specs.InterpolationLaws.{StandsForItself, TakesItems}
 use Rattle.roff_run.specs.Laws.{IsWithin}
@@ -26,18 +28,28 @@ is_end [] (b ∷ line) = ends_mark b
 is_end (m ∷ mark) [] = false
 is_end (m ∷ mark) (b ∷ line) = if b == m then is_end mark line else false
 
--- a line of a definition's text: its bytes stand for themselves, and it doesn't end the definition
+-- a byte of a line: it isn't dropped, and doesn't end the line
+abbrev pub IsOfLine : ℕ → Type 0
+IsOfLine b = IsTrue (not (is_dropped b || b == newline))
+
+-- a line of a definition's text: it has neither interpolations nor comments, its last byte isn't a backslash that belongs to
+-- its newline, and as it is copied it doesn't end the definition
 pub record IsTextLine (end : Option ShortName) (line : List ℕ) : Type 0 where
-  pub plain : All StandsForItself line
-  pub goes_on : is_end (end_mark end) line ≡ false
+  pub bytes : All IsOfLine line
+  pub only_copied : is_only_copied line ≡ true
+  pub whole : is_whole line ≡ true
+  pub goes_on : is_end (end_mark end) (copied line) ≡ false
 
--- the text of some lines, each with its newline
+-- some lines with their newlines, as they are read and as they are copied
+abbrev pub bytes_of_lines : List (List ℕ) → List ℕ
+bytes_of_lines lines = flat_map (λ line. line ++ newline ∷ []) lines
+
 abbrev pub text_of_lines : List (List ℕ) → List ℕ
-text_of_lines lines = flat_map (λ line. line ++ newline ∷ []) lines
+text_of_lines lines = flat_map (λ line. copied line ++ newline ∷ []) lines
 
--- the bytes of a definition behind its first line: its text, and the line that ends it
+-- the bytes of a definition behind its first line: those of its text, and the line that ends it
 abbrev pub definition_bytes : Option ShortName → List (List ℕ) → List ℕ
-definition_bytes end lines = text_of_lines lines ++ end_mark end ++ newline ∷ []
+definition_bytes end lines = bytes_of_lines lines ++ end_mark end ++ newline ∷ []
 
 -- a run reads the first line of a definition's text: it takes items, and nothing is half read
 pub record BeginsDefinition (s : State) (name : Option ShortName) (appends : Bool) (end : Option ShortName) : Type 0 where
@@ -67,8 +79,8 @@ pub record HasRoomFor (l : Limits) (s : State) (bytes text : List ℕ) : Type 0 
 abbrev pub behind_end : Option ShortName → State → State
 behind_end end s = taken_as (behind_definition (known s) s.input end newline) s
 
--- The lines of a definition enter its name, with their newlines and as they are. So many steps lead there as the lines and the
--- one that ends them have bytes, and each costs one. Behind it the name of its mark is called.
+-- The lines of a definition enter its name, with their newlines and as they are copied. So many steps lead there as the lines
+-- and the one that ends them have bytes, and each costs one. Behind it the name of its mark is called.
 abbrev pub DefinitionsEnterTheirLines : Type 0
 DefinitionsEnterTheirLines =
     (l : Limits) (s : State) (name : ShortName) (appends : Bool) (end : Option ShortName) (before lines : List (List ℕ))

@@ -3,10 +3,11 @@
 ghost use Rattle.roff_run.specs.DefinitionLaws.{DefinitionsEnterTheirLines, DefinitionsOfTheSourceEnterTheirLines, IgnoredLinesEnterNothing, IgnoredLinesOfTheSourceEnterNothing, LinesBeginBehindTwoDots};
 
 /// The lines that a definition reads, up to the one that ends it, enter its name with their
-/// newlines: they are its body from then on, or are put behind the body that it has. So it is of
-/// lines of bytes that stand for themselves: no backslash, and no byte that is dropped. So many
-/// steps lead there as the lines have bytes, and each costs one, if the limits allow the state
-/// before and the state behind, and the text beside all that is stored.
+/// newlines and as they are copied: they are its body from then on, or are put behind the body that
+/// it has. So it is of lines without interpolations and comments, of which no byte is dropped, and
+/// no newline belongs to a backslash. So many steps lead there as the lines have bytes, and each
+/// costs one, if the limits allow the state before and the state behind, and the text beside all
+/// that is stored.
 pub fn definitions()
     ensures ahead { DefinitionsEnterTheirLines }
     ensures source { DefinitionsOfTheSourceEnterTheirLines }

@@ -152,6 +152,10 @@ taken-plain : (base : Surroundings) (b : ℕ) (begins : Bool) → reads_text bas
 taken-plain base b true copies none plain = cc
 taken-plain base b false copies none plain = read-plain base b (escape_of b) copies plain
 
+-- so are all that begin nothing to be read
+pub taken-copied : (base : Surroundings) (b : ℕ) → reads_text base ≡ false → begins_reading b ≡ false → escape_taken base [] b ≡ copies_escape [] b
+taken-copied base b copies none = taken-plain base b (begins_reading b) copies none (among-rows b escapes each-row)
+
 -- what a byte gives are units with these bytes
 record Copies (r : Reads) (bytes : List ℕ) : Type 0 where
   units : List CopyUnit
@@ -216,7 +220,7 @@ FindsBytes-two :
 FindsBytes-two base true b c text copies only behind behind_plain =
     let both = both_hold (not (begins_reading c)) (is_only_copied text) only in
     let plain : begins_reading c ≡ false = not-true (begins_reading c) both.0 in
-    subst (λ (r : Reads). FindsBytes (ended base (read_on base text r)) (copied_escape c ++ copied text)) (sym (taken-plain base c (begins_reading c) copies plain (among-rows c escapes each-row)))
+    subst (λ (r : Reads). FindsBytes (ended base (read_on base text r)) (copied_escape c ++ copied text)) (sym (taken-copied base c copies plain))
     (FindsBytes-behind base (copies_escape [] c) (copied_escape c) text (copied text) (Copies-escape c) (behind both.1))
 FindsBytes-two base false b c text copies only behind behind_plain =
     FindsBytes-behind base (GivesUnit (Byte b), []) (b ∷ []) (c ∷ text) (copied (c ∷ text)) (Copies-unit (Byte b)) (behind_plain only)
