@@ -9,7 +9,9 @@ use Rattle.roff_lines.specs.declared.settings.Settings.{Settings}
 use Rattle.roff_lines.specs.Glyphs.{gaps_in}
 use Rattle.roff_lines.specs.Events.{Event, WordEnd, LineEnd, Break, History, settings_after}
 use Rattle.roff_lines.specs.Words.{is_empty, has_open_word, open_word, words}
-use Rattle.roff_lines.specs.Lines.{Finished, free_columns, spread_columns, laid_out, line_laid_out, fits, pending_line, line_indent, line_text, finished}
+use Rattle.roff_lines.specs.Lines.{Finished, free_columns, spread_columns, laid_out, line_laid_out, pending_line, finished}
+use Rattle.roff_lines.specs.Fitting.{fits, line_indent, line_text}
+use Rattle.roff_lines.specs.Settings.{fills}
 use Rattle.roff_lines.specs.Columns.{added_columns}
 use Rattle.roff_lines.specs.Paragraphs.{finished_lines}
 use Rattle.roff_lines.specs.LastLine.{line_width, newest_width, last_width, EndsAtWidth}
@@ -38,7 +40,7 @@ spread_by_tests false adjusts free = refl
 
 unspread-laid_out : (s : Settings) (by_word : Bool) (free gaps : ℕ) → (gaps == 0) ≡ true
     → (if by_word then spread_columns s free gaps else 0) ≡ 0
-unspread-laid_out s true free gaps none = rw none (spread_by_tests s.filling s.adjusting _)
+unspread-laid_out s true free gaps none = rw none (spread_by_tests (fills s) s.adjusting _)
 unspread-laid_out s false free gaps none = refl
 
 -- so a line's text ends at its width
@@ -62,8 +64,10 @@ EndsAtWidth-finished h WordEnd =
     cond_both (has_open_word h && not (is_empty (words h)) && not (fits (pending_line h) (open_word h))) _ _
     (λ o. IfSome o EndsAtWidth) (λ _. EndsAtWidth-pending h true) (λ _. tt)
 EndsAtWidth-finished h LineEnd =
-    cond_both (settings_after h).filling _ _ (λ o. IfSome o EndsAtWidth) (λ _. tt)
-    (λ _. cond_both (is_empty (words h)) _ _ (λ o. IfSome o EndsAtWidth) (λ _. refl) (λ _. EndsAtWidth-pending h false))
+    cond_both (fills (settings_after h)) _ _ (λ o. IfSome o EndsAtWidth) (λ _. tt)
+    (λ _. cond_both (is_empty (words h)) _ _ (λ o. IfSome o EndsAtWidth)
+    (λ _. cond_both (settings_after h).filling _ _ (λ o. IfSome o EndsAtWidth) (λ _. tt) (λ _. refl))
+    (λ _. EndsAtWidth-pending h false))
 EndsAtWidth-finished h Break =
     cond_both (is_empty (words h)) _ _ (λ o. IfSome o EndsAtWidth) (λ _. tt) (λ _. EndsAtWidth-pending h false)
 EndsAtWidth-finished h (_) = tt

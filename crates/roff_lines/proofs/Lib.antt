@@ -6,9 +6,14 @@ pub mod LastLine
 pub mod Stands
 pub mod WordEnd
 pub mod LineEnd
+pub mod Tabs
+pub mod NearestStop
+pub mod Interruptions
 pub mod Telling
 pub mod Printing
 pub mod Filling
+pub mod FirstLine
+pub mod FirstLineOf
 pub mod ToldWords
 pub mod Paragraphs
 pub mod Columns

@@ -6,18 +6,16 @@ use Rattle.std.proofs.lemmas.Bool.{cases_Bool}
 use Rattle.std.proofs.lemmas.List.Elements.{All-head, All-tail}
 use Rattle.roff_lines.specs.declared.settings.Settings.{Settings}
 use Rattle.roff_lines.specs.Events.{Event, WordEnd, LineEnd, Break, History, settings_after}
-use Rattle.roff_lines.specs.Words.{Word, is_empty, has_open_word, open_word, words}
-use Rattle.roff_lines.specs.Lines.{Finished, empty_line, fits, line_laid_out, finished, last_line, pending_line}
+use Rattle.roff_lines.specs.Settings.{fills}
+use Rattle.roff_lines.specs.Fitting.{Word, fits, last_line}
+use Rattle.roff_lines.specs.Words.{is_empty, has_open_word, open_word, words, temporary_indent}
+use Rattle.roff_lines.specs.Lines.{Finished, empty_line, line_laid_out, finished, pending_line}
 use Rattle.roff_lines.specs.Filling.{with_word, lines_of, last_of, AreLongestFronts}
 use Rattle.roff_lines.specs.Telling.{words_told, IsOfText, IsWordUnder, IsClear}
 use Rattle.roff_lines.specs.Paragraphs.{finished_lines, until_break, begun_under, full_lines, broken_lines, paragraph_lines}
 use Rattle.roff_lines.proofs.PendingLine.{is_empty-last_line}
 use Rattle.roff_lines.proofs.Filling.{fills_lines}
 use Rattle.roff_lines.proofs.ToldWords.{settings_after-words, until_break-words, words-words, settings_after-text, until_break-text, under-text}
-
--- what was in force as a line began, with a word more behind it
-begun_under-joined : (w v : Word) (line : List Word) → begun_under (w ∷ v ∷ line) ≡ begun_under (v ∷ line)
-begun_under-joined w v line = refl
 
 -- the full lines with a word that joins the last one
 full_lines-joined : (w v : Word) (line : List Word) (lines : List (List Word))
@@ -85,8 +83,8 @@ pub finished_lines-pending : (h : History) → finished_lines h ≡ full_lines (
 finished_lines-pending [] = refl
 finished_lines-pending (WordEnd ∷ h) = finished_lines-word_end h (finished_lines-pending h)
 finished_lines-pending (LineEnd ∷ h) =
-    elim (cases_Bool (settings_after h).filling) [
-      | inl fills ↦ rw fills (finished_lines-pending h)
+    elim (cases_Bool (fills (settings_after h))) [
+      | inl measured ↦ rw measured (finished_lines-pending h)
       | inr off ↦ finished_lines-clear (LineEnd ∷ h) (rw off refl) (rw off refl)
     ]
 finished_lines-pending (Break ∷ h) = refl
@@ -127,20 +125,22 @@ finished_lines-broken h =
     ∙ ap (finished_as (is_empty lines)) (fills_lines (words h)).pending
     ∙ sym (broken_lines-last s lines behind)
 
--- without filling, a line's end finishes what a break does
-unfilled-line : (filling none : Bool) (line : Finished) → filling ≡ false → none ≡ false
-    → (if filling then None else if none then Some empty_line else Some line) ≡ (if none then None else Some line)
-unfilled-line true none line off some = cc
-unfilled-line false true line off some = cc
-unfilled-line false false line off some = refl
+-- where words aren't measured, a line's end finishes what a break does
+unfilled-line : (measured none : Bool) (empty : Option Finished) (line : Finished) → measured ≡ false → none ≡ false
+    → (if measured then None else if none then empty else Some line) ≡ (if none then None else Some line)
+unfilled-line true none empty line off some = cc
+unfilled-line false true empty line off some = cc
+unfilled-line false false empty line off some = refl
 
 -- so it does behind words
-pub finished_lines-unfilled : (h : History) → (settings_after h).filling ≡ false → is_empty (words h) ≡ false
+pub finished_lines-unfilled : (h : History) → fills (settings_after h) ≡ false → is_empty (words h) ≡ false
     → finished_lines (LineEnd ∷ h)
     ≡ broken_lines (settings_after h) (lines_of (words h)) ++ finished_lines (until_break h)
 finished_lines-unfilled h off some =
-    let line = line_laid_out (settings_after h) false (pending_line h) in
-    let same : finished h LineEnd ≡ finished h Break = unfilled-line (settings_after h).filling (is_empty (words h)) line off some in
+    let s = settings_after h in
+    let line = line_laid_out s false (pending_line h) in
+    let empty : Option Finished = if s.filling then None else Some (empty_line s) in
+    let same : finished h LineEnd ≡ finished h Break = unfilled-line (fills s) (is_empty (words h)) empty line off some in
     ap (λ o. cons_option o (finished_lines h)) same ∙ finished_lines-broken h
 
 -- each line begins under the same settings
@@ -198,19 +198,20 @@ finished_lines-even h told clear same from under =
     ∙ ap (λ ls. paragraph_lines s lines ++ ls) here
 
 -- a text and then a break finish the lines of its words
-pub finished_lines-text : (text : List Event) (h : History) → IsClear h → (settings_after h).filling ≡ true → All IsOfText text
+pub finished_lines-text : (text : List Event) (h : History) → IsClear h → fills (settings_after h) ≡ true → All IsOfText text
     → finished_lines (Break ∷ text ++ h)
     ≡ paragraph_lines (settings_after h) (lines_of (words (text ++ h))) ++ finished_lines h
-finished_lines-text text h clear fills each =
-    finished_lines-even h (text ++ h) clear (settings_after-text h fills text each) (until_break-text h fills text each)
-    (under-text h fills text each clear.no_words)
+finished_lines-text text h clear measured each =
+    finished_lines-even h (text ++ h) clear (settings_after-text h measured text each) (until_break-text h measured text each)
+    (under-text h measured text each clear.no_words)
 
 -- so do words that are told one after another
-pub finished_lines-told : (ws : List Word) (h : History) → IsClear h → All (IsWordUnder (settings_after h)) ws
+pub finished_lines-told : (ws : List Word) (h : History) → IsClear h → temporary_indent h ≡ None
+    → All (IsWordUnder (settings_after h)) ws
     → finished_lines (Break ∷ words_told ws h) ≡ paragraph_lines (settings_after h) (lines_of ws) ++ finished_lines h
-finished_lines-told ws h clear each =
+finished_lines-told ws h clear none each =
     let s = settings_after h in
-    let told = words-words h clear ws each in
+    let told = words-words h clear none ws each in
     let under : All (λ w. w.under ≡ s) (words (words_told ws h)) = rw told (λ k d lt. (each k d lt).under) in
     finished_lines-even h (words_told ws h) clear (settings_after-words h clear ws) (until_break-words h clear ws) under
     ∙ ap (λ vs. paragraph_lines s (lines_of vs) ++ finished_lines h) told

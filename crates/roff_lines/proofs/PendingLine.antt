@@ -5,8 +5,10 @@ use Rattle.std.proofs.lemmas.Bool.{cond_both, cases_Bool, not-false, eqb-true, e
 use Rattle.std.proofs.lemmas.List.{length-append, length-replicate}
 use Rattle.roff_lines.specs.Glyphs.{gap_blank, further_blank}
 use Rattle.roff_lines.specs.Events.{WordEnd, LineEnd, History, settings_after}
-use Rattle.roff_lines.specs.Words.{Word, word_text, is_empty, open_glyphs, has_open_word, open_word, words}
-use Rattle.roff_lines.specs.Lines.{gap_text, line_text, line_indent, fits, placed, last_line, pending_line, pending_length}
+use Rattle.roff_lines.specs.Settings.{fills}
+use Rattle.roff_lines.specs.Fitting.{Word, word_text, gap_text, line_text, line_indent, fits, begins_line, placed, last_line}
+use Rattle.roff_lines.specs.Words.{is_empty, open_glyphs, has_open_word, open_word, words}
+use Rattle.roff_lines.specs.Lines.{pending_line, pending_length}
 
 -- a list without an element is the empty one
 pub is_empty-true : {A : Type 0} (xs : List A) → is_empty xs ≡ true → xs ≡ []
@@ -18,6 +20,11 @@ pub placed-full : (line : List Word) (w : Word) → is_empty line ≡ false →
     placed line w ≡ (if fits line w then w ∷ line else w ∷ [])
 placed-full [] w e = cc
 placed-full (v ∷ line) w e = refl
+
+-- and begins a line if it doesn't
+pub begins_line-full : (line : List Word) (w : Word) → is_empty line ≡ false → begins_line line w ≡ not (fits line w)
+begins_line-full [] w e = cc
+begins_line-full (v ∷ line) w e = refl
 
 -- there it stands behind their text and its gap
 pub line_text-full : (line : List Word) (w : Word) → is_empty line ≡ false →
@@ -80,7 +87,7 @@ pending_length-word_end h =
 -- nor does a line's end
 pub pending_length-line_end : (h : History) → pending_length (LineEnd ∷ h) ≤ pending_length h
 pending_length-line_end h =
-    elim (cases_Bool (settings_after h).filling) [
+    elim (cases_Bool (fills (settings_after h))) [
       | inl f ↦ elim (cases_Bool (has_open_word h)) [ inl e ↦ rw (f, e) (omega arith) | inr e ↦ rw (f, e) (omega arith) ]
       | inr f ↦ elim (cases_Bool (has_open_word h)) [ inl e ↦ rw (f, e) (omega arith) | inr e ↦ rw (f, e) (omega arith) ]
     ]

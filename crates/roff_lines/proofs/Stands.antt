@@ -3,7 +3,8 @@ use Rattle.std.proofs.Common.{◌≡◌, ℕ, Bool, true, false, [], refl, sym, 
 use Rattle.std.proofs.lemmas.Bool.{not-true, not-false}
 use Rattle.roff_lines.specs.Events.{History, settings_after}
 use Rattle.roff_lines.specs.Words.{is_empty, blanks, open_word, words}
-use Rattle.roff_lines.specs.Lines.{line_indent, fits, laid_out, line_laid_out, pending_line}
+use Rattle.roff_lines.specs.Fitting.{line_indent, fits}
+use Rattle.roff_lines.specs.Lines.{laid_out, line_laid_out, pending_line}
 use Rattle.roff_lines.specs.Env.Kept.{Kept, word_fits}
 use Rattle.roff_lines.specs.Env.Stands.{Stands}
 use Rattle.roff_lines.proofs.PendingLine.{is_empty-true, is_empty-last_line}

@@ -4,7 +4,8 @@ use Rattle.std.proofs.lemmas.Bool.{cases_Bool, true≢false}
 use Rattle.std.proofs.lemmas.List.{append-nil, reverse-reverse}
 use Rattle.roff_lines.specs.declared.glyph.Glyph.{Glyph}
 use Rattle.roff_lines.specs.Events.{Print, WordEnd, History, settings_after}
-use Rattle.roff_lines.specs.Words.{is_empty, open_glyphs, has_open_word, blanks, open_word, words}
+use Rattle.roff_lines.specs.Fitting.{Word}
+use Rattle.roff_lines.specs.Words.{is_empty, open_glyphs, has_open_word, blanks, open_word, words, temporary_indent, indent_by}
 use Rattle.roff_lines.specs.Telling.{glyphs_told}
 use Rattle.roff_lines.proofs.PendingLine.{is_empty-true}
 
@@ -28,6 +29,20 @@ pub words-told : (gs : List Glyph) (h : History) → words (map Print gs ++ h) �
 words-told [] h = refl
 words-told (g ∷ gs) h = words-told gs h
 
+-- and the indent that is pending
+pub temporary_indent-told : (gs : List Glyph) (h : History) → temporary_indent (map Print gs ++ h) ≡ temporary_indent h
+temporary_indent-told [] h = refl
+temporary_indent-told (g ∷ gs) h = temporary_indent-told gs h
+
+-- the word of glyphs that are told where none is open
+abbrev pub told_word : List Glyph → History → Word
+told_word glyphs h = record {
+  glyphs = glyphs;
+  gap = blanks h;
+  under = settings_after h;
+  indent = indent_by (temporary_indent h) (settings_after h);
+}
+
 -- a list is empty only where its reverse is
 is_empty-reverse : {A : Type 0} (xs : List A) → is_empty xs ≡ false → is_empty (reverse xs) ≡ false
 is_empty-reverse xs some =
@@ -48,10 +63,11 @@ module _ (glyphs : List Glyph) (h : History) (some : is_empty glyphs ≡ false) 
   has_open_word-word = rw open_glyphs-word (ap not (is_empty-reverse glyphs some))
 
   -- it has these glyphs, the gap before it, and what is in force
-  pub open_word-word : open_word (glyphs_told glyphs h) ≡ record { glyphs = glyphs; gap = blanks h; under = settings_after h }
+  pub open_word-word : open_word (glyphs_told glyphs h) ≡ told_word glyphs h
   open_word-word =
-      rw (open_glyphs-word, reverse-reverse glyphs, blanks-told (reverse glyphs) h, settings_after-told (reverse glyphs) h) refl
+      let back = reverse glyphs in
+      rw (open_glyphs-word, reverse-reverse glyphs, blanks-told back h, settings_after-told back h, temporary_indent-told back h) refl
 
   -- so it is one word more, as it ends
-  pub words-word : words (WordEnd ∷ glyphs_told glyphs h) ≡ record { glyphs = glyphs; gap = blanks h; under = settings_after h } ∷ words h
+  pub words-word : words (WordEnd ∷ glyphs_told glyphs h) ≡ told_word glyphs h ∷ words h
   words-word = rw (has_open_word-word, open_word-word, words-told (reverse glyphs) h) refl

@@ -1,16 +1,19 @@
 -- What a history says behind words that were told one after another.
-use Rattle.std.proofs.Common.{◌≡◌, ℕ, true, List, [], ◌∷◌, ◌++◌, map, reverse, refl, sym, ap, ◌∙◌, inl, inr, zero-add}
-use Rattle.std.specs.Prelude.{All}
-use Rattle.std.proofs.lemmas.Bool.{cases_Bool, not-false}
+use Rattle.std.proofs.Common.{◌≡◌, ℕ, ◌-◌, ◌&&◌, Bool, true, false, None, List, [], ◌∷◌, ◌++◌, map, reverse, refl, sym, ap, ◌∙◌, inl, inr, zero-add, arith}
+use Rattle.std.specs.Prelude.{All, ◌==◌}
+use Rattle.std.proofs.lemmas.Bool.{cases_Bool, cond_both, eqb-true, not-false}
 use Rattle.std.proofs.lemmas.List.Elements.{All-nil, All-cons, All-head, All-tail}
 use Rattle.roff_lines.specs.declared.glyph.Glyph.{Glyph}
 use Rattle.roff_lines.specs.declared.settings.Settings.{Settings}
-use Rattle.roff_lines.specs.Events.{Event, Print, WordEnd, Gap, LineEnd, Break, Set, History, settings_after}
-use Rattle.roff_lines.specs.Words.{Word, is_empty, open_glyphs, has_open_word, blanks, open_word, words}
-use Rattle.roff_lines.specs.Telling.{words_told, IsOfText, IsWordUnder, IsClear}
+use Rattle.roff_lines.specs.Events.{Event, Print, WordEnd, Gap, LineEnd, Count, Break, Set, History, settings_after}
+use Rattle.roff_lines.specs.Settings.{fills, counted}
+use Rattle.roff_lines.specs.Fitting.{Word, begins_line}
+use Rattle.roff_lines.specs.Words.{is_empty, open_glyphs, has_open_word, blanks, open_word, words, temporary_indent, indent_by}
+use Rattle.roff_lines.specs.Lines.{pending_line}
+use Rattle.roff_lines.specs.Telling.{glyphs_told, words_told, IsOfText, IsWordUnder, IsClear}
 use Rattle.roff_lines.specs.Paragraphs.{until_break}
 use Rattle.roff_lines.proofs.PendingLine.{is_empty-true}
-use Rattle.roff_lines.proofs.Telling.{settings_after-told, has_open_word-word, words-word}
+use Rattle.roff_lines.proofs.Telling.{settings_after-told, temporary_indent-told, has_open_word-word, words-word}
 
 -- glyphs break nothing
 until_break-glyphs : (gs : List Glyph) (h : History) → until_break (map Print gs ++ h) ≡ until_break h
@@ -45,20 +48,35 @@ module _ (h : History) (clear : IsClear h) where
       let here = All-head (IsWordUnder (settings_after h)) w ws each in
       rw (has_open_word-word w.glyphs (Gap w.gap ∷ words_told ws h) here.some (open_glyphs-words ws)) refl
 
+  -- no indent is pending behind words if none was before them
+  temporary_indent-words : temporary_indent h ≡ None → (ws : List Word) → temporary_indent (words_told ws h) ≡ None
+  temporary_indent-words none [] = none
+  temporary_indent-words none (w ∷ ws) =
+      let told = glyphs_told w.glyphs (Gap w.gap ∷ words_told ws h) in
+      let before : temporary_indent told ≡ None =
+      temporary_indent-told (reverse w.glyphs) (Gap w.gap ∷ words_told ws h) ∙ temporary_indent-words none ws in
+      cond_both (has_open_word told && begins_line (pending_line told) (open_word told)) None (temporary_indent told)
+      (λ t. t ≡ None) (λ _. refl) (λ _. before)
+
   -- they are the words
-  pub words-words : (ws : List Word) → All (IsWordUnder (settings_after h)) ws → words (words_told ws h) ≡ ws
-  words-words [] each = clear.no_words
-  words-words (w ∷ ws) each =
+  pub words-words : temporary_indent h ≡ None → (ws : List Word) → All (IsWordUnder (settings_after h)) ws
+      → words (words_told ws h) ≡ ws
+  words-words none [] each = clear.no_words
+  words-words none (w ∷ ws) each =
       let here = All-head (IsWordUnder (settings_after h)) w ws each in
       let others = All-tail (IsWordUnder (settings_after h)) w ws each in
       let before = Gap w.gap ∷ words_told ws h in
       let gap : blanks before ≡ w.gap = blanks-gap w.gap (words_told ws h) (open_glyphs-words ws) (blanks-words ws others) in
       let under : settings_after before ≡ w.under = settings_after-words ws ∙ sym here.under in
-      let word : ℕ → Settings → Word = λ n s. record { glyphs = w.glyphs; gap = n; under = s } in
+      let word : ℕ → Settings → ℕ → Word = λ n s i. record { glyphs = w.glyphs; gap = n; under = s; indent = i } in
+      let by_none : indent_by (temporary_indent before) (settings_after before) ≡ w.indent =
+      ap (λ t. indent_by t (settings_after before)) (temporary_indent-words none ws)
+      ∙ ap (λ s. s.indent) (settings_after-words ws) ∙ sym here.indent in
       words-word w.glyphs before here.some (open_glyphs-words ws)
-      ∙ ap (λ n. word n (settings_after before) ∷ words before) gap
-      ∙ ap (λ s. word w.gap s ∷ words before) under
-      ∙ ap (λ vs. w ∷ vs) (words-words ws others)
+      ∙ ap (λ i. word (blanks before) (settings_after before) i ∷ words before) by_none
+      ∙ ap (λ n. word n (settings_after before) w.indent ∷ words before) gap
+      ∙ ap (λ s. word w.gap s w.indent ∷ words before) under
+      ∙ ap (λ vs. w ∷ vs) (words-words none ws others)
 
 -- a word end where this is in force leaves words that end under it
 under-word_end : (s : Settings) (h : History) → settings_after h ≡ s → All (λ w. w.under ≡ s) (words h)
@@ -69,20 +87,30 @@ under-word_end s h same under =
       | inr closed ↦ rw closed under
     ]
 
-module _ (h : History) (fills : (settings_after h).filling ≡ true) where
+-- where words are measured, no line is to be centred, so a text line more counts none
+none_centred : (filling : Bool) (n : ℕ) → (filling && n == 0) ≡ true → n - 1 ≡ n
+none_centred true n measured = omega (arith, eqb-true n 0 measured)
+none_centred false n measured = cc
+
+counted-measured : (s : Settings) → fills s ≡ true → counted s ≡ s
+counted-measured s measured = ap (λ n. record s { centring = n }) (none_centred s.filling s.centring measured)
+
+module _ (h : History) (measured : fills (settings_after h) ≡ true) where
   -- a text changes nothing of what is in force
   pub settings_after-text : (text : List Event) → All IsOfText text → settings_after (text ++ h) ≡ settings_after h
   settings_after-text [] each = refl
   settings_after-text (Set p ∷ text) each = absurd (All-head IsOfText (Set p) text each)
+  settings_after-text (Count ∷ text) each =
+      ap counted (settings_after-text text (All-tail IsOfText Count text each)) ∙ counted-measured (settings_after h) measured
   settings_after-text (e ∷ text) each = settings_after-text text (All-tail IsOfText e text each)
 
-  -- in filling it breaks nothing
+  -- where words are measured it breaks nothing
   pub until_break-text : (text : List Event) → All IsOfText text → until_break (text ++ h) ≡ until_break h
   until_break-text [] each = refl
   until_break-text (Break ∷ text) each = absurd (All-head IsOfText Break text each)
   until_break-text (LineEnd ∷ text) each =
       let others = All-tail IsOfText LineEnd text each in
-      let filling : (settings_after (text ++ h)).filling ≡ true = ap (λ s. s.filling) (settings_after-text text others) ∙ fills in
+      let filling : fills (settings_after (text ++ h)) ≡ true = ap fills (settings_after-text text others) ∙ measured in
       rw filling (until_break-text text others)
   until_break-text (e ∷ text) each = until_break-text text (All-tail IsOfText e text each)
 
@@ -92,7 +120,7 @@ module _ (h : History) (fills : (settings_after h).filling ≡ true) where
   under-text (Break ∷ text) each none = absurd (All-head IsOfText Break text each)
   under-text (LineEnd ∷ text) each none =
       let others = All-tail IsOfText LineEnd text each in
-      let filling : (settings_after (text ++ h)).filling ≡ true = ap (λ s. s.filling) (settings_after-text text others) ∙ fills in
+      let filling : fills (settings_after (text ++ h)) ≡ true = ap fills (settings_after-text text others) ∙ measured in
       rw filling (under-text text others none)
   under-text (WordEnd ∷ text) each none =
       let others = All-tail IsOfText WordEnd text each in

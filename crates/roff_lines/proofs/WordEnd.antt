@@ -2,12 +2,13 @@
 use Rattle.std.proofs.Common.{◌≡◌, ℕ, true, false, not, List, [], ◌∷◌, ◌++◌, None, refl, sym, ap, ◌∙◌, arith, inl, inr}
 use Rattle.std.proofs.lemmas.Bool.{cond_both, cases_Bool, not-true, not-false}
 use Rattle.roff_lines.specs.Events.{WordEnd, History}
-use Rattle.roff_lines.specs.Words.{has_open_word, open_word}
-use Rattle.roff_lines.specs.Lines.{gap_text, laid_out, finished, pending_line}
+use Rattle.roff_lines.specs.Words.{has_open_word, open_word, temporary_indent, indent_by}
+use Rattle.roff_lines.specs.Fitting.{gap_text, begins_line}
+use Rattle.roff_lines.specs.Lines.{laid_out, finished, pending_line}
 use Rattle.roff_lines.specs.LastLine.{last_width}
 use Rattle.roff_lines.specs.Env.Kept.{Kept, without_word, word_as_line, word_fits, pending_width, with_word_ended, finished_by_word}
 use Rattle.roff_lines.specs.Env.Stands.{Stands}
-use Rattle.roff_lines.proofs.PendingLine.{placed-full, line_text-full, line_indent-full, word_text-closed, pending_length-word_end}
+use Rattle.roff_lines.proofs.PendingLine.{placed-full, begins_line-full, line_text-full, line_indent-full, word_text-closed, pending_length-word_end}
 use Rattle.roff_lines.proofs.LastLine.{last_width-none, last_width-some}
 use Rattle.roff_lines.proofs.Stands.{is_empty-pending_line, words-no_line, blanks-counted, word_fits-stands, laid_out-stands}
 
@@ -36,6 +37,8 @@ module _ (line_cap : ℕ) (h : History) (k : Kept) (s : Stands line_cap h k) whe
         within = omega (arith, pending_length-word_end h, s.within);
         cap = s.cap;
         settings = s.settings;
+        temporary_indent = rw closed s.temporary_indent;
+        stops = s.stops;
         has_line = rw closed s.has_line;
         line = rw closed s.line;
         indent = rw closed s.indent;
@@ -44,12 +47,30 @@ module _ (line_cap : ℕ) (h : History) (k : Kept) (s : Stands line_cap h k) whe
         blanks = rw closed s.blanks;
         has_glyph = s.has_glyph;
         ends_sentence = s.ends_sentence;
+        place = s.place;
+        is_interrupted = s.is_interrupted;
         last_width = last_width-kept (rw o refl);
       }
 
   module _ (o : k.is_open ≡ true) where
     open_before : has_open_word h ≡ true
     open_before = sym s.is_open ∙ o
+
+    -- where no line is pending, the word begins one
+    begins_line-first : k.has_line ≡ false → begins_line (pending_line h) (open_word h) ≡ true
+    begins_line-first l = rw (words-no_line line_cap h k s l) refl
+
+    -- else it does if it doesn't fit
+    begins_line-kept : k.has_line ≡ true → begins_line (pending_line h) (open_word h) ≡ not (word_fits k)
+    begins_line-kept l =
+        begins_line-full (pending_line h) (open_word h) (is_empty-pending_line line_cap h k s l)
+        ∙ ap not (sym (word_fits-stands line_cap h k s o l))
+
+    begins_line-behind : k.has_line ≡ true → word_fits k ≡ false → begins_line (pending_line h) (open_word h) ≡ true
+    begins_line-behind l f = begins_line-kept l ∙ ap not f
+
+    begins_line-within : k.has_line ≡ true → word_fits k ≡ true → begins_line (pending_line h) (open_word h) ≡ false
+    begins_line-within l f = begins_line-kept l ∙ ap not f
 
     -- no line is pending
     pending_line-first : k.has_line ≡ false → pending_line (WordEnd ∷ h) ≡ open_word h ∷ []
@@ -75,23 +96,29 @@ module _ (line_cap : ℕ) (h : History) (k : Kept) (s : Stands line_cap h k) whe
 
     -- the word begins a line, whatever text was handed out last
     Stands-beginning : (text : List ℕ) (width : ℕ)
+        → begins_line (pending_line h) (open_word h) ≡ true
         → pending_line (WordEnd ∷ h) ≡ open_word h ∷ [] → width ≡ last_width (WordEnd ∷ h)
         → Stands line_cap (WordEnd ∷ h) (without_word (word_as_line (record k { finished = text; last_width = width })))
-    Stands-beginning text width line last = record {
-      small = s.small;
-      within = omega (arith, pending_length-word_end h, s.within);
-      cap = s.cap;
-      settings = s.settings;
-      has_line = rw open_before refl;
-      line = rw line s.word;
-      indent = λ _. rw line (ap (λ t. t.indent) s.settings);
-      word = refl;
-      is_open = refl;
-      blanks = rw open_before refl;
-      has_glyph = s.has_glyph;
-      ends_sentence = s.ends_sentence;
-      last_width = last;
-    }
+    Stands-beginning text width begins line last =
+        let begun = ap (λ t. indent_by t k.settings) s.temporary_indent ∙ ap (indent_by (temporary_indent h)) s.settings in record {
+          small = s.small;
+          within = omega (arith, pending_length-word_end h, s.within);
+          cap = s.cap;
+          settings = s.settings;
+          temporary_indent = rw (open_before, begins) refl;
+          stops = s.stops;
+          has_line = rw open_before refl;
+          line = rw line s.word;
+          indent = λ _. rw line begun;
+          word = refl;
+          is_open = refl;
+          blanks = rw open_before refl;
+          has_glyph = s.has_glyph;
+          ends_sentence = s.ends_sentence;
+          place = s.place;
+          is_interrupted = s.is_interrupted;
+          last_width = last;
+        }
 
     -- the word stands behind the pending line
     Stands-within : k.has_line ≡ true → word_fits k ≡ true →
@@ -105,6 +132,8 @@ module _ (line_cap : ℕ) (h : History) (k : Kept) (s : Stands line_cap h k) whe
           within = omega (arith, pending_length-word_end h, s.within);
           cap = s.cap;
           settings = s.settings;
+          temporary_indent = rw (open_before, begins_line-within l f) s.temporary_indent;
+          stops = s.stops;
           has_line = rw open_before l;
           line = rw (line, line_text-full (pending_line h) (open_word h) full, s.line, counted, s.word) refl;
           indent = λ _. rw (line, line_indent-full (pending_line h) (open_word h) full) (s.indent l);
@@ -113,6 +142,8 @@ module _ (line_cap : ℕ) (h : History) (k : Kept) (s : Stands line_cap h k) whe
           blanks = rw open_before refl;
           has_glyph = s.has_glyph;
           ends_sentence = s.ends_sentence;
+          place = s.place;
+          is_interrupted = s.is_interrupted;
           last_width = last_width-kept (rw (o, l, f) refl);
         }
 
@@ -125,8 +156,10 @@ module _ (line_cap : ℕ) (h : History) (k : Kept) (s : Stands line_cap h k) whe
       (λ e. let o = not-false k.is_open e in
       cond_both (not k.has_line) _ _ Goal
       (λ e'. let l = not-true k.has_line e' in
-      Stands-beginning o k.finished k.last_width (pending_line-first o l) (last_width-kept (rw (o, l) refl)))
+      Stands-beginning o k.finished k.last_width (begins_line-first o l) (pending_line-first o l)
+      (last_width-kept (rw (o, l) refl)))
       (λ e'. let l = not-false k.has_line e' in
       cond_both (word_fits k) _ _ Goal
       (Stands-within o l)
-      (λ f. Stands-beginning o k.line (pending_width true k) (pending_line-behind o l f) (last_width-full o l f))))
+      (λ f. Stands-beginning o k.line (pending_width true k) (begins_line-behind o l f) (pending_line-behind o l f)
+      (last_width-full o l f))))

@@ -32,6 +32,11 @@ glyph_text (Blanks n) = replicate n glyph_blank
 abbrev pub text_width : List ℕ → ℕ
 text_width text = sum_by byte_width text
 
+-- the columns of a glyph
+abbrev pub glyph_width : Glyph → ℕ
+glyph_width (Printed b) = byte_width b
+glyph_width (Blanks n) = n
+
 -- the gaps of a text, each counted by its first blank
 abbrev pub gaps_in : List ℕ → ℕ
 gaps_in text = count_by (λ b. b == gap_blank) text

@@ -1,48 +1,14 @@
 -- Lines: how words are filled, and what is finished when (manual, sections 4.1 and 6).
 --
 -- A line's words are kept as the history is, the newest first.
-use Rattle.std.specs.Prelude.{ℕ, ◌+◌, ◌-◌, ◌/◌, Bool, true, false, not, ◌&&◌, ◌||◌, List, [], ◌∷◌, ◌++◌, length, nat_le, replicate, Option, Some, None, if◌then◌else◌, ◌==◌}
+use Rattle.std.specs.Prelude.{ℕ, ◌+◌, ◌-◌, ◌/◌, Bool, true, false, not, ◌&&◌, List, [], length, Option, Some, None, if◌then◌else◌, ◌==◌}
 use Rattle.roff_lines.specs.declared.settings.Settings.{Settings}
 use Rattle.roff_lines.specs.declared.settings.AdjustMode.TheVariants.{Left, Right, Centre, Both}
-use Rattle.roff_lines.specs.Glyphs.{gap_blank, further_blank, text_width, gaps_in}
+use Rattle.roff_lines.specs.Glyphs.{text_width, gaps_in}
+use Rattle.roff_lines.specs.Settings.{fills}
 use Rattle.roff_lines.specs.Events.{Event, WordEnd, LineEnd, Break, History, settings_after}
-use Rattle.roff_lines.specs.Words.{Word, word_text, is_empty, has_open_word, blanks, open_word, words}
-
--- a gap's text: its first blank, and each further one
-abbrev pub gap_text : ℕ → List ℕ
-gap_text n = if n == 0 then [] else gap_blank ∷ replicate (n - 1) further_blank
-
--- a line's text: the words, and the gaps between them
-abbrev pub line_text : List Word → List ℕ
-line_text [] = []
-line_text (w ∷ []) = word_text w
-line_text (w ∷ v ∷ ws) = line_text (v ∷ ws) ++ (gap_text w.gap ++ word_text w)
-
--- a line's indent, fixed as its first word ended
-abbrev pub line_indent : List Word → ℕ
-line_indent [] = 0
-line_indent (w ∷ []) = w.under.indent
-line_indent (w ∷ v ∷ ws) = line_indent (v ∷ ws)
-
--- whether a line of this indent may have text of this width: with its indent within the line length,
--- and always without filling
-abbrev pub may_be_wide : Settings → ℕ → ℕ → Bool
-may_be_wide s indent width = not s.filling || nat_le (indent + width) s.line_length
-
--- whether a word fits behind a line, by what was in force as the word ended
-abbrev pub fits : List Word → Word → Bool
-fits line w =
-    may_be_wide w.under (line_indent line) (text_width (line_text line) + w.gap + text_width (word_text w))
-
--- the line that a word stands in: that of the words before it if it fits there, else a line of its own
-abbrev pub placed : List Word → Word → List Word
-placed [] w = w ∷ []
-placed (v ∷ line) w = if fits (v ∷ line) w then w ∷ v ∷ line else w ∷ []
-
--- the last line of a paragraph's words
-abbrev pub last_line : List Word → List Word
-last_line [] = []
-last_line (w ∷ ws) = placed (last_line ws) w
+use Rattle.roff_lines.specs.Fitting.{Word, word_text, line_text, line_indent, fits, last_line}
+use Rattle.roff_lines.specs.Words.{is_empty, has_open_word, blanks, open_word, words}
 
 -- the pending line: what is in no finished line, without the open word
 abbrev pub pending_line : History → List Word
@@ -69,17 +35,18 @@ pub record Finished : Type 0 where
 abbrev pub free_columns : Settings → ℕ → List ℕ → ℕ
 free_columns s indent text = s.line_length - (indent + text_width text)
 
--- how much later a line starts that is adjusted on the right, or centred
+-- how much later a line starts that is centred, or adjusted on the right or in the centre
 abbrev pub late_start : Settings → ℕ → ℕ
 late_start s free =
-    if s.filling && s.adjusting
+    if not (s.centring == 0) then free / 2
+    else if s.filling && s.adjusting
     then elim s.mode [ Left ↦ 0 | Right ↦ free | Centre ↦ free / 2 | Both ↦ 0 ]
     else 0
 
 -- how many columns are spread over the gaps of a line, where both edges are to be even
 abbrev pub spread_columns : Settings → ℕ → ℕ → ℕ
 spread_columns s free gaps =
-    if s.filling && s.adjusting && not (gaps == 0)
+    if fills s && s.adjusting && not (gaps == 0)
     then elim s.mode [ Left ↦ 0 | Right ↦ 0 | Centre ↦ 0 | Both ↦ free ]
     else 0
 
@@ -91,7 +58,7 @@ laid_out s by_word indent text = record {
   lead = indent + late_start s (free_columns s indent text);
   spare = if by_word then spread_columns s (free_columns s indent text) (gaps_in text) else 0;
   gaps = gaps_in text;
-  after = 0;
+  after = s.spacing - 1;
 }
 
 -- the same of a line's words
@@ -99,8 +66,8 @@ abbrev pub line_laid_out : Settings → Bool → List Word → Finished
 line_laid_out s by_word line = laid_out s by_word (line_indent line) (line_text line)
 
 -- a line with nothing in it
-abbrev pub empty_line : Finished
-empty_line = record { text = []; lead = 0; spare = 0; gaps = 0; after = 0 }
+abbrev pub empty_line : Settings → Finished
+empty_line s = record { text = []; lead = 0; spare = 0; gaps = 0; after = s.spacing - 1 }
 
 -- the line that an event finishes, if it finishes one
 abbrev pub finished : History → Event → Option Finished
@@ -109,10 +76,10 @@ finished h WordEnd =
     if has_open_word h && not (is_empty (words h)) && not (fits (pending_line h) (open_word h))
     then Some (line_laid_out (settings_after h) true (pending_line h))
     else None
--- without filling each line's end does, and a line without a word is empty
+-- where words aren't measured each line's end does, and without filling a line without a word is empty
 finished h LineEnd =
-    if (settings_after h).filling then None
-    else if is_empty (words h) then Some empty_line
+    if fills (settings_after h) then None
+    else if is_empty (words h) then (if (settings_after h).filling then None else Some (empty_line (settings_after h)))
     else Some (line_laid_out (settings_after h) false (pending_line h))
 -- a break finishes what is pending
 finished h Break =

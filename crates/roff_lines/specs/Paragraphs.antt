@@ -2,23 +2,24 @@
 -- after another (manual, section 4.1).
 --
 -- Lines are the newest first, as words are.
-use Rattle.std.specs.Prelude.{true, false, List, [], ◌∷◌, map, if◌then◌else◌}
-use Rattle.std.specs.List.{cons_option}
+use Rattle.std.specs.Prelude.{ℕ, true, false, not, List, [], ◌∷◌, map, if◌then◌else◌, ◌==◌}
+use Rattle.std.specs.List.{cons_option, take_while}
 use Rattle.roff_lines.specs.declared.settings.Settings.{Settings}
-use Rattle.roff_lines.specs.Settings.{initial_settings}
+use Rattle.roff_lines.specs.Settings.{initial_settings, fills}
 use Rattle.roff_lines.specs.Events.{LineEnd, Break, History, settings_after}
-use Rattle.roff_lines.specs.Words.{Word}
+use Rattle.roff_lines.specs.Fitting.{Word}
 use Rattle.roff_lines.specs.Lines.{Finished, line_laid_out, finished}
+use Rattle.roff_lines.specs.Columns.{line_bytes}
 
 -- the lines that a history finishes
 abbrev pub finished_lines : History → List Finished
 finished_lines [] = []
 finished_lines (e ∷ h) = cons_option (finished h e) (finished_lines h)
 
--- the history up to its last break; without filling, a line's end is one
+-- the history up to its last break; where words aren't measured, a line's end is one
 abbrev pub until_break : History → History
 until_break [] = []
-until_break (LineEnd ∷ h) = if (settings_after h).filling then until_break h else LineEnd ∷ h
+until_break (LineEnd ∷ h) = if fills (settings_after h) then until_break h else LineEnd ∷ h
 until_break (Break ∷ h) = Break ∷ h
 until_break (_ ∷ h) = until_break h
 
@@ -44,3 +45,7 @@ broken_lines s (last ∷ lines) = line_laid_out s false last ∷ full_lines (las
 abbrev pub paragraph_lines : Settings → List (List Word) → List Finished
 paragraph_lines s [] = []
 paragraph_lines s (last ∷ lines) = line_laid_out s false last ∷ map (line_laid_out s true) lines
+
+-- what the lines that a history finishes write, without their newlines and blank lines
+abbrev pub lines_written : History → List (List ℕ)
+lines_written h = map (λ line. take_while (λ b. not (b == 10)) (line_bytes line)) (finished_lines h)

@@ -3,8 +3,9 @@ use Rattle.std.specs.Prelude.{◌≡◌, ℕ, false, List, [], ◌∷◌, ◌++�
 use Rattle.roff_lines.specs.declared.glyph.Glyph.{Glyph}
 use Rattle.roff_lines.specs.declared.glyph.Glyph.TheVariants.{Printed}
 use Rattle.roff_lines.specs.declared.settings.Settings.{Settings}
-use Rattle.roff_lines.specs.Events.{Event, Print, WordEnd, Gap, Break, Set, History}
-use Rattle.roff_lines.specs.Words.{Word, is_empty, has_open_word, blanks, words}
+use Rattle.roff_lines.specs.Events.{Event, Print, WordEnd, Gap, LineEnd, Count, Break, Set, History}
+use Rattle.roff_lines.specs.Fitting.{Word}
+use Rattle.roff_lines.specs.Words.{is_empty, has_open_word, blanks, words}
 
 -- a history, and these glyphs behind it
 abbrev pub glyphs_told : List Glyph → History → History
@@ -21,10 +22,11 @@ IsOfText Break = ⊥
 IsOfText (Set p) = ⊥
 IsOfText (_) = Unit {0}
 
--- a word that can be told while this is in force: it has a glyph, and ends under these settings
+-- a word that can be told while this is in force: it has a glyph, and ends under these settings, their indent among them
 pub record IsWordUnder (s : Settings) (w : Word) : Type 0 where
   pub some : is_empty w.glyphs ≡ false
   pub under : w.under ≡ s
+  pub indent : w.indent ≡ s.indent
 
 -- a history of which nothing is left for a line: no word, no open word, no blanks before the next one
 pub record IsClear (h : History) : Type 0 where
@@ -36,3 +38,7 @@ pub record IsClear (h : History) : Type 0 where
 abbrev pub bytes_told : List ℕ → History → History
 bytes_told [] h = h
 bytes_told (b ∷ bytes) h = bytes_told bytes (if b == 32 then Gap 1 ∷ WordEnd ∷ h else Print (Printed b) ∷ h)
+
+-- a history, and behind it a text line of the input with these bytes
+abbrev pub text_line : List ℕ → History → History
+text_line bytes h = Count ∷ LineEnd ∷ WordEnd ∷ bytes_told bytes h

@@ -1,21 +1,13 @@
--- Words: runs of glyphs, and the gaps between them (manual, section 4.1).
-use Rattle.std.specs.Prelude.{ℕ, ◌+◌, Bool, true, false, not, ◌&&◌, ◌||◌, List, [], ◌∷◌, reverse, codes, ◌==◌, if◌then◌else◌}
-use Rattle.std.specs.List.{flat_map, list_any}
+-- Words: runs of glyphs, and the gaps between them (manual, section 4.1). A tab is a glyph of blanks.
+use Rattle.std.specs.Prelude.{ℕ, ◌+◌, Bool, true, false, not, ◌&&◌, ◌||◌, List, [], ◌∷◌, reverse, codes, Option, Some, None, ◌==◌, if◌then◌else◌}
+use Rattle.std.specs.List.{list_any}
 use Rattle.roff_lines.specs.declared.glyph.Glyph.{Glyph}
 use Rattle.roff_lines.specs.declared.glyph.Glyph.TheVariants.{Printed, Blanks}
 use Rattle.roff_lines.specs.declared.settings.Settings.{Settings}
-use Rattle.roff_lines.specs.Glyphs.{glyph_text}
-use Rattle.roff_lines.specs.Events.{Print, WordEnd, Gap, LineEnd, Break, History, settings_after}
-
--- a word: its glyphs in order, the blanks of the gap before it, and what was in force as it ended
-pub record Word : Type 0 where
-  pub glyphs : List Glyph
-  pub gap : ℕ
-  pub under : Settings
-
--- a word's text
-abbrev pub word_text : Word → List ℕ
-word_text w = flat_map glyph_text w.glyphs
+use Rattle.roff_lines.specs.Settings.{fills, temporary_with}
+use Rattle.roff_lines.specs.Events.{Print, Tab, WordEnd, Gap, LineEnd, Break, Set, History, settings_after}
+use Rattle.roff_lines.specs.Places.{tab_width}
+use Rattle.roff_lines.specs.Fitting.{Word, begins_line, last_line}
 
 -- whether a list is empty
 abbrev pub is_empty : {A : Type 0} → List A → Bool
@@ -26,6 +18,7 @@ is_empty (x ∷ xs) = false
 abbrev pub open_glyphs : History → List Glyph
 open_glyphs [] = []
 open_glyphs (Print g ∷ h) = g ∷ open_glyphs h
+open_glyphs (Tab ∷ h) = Blanks (tab_width h) ∷ open_glyphs h
 open_glyphs (WordEnd ∷ h) = []
 open_glyphs (_ ∷ h) = open_glyphs h
 
@@ -37,6 +30,7 @@ has_open_word h = not (is_empty (open_glyphs h))
 abbrev pub line_glyphs : History → List Glyph
 line_glyphs [] = []
 line_glyphs (Print g ∷ h) = g ∷ line_glyphs h
+line_glyphs (Tab ∷ h) = Blanks (tab_width h) ∷ line_glyphs h
 line_glyphs (LineEnd ∷ h) = []
 line_glyphs (_ ∷ h) = line_glyphs h
 
@@ -60,26 +54,62 @@ abbrev pub line_end_gap : List Glyph → ℕ
 line_end_gap glyphs = if ends_sentence glyphs then 2 else 1
 
 -- The blanks before the next word, or before the open one: those of the gaps since the last word.
--- A line's end in filling takes the place of the gaps before it, so trailing blanks are dropped; it
+-- A line's end, where words are measured, takes the place of the gaps before it, so trailing blanks are dropped; it
 -- leaves them as they are if no glyph stood on the line. An open word keeps the gap it began with.
 abbrev pub blanks : History → ℕ
 blanks [] = 0
 blanks (WordEnd ∷ h) = if has_open_word h then 0 else blanks h
 blanks (Gap n ∷ h) = if has_open_word h then blanks h else blanks h + n
 blanks (LineEnd ∷ h) =
-    if has_open_word h || ((settings_after h).filling && is_empty (line_glyphs h)) then blanks h
-    else if (settings_after h).filling then line_end_gap (line_glyphs h) else 0
+    if has_open_word h || (fills (settings_after h) && is_empty (line_glyphs h)) then blanks h
+    else if fills (settings_after h) then line_end_gap (line_glyphs h) else 0
 blanks (Break ∷ h) = if has_open_word h then blanks h else 0
 blanks (_ ∷ h) = blanks h
 
+-- the indent of a line that begins now: the one that is pending for it alone, else that in force
+abbrev pub indent_by : Option ℕ → Settings → ℕ
+indent_by (Some n) s = n
+indent_by None s = s.indent
+
+-- the open word as it ends, where this indent is pending
+abbrev pub word_ended : Option ℕ → History → Word
+word_ended pending h = record {
+  glyphs = reverse (open_glyphs h);
+  gap = blanks h;
+  under = settings_after h;
+  indent = indent_by pending (settings_after h);
+}
+
+-- what a history leaves of a paragraph: the words since the last break, the newest first, and the indent that is pending
+-- for the next line alone
+pub record Paragraph : Type 0 where
+  pub words : List Word
+  pub temporary_indent : Option ℕ
+
+-- The paragraph of a history. A line's end is a break too where words aren't measured. A pending indent goes to the first
+-- word that begins a line.
+abbrev pub paragraph : History → Paragraph
+paragraph [] = record { words = []; temporary_indent = None }
+paragraph (WordEnd ∷ h) =
+    let p = paragraph h in
+    let w = word_ended p.temporary_indent h in
+    record {
+      words = if has_open_word h then w ∷ p.words else p.words;
+      temporary_indent = if has_open_word h && begins_line (last_line p.words) w then None else p.temporary_indent;
+    }
+paragraph (LineEnd ∷ h) = let p = paragraph h in record p { words = if fills (settings_after h) then p.words else [] }
+paragraph (Break ∷ h) = record (paragraph h) { words = [] }
+paragraph (Set change ∷ h) = let p = paragraph h in record p { temporary_indent = temporary_with change p.temporary_indent }
+paragraph (_ ∷ h) = paragraph h
+
+-- the words since the last break, the newest first
+abbrev pub words : History → List Word
+words h = (paragraph h).words
+
+-- the indent that is pending for the next line alone
+abbrev pub temporary_indent : History → Option ℕ
+temporary_indent h = (paragraph h).temporary_indent
+
 -- the open word, as it ends now
 abbrev pub open_word : History → Word
-open_word h = record { glyphs = reverse (open_glyphs h); gap = blanks h; under = settings_after h }
-
--- The words since the last break, the newest first. A line's end without filling is a break too.
-abbrev pub words : History → List Word
-words [] = []
-words (WordEnd ∷ h) = if has_open_word h then open_word h ∷ words h else words h
-words (LineEnd ∷ h) = if (settings_after h).filling then words h else []
-words (Break ∷ h) = []
-words (_ ∷ h) = words h
+open_word h = word_ended (temporary_indent h) h

@@ -1,16 +1,19 @@
 //! The environment: the pending line, the open word, and what is in force.
 
-ghost use Rattle.std.specs.Prelude.{◌≡◌, ℕ, ◌+◌, ◌<◌, ◌≤◌, ◌^◌, ◌↔◌, [], ◌∷◌, ◌++◌, length};
+ghost use Rattle.std.specs.Prelude.{◌≡◌, ℕ, ◌+◌, ◌<◌, ◌≤◌, ◌^◌, ◌↔◌, not, [], ◌∷◌, ◌++◌, length};
 ghost use Rattle.std.specs.Prelude.{IfOk, OnOk, OnErr, IsErr, IsOkUnless, option_map};
 ghost use Rattle.std.specs.Borrow.{sem};
-ghost use Rattle.roff_lines.specs.Clauses.{Print, WordEnd, Gap, LineEnd, Break, Set, History};
-ghost use Rattle.roff_lines.specs.Clauses.{settings_after, last_width, pending_length, finished_of};
+ghost use Rattle.roff_lines.specs.Clauses.{Print, Tab, WordEnd, Gap, LineEnd, Count, Break};
+ghost use Rattle.roff_lines.specs.Clauses.{Interrupt, Resume, Set, History, settings_after};
+ghost use Rattle.roff_lines.specs.Clauses.{last_width, input_place, is_interrupted, line_glyphs};
+ghost use Rattle.roff_lines.specs.Clauses.{is_empty, indent_by, moved, pending_length, finished_of};
 ghost use Rattle.roff_lines.specs.Clauses.{finished, shaped, text_width, gap_text, may_be_wide};
 
 use crate::glyph::{Glyph, kept_byte};
 use crate::line::{FURTHER_BLANK, GAP, Line, UNPADDABLE};
 use crate::settings::{Param, Settings};
 use crate::shape::Shape;
+use crate::stops::StopTable;
 use crate::stretch::Stretch;
 use roff_num::Limit;
 use std::alloc::{AllocError, Global};
@@ -20,6 +23,9 @@ use std::mem;
 /// More blanks than any line has room for: no more of a gap are counted.
 const MOST_BLANKS: u64 = 1 << 33;
 
+/// The greatest place on a line of the input, in columns, that is told from those behind it.
+const MOST_PLACE: u64 = 2147483647;
+
 /// An environment: what is in force, the pending line and the open word.
 ///
 /// All its memory is reserved as it is made.
@@ -27,6 +33,9 @@ const MOST_BLANKS: u64 = 1 << 33;
 pub struct Env {
     cap: usize,
     settings: Settings,
+    /// The indent of the next line that a word begins, if that is one of its own.
+    temporary_indent: Option<u32>,
+    stops: StopTable,
     /// The pending line, without the open word.
     line: Stretch,
     indent: u32,
@@ -40,6 +49,10 @@ pub struct Env {
     last_width: u32,
     has_glyph: bool,
     ends_sentence: bool,
+    /// The place on the line of the input, in columns.
+    place: u32,
+    /// Whether the next text line goes on with the last one.
+    is_interrupted: bool,
 }
 
 impl Model for Env {
@@ -67,6 +80,8 @@ impl Env {
         Ok(Env {
             cap,
             settings: Settings::initial(),
+            temporary_indent: None,
+            stops: StopTable::new(alloc)?,
             line: Stretch::new(alloc, cap)?,
             indent: 0,
             has_line: false,
@@ -77,6 +92,8 @@ impl Env {
             last_width: 0,
             has_glyph: false,
             ends_sentence: false,
+            place: 0,
+            is_interrupted: false,
         })
     }
 
@@ -98,6 +115,34 @@ impl Env {
             → Stands line_cap h self.now → result ≡ last_width h }
     {
         self.last_width
+    }
+
+    /// The place on the line of the input, in columns: the widths of its glyphs, gaps and tabs.
+    /// No place is told beyond 2147483647.
+    pub fn input_place(&self) -> u32
+        ensures kept { result ≡ self.now.place }
+        ensures place { (line_cap : ℕ) (h : History)
+            → Stands line_cap h self.now → result ≡ input_place h }
+    {
+        self.place
+    }
+
+    /// Whether a glyph stands on the line of the input.
+    pub fn has_glyph(&self) -> bool
+        ensures kept { result ≡ self.now.has_glyph }
+        ensures glyphs { (line_cap : ℕ) (h : History)
+            → Stands line_cap h self.now → result ≡ not (is_empty (line_glyphs h)) }
+    {
+        self.has_glyph
+    }
+
+    /// Whether the next text line goes on with the last one, which was interrupted.
+    pub fn is_interrupted(&self) -> bool
+        ensures kept { result ≡ self.now.is_interrupted }
+        ensures interrupted { (line_cap : ℕ) (h : History)
+            → Stands line_cap h self.now → result ≡ is_interrupted h }
+    {
+        self.is_interrupted
     }
 
     /// Adds a glyph to the open word, or opens one with it.
@@ -125,7 +170,24 @@ impl Env {
         self.is_open = true;
         self.has_glyph = true;
         self.ends_sentence = glyph.ends_sentence_behind(self.ends_sentence);
+        self.place = moved(self.place, glyph.width());
         Ok(())
+    }
+
+    /// Adds a tab, a glyph of as many blanks as there are to the next tab stop.
+    ///
+    /// # Errors
+    ///
+    /// [`Limit::Line`] if the pending line would pass its limit; the environment is then as it was.
+    pub fn tab(&mut self) -> Result<(), Limit>
+        ensures stands { OnOk result (StandsBehind self.old Tab self.new) }
+        ensures limit { (line_cap : ℕ) (h : History) → Stands line_cap h self.old
+            → (IsErr result ↔ (line_cap < pending_length (Tab ∷ h))) }
+        ensures error { IsOkUnless result Limit.Line }
+        ensures unchanged { OnErr result (self.new ≡ self.old) }
+    {
+        let columns = self.stops.way_from(self.place);
+        self.glyph(Glyph::Blanks(columns))
     }
 
     /// Adds so many blanks to the gap between words.
@@ -135,6 +197,7 @@ impl Env {
         if !self.is_open {
             self.blanks = (self.blanks + u64::from(blanks)).min(MOST_BLANKS);
         }
+        self.place = moved(self.place, u64::from(blanks));
     }
 
     /// Ends the open word, which finishes the pending line if the word doesn't fit there.
@@ -146,13 +209,34 @@ impl Env {
         self.lent(shape)
     }
 
-    /// Ends a line of the input, which finishes the pending line where nothing is filled.
+    /// Ends a line of the input, which finishes the pending line where words aren't measured.
     pub fn end_line(&mut self) -> Option<Line<'_>>
         ensures* stands { sem 𝓛 (RestsBehind self.entry LineEnd) }
         ensures line { Finishes self.old LineEnd (option_map finished_of result) }
     {
         let shape = self.finish_input_line();
         self.lent(shape)
+    }
+
+    /// Counts a text line of the input, behind its end: one line less is to be centred.
+    pub fn count(&mut self)
+        ensures { StandsBehind self.old Count self.new }
+    {
+        self.settings = self.settings.counted();
+    }
+
+    /// Interrupts the line of the input: the next text line goes on in the same word.
+    pub fn interrupt(&mut self)
+        ensures { StandsBehind self.old Interrupt self.new }
+    {
+        self.is_interrupted = true;
+    }
+
+    /// Goes on with the line that was interrupted.
+    pub fn resume(&mut self)
+        ensures { StandsBehind self.old Resume self.new }
+    {
+        self.is_interrupted = false;
     }
 
     /// Finishes the pending line.
@@ -169,6 +253,10 @@ impl Env {
         ensures { StandsBehind self.old (Set param) self.new }
     {
         self.settings = self.settings.with(param);
+        self.stops.change(param);
+        if let Param::TemporaryIndent(columns) = param {
+            self.temporary_indent = Some(columns);
+        }
     }
 
     /// The finished line, in this shape.
@@ -194,7 +282,8 @@ impl Env {
         let mut shape = None;
         if !self.has_line {
             mem::swap(&mut self.line, &mut self.word);
-            self.indent = self.settings.indent;
+            self.indent = indent_of_line(self.temporary_indent, self.settings);
+            self.temporary_indent = None;
             self.has_line = true;
         } else if fits(
             self.settings,
@@ -213,14 +302,15 @@ impl Env {
             self.finished.clear();
             mem::swap(&mut self.finished, &mut self.line);
             mem::swap(&mut self.line, &mut self.word);
-            self.indent = self.settings.indent;
+            self.indent = indent_of_line(self.temporary_indent, self.settings);
+            self.temporary_indent = None;
         }
         self.is_open = false;
         self.blanks = 0;
         shape
     }
 
-    /// Finishes the pending line where nothing is filled, and else sets the gap of a line's end.
+    /// Finishes the pending line where words aren't measured, and else sets the gap of a line's end.
     fn finish_input_line(&mut self) -> Option<Shape>
         ensures kept { self.new ≡ with_input_line_ended self.old }
         ensures line { option_map (λ s. shaped s self.new.finished) result
@@ -230,7 +320,9 @@ impl Env {
         let gap = if self.ends_sentence { 2 } else { 1 };
         self.has_glyph = false;
         self.ends_sentence = false;
-        if self.settings.filling {
+        self.place = 0;
+        self.is_interrupted = false;
+        if self.settings.fills() {
             if ends_gap {
                 self.blanks = gap;
             }
@@ -239,9 +331,12 @@ impl Env {
         match self.finish_pending() {
             Some(shape) => Some(shape),
             None => {
+                if self.settings.filling {
+                    return None;
+                }
                 self.last_width = 0;
                 self.finished.clear();
-                Some(Shape::empty())
+                Some(Shape::empty(self.settings))
             }
         }
     }
@@ -268,7 +363,7 @@ impl Env {
 }
 
 /// Whether a word fits behind a line: with the indent within the line length, and always where
-/// nothing is filled.
+/// words aren't measured.
 fn fits(settings: Settings, indent: u32, line: &Stretch, blanks: u64, word: &Stretch) -> bool
     requires blanks { blanks ≤ 2 ^ 33 }
     requires line { line.now.room < 2 ^ 32 }
@@ -277,7 +372,24 @@ fn fits(settings: Settings, indent: u32, line: &Stretch, blanks: u64, word: &Str
         result ≡ may_be_wide settings indent width }
 {
     let width = line.width() + blanks + word.width();
-    !settings.filling || u64::from(indent) + width <= u64::from(settings.line_length)
+    !settings.fills() || u64::from(indent) + width <= u64::from(settings.line_length)
+}
+
+/// The indent of a line that begins: the one that is pending for it alone, else that in force.
+fn indent_of_line(temporary: Option<u32>, settings: Settings) -> u32
+    ensures { result ≡ indent_by temporary settings }
+{
+    match temporary {
+        Some(indent) => indent,
+        None => settings.indent,
+    }
+}
+
+/// A place with so many columns more.
+fn moved(place: u32, columns: u64) -> u32
+    ensures { result ≡ moved columns place }
+{
+    u64::from(place).saturating_add(columns).min(MOST_PLACE) as u32
 }
 
 /// Adds a gap of so many blanks.

@@ -1,9 +1,10 @@
 //! Glyphs: what a line prints in one piece.
 
 ghost use Rattle.std.specs.Prelude.{◌≡◌, length, if◌then◌else◌};
-ghost use Rattle.roff_lines.specs.Clauses.{glyph_text, text_byte, is_closer, is_sentence_mark};
+ghost use Rattle.roff_lines.specs.Clauses.{glyph_text, glyph_width, text_byte, is_closer, is_sentence_mark};
 
 use crate::line::UNPADDABLE;
+use roff_num::width_of_byte;
 
 /// A printed text with a width in columns.
 #[derive(Clone, Copy, Debug, PartialEq, Eq)]
@@ -23,6 +24,16 @@ impl Glyph {
         match self {
             Glyph::Printed(_) => 1,
             Glyph::Blanks(columns) => columns as usize,
+        }
+    }
+
+    /// The width of the glyph, in columns.
+    pub fn width(self) -> u64
+        ensures { result ≡ glyph_width self }
+    {
+        match self {
+            Glyph::Printed(byte) => width_of_byte(byte),
+            Glyph::Blanks(columns) => u64::from(columns),
         }
     }
 

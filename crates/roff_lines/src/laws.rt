@@ -1,12 +1,22 @@
 //! Facts about the definitions alone, as contracts of functions that do nothing.
 
-ghost use Rattle.std.specs.Prelude.{◌≡◌, ℕ, ◌<◌, List, [], ◌∷◌, ◌++◌, length, map, All, Some, IfSome, true, false, codes};
-ghost use Rattle.roff_lines.specs.Clauses.{Printed, StandsInColumns, written_by_break, FillsLines, lines_of, Finished, Word, is_empty, has_open_word, words, Event, Print, WordEnd, LineEnd, Break, Set, Filling, Adjusting, Mode, Right, Centre, LineLength, Indent, last_width, EndsAtWidth, finished, bytes_told, History, settings_after, glyphs_told, words_told, IsOfText, IsWordUnder, IsClear, finished_lines, until_break, full_lines, broken_lines, paragraph_lines};
+ghost use Rattle.std.specs.Prelude.{◌≡◌, ◌↔◌, ℕ, ◌<◌, List, [], ◌∷◌, ◌++◌, length, map, All, Some, None, IfSome, true, false, codes};
+ghost use Rattle.roff_lines.specs.Clauses.{Printed, Glyph, LeaveTheSame, uninterrupted, LeadsToNearest, IsStop, TabStops, stops_after, way_to_stop, tab_width, StandsInColumns, written_by_break, lines_written, text_line, line_bytes, input_place, is_interrupted, Tab, Count, Interrupt, Resume, TemporaryIndent, Centring, Spacing, NoStops, Stop, FillsLines, TakesFirstLine, MeasuredWord, first_line_count, Settings, lines_of, Finished, Word, is_empty, has_open_word, words, Event, Print, WordEnd, LineEnd, Break, Set, Filling, Adjusting, Mode, Right, Centre, LineLength, Indent, last_width, EndsAtWidth, finished, bytes_told, History, settings_after, fills, temporary_indent, glyphs_told, words_told, IsOfText, IsWordUnder, IsClear, finished_lines, until_break, full_lines, broken_lines, paragraph_lines};
 
 /// Filling takes the longest fronts: the lines of a paragraph have its words in order; each word of
 /// a line but the first fits behind those before it; and the word that begins the next line didn't.
 pub fn longest_fronts()
     ensures { (words : List Word) → FillsLines words }
+{}
+
+/// The first line of a paragraph's words takes as many of them as [`fill_words`](crate::fill_words)
+/// counts, told their gaps and widths and the measure that the line's indent leaves. Words behind
+/// one that doesn't fit change nothing of that.
+pub fn first_lines()
+    ensures words { (s : Settings) (indent : ℕ) (words : List Word) → TakesFirstLine s indent words }
+    ensures front { (measure : ℕ) (words more : List MeasuredWord)
+        → first_line_count measure words < length words
+        → first_line_count measure (words ++ more) ≡ first_line_count measure words }
 {}
 
 /// A finished line's text stands in its columns: before its k-th byte stand the lead, the widths
@@ -43,6 +53,69 @@ pub fn last_width_rows()
         last_width (LineEnd ∷ LineEnd ∷ WordEnd ∷ bytes_told (codes "x  y") before) ≡ 0 }
 {}
 
+/// What an environment writes on worked rows: an indent for one line alone, lines that are centred,
+/// blank lines behind lines, tabs, and a line of the input that is interrupted. The newest line comes
+/// first.
+pub fn line_rows()
+    // `.ll 8n`, `.ti 2n`: the first line alone is indented
+    ensures temporary { lines_written (Break ∷ WordEnd ∷ bytes_told (codes "aa bb cc dd")
+        (Set (TemporaryIndent 2) ∷ Set (LineLength 8) ∷ []))
+        ≡ codes "cc dd" ∷ codes "  aa  bb" ∷ [] }
+    // it waits behind an empty line, and behind a break
+    ensures waits { lines_written (text_line (codes "a")
+        (Break ∷ LineEnd ∷ Set (TemporaryIndent 2) ∷ Set (Filling false) ∷ []))
+        ≡ codes "  a" ∷ [] ∷ [] }
+    // `.ce`, `.ll 8n`: two lines, of which one is centred; a break doesn't use it up
+    ensures centred { lines_written (Break ∷ text_line (codes "cc") (text_line (codes "bb")
+        (Break ∷ WordEnd ∷ bytes_told (codes "aa") (Set (Centring 1) ∷ Set (LineLength 8) ∷ []))))
+        ≡ codes "cc" ∷ codes "   bb" ∷ codes "   aa" ∷ [] }
+    // a centred line is neither measured nor adjusted, and never starts before its indent
+    ensures centred_wide { lines_written (text_line (codes "aa bb") (Set (Centring 1)
+        ∷ Set (Mode Right) ∷ Set (Indent 1) ∷ Set (LineLength 3) ∷ []))
+        ≡ codes " aa bb" ∷ [] }
+    // in filling an empty line isn't written while lines are centred
+    ensures centred_nothing { lines_written (Count ∷ LineEnd ∷ Set (Centring 2) ∷ []) ≡ [] }
+    // without `.ta` the stops stand every eight columns, and a tab at one moves to the next
+    ensures tabs { lines_written (Break ∷ WordEnd ∷ Print (Printed 98) ∷ Tab ∷ Tab
+        ∷ bytes_told (codes "a") []) ≡ codes "a               b" ∷ [] }
+    // `.ta 8n 4n`: the nearest stop comes first, whatever the order; behind the last one none does
+    ensures stops { lines_written (Break ∷ WordEnd ∷ Print (Printed 99) ∷ Tab ∷ Print (Printed 98)
+        ∷ Tab ∷ Tab ∷ bytes_told (codes "a") (Set (Stop 4) ∷ Set (Stop 8) ∷ Set NoStops ∷ []))
+        ≡ codes "a       bc" ∷ [] }
+    // a gap counts in the place on the line of the input, and a break doesn't change that
+    ensures place { input_place (Break ∷ Tab ∷ bytes_told (codes "ab  c") []) ≡ 8 }
+    ensures place_behind { input_place (LineEnd ∷ Tab ∷ bytes_told (codes "ab  c") []) ≡ 0 }
+    // an interrupted line goes on in the same word, and its sentence isn't over
+    ensures interrupted { lines_written (Break ∷ WordEnd ∷ bytes_told (codes "cd")
+        (Resume ∷ Interrupt ∷ bytes_told (codes "ab") [])) ≡ codes "abcd" ∷ [] }
+    ensures is_interrupted { is_interrupted (Break ∷ Interrupt ∷ bytes_told (codes "ab") [])
+        ≡ true }
+    // `.ls 3`: two blank lines behind each line, an empty one too
+    ensures spaced { map line_bytes (finished_lines (text_line (codes "a")
+        (LineEnd ∷ Set (Spacing 3) ∷ Set (Filling false) ∷ [])))
+        ≡ (97 ∷ 10 ∷ 10 ∷ 10 ∷ []) ∷ (10 ∷ 10 ∷ 10 ∷ []) ∷ [] }
+{}
+
+/// A tab leads from the place on the line of the input to the nearest stop beyond it; where none
+/// stands beyond, it has no width. In which order stops were set, and how often, changes nothing.
+pub fn nearest_stops()
+    ensures leads { (h : History)
+        → LeadsToNearest (stops_after h) (input_place h) (tab_width h) }
+    ensures any_order { (stops more : TabStops) (place : ℕ)
+        → ((n : ℕ) → IsStop stops n ↔ IsStop more n)
+        → way_to_stop stops place ≡ way_to_stop more place }
+{}
+
+/// A line of the input that is interrupted goes on in the same word: glyphs in front of the
+/// interruption and behind it leave what the same glyphs leave without it. More events than glyphs
+/// may stand before, between and behind: an interruption changes nothing wherever it stands.
+pub fn interrupted_lines()
+    ensures same_word { (front back : List Glyph) (h : History) → LeaveTheSame
+        (glyphs_told back (Resume ∷ Interrupt ∷ glyphs_told front h))
+        (glyphs_told (front ++ back) h) }
+    ensures anywhere { (h : History) → LeaveTheSame h (uninterrupted h) }
+{}
+
 /// A printed byte above the blank is written as itself: a new environment that is told a word of
 /// such bytes writes them and a newline at a break.
 pub fn printed_bytes()
@@ -65,15 +138,15 @@ pub fn paragraphs()
     ensures broken { (h : History) → finished_lines (Break ∷ h)
         ≡ broken_lines (settings_after h) (lines_of (words h)) ++ finished_lines (until_break h) }
     ensures unfilled { (h : History)
-        → (settings_after h).filling ≡ false → is_empty (words h) ≡ false
+        → fills (settings_after h) ≡ false → is_empty (words h) ≡ false
         → finished_lines (LineEnd ∷ h)
         ≡ broken_lines (settings_after h) (lines_of (words h)) ++ finished_lines (until_break h) }
     ensures text { (text : List Event) (h : History)
-        → IsClear h → (settings_after h).filling ≡ true → All IsOfText text
+        → IsClear h → fills (settings_after h) ≡ true → All IsOfText text
         → finished_lines (Break ∷ text ++ h)
         ≡ paragraph_lines (settings_after h) (lines_of (words (text ++ h))) ++ finished_lines h }
     ensures told { (ws : List Word) (h : History)
-        → IsClear h → All (IsWordUnder (settings_after h)) ws
+        → IsClear h → temporary_indent h ≡ None → All (IsWordUnder (settings_after h)) ws
         → finished_lines (Break ∷ words_told ws h)
         ≡ paragraph_lines (settings_after h) (lines_of ws) ++ finished_lines h }
     ensures clear_at_first { IsClear [] }

@@ -7,16 +7,19 @@
 
 mod env;
 mod event;
+mod fill;
 mod glyph;
 pub mod laws;
 mod line;
 mod line_bytes;
 mod settings;
 mod shape;
+mod stops;
 mod stretch;
 
 pub use env::Env;
 pub use event::Event;
+pub use fill::{Word, fill_words};
 pub use glyph::Glyph;
 pub use line::{FURTHER_BLANK, GAP, Line, UNPADDABLE};
 pub use line_bytes::LineBytes;

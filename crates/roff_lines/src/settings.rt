@@ -1,7 +1,7 @@
 //! The parameters of an environment (manual, sections 4 and 6).
 
 ghost use Rattle.std.specs.Prelude.{◌≡◌};
-ghost use Rattle.roff_lines.specs.Clauses.{initial_settings, settings_with};
+ghost use Rattle.roff_lines.specs.Clauses.{initial_settings, settings_with, fills, counted};
 
 /// How lines are adjusted (manual, section 4.1, the request `ad`).
 #[derive(Clone, Copy, Debug, PartialEq, Eq)]
@@ -29,6 +29,16 @@ pub enum Param {
     LineLength(u32),
     /// The indent of the lines that begin from now on.
     Indent(u32),
+    /// The indent of the next line that a word begins, and of no other (`ti`).
+    TemporaryIndent(u32),
+    /// How many text lines of the input are to be centred (`ce`).
+    Centring(u32),
+    /// The line spacing (`ls`): so many lines less one are left blank behind each line.
+    Spacing(u32),
+    /// No tab stops are left.
+    NoStops,
+    /// One more tab stop, at this column. Of more than 32 the first ones are kept.
+    Stop(u32),
 }
 
 /// What is in force in an environment. Lengths are in columns.
@@ -48,6 +58,12 @@ pub struct Settings {
     pub indent: u32,
     /// The indent before the last one that was set.
     pub previous_indent: u32,
+    /// How many text lines of the input are still to be centred.
+    pub centring: u32,
+    /// The line spacing.
+    pub spacing: u32,
+    /// The line spacing before the last one that was set.
+    pub previous_spacing: u32,
 }
 
 impl Settings {
@@ -64,6 +80,9 @@ impl Settings {
             previous_line_length: 65,
             indent: 0,
             previous_indent: 0,
+            centring: 0,
+            spacing: 1,
+            previous_spacing: 1,
         }
     }
 
@@ -84,7 +103,29 @@ impl Settings {
                 changed.previous_indent = self.indent;
                 changed.indent = columns;
             }
+            Param::Centring(lines) => changed.centring = lines,
+            Param::Spacing(lines) => {
+                changed.previous_spacing = self.spacing;
+                changed.spacing = lines;
+            }
+            Param::TemporaryIndent(_) | Param::NoStops | Param::Stop(_) => {}
         }
         changed
+    }
+
+    /// Whether words are measured and lines adjusted: in filling, unless lines are centred.
+    pub fn fills(self) -> bool
+        ensures { result ≡ fills self }
+    {
+        self.filling && self.centring == 0
+    }
+
+    /// What is in force behind a text line of the input.
+    pub(crate) fn counted(self) -> Settings
+        ensures { result ≡ counted self }
+    {
+        let mut counted = self;
+        counted.centring = self.centring.saturating_sub(1);
+        counted
     }
 }

@@ -1,6 +1,6 @@
 //! How a line is laid out as it is finished.
 
-ghost use Rattle.std.specs.Prelude.{◌≡◌, ◌<◌, ◌^◌, []};
+ghost use Rattle.std.specs.Prelude.{◌≡◌, ◌-◌, ◌<◌, ◌^◌, []};
 ghost use Rattle.roff_lines.specs.Clauses.{finished_of, empty_line, laid_out, line_width, shaped};
 
 use crate::line::Line;
@@ -13,19 +13,22 @@ pub(crate) struct Shape {
     lead: u64,
     spare: u64,
     gaps: u64,
+    /// The blank lines that follow.
+    after: u64,
     /// The columns of the text, the spare ones among them.
     width: u32,
 }
 
 impl Shape {
     /// An empty line's.
-    pub(crate) fn empty() -> Shape
-        ensures { shaped result [] ≡ empty_line }
+    pub(crate) fn empty(settings: Settings) -> Shape
+        ensures { shaped result [] ≡ empty_line settings }
     {
         Shape {
             lead: 0,
             spare: 0,
             gaps: 0,
+            after: lines_after(settings),
             width: 0,
         }
     }
@@ -38,11 +41,12 @@ impl Shape {
     {
         let wide = u64::from(indent) + line.width();
         let free = u64::from(settings.line_length).saturating_sub(wide);
-        let adjusts = settings.filling && settings.adjusting;
         let gaps = line.gaps();
         let mut start = 0;
         let mut spare = 0;
-        if adjusts {
+        if settings.centring > 0 {
+            start = free / 2;
+        } else if settings.filling && settings.adjusting {
             match settings.mode {
                 AdjustMode::Left => {}
                 AdjustMode::Right => start = free,
@@ -58,6 +62,7 @@ impl Shape {
             lead: u64::from(indent) + start,
             spare,
             gaps,
+            after: lines_after(settings),
             width: (line.width() + spare) as u32,
         }
     }
@@ -79,7 +84,14 @@ impl Shape {
             lead: self.lead,
             spare: self.spare,
             gaps: self.gaps,
-            after: 0,
+            after: self.after,
         }
     }
+}
+
+/// The blank lines behind a line.
+fn lines_after(settings: Settings) -> u64
+    ensures { result ≡ settings.spacing - 1 }
+{
+    u64::from(settings.spacing).saturating_sub(1)
 }

@@ -1,17 +1,25 @@
 -- What an environment keeps of its history.
-use Rattle.std.specs.Prelude.{◌≡◌, ℕ, ◌+◌, ◌<◌, ◌≤◌, ◌^◌, Bool, true, false, ◌&&◌, not, List, [], ◌++◌, length, Option, Some, None, if◌then◌else◌}
+use Rattle.std.specs.Prelude.{◌≡◌, ℕ, ◌+◌, ◌<◌, ◌≤◌, ◌^◌, Bool, true, false, ◌&&◌, ◌||◌, not, List, [], ◌++◌, length, Option, Some, None, if◌then◌else◌}
 use Rattle.roff_lines.specs.declared.env.Env.TheInside.{Inside}
 use Rattle.roff_lines.specs.declared.settings.Settings.{Settings}
 use Rattle.roff_lines.specs.Glyphs.{text_width}
-use Rattle.roff_lines.specs.Lines.{Finished, gap_text, may_be_wide, laid_out, empty_line}
+use Rattle.roff_lines.specs.Settings.{fills}
+use Rattle.roff_lines.specs.Stops.{TabStops}
+use Rattle.roff_lines.specs.Places.{most_place}
+use Rattle.roff_lines.specs.Fitting.{gap_text, may_be_wide}
+use Rattle.roff_lines.specs.Words.{indent_by}
+use Rattle.roff_lines.specs.Lines.{Finished, laid_out, empty_line}
 use Rattle.roff_lines.specs.LastLine.{line_width}
 
--- the pending line's text and its indent, and whether a word stands in it; the open word's text, and
--- whether there is one; the blanks before it; what the line of the input has so far; the line that was
--- handed out last, and the width of the last one that was finished
+-- what is in force, the indent that is pending for one line alone, and the tab stops; the pending line's text and its
+-- indent, and whether a word stands in it; the open word's text, and whether there is one; the blanks before it; what the
+-- line of the input has so far, the place on it, and whether it is interrupted; the line that was handed out last, and the
+-- width of the last one that was finished
 pub record Kept : Type 0 where
   pub cap : ℕ
   pub settings : Settings
+  pub temporary_indent : Option ℕ
+  pub stops : TabStops
   pub line : List ℕ
   pub indent : ℕ
   pub has_line : Bool
@@ -20,6 +28,8 @@ pub record Kept : Type 0 where
   pub blanks : ℕ
   pub has_glyph : Bool
   pub ends_sentence : Bool
+  pub place : ℕ
+  pub is_interrupted : Bool
   pub finished : List ℕ
   pub last_width : ℕ
 
@@ -32,6 +42,8 @@ abbrev pub kept_by : Inside → Kept
 kept_by a = record {
   cap = a.cap;
   settings = a.settings;
+  temporary_indent = a.temporary_indent;
+  stops = a.stops;
   line = a.line.text;
   indent = a.indent;
   has_line = a.has_line;
@@ -40,6 +52,8 @@ kept_by a = record {
   blanks = a.blanks;
   has_glyph = a.has_glyph;
   ends_sentence = a.ends_sentence;
+  place = a.place;
+  is_interrupted = a.is_interrupted;
   finished = a.finished.text;
   last_width = a.last_width;
 }
@@ -51,6 +65,7 @@ pub record IsSound (a : Inside) : Type 0 where
   pub word_room : a.word.room ≡ a.cap
   pub finished_room : a.finished.room ≡ a.cap
   pub blanks : a.blanks ≤ 2 ^ 33
+  pub place : a.place ≤ most_place
   pub no_line : a.has_line ≡ false → a.line.text ≡ []
   pub no_word : a.is_open ≡ false → a.word.text ≡ []
   pub within : kept_length (kept_by a) ≤ a.cap
@@ -59,9 +74,14 @@ pub record IsSound (a : Inside) : Type 0 where
 abbrev pub without_word : Kept → Kept
 without_word k = record k { word = []; is_open = false; blanks = 0 }
 
--- a line of the open word alone
+-- a line of the open word alone: the indent that was pending is its
 abbrev pub word_as_line : Kept → Kept
-word_as_line k = record k { line = k.word; indent = k.settings.indent; has_line = true }
+word_as_line k = record k {
+  line = k.word;
+  indent = indent_by k.temporary_indent k.settings;
+  has_line = true;
+  temporary_indent = None;
+}
 
 -- whether the open word fits behind the pending line
 abbrev pub word_fits : Kept → Bool
@@ -101,17 +121,16 @@ finished_by_break k = if k.has_line then Some (laid_out k.settings false k.inden
 -- behind the end of a line of the input
 abbrev pub with_input_line_ended : Kept → Kept
 with_input_line_ended k =
-    let n : Kept = record k { has_glyph = false; ends_sentence = false } in
-    if k.settings.filling
+    let n : Kept = record k { has_glyph = false; ends_sentence = false; place = 0; is_interrupted = false } in
+    if fills k.settings
     then record n { blanks = if not k.is_open && k.has_glyph then (if k.ends_sentence then 2 else 1) else k.blanks }
-    else record (with_line_finished n) {
-      finished = k.line;
-      last_width = if k.has_line then pending_width false k else 0;
-    }
+    else if k.has_line || k.settings.filling then with_line_finished n
+    else record (with_line_finished n) { finished = []; last_width = 0 }
 
 -- the line that the end of a line of the input finishes
 abbrev pub finished_by_line_end : Kept → Option Finished
 finished_by_line_end k =
-    if k.settings.filling then None
+    if fills k.settings then None
     else if k.has_line then Some (laid_out k.settings false k.indent k.line)
-    else Some empty_line
+    else if k.settings.filling then None
+    else Some (empty_line k.settings)

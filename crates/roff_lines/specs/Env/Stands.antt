@@ -1,8 +1,10 @@
 -- When an environment stands for its history.
 use Rattle.std.specs.Prelude.{◌≡◌, ℕ, ◌<◌, ◌≤◌, ◌^◌, min, true, not, ◌∷◌, Option}
-use Rattle.roff_lines.specs.Events.{Event, History, settings_after}
-use Rattle.roff_lines.specs.Words.{word_text, is_empty, has_open_word, line_glyphs, ends_sentence, blanks, open_word, words}
-use Rattle.roff_lines.specs.Lines.{Finished, line_text, line_indent, pending_line, pending_length, finished}
+use Rattle.roff_lines.specs.Events.{Event, History, settings_after, stops_after, is_interrupted}
+use Rattle.roff_lines.specs.Places.{input_place}
+use Rattle.roff_lines.specs.Fitting.{word_text, line_text, line_indent}
+use Rattle.roff_lines.specs.Words.{is_empty, has_open_word, line_glyphs, ends_sentence, blanks, open_word, words, temporary_indent}
+use Rattle.roff_lines.specs.Lines.{Finished, pending_line, pending_length, finished}
 use Rattle.roff_lines.specs.Env.Kept.{Kept}
 use Rattle.roff_lines.specs.LastLine.{last_width}
 
@@ -14,6 +16,8 @@ pub record Stands (line_cap : ℕ) (h : History) (k : Kept) : Type 0 where
   pub cap : k.cap ≡ line_cap
   -- what is in force
   pub settings : k.settings ≡ settings_after h
+  pub temporary_indent : k.temporary_indent ≡ temporary_indent h
+  pub stops : k.stops ≡ stops_after h
   -- the pending line; where there is none, the indent doesn't matter
   pub has_line : k.has_line ≡ not (is_empty (words h))
   pub line : k.line ≡ line_text (pending_line h)
@@ -26,6 +30,8 @@ pub record Stands (line_cap : ℕ) (h : History) (k : Kept) : Type 0 where
   -- what the line of the input has so far
   pub has_glyph : k.has_glyph ≡ not (is_empty (line_glyphs h))
   pub ends_sentence : k.ends_sentence ≡ ends_sentence (line_glyphs h)
+  pub place : k.place ≡ input_place h
+  pub is_interrupted : k.is_interrupted ≡ is_interrupted h
   -- the last line that was finished
   pub last_width : k.last_width ≡ last_width h
 

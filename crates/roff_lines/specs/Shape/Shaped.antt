@@ -5,4 +5,4 @@ use Rattle.roff_lines.specs.Lines.{Finished}
 
 -- the line of a shape and a text
 abbrev pub shaped : Shape → List ℕ → Finished
-shaped s text = record { text = text; lead = s.lead; spare = s.spare; gaps = s.gaps; after = 0 }
+shaped s text = record { text = text; lead = s.lead; spare = s.spare; gaps = s.gaps; after = s.after }

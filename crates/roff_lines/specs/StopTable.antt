@@ -1,0 +1,2 @@
+-- The tab stops that an environment keeps.
+pub mod Kept
