@@ -2,8 +2,6 @@
 use Rattle.std.proofs.Common.{◌≡◌, ℕ, ◌-◌, Bool, true, false, List, [], ◌∷◌, ◌++◌, length, Option, Some, None, Result, Ok, Err, OnOk, inl, inr, refl, subst, sym, ap, append-nil, ◌∙◌}
 use Rattle.std.proofs.Math.Dec.{eqb-suc-zero}
 use Rattle.std.specs.Prelude.{not, ◌==◌}
-use Rattle.roff_lines.specs.declared.env.Env.{Env}
-use Rattle.roff_lines.specs.Env.Stands.{Stands}
 use Rattle.roff_num.specs.declared.limit.Limit.{Limit}
 use Rattle.roff_num.specs.declared.limit.Limit.TheVariants.{Names, Stack, Depth, Store, Diversions, Conditions}
 use Rattle.roff_num.specs.declared.limits.Limits.{Limits}
@@ -12,7 +10,7 @@ use Rattle.roff_scan.specs.Input.{names_added, DoAhead, depth, results, stored}
 use Rattle.roff_scan.specs.Tape.{Tape, behind_front}
 use Rattle.roff_scan.specs.Unread.{looked_then}
 use Rattle.roff_scan.specs.Half.{Half}
-use Rattle.roff_scan.specs.declared.half.Surroundings.TheVariants.{Text as AboveText, Arguments as AboveArguments, Copy as AboveCopy}
+use Rattle.roff_scan.specs.declared.half.Surroundings.TheVariants.{Arguments as AboveArguments, Copy as AboveCopy}
 use Rattle.roff_engine.specs.declared.formatter.Formatter.{Formatter}
 use Rattle.roff_engine.specs.declared.halt.Halt.{Halt}
 use Rattle.roff_engine.specs.declared.halt.Halt.TheVariants.{Limit as Limited, Refused, Output, Messages}
@@ -21,10 +19,12 @@ use Rattle.roff_engine.specs.Engine.Outcome.{Seen, IsLeftOf, IsRest, Reaches, Ou
 use Rattle.roff_engine.specs.Formatter.Performing.{AllPerformed, Did, DoesTaking, Opens, Performs, PerformsOnly, acting, going, sinks}
 use Rattle.roff_engine.specs.Running.Turning.{Acts, Halts, IsAt, MayEnd, TookFrom, input_ends, line_told, state_at}
 use Rattle.roff_engine.specs.Sinks.{Sunk}
-use Rattle.roff_run.specs.Output.{PageHistory, text_of}
+use Rattle.roff_run.specs.Environments.Standing.{StandFor}
+use Rattle.roff_run.specs.declared.environments.Environments.{Environments as EnvironmentsOf}
+use Rattle.roff_run.specs.Output.{PageHistory}
 use Rattle.roff_run.specs.Reader.State.{ReaderState}
 use Rattle.roff_run.specs.Reader.Taken.{Became, IsReady, PageUnread}
-use Rattle.roff_run.specs.Reading.{call_read, definition_read, PageInput, Taking, arguments_read_on, beginning_read, condition_read, going_on, half_ended, interrupted, line_ends_first, message_read, settling, string_name_read, string_text_read, text_read}
+use Rattle.roff_run.specs.Reading.{call_read, definition_read, PageInput, Taking, arguments_read_on, at_start, beginning_read, condition_read, going_on, half_ended, interrupted, line_ends_first, message_read, on_line, settling, string_name_read, string_text_read, text_read}
 use Rattle.roff_run.specs.Registers.{AllRegisters, Known}
 use Rattle.roff_run.specs.Run.{State, initial, ahead_taken, counts_in, ending_as, half_ends, input_ended, known_at, made, step, taken_as, unless_refused, first_passed, grown}
 use Rattle.roff_run.specs.declared.event.PageEvent.{PageEvent}
@@ -59,9 +59,9 @@ module _ (l : Limits) (t left : Tape) (line_before line : ℕ) (start now : Seen
     (left_before : IsLeftOf left from.tape) (quiet_before : from.last_message ≡ []) (line_before_is : from.input.line ≡ line_before)
     (left_behind : IsLeftOf left done.tape) (quiet : done.last_message ≡ []) (line_is : done.input.line ≡ line) where
   -- what the code could not do of it halts the run
-  did_halt : (rest : List PageEvent) (halt : Halt) (env : Env) → Did l t start now from done rest (Err halt) env
+  did_halt : (rest : List PageEvent) (halt : Halt) (es : EnvironmentsOf) → Did l t start now from done rest (Err halt) es
       → Halts l t left (line_told halt line_before line) halt start now
-  did_halt rest (Refused limit) env did = record {
+  did_halt rest (Refused limit) es did = record {
     state = from;
     reaches = did.reaches;
     goes_on = did.goes_on;
@@ -70,7 +70,7 @@ module _ (l : Limits) (t left : Tape) (line_before line : ℕ) (start now : Seen
     quiet = quiet_before;
     line_is = line_before_is;
   }
-  did_halt rest (Limited limit) env did = record {
+  did_halt rest (Limited limit) es did = record {
     state = acting done (did.next ∷ did.to_do) did.history;
     reaches = did.reaches;
     goes_on = refl;
@@ -79,7 +79,7 @@ module _ (l : Limits) (t left : Tape) (line_before line : ℕ) (start now : Seen
     quiet = quiet;
     line_is = line_is;
   }
-  did_halt rest Output env did = record {
+  did_halt rest Output es did = record {
     state = acting done (did.next ∷ did.to_do) did.history;
     stops = did.stops;
     messages = did.messages;
@@ -87,7 +87,7 @@ module _ (l : Limits) (t left : Tape) (line_before line : ℕ) (start now : Seen
     rest = left_behind;
     line_is = line_is;
   }
-  did_halt rest Messages env did = record {
+  did_halt rest Messages es did = record {
     is_device = refl;
     state = from;
     comes = did.comes;
@@ -117,13 +117,13 @@ IsTaking f does is_closing more run =
 IsAt-behind : (t tape : Tape) (start now : Seen) (old new : Coded) (taken : Taking) (h : PageHistory) (messages : List ℕ) (more : List PageEvent)
     → Became taken old.formatter.reader.registers new.formatter.reader old.unread new.unread
     → new.limits ≡ old.limits → old.unread.limits ≡ old.limits → IsReady old.formatter.reader.registers old.unread
-    → AllPerformed old.limits t start now (taken_as taken (ready_to_take tape old h messages false more)) [] new.formatter.env
+    → AllPerformed old.limits t start now (taken_as taken (ready_to_take tape old h messages false more)) [] new.formatter.environments
     → IsAt t tape start now new
 IsAt-behind t tape start now old new taken h messages more became limits kept ready performed = record {
   history = performed.history;
   messages = (taken_as taken (state_at tape old h messages)).messages;
   reaches = rw (limits, became.input, became.reading, became.registers) performed.reaches;
-  stands = rw limits performed.stands;
+  stands = subst (λ (l : Limits). StandFor l performed.history new.formatter.environments) (sym limits) performed.stands;
   ready = record {
     cap = rw (became.registers, became.input) ready.cap;
     within = rw (became.registers, became.input) became.within;
@@ -148,13 +148,13 @@ module _ (f : Known → Taking) (does : State → State) (is_closing : Bool) (mo
       → DoesTaking f more old.formatter formatter old.unread unread (sinks out_old err_old) (sinks out_new err_new) r
       → (t tape : Tape) (start : Seen) (failures : ℕ) (from : State)
       → (took : TookFrom t tape start (seen failures out_old err_old) line does from old)
-      → Did old.limits t start (seen failures out_new err_new) from (done tape took.history took.messages) [] r formatter.env
+      → Did old.limits t start (seen failures out_new err_new) from (done tape took.history took.messages) [] r formatter.environments
   did {out_old} {err_old} {out_new} {err_new} formatter unread r takes t tape start failures from took =
       let h : PageHistory = took.history in
-      let P : Limits → Type 0 = λ l. Stands l.line (text_of h) old.formatter.env
+      let P : Limits → Type 0 = λ l. StandFor l h old.formatter.environments
       → Reaches l t start (seen failures out_old err_old) from
       → Opens l from (done tape h took.messages) h took.messages
-      → Did l t start (seen failures out_new err_new) from (done tape h took.messages) [] r formatter.env in
+      → Did l t start (seen failures out_new err_new) from (done tape h took.messages) [] r formatter.environments in
       subst P took.limits
       (λ stands reaches opens. takes.does t start failures from (looked_then old.unread.looked tape) h took.messages is_closing [] stands took.ready reaches opens)
       took.stands took.reaches (opened took)
@@ -174,7 +174,7 @@ module _ (f : Known → Taking) (does : State → State) (is_closing : Bool) (mo
         did_halt old.limits t tape line line_behind start _ from state
         (opened took).opens took.rest took.quiet took.line_is
         (IsLeftOf-looked_then old.unread.looked tape) refl (line_is (known_at took.history old.formatter.reader.registers.all old.unread.input))
-        [] halt new.formatter.env (did new.formatter new.unread (Err halt) takes t tape start failures from took) in
+        [] halt new.formatter.environments (did new.formatter new.unread (Err halt) takes t tape start failures from took) in
         rw limits (ends t tape start halts);
     input = λ t tape start from took. tt;
     reading = λ t tape start from took. tt;
@@ -190,13 +190,13 @@ taking_acts {out_old} {err_old} {out_new} {err_new} f does more line old new fai
   limits = limits;
   acts = λ t tape start from took.
       IsAt-behind t tape start _ old new (taken_of f old took.history) took.history took.messages more
-      (takes.became old.limits.line took.history took.stands took.ready) limits took.limits took.ready
+      (takes.became old.limits took.history took.stands took.ready) limits took.limits took.ready
       (did f does false more line old meant new.formatter new.unread (Ok tt) takes t tape start failures from took);
   input = λ t tape start from took.
-      ap (λ (u : PageUnread). u.input) (takes.became old.limits.line took.history took.stands took.ready).input
+      ap (λ (u : PageUnread). u.input) (takes.became old.limits took.history took.stands took.ready).input
       ∙ sym (ap (λ (s : State). s.input) (meant tape took.history took.messages));
   reading = λ t tape start from took.
-      (takes.became old.limits.line took.history took.stands took.ready).reading
+      (takes.became old.limits took.history took.stands took.ready).reading
       ∙ sym (ap (λ (s : State). s.reading) (meant tape took.history took.messages));
 }
 
@@ -220,7 +220,7 @@ finished_acts {out_old} {err_old} {out_new} {err_new} f does more line old new f
   acts = λ t tape start from took.
       let taken : Taking = taken_of f old took.history in
       let state : State = taken_as taken (ready_to_take tape old took.history took.messages true more) in
-      let performed : AllPerformed old.limits t start (seen failures out_new err_new) state [] new.formatter.env =
+      let performed : AllPerformed old.limits t start (seen failures out_new err_new) state [] new.formatter.environments =
       did f does true more line old meant new.formatter new.unread (Ok tt) takes t tape start failures from took in
       inl (record {
         state = ending_as Done (acting state [] performed.history);
@@ -272,10 +272,10 @@ Acts-as does other line old new now behind r same acts = record {
 
 -- the line stays where a half read item ends with nothing half read
 line-nothing_ended : (k : Known) (reading : Reading) (i : PageInput) → i.half ≡ [] → (half_ended k reading i).input.line ≡ i.line
-line-nothing_ended k LineStart i none = subst (λ (half : List Half). (beginning_read k i LineStart (reading_ended AboveText half)).input.line ≡ i.line) (sym none) refl
-line-nothing_ended k Branch i none = subst (λ (half : List Half). (beginning_read k i Branch (reading_ended AboveText half)).input.line ≡ i.line) (sym none) refl
-line-nothing_ended k Braced i none = subst (λ (half : List Half). (beginning_read k i Braced (reading_ended AboveText half)).input.line ≡ i.line) (sym none) refl
-line-nothing_ended k (InText line) i none = subst (λ (half : List Half). (text_read k i line (reading_ended AboveText half)).input.line ≡ i.line) (sym none) refl
+line-nothing_ended k LineStart i none = subst (λ (half : List Half). (beginning_read k i LineStart (reading_ended (at_start k) half)).input.line ≡ i.line) (sym none) refl
+line-nothing_ended k Branch i none = subst (λ (half : List Half). (beginning_read k i Branch (reading_ended (at_start k) half)).input.line ≡ i.line) (sym none) refl
+line-nothing_ended k Braced i none = subst (λ (half : List Half). (beginning_read k i Braced (reading_ended (at_start k) half)).input.line ≡ i.line) (sym none) refl
+line-nothing_ended k (InText line) i none = subst (λ (half : List Half). (text_read k i line (reading_ended (on_line k line) half)).input.line ≡ i.line) (sym none) refl
 line-nothing_ended k (Control breaks) i none = refl
 line-nothing_ended k (Name breaks byte) i none = refl
 line-nothing_ended k (InArguments breaks request) i none =
@@ -343,13 +343,13 @@ abbrev pub event_taking : Reading → PageInput → Known → Taking
 event_taking reading i k = going_on (interrupted reading i) reading
 
 -- what is performed of it, by the answer
-Did-performed : (l : Limits) (t : Tape) (start now : Seen) (from done : State) (rest : List PageEvent) (r : Result (Unit {0}) Halt) (env : Env)
-    → Performs l t start now done rest r env → Did l t start now from done rest r env
-Did-performed l t start now from done rest (Ok u) env p = p
-Did-performed l t start now from done rest (Err (Limited limit)) env p = p
-Did-performed l t start now from done rest (Err Output) env p = p
-Did-performed l t start now from done rest (Err Messages) env p = absurd p
-Did-performed l t start now from done rest (Err (Refused limit)) env p = absurd p
+Did-performed : (l : Limits) (t : Tape) (start now : Seen) (from done : State) (rest : List PageEvent) (r : Result (Unit {0}) Halt) (es : EnvironmentsOf)
+    → Performs l t start now done rest r es → Did l t start now from done rest r es
+Did-performed l t start now from done rest (Ok u) es p = p
+Did-performed l t start now from done rest (Err (Limited limit)) es p = p
+Did-performed l t start now from done rest (Err Output) es p = p
+Did-performed l t start now from done rest (Err Messages) es p = absurd p
+Did-performed l t start now from done rest (Err (Refused limit)) es p = absurd p
 
 -- a fact is one of an answer that goes on
 OnOk-fact : {A F : Type 0} (r : Result A F) (P : Type 0) → P → OnOk r P
@@ -362,7 +362,7 @@ pub event_does : (event : PageEvent) (old new : Formatter) (before behind : Page
     → PerformsOnly (event ∷ []) old new out_old out_new r
     → DoesTaking (event_taking old.reader.reading before.input) (event ∷ []) old new before behind (sinks out_old err) (sinks out_new err) r
 event_does event old new before behind out_old out_new err r input performs = record {
-  became = λ cap h stands ready. OnOk-fact r _ (record {
+  became = λ l h stands ready. OnOk-fact r _ (record {
     input = input;
     reading = ap (λ (s : ReaderState). s.reading) performs.reader;
     registers = ap (λ (s : ReaderState). s.registers) performs.reader;
@@ -375,7 +375,7 @@ event_does event old new before behind out_old out_new err r input performs = re
       let allowed : first_passed before.limits (grown done) ≡ None =
       within-interrupted before.limits old.reader.registers.all old.reader.reading before.input ready.within in
       let step_is : step before.limits from ≡ done = opens.opens ∙ ap (λ (o : Option Limit). unless_refused before.limits o from done) allowed in
-      Did-performed before.limits t0 start _ from done rest r new.env
+      Did-performed before.limits t0 start _ from done rest r new.environments
       (performs.events_performed.performs before.limits t0 start failures err done h rest stands (record {
         comes = Leads-to before.limits (initial t0) from done reaches.comes step_is;
         text = rw (← opens.wrote) reaches.text;

@@ -4,8 +4,6 @@ use Rattle.std.specs.Option.{option_to_list}
 use Rattle.roff_num.specs.declared.limit.Limit.{Limit}
 use Rattle.roff_num.specs.declared.limits.Limits.{Limits}
 use Rattle.roff_scan.specs.Tape.{Tape}
-use Rattle.roff_lines.specs.declared.env.Env.{Env}
-use Rattle.roff_lines.specs.Env.Stands.{Stands}
 use Rattle.roff_engine.specs.declared.formatter.Formatter.{Formatter}
 use Rattle.roff_engine.specs.declared.halt.Halt.{Halt}
 use Rattle.roff_engine.specs.declared.halt.Halt.TheVariants.{Limit as Limited, Refused, Output, Messages}
@@ -14,7 +12,9 @@ use Rattle.roff_engine.specs.Formatter.Performing.{Did, Does, DoesMeaning, DoesT
 use Rattle.roff_engine.specs.Sinks.{Sunk}
 use Rattle.roff_engine.proofs.Appending.{Writes-nothing}
 use Rattle.roff_engine.proofs.Performed.{does_events, does_halted, messages_told}
-use Rattle.roff_run.specs.Output.{PageHistory, text_of}
+use Rattle.roff_run.specs.Environments.Standing.{StandFor}
+use Rattle.roff_run.specs.declared.environments.Environments.{Environments as EnvironmentsOf}
+use Rattle.roff_run.specs.Output.{PageHistory}
 use Rattle.roff_run.specs.Reader.Taken.{Became, IsReady, PageUnread, TakesAs}
 use Rattle.roff_run.specs.Reader.State.{ReaderState}
 use Rattle.roff_run.specs.Reading.{PageInput, Taking, meaning_events}
@@ -26,13 +26,13 @@ use Rattle.roff_run.specs.declared.reading.Reading.{Reading}
 use Rattle.roff_run.specs.declared.reader.Meaning.{Meaning}
 
 -- what was done of a meaning was done of the taking
-did_does : (l : Limits) (t : Tape) (before now : Seen) (from s : State) (rest : List PageEvent) (r : Result (Unit {0}) Halt) (env : Env)
-    → Does l t before now from s rest r env → Did l t before now from s rest r env
-did_does l t before now from s rest (Ok u) env d = d
-did_does l t before now from s rest (Err (Limited limit)) env d = d
-did_does l t before now from s rest (Err (Refused limit)) env d = absurd d
-did_does l t before now from s rest (Err Output) env d = d
-did_does l t before now from s rest (Err Messages) env d = d
+did_does : (l : Limits) (t : Tape) (before now : Seen) (from s : State) (rest : List PageEvent) (r : Result (Unit {0}) Halt) (es : EnvironmentsOf)
+    → Does l t before now from s rest r es → Did l t before now from s rest r es
+did_does l t before now from s rest (Ok u) es d = d
+did_does l t before now from s rest (Err (Limited limit)) es d = d
+did_does l t before now from s rest (Err (Refused limit)) es d = absurd d
+did_does l t before now from s rest (Err Output) es d = d
+did_does l t before now from s rest (Err Messages) es d = d
 
 -- what holds of a success anyway
 on_ok : {T E P : Type 0} (r : Result T E) → P → OnOk r P
@@ -66,40 +66,40 @@ module _ (l : Limits) (from : State) (tape : Tape) (i : PageInput) (reading : Re
 
 -- a limit refused what the code would take
 pub refused_taking : (t : Known → Taking) (more : List PageEvent) (old new : Formatter) (before behind : PageUnread) (told : Sinks) (limit : Limit)
-    → TakesAs t old.env old.reader new.reader before behind (Err limit) → DoesTaking t more old new before behind told told (Err (Refused limit))
+    → TakesAs t old.environments old.reader new.reader before behind (Err limit) → DoesTaking t more old new before behind told told (Err (Refused limit))
 refused_taking t more old new before behind told limit takes = record {
-  became = λ cap h stood ready. tt;
+  became = λ l h stood ready. tt;
   does = λ t0 start failures from tape h messages is_closing rest stood ready reached opens.
       let k = known_at h old.reader.registers.all before.input in
       taking_refused before.limits from tape before.input old.reader.reading old.reader.registers.all h messages is_closing (more ++ rest) (t k) opens
-      t0 start (seen failures told.out told.err) limit reached (takes.takes before.limits.line h stood ready);
+      t0 start (seen failures told.out told.err) limit reached (takes.takes before.limits h stood ready);
 }
 
 -- what the code took is what its answer says
-pub took_so : {t : Known → Taking} {env : Env} {old new : ReaderState} {before behind : PageUnread} (r s : Result Meaning Limit) → TakesAs t env old new before behind r → r ≡ s
-    → TakesAs t env old new before behind s
-took_so {t} {env} {old} {new} {before} {behind} r s takes same = subst (λ (x : Result Meaning Limit). TakesAs t env old new before behind x) same takes
+pub took_so : {t : Known → Taking} {es : EnvironmentsOf} {old new : ReaderState} {before behind : PageUnread} (r s : Result Meaning Limit) → TakesAs t es old new before behind r → r ≡ s
+    → TakesAs t es old new before behind s
+took_so {t} {es} {old} {new} {before} {behind} r s takes same = subst (λ (x : Result Meaning Limit). TakesAs t es old new before behind x) same takes
 
 -- the code took something, and has come to what it means
-module _ (t : Known → Taking) (old mid : Formatter) (before behind : PageUnread) (m : Meaning) (takes : TakesAs t old.env old.reader mid.reader before behind (Ok m)) (same : mid.env ≡ old.env)
+module _ (t : Known → Taking) (old mid : Formatter) (before behind : PageUnread) (m : Meaning) (takes : TakesAs t old.environments old.reader mid.reader before behind (Ok m)) (same : mid.environments ≡ old.environments)
     (line : ℕ) (is_line : line ≡ behind.input.line) where
   -- where something was done of that, it became what it becomes
   became_taken : (new : Formatter) (r : Result (Unit {0}) Halt) → new.reader ≡ mid.reader
-      → (cap : ℕ) (h : PageHistory) → Stands cap (text_of h) old.env → IsReady old.reader.registers before
+      → (l : Limits) (h : PageHistory) → StandFor l h old.environments → IsReady old.reader.registers before
       → OnOk r (Became (t (known_at h old.reader.registers.all before.input)) old.reader.registers new.reader before behind)
-  became_taken new r kept cap h stood ready = on_ok r (rw kept (takes.takes cap h stood ready).became)
+  became_taken new r kept l h stood ready = on_ok r (rw kept (takes.takes l h stood ready).became)
 
   -- what it means was done, as far as it was done
   done_taken : (new : Formatter) (told_old told_new : Sinks) (r : Result (Unit {0}) Halt) → DoesMeaning line (option_to_list m.message) m.events.items mid new told_old told_new r
       → (t0 : Tape) (start : Seen) (failures : ℕ) (from : State) (tape : Tape) (h : PageHistory) (messages : List ℕ) (is_closing : Bool) (to_do : List PageEvent)
-      → Stands before.limits.line (text_of h) old.env → IsReady old.reader.registers before
+      → StandFor before.limits h old.environments → IsReady old.reader.registers before
       → Reaches before.limits t0 start (seen failures told_old.out told_old.err) from
       → let state : State = taken_as (t (known_at h old.reader.registers.all before.input)) (going tape before.input old.reader.reading old.reader.registers.all h messages is_closing to_do) in
-      Opens before.limits from state h messages → Does before.limits t0 start (seen failures told_new.out told_new.err) from state to_do r new.env
+      Opens before.limits from state h messages → Does before.limits t0 start (seen failures told_new.out told_new.err) from state to_do r new.environments
   done_taken new told_old told_new r done t0 start failures from tape h messages is_closing to_do stood ready reached opens =
       let k = known_at h old.reader.registers.all before.input in
-      let took = takes.takes before.limits.line h stood ready in
-      done.does before.limits t0 start failures from _ h to_do (rw same stood) reached
+      let took = takes.takes before.limits h stood ready in
+      done.does before.limits t0 start failures from _ h to_do (subst (λ (es : EnvironmentsOf). StandFor before.limits h es) (sym same) stood) reached
       (means_taken before.limits from tape before.input old.reader.reading old.reader.registers.all h messages is_closing to_do (t k) opens
       line _ _ took.became.within (is_line ∙ ap (λ (u : PageUnread). u.input.line) took.became.input) took.messages took.events)
 
@@ -109,7 +109,7 @@ module _ (t : Known → Taking) (old mid : Formatter) (before behind : PageUnrea
   taking_done new told_old told_new r done = record {
     became = became_taken new r done.reader;
     does = λ t0 start failures from tape h messages is_closing rest stood ready reached opens.
-        did_does before.limits t0 start _ from _ rest r new.env
+        did_does before.limits t0 start _ from _ rest r new.environments
         (done_taken new told_old told_new r done t0 start failures from tape h messages is_closing rest stood ready reached opens);
   }
 
@@ -119,8 +119,8 @@ module _ (t : Known → Taking) (old mid : Formatter) (before behind : PageUnrea
   taking_halted more new told_old told_new halt done = record {
     became = became_taken new (Err halt) done.reader;
     does = λ t0 start failures from tape h messages is_closing rest stood ready reached opens.
-        did_does before.limits t0 start _ from _ rest (Err halt) new.env
-        (does_halted before.limits t0 start _ from _ (more ++ rest) rest halt new.env new.env
+        did_does before.limits t0 start _ from _ rest (Err halt) new.environments
+        (does_halted before.limits t0 start _ from _ (more ++ rest) rest halt new.environments new.environments
         (done_taken new told_old told_new (Err halt) done t0 start failures from tape h messages is_closing (more ++ rest) stood ready reached opens));
   }
 
@@ -132,8 +132,8 @@ module _ (t : Known → Taking) (old mid : Formatter) (before behind : PageUnrea
     became = became_taken new r (performed.reader ∙ done.reader);
     does = λ t0 start failures from tape h messages is_closing rest stood ready reached opens.
         let first = done_taken next told_old (record { out = out_next; err = err_new }) (Ok tt) done t0 start failures from tape h messages is_closing (more ++ rest) stood ready reached opens in
-        did_does before.limits t0 start _ from _ rest r new.env
-        (does_events before.limits t0 start _ from _ rest r new.env
+        did_does before.limits t0 start _ from _ rest r new.environments
+        (does_events before.limits t0 start _ from _ rest r new.environments
         (performed.events_performed.performs before.limits t0 start failures err_new _ first.history rest first.stands first.reaches));
   }
 
@@ -142,7 +142,7 @@ pub taking_performed : (t : Known → Taking) (events : List PageEvent) (old new
     → ((k : Known) → t k ≡ meaning_events unread.input old.reader.reading events) → PerformsOnly events old new out_old out_new r
     → DoesTaking t [] old new unread unread (record { out = out_old; err = err }) (record { out = out_new; err = err }) r
 taking_performed t events old new unread out_old out_new err r is_taking performed = record {
-  became = λ cap h stood ready.
+  became = λ l h stood ready.
       let k = known_at h old.reader.registers.all unread.input in
       on_ok r (rw (is_taking k, performed.reader) (record { input = refl; reading = refl; registers = refl; within = ready.within }));
   does = λ t0 start failures from tape h messages is_closing rest stood ready reached opens.
@@ -152,7 +152,7 @@ taking_performed t events old new unread out_old out_new err r is_taking perform
       let opened : Opens unread.limits from (taken_as read state) h messages = rw (is_taking k) at opens in
       let means = means_taken unread.limits from tape unread.input old.reader.reading old.reader.registers.all h messages is_closing rest read opened unread.input.line [] events ready.within refl refl refl in
       let told = messages_told unread.limits t0 start failures out_old err err from (taken_as read state) h unread.input.line [] events rest reached means (Writes-nothing err) in
-      rw (is_taking k) (did_does unread.limits t0 start _ from (taken_as read state) rest r new.env
-      (does_events unread.limits t0 start _ from (taken_as read state) rest r new.env
+      rw (is_taking k) (did_does unread.limits t0 start _ from (taken_as read state) rest r new.environments
+      (does_events unread.limits t0 start _ from (taken_as read state) rest r new.environments
       (performed.events_performed.performs unread.limits t0 start failures err (taken_as read state) h rest stood told)));
 }

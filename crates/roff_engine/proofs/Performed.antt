@@ -1,15 +1,20 @@
 -- Events that are performed, one by one, over the states of the definition.
-use Rattle.std.proofs.Common.{◌∙◌, ◌≡◌, ◌<◌, ◌≤◌, ℕ, List, [], ◌∷◌, ◌++◌, Option, Some, None, Result, Ok, Err, IsOkUnless, ap, arith, refl, sym}
+use Rattle.std.proofs.Common.{◌∙◌, ◌≡◌, ◌<◌, ◌≤◌, ◌+◌, ℕ, List, [], ◌∷◌, ◌++◌, length, Option, Some, None, Result, Ok, Err, IsOkUnless, ap, arith, refl, subst, sym}
 use Rattle.std.specs.Io.KnownBytes.{Appends}
 use Rattle.std.proofs.lemmas.Bool.{le-ltb, lt-ltb}
+use Rattle.std.proofs.Math.Nat.{lt_of_not-le}
 use Rattle.roff_num.specs.declared.limit.Limit.{Limit}
-use Rattle.roff_num.specs.declared.limit.Limit.TheVariants.{Line}
+use Rattle.roff_num.specs.declared.limit.Limit.TheVariants.{Line, Environments as EnvironmentsLimit}
 use Rattle.roff_num.specs.declared.limits.Limits.{Limits}
 use Rattle.roff_scan.specs.Tape.{Tape}
 use Rattle.roff_lines.specs.declared.env.Env.{Env}
 use Rattle.roff_lines.specs.declared.event.Event.{Event}
-use Rattle.roff_lines.specs.Env.Stands.{Stands}
+use Rattle.roff_lines.specs.Env.Stands.{StandsBehind}
 use Rattle.roff_lines.specs.Lines.{Finished, finished, pending_length}
+use Rattle.roff_run.specs.Environments.{environments}
+use Rattle.roff_run.specs.Environments.Standing.{StandFor}
+use Rattle.roff_run.specs.declared.environments.Environments.{Environments as EnvironmentsOf}
+use Rattle.roff_run.specs.declared.environments.EnvironmentNumber.{EnvironmentNumber}
 use Rattle.roff_engine.specs.declared.formatter.Formatter.{Formatter}
 use Rattle.roff_engine.specs.declared.halt.Halt.{Halt}
 use Rattle.roff_engine.specs.declared.halt.Halt.TheVariants.{Limit as Limited, Refused, Output, Messages}
@@ -19,7 +24,7 @@ use Rattle.roff_run.specs.Messages.{message_lines}
 use Rattle.roff_run.specs.declared.message.Message.{Message}
 use Rattle.roff_run.specs.Output.{PageHistory, text_of, finished_bytes, written_by}
 use Rattle.roff_run.specs.declared.event.PageEvent.{PageEvent}
-use Rattle.roff_run.specs.declared.event.PageEvent.TheVariants.{Text, Space}
+use Rattle.roff_run.specs.declared.event.PageEvent.TheVariants.{Text, Space, Environment}
 use Rattle.roff_run.specs.Run.{State, initial, step, refusal, unless_refused}
 use Rattle.roff_engine.specs.Sinks.{Sunk, Writes, AppendsFront, Fails, Puts}
 use Rattle.roff_engine.proofs.Appending.{Appends-append, Writes-nothing}
@@ -88,84 +93,113 @@ module _ (l : Limits) (t : Tape) (before : Seen) (failures : ℕ) (err : Sunk) (
     stops = ap (λ r. unless_refused l r (acting s (e ∷ rest) h) (acting s rest (e ∷ h))) refused;
   }
 
--- an event of the text behind which the environment stands is refused by no limit
-text_allowed : (l : Limits) (h : PageHistory) (e : Event) (env : Env) → Stands l.line (e ∷ text_of h) env → refusal l h (Text e) ≡ None
-text_allowed l h e env stands = rw (le-ltb l.line (pending_length (e ∷ text_of h)) stands.within) refl
+-- the environments of the code, where the lines of the one in force became these
+abbrev pub with_lines : EnvironmentsOf → Env → EnvironmentsOf
+with_lines es lines = record es { in_force = record es.in_force { lines = lines } }
+
+-- where those lines stand for their history with one event more, the environments do
+pub lines_behind : (e : Event) (es : EnvironmentsOf) (lines : Env) → StandsBehind es.in_force.lines e lines
+    → (l : Limits) (h : PageHistory) → StandFor l h es → StandFor l (Text e ∷ h) (with_lines es lines)
+lines_behind e es lines behind l h stood = record {
+  number = stood.number;
+  in_force = record { lines = behind l.line (text_of h) stood.in_force.lines; untold = stood.in_force.untold };
+  next = stood.next;
+  last = stood.last;
+  left = stood.left;
+  cap = stood.cap;
+}
+
+-- an event of the text behind which the environments stand is refused by no limit
+text_allowed : (l : Limits) (h : PageHistory) (e : Event) (es : EnvironmentsOf) → StandFor l (Text e ∷ h) es → refusal l h (Text e) ≡ None
+text_allowed l h e es stands = rw (le-ltb l.line (pending_length (e ∷ text_of h)) stands.in_force.lines.within) refl
 
 -- one behind which the pending line would be too long is refused
 pub text_refused : (l : Limits) (h : PageHistory) (e : Event) → l.line < pending_length (e ∷ text_of h) → refusal l h (Text e) ≡ Some Line
 text_refused l h e longer = rw (lt-ltb l.line (pending_length (e ∷ text_of h)) longer) refl
 
--- one event of the text, as what it writes was put
-text_performs : (l : Limits) (t : Tape) (before : Seen) (failures : ℕ) (err : Sunk) (s : State) (h : PageHistory) (e : Event) (rest : List PageEvent) (env : Env) (old new : Sunk) (r : Result (Unit {0}) Halt)
-    → Stands l.line (e ∷ text_of h) env → Puts old new (written_by h (Text e)) r → IsOkUnless r Output
-    → Reaches l t before (seen failures old err) (acting s (Text e ∷ rest) h)
-    → Performs l t before (seen failures new err) s rest r env
-text_performs l t before failures err s h e rest env old new (Ok u) stands puts halt reached = record {
-  history = Text e ∷ h;
-  reaches = event_performed l t before failures err s h (Text e) rest old reached new (text_allowed l h e env stands) puts.ok;
+-- an environment is left for another where no more are left than may be
+pub switch_allowed : (l : Limits) (h : PageHistory) (number : EnvironmentNumber) → (l.environments < length (environments h).left + 1 → ⊥)
+    → refusal l h (Environment number) ≡ None
+switch_allowed l h number few = rw (le-ltb l.environments (length (environments h).left + 1) (omega (arith, lt_of_not-le few))) refl
+
+-- and is refused where more would be
+pub switch_refused : (l : Limits) (h : PageHistory) (number : EnvironmentNumber) → l.environments < length (environments h).left + 1
+    → refusal l h (Environment number) ≡ Some EnvironmentsLimit
+switch_refused l h number more = rw (lt-ltb l.environments (length (environments h).left + 1) more) refl
+
+-- one event that no limit refuses, as what it writes was put
+event_performs : (l : Limits) (t : Tape) (before : Seen) (failures : ℕ) (err : Sunk) (s : State) (h : PageHistory) (e : PageEvent) (rest : List PageEvent) (es : EnvironmentsOf) (old new : Sunk) (r : Result (Unit {0}) Halt)
+    → refusal l h e ≡ None → StandFor l (e ∷ h) es → Puts old new (written_by h e) r → IsOkUnless r Output
+    → Reaches l t before (seen failures old err) (acting s (e ∷ rest) h)
+    → Performs l t before (seen failures new err) s rest r es
+event_performs l t before failures err s h e rest es old new (Ok u) allowed stands puts halt reached = record {
+  history = e ∷ h;
+  reaches = event_performed l t before failures err s h e rest old reached new allowed puts.ok;
   stands = stands;
 }
-text_performs l t before failures err s h e rest env old new (Err Output) stands puts halt reached =
-    event_failed l t before failures err s h (Text e) rest old reached new (text_allowed l h e env stands) puts.err
-text_performs l t before failures err s h e rest env old new (Err Messages) stands puts halt reached = cc
-text_performs l t before failures err s h e rest env old new (Err (Limited limit)) stands puts halt reached = cc
-text_performs l t before failures err s h e rest env old new (Err (Refused limit)) stands puts halt reached = cc
+event_performs l t before failures err s h e rest es old new (Err Output) allowed stands puts halt reached =
+    event_failed l t before failures err s h e rest old reached new allowed puts.err
+event_performs l t before failures err s h e rest es old new (Err Messages) allowed stands puts halt reached = cc
+event_performs l t before failures err s h e rest es old new (Err (Limited limit)) allowed stands puts halt reached = cc
+event_performs l t before failures err s h e rest es old new (Err (Refused limit)) allowed stands puts halt reached = cc
 
--- an event of the text that changes the environment alone, as the line that it finished was put
-pub text_performs_only : (e : Event) (line : Option Finished) (old new : Formatter) (told_old told_new : Sunk) (r : Result (Unit {0}) Halt)
-    → ((l : Limits) (h : PageHistory) → Stands l.line (text_of h) old.env → line ≡ finished (text_of h) e)
-    → ((l : Limits) (h : PageHistory) → Stands l.line (text_of h) old.env → Stands l.line (e ∷ text_of h) new.env)
+-- one that changes the environments alone, as what it writes was put
+event_performs_only : (e : PageEvent) (old new : Formatter) (told_old told_new : Sunk) (r : Result (Unit {0}) Halt)
+    → ((l : Limits) (h : PageHistory) → StandFor l h old.environments → refusal l h e ≡ None)
+    → ((l : Limits) (h : PageHistory) → StandFor l h old.environments → StandFor l (e ∷ h) new.environments)
     → new.reader ≡ old.reader
-    → Puts told_old told_new (finished_bytes line) r → IsOkUnless r Output
-    → PerformsOnly (Text e ∷ []) old new told_old told_new r
-text_performs_only e line old new told_old told_new r is_line stands reader puts halt = record {
+    → ((l : Limits) (h : PageHistory) → StandFor l h old.environments → Puts told_old told_new (written_by h e) r) → IsOkUnless r Output
+    → PerformsOnly (e ∷ []) old new told_old told_new r
+event_performs_only e old new told_old told_new r allowed stands reader puts halt = record {
   events_performed = record {
     performs = λ l t before failures err s h rest stood reached.
-        text_performs l t before failures err s h e rest new.env told_old told_new r (stands l h stood) (rw (← is_line l h stood) puts) halt reached;
+        event_performs l t before failures err s h e rest new.environments told_old told_new r (allowed l h stood) (stands l h stood) (puts l h stood) halt reached;
   };
   reader = reader;
 }
 
+-- one that writes nothing
+pub changes_only : (e : PageEvent) (old new : Formatter) (told : Sunk)
+    → ((l : Limits) (h : PageHistory) → StandFor l h old.environments → refusal l h e ≡ None)
+    → ((l : Limits) (h : PageHistory) → StandFor l h old.environments → StandFor l (e ∷ h) new.environments)
+    → ((h : PageHistory) → written_by h e ≡ [])
+    → new.reader ≡ old.reader
+    → PerformsOnly (e ∷ []) old new told told (Ok tt)
+changes_only e old new told allowed stands nothing reader =
+    event_performs_only e old new told told (Ok tt) allowed stands reader (λ l h stood.
+    let P : List ℕ → Type 0 = λ bytes. Puts {F = Halt} told told bytes (Ok tt) in
+    let written : P [] = record { ok = Writes-nothing told; err = tt } in
+    subst P (sym (nothing h)) written) (cc)
+
+-- an event of the text, as the line that it finished was put
+pub text_performs_only : (e : Event) (line : Option Finished) (old new : Formatter) (told_old told_new : Sunk) (r : Result (Unit {0}) Halt)
+    → ((l : Limits) (h : PageHistory) → StandFor l h old.environments → line ≡ finished (text_of h) e)
+    → ((l : Limits) (h : PageHistory) → StandFor l h old.environments → StandFor l (Text e ∷ h) new.environments)
+    → new.reader ≡ old.reader
+    → Puts told_old told_new (finished_bytes line) r → IsOkUnless r Output
+    → PerformsOnly (Text e ∷ []) old new told_old told_new r
+text_performs_only e line old new told_old told_new r is_line stands reader puts halt =
+    event_performs_only (Text e) old new told_old told_new r (λ l h stood. text_allowed l h e new.environments (stands l h stood)) stands reader
+    (λ l h stood. subst (λ (line : Option Finished). Puts told_old told_new (finished_bytes line) r) (is_line l h stood) puts) halt
+
 -- an event of the text that finishes no line
 pub text_changes_only : (e : Event) (old new : Formatter) (told : Sunk)
-    → ((l : Limits) (h : PageHistory) → Stands l.line (text_of h) old.env → Stands l.line (e ∷ text_of h) new.env)
+    → ((l : Limits) (h : PageHistory) → StandFor l h old.environments → StandFor l (Text e ∷ h) new.environments)
     → ((h : PageHistory) → finished (text_of h) e ≡ None)
     → new.reader ≡ old.reader
     → PerformsOnly (Text e ∷ []) old new told told (Ok tt)
 text_changes_only e old new told stands none reader =
-    text_performs_only e None old new told told (Ok tt) (λ l h stood. sym (none h)) stands reader
-    (record { ok = Writes-nothing told; err = tt }) (cc)
+    changes_only (Text e) old new told (λ l h stood. text_allowed l h e new.environments (stands l h stood)) stands
+    (λ h. ap finished_bytes (none h)) reader
 
 -- blank lines, as they were put
-space_performs : (l : Limits) (t : Tape) (before : Seen) (failures : ℕ) (err : Sunk) (s : State) (h : PageHistory) (lines : ℕ) (rest : List PageEvent) (env : Env) (old new : Sunk) (r : Result (Unit {0}) Halt)
-    → Stands l.line (text_of h) env → Puts old new (written_by h (Space lines)) r → IsOkUnless r Output
-    → Reaches l t before (seen failures old err) (acting s (Space lines ∷ rest) h)
-    → Performs l t before (seen failures new err) s rest r env
-space_performs l t before failures err s h lines rest env old new (Ok u) stands puts halt reached = record {
-  history = Space lines ∷ h;
-  reaches = event_performed l t before failures err s h (Space lines) rest old reached new refl puts.ok;
-  stands = stands;
-}
-space_performs l t before failures err s h lines rest env old new (Err Output) stands puts halt reached =
-    event_failed l t before failures err s h (Space lines) rest old reached new refl puts.err
-space_performs l t before failures err s h lines rest env old new (Err Messages) stands puts halt reached = cc
-space_performs l t before failures err s h lines rest env old new (Err (Limited limit)) stands puts halt reached = cc
-space_performs l t before failures err s h lines rest env old new (Err (Refused limit)) stands puts halt reached = cc
-
--- and nothing else changed
 pub space_performs_only : (lines : ℕ) (old new : Formatter) (told_old told_new : Sunk) (r : Result (Unit {0}) Halt)
-    → ((l : Limits) (h : PageHistory) → Stands l.line (text_of h) old.env → Stands l.line (text_of h) new.env)
+    → ((l : Limits) (h : PageHistory) → StandFor l h old.environments → StandFor l h new.environments)
     → new.reader ≡ old.reader
     → ((h : PageHistory) → Puts told_old told_new (written_by h (Space lines)) r) → IsOkUnless r Output
     → PerformsOnly (Space lines ∷ []) old new told_old told_new r
-space_performs_only lines old new told_old told_new r stands reader puts halt = record {
-  events_performed = record {
-    performs = λ l t before failures err s h rest stood reached.
-        space_performs l t before failures err s h lines rest new.env told_old told_new r (stands l h stood) (puts h) halt reached;
-  };
-  reader = reader;
-}
+space_performs_only lines old new told_old told_new r stands reader puts halt =
+    event_performs_only (Space lines) old new told_old told_new r (λ l h stood. refl) stands reader (λ l h stood. puts h) halt
 
 -- one step from a state means messages and events
 module _ (l : Limits) (t : Tape) (before : Seen) (failures : ℕ) (out old new : Sunk) (from s : State) (h : PageHistory) (line : ℕ) (messages : List Message) (events rest : List PageEvent)
@@ -190,29 +224,29 @@ module _ (l : Limits) (t : Tape) (before : Seen) (failures : ℕ) (out old new :
   }
 
 -- what was performed of what an item means was done of it
-pub does_events : (l : Limits) (t : Tape) (before now : Seen) (from s : State) (rest : List PageEvent) (r : Result (Unit {0}) Halt) (env : Env)
-    → Performs l t before now s rest r env → Does l t before now from s rest r env
-does_events l t before now from s rest (Ok u) env p = p
-does_events l t before now from s rest (Err (Limited limit)) env p = p
-does_events l t before now from s rest (Err (Refused limit)) env p = p
-does_events l t before now from s rest (Err Output) env p = p
-does_events l t before now from s rest (Err Messages) env p = absurd p
+pub does_events : (l : Limits) (t : Tape) (before now : Seen) (from s : State) (rest : List PageEvent) (r : Result (Unit {0}) Halt) (es : EnvironmentsOf)
+    → Performs l t before now s rest r es → Does l t before now from s rest r es
+does_events l t before now from s rest (Ok u) es p = p
+does_events l t before now from s rest (Err (Limited limit)) es p = p
+does_events l t before now from s rest (Err (Refused limit)) es p = p
+does_events l t before now from s rest (Err Output) es p = p
+does_events l t before now from s rest (Err Messages) es p = absurd p
 
 -- where the code halted, what would have been left to do makes no difference
-pub performs_halted : (l : Limits) (t : Tape) (before now : Seen) (s : State) (rest left : List PageEvent) (halt : Halt) (env then : Env)
-    → Performs l t before now s rest (Err halt) env → Performs l t before now s left (Err halt) then
-performs_halted l t before now s rest left (Limited limit) env then p = p
-performs_halted l t before now s rest left (Refused limit) env then p = p
-performs_halted l t before now s rest left Output env then p = p
-performs_halted l t before now s rest left Messages env then p = p
+pub performs_halted : (l : Limits) (t : Tape) (before now : Seen) (s : State) (rest left : List PageEvent) (halt : Halt) (es others : EnvironmentsOf)
+    → Performs l t before now s rest (Err halt) es → Performs l t before now s left (Err halt) others
+performs_halted l t before now s rest left (Limited limit) es others p = p
+performs_halted l t before now s rest left (Refused limit) es others p = p
+performs_halted l t before now s rest left Output es others p = p
+performs_halted l t before now s rest left Messages es others p = p
 
 -- nor does it for what an item means
-pub does_halted : (l : Limits) (t : Tape) (before now : Seen) (from s : State) (rest left : List PageEvent) (halt : Halt) (env then : Env)
-    → Does l t before now from s rest (Err halt) env → Does l t before now from s left (Err halt) then
-does_halted l t before now from s rest left (Limited limit) env then p = p
-does_halted l t before now from s rest left (Refused limit) env then p = p
-does_halted l t before now from s rest left Output env then p = p
-does_halted l t before now from s rest left Messages env then p = p
+pub does_halted : (l : Limits) (t : Tape) (before now : Seen) (from s : State) (rest left : List PageEvent) (halt : Halt) (es others : EnvironmentsOf)
+    → Does l t before now from s rest (Err halt) es → Does l t before now from s left (Err halt) others
+does_halted l t before now from s rest left (Limited limit) es others p = p
+does_halted l t before now from s rest left (Refused limit) es others p = p
+does_halted l t before now from s rest left Output es others p = p
+does_halted l t before now from s rest left Messages es others p = p
 
 -- two events, of which the first was performed
 pub performs_both : (first second : PageEvent) (old mid new : Formatter) (told told_mid told_new : Sunk) (r : Result (Unit {0}) Halt)

@@ -2,12 +2,12 @@
 use Rattle.std.proofs.Common.{◌≡◌, ℕ, ◌+◌, ◌<◌, Bool, true, false, List, [], ◌++◌, Option, Some, None, Result, Ok, Err, inl, inr, refl, sym, ap, subst, ◌∙◌, arith}
 use Rattle.std.specs.Prelude.{nat_lt, if◌then◌else◌}
 use Rattle.std.proofs.lemmas.Bool.{le-ltb}
-use Rattle.roff_lines.specs.Env.Stands.{Stands}
 use Rattle.roff_num.specs.declared.limits.Limits.{Limits}
 use Rattle.roff_scan.specs.Halves.{newline_stays}
 use Rattle.roff_scan.specs.Tape.{Tape, items_then}
 use Rattle.roff_scan.specs.Unread.{asks_to_take, looked_then}
 use Rattle.roff_run.specs.declared.status.Status.{Status}
+use Rattle.roff_run.specs.Environments.Standing.{StandFor}
 use Rattle.roff_run.specs.Output.{PageHistory}
 use Rattle.roff_run.specs.Reader.State.{ReaderState, fresh_reader}
 use Rattle.roff_run.specs.Reader.Taken.{IsReady, PageUnread}
@@ -66,7 +66,7 @@ none_passed-fresh l =
     rw (none l.names, none l.stack, none l.depth, none l.store, none l.diversions, none l.conditions) refl
 
 -- a run before its first item
-pub starts : (t : Tape) (now : Seen) (run : Coded) → Stands run.limits.line [] run.formatter.env → IsFresh run.limits run.formatter run.unread
+pub starts : (t : Tape) (now : Seen) (run : Coded) → StandFor run.limits [] run.formatter.environments → IsFresh run.limits run.formatter run.unread
     → IsAt t t now now run
 starts t now run stands fresh =
     let l : Limits = run.limits in

@@ -7,14 +7,14 @@ pub use Rattle.roff_run.specs.Reader.State.{fresh_reader}
 pub use Rattle.roff_run.specs.Reading.{due, end_taking, half_ended, interrupted, line_ends_first, taking, behind_return}
 pub use Rattle.roff_run.specs.declared.reading.Due.TheVariants.{Tells}
 pub use Rattle.roff_run.specs.declared.reading.Reading.TheVariants.{LineStart}
-pub use Rattle.roff_run.specs.declared.event.PageEvent.TheVariants.{Text, Space}
+pub use Rattle.roff_run.specs.declared.event.PageEvent.TheVariants.{Text, Space, Environment}
 pub use Rattle.roff_engine.specs.Running.Turning.{Halts, IsFresh}
 pub use Rattle.roff_engine.specs.Sinks.{Puts, Sunk}
 pub use Rattle.roff_run.specs.declared.message.Message.TheVariants.{ReadFailed}
 pub use Rattle.roff_run.specs.declared.status.Status.TheVariants.{Device}
 pub use Rattle.roff_lines.specs.Columns.{finished_of}
-pub use Rattle.roff_lines.specs.Env.Stands.{Stands}
-pub use Rattle.roff_lines.specs.declared.event.Event.TheVariants.{Gap, Print, WordEnd, LineEnd, Break}
+pub use Rattle.roff_run.specs.Environments.Standing.{StandFor}
+pub use Rattle.roff_lines.specs.declared.event.Event.TheVariants.{Tab, Gap, Print, WordEnd, LineEnd, Break}
 pub use Rattle.roff_num.specs.declared.limits.Limits.{Limits}
 pub use Rattle.roff_scan.specs.Tape.{Tape}
 pub use Rattle.std.specs.Option.{option_to_list}

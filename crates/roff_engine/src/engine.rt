@@ -1,7 +1,7 @@
 //! The engine: a whole run, from a source to its sinks.
 
 ghost use Rattle.std.specs.Prelude.{◌≡◌, [], IfOk};
-ghost use Rattle.roff_engine.specs.Clauses.{Stands, Limits, Runs, seen, IsFresh};
+ghost use Rattle.roff_engine.specs.Clauses.{StandFor, Limits, Runs, seen, IsFresh};
 
 use crate::formatter::Formatter;
 use crate::running::Running;
@@ -30,7 +30,7 @@ impl Model for Engine {
     ghost view = { λ e. e.limits };
 
     ghost invariant = { λ e.
-        Stands e.limits.line [] e.formatter.env × IsFresh e.limits e.formatter e.unread };
+        StandFor e.limits [] e.formatter.environments × IsFresh e.limits e.formatter e.unread };
 }
 
 impl Engine {
@@ -44,7 +44,7 @@ impl Engine {
     {
         Ok(Engine {
             limits,
-            formatter: Formatter::new(alloc, limits.line, limits.names)?,
+            formatter: Formatter::new(alloc, limits)?,
             unread: first_unread(alloc, limits)?,
         })
     }

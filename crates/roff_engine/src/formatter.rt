@@ -3,19 +3,20 @@
 ghost use Rattle.std.specs.Prelude.{◌≡◌, ℕ, true, [], ◌∷◌, IfOk, IfSome, IsOkUnless, option_map};
 ghost use Rattle.roff_scan.specs.Bytes.{is_passed};
 ghost use Rattle.roff_run.specs.Reading.{Passes};
-ghost use Rattle.roff_engine.specs.Clauses.{option_to_list, finished_of, fresh_reader, Stands, Gap};
-ghost use Rattle.roff_engine.specs.Clauses.{Print, WordEnd, LineEnd, Break, message_lines};
-ghost use Rattle.roff_engine.specs.Clauses.{finished_bytes, DoesMeaning, DoesTaking, PerformsOnly};
-ghost use Rattle.roff_engine.specs.Clauses.{closing_events, sinks, due, end_taking, half_ended};
-ghost use Rattle.roff_engine.specs.Clauses.{interrupted, line_ends_first, taking};
-ghost use Rattle.roff_engine.specs.Clauses.{LineStart, Text, Space, Puts, Sunk, behind_return};
+ghost use Rattle.roff_engine.specs.Clauses.{option_to_list, finished_of, fresh_reader, Gap, Print};
+ghost use Rattle.roff_engine.specs.Clauses.{WordEnd, LineEnd, Break, message_lines, finished_bytes};
+ghost use Rattle.roff_engine.specs.Clauses.{DoesMeaning, DoesTaking, PerformsOnly, closing_events};
+ghost use Rattle.roff_engine.specs.Clauses.{sinks, due, end_taking, half_ended, interrupted};
+ghost use Rattle.roff_engine.specs.Clauses.{line_ends_first, taking, LineStart, Text, Space, Puts};
+ghost use Rattle.roff_engine.specs.Clauses.{Sunk, behind_return, StandFor, Environment, Tab};
 
 use crate::block::Block;
 use crate::halt::Halt;
 use crate::report::report;
 use crate::sink::ByteSink;
-use roff_lines::{Env, Event, Glyph, Line};
-use roff_run::{Due, Meaning, Message, PageEvent, Reader};
+use roff_lines::{Event, Glyph, Line};
+use roff_num::Limits;
+use roff_run::{Due, EnvironmentNumber, Environments, Events, Meaning, Message, PageEvent, Reader};
 use roff_scan::Unread;
 use std::alloc::{AllocError, Global};
 
@@ -25,24 +26,23 @@ const CLOSING: [PageEvent; 2] = [
     PageEvent::Text(Event::Break),
 ];
 
-/// What is read, the environment, and the block through which lines are written.
+/// What is read, the environments, and the block through which lines are written.
 #[derive(Drop)]
 pub(crate) struct Formatter {
     reader: Reader,
-    env: Env,
+    environments: Environments,
     block: Block,
 }
 
 impl Formatter {
-    /// A formatter before the first line, with room for a pending line of `line_cap` bytes and for
-    /// `names_cap` registers.
-    pub(crate) fn new(alloc: Global, line_cap: u32, names_cap: u32) -> Result<Self, AllocError>
-        ensures stands { IfOk result (λ f. Stands line_cap [] f.env) }
-        ensures reader { IfOk result (λ f. f.reader ≡ fresh_reader names_cap) }
+    /// A formatter before the first line, with room for what these limits allow.
+    pub(crate) fn new(alloc: Global, limits: Limits) -> Result<Self, AllocError>
+        ensures stands { IfOk result (λ f. StandFor limits [] f.environments) }
+        ensures reader { IfOk result (λ f. f.reader ≡ fresh_reader limits.names) }
     {
         Ok(Formatter {
-            reader: Reader::new(alloc, names_cap)?,
-            env: Env::new(alloc, line_cap)?,
+            reader: Reader::new(alloc, limits.names)?,
+            environments: Environments::new(alloc, limits)?,
             block: Block::new(alloc)?,
         })
     }
@@ -114,7 +114,7 @@ impl Formatter {
             (sinks (O.sunk out.old) (E.sunk err.old))
             (sinks (O.sunk out.new) (E.sunk err.new)) result }
     {
-        let read = self.reader.read(byte, &self.env, unread);
+        let read = self.reader.read(byte, &self.environments, unread);
         match &read {
             Ok(meaning) => self.act(meaning, unread.line(), out, err),
             Err(limit) => Err(Halt::Refused(*limit)),
@@ -133,7 +133,7 @@ impl Formatter {
             (sinks (O.sunk out.old) (E.sunk err.old))
             (sinks (O.sunk out.new) (E.sunk err.new)) result }
     {
-        let read = self.reader.end_half(&self.env, unread);
+        let read = self.reader.end_half(&self.environments, unread);
         match &read {
             Ok(meaning) => self.act(meaning, unread.line(), out, err),
             Err(limit) => Err(Halt::Refused(*limit)),
@@ -175,7 +175,7 @@ impl Formatter {
             (sinks (O.sunk out.old) (E.sunk err.old))
             (sinks (O.sunk out.new) (E.sunk err.new)) result }
     {
-        match self.reader.end_line_of_input(&self.env, unread) {
+        match self.reader.end_line_of_input(&self.environments, unread) {
             Ok(meaning) => self.act(&meaning, unread.line(), out, err),
             Err(limit) => Err(Halt::Refused(limit)),
         }
@@ -193,9 +193,9 @@ impl Formatter {
             (sinks (O.sunk out.old) (E.sunk err.old))
             (sinks (O.sunk out.new) (E.sunk err.new)) result }
     {
-        match self.reader.end_line_of_input(&self.env, unread) {
+        match self.reader.end_line_of_input(&self.environments, unread) {
             Ok(meaning) => match self.act(&meaning, unread.line(), out, err) {
-                Ok(()) => self.perform_all(&CLOSING, out),
+                Ok(()) => self.perform_each(&CLOSING, out),
                 Err(halt) => Err(halt),
             },
             Err(limit) => Err(Halt::Refused(limit)),
@@ -223,8 +223,19 @@ impl Formatter {
         }
     }
 
+    /// Performs the events of a byte or request.
+    fn perform_all<O: ByteSink>(&mut self, events: &Events, out: &mut O) -> Result<(), Halt>
+        ensures { PerformsOnly events.now.items self.old self.new
+            (O.sunk out.old) (O.sunk out.new) result }
+    {
+        match events.without_stops() {
+            Some(events) => self.perform_each(events, out),
+            None => self.perform_each(&events.all(), out),
+        }
+    }
+
     /// Performs events, one after another.
-    fn perform_all<O: ByteSink>(&mut self, events: &[PageEvent], out: &mut O) -> Result<(), Halt>
+    fn perform_each<O: ByteSink>(&mut self, events: &[PageEvent], out: &mut O) -> Result<(), Halt>
         ensures { PerformsOnly events.now self.old self.new
             (O.sunk out.old) (O.sunk out.new) result }
     {
@@ -247,6 +258,15 @@ impl Formatter {
         match event {
             PageEvent::Text(event) => self.perform_text(event, out),
             PageEvent::Space(lines) => self.space(lines, out),
+            PageEvent::Interrupt(untold) => {
+                self.environments.interrupt(untold);
+                Ok(())
+            }
+            PageEvent::Environment(number) => self.switch_to(number),
+            PageEvent::Back => {
+                self.environments.switch_back();
+                Ok(())
+            }
         }
     }
 
@@ -257,15 +277,28 @@ impl Formatter {
     {
         match event {
             Event::Print(glyph) => self.glyph(glyph),
+            Event::Tab => self.tab(),
             Event::WordEnd => self.end_word(out),
             Event::Gap(blanks) => {
-                self.env.gap(blanks);
+                self.environments.in_force.lines.gap(blanks);
                 Ok(())
             }
             Event::LineEnd => self.end_line(out),
+            Event::Count => {
+                self.environments.in_force.lines.count();
+                Ok(())
+            }
             Event::Break => self.brk(out),
+            Event::Interrupt => {
+                self.environments.in_force.lines.interrupt();
+                Ok(())
+            }
+            Event::Resume => {
+                self.environments.in_force.lines.resume();
+                Ok(())
+            }
             Event::Set(param) => {
-                self.env.set(param);
+                self.environments.in_force.lines.set(param);
                 Ok(())
             }
         }
@@ -277,7 +310,29 @@ impl Formatter {
         ensures { (told : Sunk) →
             PerformsOnly (Text (Print glyph) ∷ []) self.old self.new told told result }
     {
-        match self.env.glyph(glyph) {
+        match self.environments.in_force.lines.glyph(glyph) {
+            Ok(()) => Ok(()),
+            Err(limit) => Err(Halt::Limit(limit)),
+        }
+    }
+
+    /// Moves to the next tab stop.
+    fn tab(&mut self) -> Result<(), Halt>
+        ensures { (told : Sunk) →
+            PerformsOnly (Text Tab ∷ []) self.old self.new told told result }
+    {
+        match self.environments.in_force.lines.tab() {
+            Ok(()) => Ok(()),
+            Err(limit) => Err(Halt::Limit(limit)),
+        }
+    }
+
+    /// Leaves the environment in force for another.
+    fn switch_to(&mut self, number: EnvironmentNumber) -> Result<(), Halt>
+        ensures { (told : Sunk) →
+            PerformsOnly (Environment number ∷ []) self.old self.new told told result }
+    {
+        match self.environments.switch_to(number) {
             Ok(()) => Ok(()),
             Err(limit) => Err(Halt::Limit(limit)),
         }
@@ -291,7 +346,7 @@ impl Formatter {
     {
         match self.end_word(out) {
             Ok(()) => {
-                self.env.gap(1);
+                self.environments.in_force.lines.gap(1);
                 Ok(())
             }
             Err(halt) => Err(halt),
@@ -303,7 +358,7 @@ impl Formatter {
         ensures { PerformsOnly (Text WordEnd ∷ []) self.old self.new
             (O.sunk out.old) (O.sunk out.new) result }
     {
-        let line = self.env.end_word();
+        let line = self.environments.in_force.lines.end_word();
         put_finished(&mut self.block, line, out)
     }
 
@@ -312,7 +367,7 @@ impl Formatter {
         ensures { PerformsOnly (Text LineEnd ∷ []) self.old self.new
             (O.sunk out.old) (O.sunk out.new) result }
     {
-        let line = self.env.end_line();
+        let line = self.environments.in_force.lines.end_line();
         put_finished(&mut self.block, line, out)
     }
 
@@ -321,7 +376,7 @@ impl Formatter {
         ensures { PerformsOnly (Text Break ∷ []) self.old self.new
             (O.sunk out.old) (O.sunk out.new) result }
     {
-        let line = self.env.brk();
+        let line = self.environments.in_force.lines.brk();
         put_finished(&mut self.block, line, out)
     }
 

@@ -3,7 +3,7 @@ use Rattle.std.proofs.Common.{◌≡◌, ℕ, ◌≤◌, Bool, true, List, lengt
 use Rattle.std.specs.Prelude.{is_some}
 use Rattle.std.specs.Option.{option_flatten}
 use Rattle.std.proofs.lemmas.List.{length-take}
-use Rattle.roff_lines.specs.declared.env.Env.{Env}
+use Rattle.roff_run.specs.declared.environments.Environments.{Environments as EnvironmentsOf}
 use Rattle.roff_num.specs.declared.limit.Limit.{Limit}
 use Rattle.roff_scan.proofs.KeptArguments.{held-finished, held-only_kept}
 use Rattle.roff_scan.specs.Arguments.{finished}
@@ -52,15 +52,15 @@ definition_begun-finished : (i : PageInput) (name : Option ShortName) (appends :
 definition_begun-finished i None appends end = refl
 definition_begun-finished i (Some name) appends end = refl
 
-pub TakesAs-behind_line : (name : Option ShortName) (appends : Bool) (end : Option ShortName) (env : Env) (old new : ReaderState) (before mid behind : PageUnread)
-    (result : Result Meaning Limit) → mid ≡ line_finished before → TakesAs (λ k. definition_begun mid.input name appends end) env old new mid behind result
-    → TakesAs (λ k. definition_begun before.input name appends end) env old new before behind result
-TakesAs-behind_line name appends end env old new before mid behind result finishes takes =
+pub TakesAs-behind_line : (name : Option ShortName) (appends : Bool) (end : Option ShortName) (es : EnvironmentsOf) (old new : ReaderState) (before mid behind : PageUnread)
+    (result : Result Meaning Limit) → mid ≡ line_finished before → TakesAs (λ k. definition_begun mid.input name appends end) es old new mid behind result
+    → TakesAs (λ k. definition_begun before.input name appends end) es old new before behind result
+TakesAs-behind_line name appends end es old new before mid behind result finishes takes =
     let i : PageInput = with_arguments (finished before.input.arguments) before.input in
-    let there : TakesAs (λ k. definition_begun i name appends end) env old new (line_finished before) behind result =
-    subst (λ (u : PageUnread). TakesAs (λ k. definition_begun u.input name appends end) env old new u behind result) finishes takes in
-    TakesAs-less i (λ k. definition_begun before.input name appends end) env old new before behind result (NoMore-finished before.input) refl refl
-    (subst (λ (t : Taking). TakesAs (λ k. t) env old new (line_finished before) behind result) (definition_begun-finished before.input name appends end) there)
+    let there : TakesAs (λ k. definition_begun i name appends end) es old new (line_finished before) behind result =
+    subst (λ (u : PageUnread). TakesAs (λ k. definition_begun u.input name appends end) es old new u behind result) finishes takes in
+    TakesAs-less i (λ k. definition_begun before.input name appends end) es old new before behind result (NoMore-finished before.input) refl refl
+    (subst (λ (t : Taking). TakesAs (λ k. t) es old new (line_finished before) behind result) (definition_begun-finished before.input name appends end) there)
 
 -- the text of a definition grows, if a name gets it
 pub InputBecame-defined : (name : Option ShortName) (bytes : List ℕ) (before behind : PageUnread) (result : Result (Unit {0}) Limit) → is_some name ≡ true

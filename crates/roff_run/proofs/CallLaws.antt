@@ -594,7 +594,7 @@ within-passed l s from line ahead within charged = record {
   making = within.making;
   conditions = within.conditions;
   names = within.names;
-  line = within.line;
+  environments = within.environments;
 }
 
 unknown-from : (l : Limits) (s : State) (from : Origin) (control : ℕ) (name : ShortName) (behind : List ℕ)

@@ -2,7 +2,7 @@
 use Rattle.std.proofs.Common.{◌≡◌, ◌<◌, ◌≤◌, ℕ, ◌-◌, Bool, true, false, List, [], ◌∷◌, length, None, Result, Ok, Err, refl, sym, subst, ap, ◌==◌, arith}
 use Rattle.std.specs.Prelude.{◌&&◌, get_or, if◌then◌else◌, nat_le}
 use Rattle.std.proofs.lemmas.Bool.{le-leb, leb-true, lt-leb}
-use Rattle.roff_lines.specs.declared.env.Env.{Env}
+use Rattle.roff_run.specs.declared.environments.Environments.{Environments as EnvironmentsOf}
 use Rattle.roff_num.specs.declared.limit.Limit.{Limit}
 use Rattle.roff_scan.specs.Unread.{changing}
 use Rattle.roff_scan.specs.declared.half.CopyUnit.{CopyUnit}
@@ -47,7 +47,7 @@ pub call_unit-quote : (i : PageInput) (name : ShortName) (unit : CopyUnit) → u
 call_unit-quote i name unit is =
     subst (λ (u : CopyUnit). going_on (holding_call u i) (Calling name) ≡ call_unit i name u) (sym is) refl
 
-module _ (unit : CopyUnit) (name : ShortName) (env : Env) (old new : ReaderState) (u behind : PageUnread) where
+module _ (unit : CopyUnit) (name : ShortName) (es : EnvironmentsOf) (old new : ReaderState) (u behind : PageUnread) where
   -- a unit is held while fewer than nine arguments are whole
   holding_few : length u.input.arguments.whole < 9 → going_on (holding unit u.input) (Calling name) ≡ going_on (holding_call unit u.input) (Calling name)
   holding_few few =
@@ -55,24 +55,24 @@ module _ (unit : CopyUnit) (name : ShortName) (env : Env) (old new : ReaderState
 
   pub TakesAs-call_held : (m : Meaning) (done : Unit {0}) → length u.input.arguments.whole < 9 → (Ok done, behind) ≡ changing (holding unit u.input) u
       → new ≡ record old { reading = Calling name } → m.message ≡ None → m.events.items ≡ []
-      → TakesAs (λ k. going_on (holding_call unit u.input) (Calling name)) env old new u behind (Ok m)
+      → TakesAs (λ k. going_on (holding_call unit u.input) (Calling name)) es old new u behind (Ok m)
   TakesAs-call_held m done few changes came silent none =
-      subst (λ (t : _). TakesAs (λ k. t) env old new u behind (Ok m)) (holding_few few)
-      (TakesAs-changed (holding unit u.input) (Calling name) env old new u behind m done changes came silent none)
+      subst (λ (t : _). TakesAs (λ k. t) es old new u behind (Ok m)) (holding_few few)
+      (TakesAs-changed (holding unit u.input) (Calling name) es old new u behind m done changes came silent none)
 
   -- or a limit refuses it
   pub TakesAs-call_not_held : (limit : Limit) → length u.input.arguments.whole < 9 → (Err limit, behind) ≡ changing (holding unit u.input) u
-      → TakesAs (λ k. going_on (holding_call unit u.input) (Calling name)) env old new u behind (Err limit)
+      → TakesAs (λ k. going_on (holding_call unit u.input) (Calling name)) es old new u behind (Err limit)
   TakesAs-call_not_held limit few changes =
-      subst (λ (t : _). TakesAs (λ k. t) env old new u behind (Err limit)) (holding_few few)
-      (TakesAs-not_changed (holding unit u.input) (Calling name) env old new u behind limit changes)
+      subst (λ (t : _). TakesAs (λ k. t) es old new u behind (Err limit)) (holding_few few)
+      (TakesAs-not_changed (holding unit u.input) (Calling name) es old new u behind limit changes)
 
 -- behind nine arguments nothing is held
-pub TakesAs-call_full : (unit : CopyUnit) (name : ShortName) (env : Env) (old new : ReaderState) (u : PageUnread) (m : Meaning) → 9 ≤ length u.input.arguments.whole
+pub TakesAs-call_full : (unit : CopyUnit) (name : ShortName) (es : EnvironmentsOf) (old new : ReaderState) (u : PageUnread) (m : Meaning) → 9 ≤ length u.input.arguments.whole
     → new ≡ record old { reading = Calling name } → m.message ≡ None → m.events.items ≡ []
-    → TakesAs (λ k. going_on (holding_call unit u.input) (Calling name)) env old new u u (Ok m)
-TakesAs-call_full unit name env old new u m full came silent none =
-    TakesAs-meant (λ k. going_on (holding_call unit u.input) (Calling name)) (Calling name) [] env old new u m
+    → TakesAs (λ k. going_on (holding_call unit u.input) (Calling name)) es old new u u (Ok m)
+TakesAs-call_full unit name es old new u m full came silent none =
+    TakesAs-meant (λ k. going_on (holding_call unit u.input) (Calling name)) (Calling name) [] es old new u m
     (λ k. ap (λ (full : Bool). going_on (if full then u.input else holding unit u.input) (Calling name)) (le-leb 9 (length u.input.arguments.whole) full))
     came silent none
 
@@ -97,20 +97,20 @@ argument_named-other (digit ∷ []) arguments not =
     unless_both (nat_le 49 digit) (nat_le digit 57) (get_or arguments (digit - 49) []) (λ above below. not refl (leb-true 49 digit above) (leb-true digit 57 below))
 argument_named-other (first ∷ second ∷ others) arguments not = refl
 
-module _ (unit : CopyUnit) (name : ShortName) (env : Env) (old new : ReaderState) (u mid behind : PageUnread) (result : Result Meaning Limit) where
+module _ (unit : CopyUnit) (name : ShortName) (es : EnvironmentsOf) (old new : ReaderState) (u mid behind : PageUnread) (result : Result Meaning Limit) where
   -- a quote behind a call's name, as it is read where the line is
-  pub TakesAs-call_quote : mid ≡ u → unit ≡ Byte 34 → TakesAs (λ k. going_on (holding_call unit mid.input) (Calling name)) env old new mid behind result
-      → TakesAs (λ k. call_unit u.input name unit) env old new u behind result
+  pub TakesAs-call_quote : mid ≡ u → unit ≡ Byte 34 → TakesAs (λ k. going_on (holding_call unit mid.input) (Calling name)) es old new mid behind result
+      → TakesAs (λ k. call_unit u.input name unit) es old new u behind result
   TakesAs-call_quote same is takes =
-      TakesAs-as (λ k. going_on (holding_call unit u.input) (Calling name)) (λ k. call_unit u.input name unit) env old new u behind result
+      TakesAs-as (λ k. going_on (holding_call unit u.input) (Calling name)) (λ k. call_unit u.input name unit) es old new u behind result
       (λ k. call_unit-quote u.input name unit is)
-      (subst (λ (v : PageUnread). TakesAs (λ k. going_on (holding_call unit v.input) (Calling name)) env old new v behind result) same takes)
+      (subst (λ (v : PageUnread). TakesAs (λ k. going_on (holding_call unit v.input) (Calling name)) es old new v behind result) same takes)
 
   -- and any other unit but a newline
   pub TakesAs-call_other : mid ≡ record u { input = settling u.input } → (unit ≡ Byte 10 → ⊥) → (unit ≡ Byte 34 → ⊥)
-      → TakesAs (λ k. going_on (holding_call unit mid.input) (Calling name)) env old new mid behind result
-      → TakesAs (λ k. call_unit u.input name unit) env old new u behind result
+      → TakesAs (λ k. going_on (holding_call unit mid.input) (Calling name)) es old new mid behind result
+      → TakesAs (λ k. call_unit u.input name unit) es old new u behind result
   TakesAs-call_other settles no_newline no_quote takes =
-      TakesAs-as (λ k. going_on (holding_call unit (settling u.input)) (Calling name)) (λ k. call_unit u.input name unit) env old new u behind result
+      TakesAs-as (λ k. going_on (holding_call unit (settling u.input)) (Calling name)) (λ k. call_unit u.input name unit) es old new u behind result
       (λ k. call_unit-other u.input name unit no_newline no_quote)
-      (TakesAs-settled (λ k i. going_on (holding_call unit i) (Calling name)) env old new u mid behind result settles takes)
+      (TakesAs-settled (λ k i. going_on (holding_call unit i) (Calling name)) es old new u mid behind result settles takes)

@@ -1,8 +1,8 @@
 -- A condition that decides, as the definition takes it: its result is kept, if it is to be, and its branch comes.
 use Rattle.std.proofs.Common.{◌≡◌, ℕ, ◌-◌, ◌≤◌, Bool, true, false, List, length, Option, Some, None, Result, Ok, Err, refl, sym, subst, ap, ◌∙◌, arith}
-use Rattle.std.specs.Prelude.{nat_lt, nat_le, ◌||◌, ◌&&◌, if◌then◌else◌, ◌==◌}
+use Rattle.std.specs.Prelude.{nat_lt, nat_le, ◌&&◌, if◌then◌else◌, ◌==◌}
 use Rattle.std.proofs.lemmas.Bool.{lt-ltb, ltb-true}
-use Rattle.roff_lines.specs.declared.env.Env.{Env}
+use Rattle.roff_run.specs.declared.environments.Environments.{Environments as EnvironmentsOf}
 use Rattle.roff_num.specs.declared.limit.Limit.{Limit}
 use Rattle.roff_num.specs.declared.limit.Limit.TheVariants.{Names, Stack, Depth, Store, Diversions, Conditions}
 use Rattle.roff_num.specs.declared.limits.Limits.{Limits}
@@ -13,22 +13,23 @@ use Rattle.roff_scan.specs.Halves.{byte_read}
 use Rattle.roff_scan.specs.Input.{names_added, keeping, pushed, depth, results, stored}
 use Rattle.roff_scan.specs.Unread.{changing, input_refusal}
 use Rattle.roff_scan.specs.declared.escapes.Escape.{Escape as Kind}
-use Rattle.roff_scan.specs.declared.escapes.Escape.TheVariants.{Prints, Blank, NoWidth, Brace, Nothing, Comment as BeginsComment, Size as BeginsSize, Name as BeginsName, Text as BeginsText, Width as BeginsWidth, LeftOut as IsLeftOut}
+use Rattle.roff_scan.specs.declared.escapes.Escape.TheVariants.{Prints, Blank, NoWidth, Tab as GivesTab, Interrupts, Brace, Nothing, Comment as BeginsComment, Size as BeginsSize, Name as BeginsName, Text as BeginsText, Width as BeginsWidth, LeftOut as IsLeftOut}
 use Rattle.roff_scan.specs.declared.escapes.NameUse.TheVariants.{Register, Text, Argument, Character, Font, LeftOut as NameLeftOut}
 use Rattle.roff_scan.specs.declared.escapes.TextUse.TheVariants.{Motion as OfMotion, LeftOut as LeftOutText}
 use Rattle.roff_scan.specs.declared.half.CopyUnit.TheVariants.{Byte, Kept}
 use Rattle.roff_scan.specs.declared.half.Decision.{Decision}
 use Rattle.roff_scan.specs.declared.half.Read.{Read}
 use Rattle.roff_scan.specs.declared.half.Read.TheVariants.{GoesOn, Unit as OneUnit, Holds, Escape, Asks, Motion, Measures, Tells, Decides}
-use Rattle.roff_scan.specs.declared.half.Surroundings.TheVariants.{Text as AboveText}
 use Rattle.roff_run.specs.Reader.State.{ReaderState}
 use Rattle.roff_run.specs.Reader.Taken.{PageUnread, Takes, TakesAs, Took}
-use Rattle.roff_run.specs.Reading.{PageInput, Taking, beginning_found, character_printed, condition_found, decided, escape_meant, first_escape, first_taking, fresh_line, is_so, kept_if, line_begun, no_unit_found, skipping_taking}
+use Rattle.roff_run.specs.Reading.{PageInput, Taking, at_start, beginning_found, behind_events, character_printed, condition_found, decided, escape_meant, escape_taking, first_escape, first_taking, going_on_told, is_so, kept_if, line_begun, line_begun_as, no_unit_found, skipping_taking, text_taking}
 use Rattle.roff_run.specs.Registers.{AllRegisters, Known, changed_by_all}
 use Rattle.roff_run.specs.Registers.Capped.{Capped}
+use Rattle.roff_run.specs.Requests.{PageEvent}
 use Rattle.roff_run.specs.Run.{counts_in, first_passed, known_at}
 use Rattle.roff_run.specs.declared.reader.Meaning.{Meaning}
 use Rattle.roff_run.specs.declared.reading.Reading.TheVariants.{Branch, Deciding}
+use Rattle.roff_run.specs.declared.reading.TextLine.{TextLine}
 use Rattle.roff_run.proofs.InputCounts.{first_passed-few_names}
 use Rattle.roff_run.proofs.TakesAs.{few_names-of, passed_none, passed_one}
 
@@ -45,46 +46,64 @@ Keeps-if : (so c : Bool) (f g : PageInput → Taking) → Keeps so f → Keeps s
 Keeps-if so true f g of_f of_g = of_f
 Keeps-if so false f g of_f of_g = of_g
 
+-- behind some events
+Keeps-behind : (so : Bool) (events : List PageEvent) (f : PageInput → Taking) → Keeps so f → Keeps so (λ i. behind_events events (f i))
+Keeps-behind so events f of_f i = ap (behind_events events) (of_f i)
+
+-- a byte of a text line
+Keeps-text_taking : (so : Bool) (line : TextLine) (b : ℕ) → Keeps so (λ i. text_taking i line b)
+Keeps-text_taking so line b =
+    Keeps-if so (b == newline) _ _ (λ i. refl)
+    (Keeps-if so (b == tab) _ _ (λ i. refl)
+    (Keeps-if so (is_silent b) _ _ (λ i. refl)
+    (Keeps-if so (b == blank) _ _ (Keeps-if so line.has_glyph _ _ (λ i. refl) (λ i. refl)) (λ i. refl))))
+
 -- where a branch begins
-Keeps-line_begun : (so : Bool) (b : ℕ) → Keeps so (λ i. line_begun i b)
-Keeps-line_begun so b =
+Keeps-line_begun : (so : Bool) (k : Known) (b : ℕ) → Keeps so (λ i. line_begun k i b)
+Keeps-line_begun so k b =
+    let line : TextLine = line_begun_as k.interrupted in
     Keeps-if so (b == dot) _ _ (λ i. refl)
     (Keeps-if so (b == apostrophe) _ _ (λ i. refl)
-    (Keeps-if so (b == newline) _ _ (λ i. refl)
-    (Keeps-if so (b == tab || is_silent b) _ _ (λ i. refl)
-    (Keeps-if so (b == blank) _ _ (λ i. refl) (λ i. refl)))))
+    (Keeps-behind so (going_on_told k.interrupted) (λ i. text_taking i line b) (Keeps-text_taking so line b)))
 
-Keeps-first_taking : (so : Bool) (b : ℕ) → Keeps so (λ i. first_taking i Branch b)
-Keeps-first_taking so b = Keeps-if so (b == blank) _ _ (λ i. refl) (Keeps-line_begun so b)
+Keeps-first_taking : (so : Bool) (k : Known) (b : ℕ) → Keeps so (λ i. first_taking k i Branch b)
+Keeps-first_taking so k b = Keeps-if so (b == blank) _ _ (λ i. refl) (Keeps-line_begun so k b)
 
-Keeps-escape_meant : (so : Bool) (b : ℕ) (kind : Kind) → Keeps so (λ i. escape_meant i fresh_line b kind)
-Keeps-escape_meant so b (Prints byte) i = refl
-Keeps-escape_meant so b Blank i = refl
-Keeps-escape_meant so b NoWidth i = refl
-Keeps-escape_meant so b Brace i = refl
-Keeps-escape_meant so b IsLeftOut i = refl
-Keeps-escape_meant so b (BeginsText (LeftOutText byte)) i = refl
-Keeps-escape_meant so b (BeginsText OfMotion) i = refl
-Keeps-escape_meant so b Nothing i = refl
-Keeps-escape_meant so b BeginsComment i = refl
-Keeps-escape_meant so b BeginsSize i = refl
-Keeps-escape_meant so b (BeginsName purpose) i = refl
-Keeps-escape_meant so b BeginsWidth i = refl
+Keeps-escape_meant : (so : Bool) (line : TextLine) (b : ℕ) (kind : Kind) → Keeps so (λ i. escape_meant i line b kind)
+Keeps-escape_meant so line b (Prints byte) i = refl
+Keeps-escape_meant so line b Blank i = refl
+Keeps-escape_meant so line b NoWidth i = refl
+Keeps-escape_meant so line b GivesTab i = refl
+Keeps-escape_meant so line b Interrupts i = refl
+Keeps-escape_meant so line b Brace i = refl
+Keeps-escape_meant so line b IsLeftOut i = refl
+Keeps-escape_meant so line b (BeginsText (LeftOutText byte)) i = refl
+Keeps-escape_meant so line b (BeginsText OfMotion) i = refl
+Keeps-escape_meant so line b Nothing i = refl
+Keeps-escape_meant so line b BeginsComment i = refl
+Keeps-escape_meant so line b BeginsSize i = refl
+Keeps-escape_meant so line b (BeginsName purpose) i = refl
+Keeps-escape_meant so line b BeginsWidth i = refl
 
-Keeps-first_escape : (so : Bool) (b : ℕ) → Keeps so (λ i. first_escape i Branch b)
-Keeps-first_escape so b = Keeps-if so (b == 123) _ _ (λ i. refl) (Keeps-escape_meant so b (escape_of b))
+Keeps-first_escape : (so : Bool) (k : Known) (b : ℕ) → Keeps so (λ i. first_escape k i Branch b)
+Keeps-first_escape so k b =
+    let line : TextLine = line_begun_as k.interrupted in
+    Keeps-if so (b == 123) _ _ (λ i. refl)
+    (Keeps-behind so (going_on_told k.interrupted) (λ i. escape_taking i line b) (Keeps-escape_meant so line b (escape_of b)))
 
-Keeps-character_printed : (so : Bool) (name text : Option (List ℕ)) → Keeps so (λ i. character_printed i fresh_line name text)
-Keeps-character_printed so name (Some text) i = refl
-Keeps-character_printed so name None i = refl
+Keeps-character_printed : (so : Bool) (line : TextLine) (name text : Option (List ℕ)) → Keeps so (λ i. character_printed i line name text)
+Keeps-character_printed so line name (Some text) i = refl
+Keeps-character_printed so line name None i = refl
 
 Keeps-beginning_found : (so : Bool) (k : Known) (found : Read) → Keeps so (λ i. beginning_found k i Branch found)
 Keeps-beginning_found so k GoesOn i = refl
-Keeps-beginning_found so k (OneUnit (Byte b)) i = Keeps-first_taking so b i
-Keeps-beginning_found so k (OneUnit (Kept b)) i = Keeps-first_escape so b i
+Keeps-beginning_found so k (OneUnit (Byte b)) i = Keeps-first_taking so k b i
+Keeps-beginning_found so k (OneUnit (Kept b)) i = Keeps-first_escape so k b i
 Keeps-beginning_found so k (Holds unit) i = refl
-Keeps-beginning_found so k (Escape b) i = Keeps-first_escape so b i
-Keeps-beginning_found so k (Asks Character (Some name)) i = Keeps-character_printed so (Some name) (character name) i
+Keeps-beginning_found so k (Escape b) i = Keeps-first_escape so k b i
+Keeps-beginning_found so k (Asks Character (Some name)) i =
+    let line : TextLine = line_begun_as k.interrupted in
+    ap (behind_events (going_on_told k.interrupted)) (Keeps-character_printed so line (Some name) (character name) i)
 Keeps-beginning_found so k (Asks Character None) i = refl
 Keeps-beginning_found so k (Asks Font name) i = refl
 Keeps-beginning_found so k (Asks (NameLeftOut b) name) i = refl
@@ -108,7 +127,7 @@ Keeps-skipping_taking so b =
 Keeps-decided : (so : Bool) (k : Known) (freed : Option ℕ) → Keeps so (λ i. decided k i so freed)
 Keeps-decided so k None i = refl
 Keeps-decided true k (Some b) i =
-    let read = byte_read AboveText i.half b in Keeps-beginning_found true k read.0 (record i { half = read.1 })
+    let read = byte_read (at_start k) i.half b in Keeps-beginning_found true k read.0 (record i { half = read.1 })
 Keeps-decided false k (Some b) i = Keeps-skipping_taking false b i
 
 -- one result more is above the limit on results where fewer are, and no other count grows by it
@@ -139,16 +158,16 @@ abbrev passed_by : Limits → AllRegisters → Taking → Option Limit
 passed_by l rs t = first_passed l (counts_in (changed_by_all t.effect.changes rs) t.input)
 
 -- a branch whose beginning a limit refuses
-pub TakesAs-not_begun : (keeps so : Bool) (freed : Option ℕ) (env : Env) (old new : ReaderState) (before behind : PageUnread) (limit : Limit)
-    → TakesAs (λ k. decided k before.input so freed) env old new before behind (Err limit)
-    → TakesAs (λ k. decided k (kept_if keeps so before.input) so freed) env old new before behind (Err limit)
-TakesAs-not_begun false so freed env old new before behind limit begins = begins
-TakesAs-not_begun true so freed env old new before behind limit begins = record {
-  takes = λ cap h stands ready.
+pub TakesAs-not_begun : (keeps so : Bool) (freed : Option ℕ) (es : EnvironmentsOf) (old new : ReaderState) (before behind : PageUnread) (limit : Limit)
+    → TakesAs (λ k. decided k before.input so freed) es old new before behind (Err limit)
+    → TakesAs (λ k. decided k (kept_if keeps so before.input) so freed) es old new before behind (Err limit)
+TakesAs-not_begun false so freed es old new before behind limit begins = begins
+TakesAs-not_begun true so freed es old new before behind limit begins = record {
+  takes = λ l h stands ready.
       let k : Known = known_at h old.registers.all before.input in
       let begun : Taking = decided k before.input so freed in
       subst (λ (t : Taking). passed_by before.limits old.registers.all t ≡ Some limit) (sym (Keeps-decided so k freed before.input))
-      (first_passed-keeping before.limits (changed_by_all begun.effect.changes old.registers.all) so begun.input limit (begins.takes cap h stands ready));
+      (first_passed-keeping before.limits (changed_by_all begun.effect.changes old.registers.all) so begun.input limit (begins.takes l h stands ready));
 }
 
 -- what is known of an input behind a taking: of the counts but that of results none is above its limit
@@ -170,28 +189,28 @@ passed_by-kept so t old before mid begun =
     ∙ ap (λ (u : PageUnread). input_refusal u.limits (keeping so u.input)) (sym begun.came)
 
 -- a branch began, and a limit refuses to keep the result
-pub TakesAs-not_kept : (so : Bool) (freed : Option ℕ) (env : Env) (old new : ReaderState) (before mid behind : PageUnread) (m : Meaning) (limit : Limit)
-    → TakesAs (λ k. decided k before.input so freed) env old new before mid (Ok m) → (Err limit, behind) ≡ changing (keeping so mid.input) mid
-    → TakesAs (λ k. decided k (keeping so before.input) so freed) env old new before behind (Err limit)
-TakesAs-not_kept so freed env old new before mid behind m limit begins keeps = record {
-  takes = λ cap h stands ready.
+pub TakesAs-not_kept : (so : Bool) (freed : Option ℕ) (es : EnvironmentsOf) (old new : ReaderState) (before mid behind : PageUnread) (m : Meaning) (limit : Limit)
+    → TakesAs (λ k. decided k before.input so freed) es old new before mid (Ok m) → (Err limit, behind) ≡ changing (keeping so mid.input) mid
+    → TakesAs (λ k. decided k (keeping so before.input) so freed) es old new before behind (Err limit)
+TakesAs-not_kept so freed es old new before mid behind m limit begins keeps = record {
+  takes = λ l h stands ready.
       let k : Known = known_at h old.registers.all before.input in
       let t : Taking = decided k before.input so freed in
-      let begun : Begun t old.registers before mid = Begun-took t old.registers new before mid m (begins.takes cap h stands ready) in
+      let begun : Begun t old.registers before mid = Begun-took t old.registers new before mid m (begins.takes l h stands ready) in
       subst (λ (t : Taking). passed_by before.limits old.registers.all t ≡ Some limit) (sym (Keeps-decided so k freed before.input))
       (passed_by-kept so t old.registers before mid begun
       ∙ passed_one (input_refusal mid.limits (keeping so mid.input)) (keeping so mid.input) mid behind limit keeps);
 }
 
 -- or the result is kept
-pub TakesAs-kept : (so : Bool) (freed : Option ℕ) (env : Env) (old new : ReaderState) (before mid behind : PageUnread) (m : Meaning) (done : Unit {0})
-    → TakesAs (λ k. decided k before.input so freed) env old new before mid (Ok m) → (Ok done, behind) ≡ changing (keeping so mid.input) mid
-    → TakesAs (λ k. decided k (keeping so before.input) so freed) env old new before behind (Ok m)
-TakesAs-kept so freed env old new before mid behind m done begins keeps = record {
-  takes = λ cap h stands ready.
+pub TakesAs-kept : (so : Bool) (freed : Option ℕ) (es : EnvironmentsOf) (old new : ReaderState) (before mid behind : PageUnread) (m : Meaning) (done : Unit {0})
+    → TakesAs (λ k. decided k before.input so freed) es old new before mid (Ok m) → (Ok done, behind) ≡ changing (keeping so mid.input) mid
+    → TakesAs (λ k. decided k (keeping so before.input) so freed) es old new before behind (Ok m)
+TakesAs-kept so freed es old new before mid behind m done begins keeps = record {
+  takes = λ l h stands ready.
       let k : Known = known_at h old.registers.all before.input in
       let t : Taking = decided k before.input so freed in
-      let took : Took t old.registers new before mid m = begins.takes cap h stands ready in
+      let took : Took t old.registers new before mid m = begins.takes l h stands ready in
       let begun : Begun t old.registers before mid = Begun-took t old.registers new before mid m took in
       let kept = passed_none (input_refusal mid.limits (keeping so mid.input)) (keeping so mid.input) mid behind done keeps in
       subst (λ (t : Taking). Took t old.registers new before behind m) (sym (Keeps-decided so k freed before.input))
@@ -208,15 +227,15 @@ TakesAs-kept so freed env old new before mid behind m done begins keeps = record
 }
 
 -- what a condition decides by these registers, that it decides
-pub TakesAs-decides : (keeps so : Bool) (decision : Decision) (freed : Option ℕ) (env : Env) (old new : ReaderState) (before behind : PageUnread) (result : Result Meaning Limit)
+pub TakesAs-decides : (keeps so : Bool) (decision : Decision) (freed : Option ℕ) (es : EnvironmentsOf) (old new : ReaderState) (before behind : PageUnread) (result : Result Meaning Limit)
     → ((k : Known) → k.registers ≡ old.registers.all → so ≡ is_so k decision)
-    → TakesAs (λ k. decided k (kept_if keeps so before.input) so freed) env old new before behind result
-    → TakesAs (λ k. condition_found k before.input keeps (Decides decision freed)) env old new before behind result
-TakesAs-decides keeps so decision freed env old new before behind result asked decides = record {
-  takes = λ cap h stands ready.
+    → TakesAs (λ k. decided k (kept_if keeps so before.input) so freed) es old new before behind result
+    → TakesAs (λ k. condition_found k before.input keeps (Decides decision freed)) es old new before behind result
+TakesAs-decides keeps so decision freed es old new before behind result asked decides = record {
+  takes = λ l h stands ready.
       let k : Known = known_at h old.registers.all before.input in
       subst (λ (is : Bool). Takes (decided k (kept_if keeps is before.input) is freed) old.registers new before behind result) (asked k refl)
-      (decides.takes cap h stands ready);
+      (decides.takes l h stands ready);
 }
 
 -- anything of a condition but its decision is read as behind a request's name

@@ -1,6 +1,6 @@
 -- What is left of names and texts behind the line that ends a definition: nothing is given to a request or a body there.
-use Rattle.std.proofs.Common.{◌≡◌, ℕ, Bool, true, false, List, [], length, Option, Some, None, inl, inr, refl, sym, ap, ◌∙◌, subst, ◌==◌}
-use Rattle.std.specs.Prelude.{◌||◌}
+use Rattle.std.proofs.Common.{◌≡◌, ℕ, Bool, true, false, List, [], ◌∷◌, length, Option, Some, None, inl, inr, refl, sym, ap, ◌∙◌, subst, ◌==◌}
+use Rattle.std.specs.Prelude.{◌||◌, ◌&&◌, if◌then◌else◌}
 use Rattle.std.proofs.lemmas.Bool.{cases_Bool, eqb-true}
 use Rattle.roff_scan.specs.Bytes.{blank, newline, tab}
 use Rattle.roff_scan.specs.Halves.{byte_read}
@@ -12,7 +12,8 @@ use Rattle.roff_store.specs.Texts.{Entry}
 use Rattle.roff_run.specs.Definitions.{ends_mark}
 use Rattle.roff_run.specs.Reading.{PageInput, Taking, arguments_ended, arguments_read_on, behind_definition, branch_taking, called_taking, calling_all, ended_by, line_ended, line_taking, reads_else}
 use Rattle.roff_run.specs.Registers.{AllRegisters, Change, Known, changed_by_all}
-use Rattle.roff_run.specs.Requests.{Effect, called_by, request_effect, row_of}
+use Rattle.roff_run.specs.Requests.{Back, Effect, called_by, meant_by, request_effect, row_of}
+use Rattle.roff_run.specs.Requests.Effects.{happens, no_such_environment}
 use Rattle.roff_run.specs.declared.reading.ShortName.{ShortName}
 use Rattle.roff_run.specs.declared.request.Called.{Called}
 use Rattle.roff_run.specs.declared.request.Called.TheVariants.{Request as ARequest, Body as ABody, Nothing as Unknown}
@@ -20,7 +21,7 @@ use Rattle.roff_run.specs.declared.request.LineReading.{LineReading}
 use Rattle.roff_run.specs.declared.request.LineReading.TheVariants.{ByArguments, ByCondition, ByElse, ByLastLine, ByMessage, ByString, ByLines}
 use Rattle.roff_run.specs.declared.request.LinesFor.TheVariants.{Macro, Nobody}
 use Rattle.roff_run.specs.declared.request.Request.{Request}
-use Rattle.roff_run.specs.declared.request.Request.TheVariants.{Abort, Adjust, AppendString, AssignFormat, Break, DefineString, Else, Exit, Fill, If, IfElse, Indent, LineLength, NoAdjust, NoFill, NumberRegister, RemoveNames, RemoveRegisters, Rename, Space as SpaceDown, TellMessage, WithoutEffect, LeftOut, AppendMacro, DefineMacro, Ignore}
+use Rattle.roff_run.specs.declared.request.Request.TheVariants.{Abort, Adjust, AppendString, AssignFormat, Break, DefineString, Else, Exit, Fill, If, IfElse, Indent, LineLength, NoAdjust, NoFill, NumberRegister, RemoveNames, RemoveRegisters, Rename, Space as SpaceDown, TellMessage, WithoutEffect, LeftOut, AppendMacro, DefineMacro, Ignore, Centre, Environment as SwitchEnvironment, LineSpacing, TabStops, TemporaryIndent}
 
 -- what names stand for, how many did at first, and the texts in the making
 pub record NamesAndTexts : Type 0 where
@@ -48,6 +49,11 @@ record CallsNothing (e : Effect) : Type 0 where
   calls : e.calls ≡ []
   registers : (rs : AllRegisters) → length (changed_by_all e.changes rs).named ≡ length rs.named
 
+-- that of going back to an environment, if one was left
+CallsNothing-switch : (breaks has_left : Bool) → CallsNothing (meant_by breaks (if has_left then happens [] (Back ∷ []) else no_such_environment))
+CallsNothing-switch breaks true = record { calls = refl; registers = λ rs. refl }
+CallsNothing-switch breaks false = record { calls = refl; registers = λ rs. refl }
+
 -- that of a request without arguments
 CallsNothing-request : (k : Known) (breaks : Bool) (request : Request) → CallsNothing (request_effect k breaks request [])
 CallsNothing-request k breaks Abort = record { calls = refl; registers = λ rs. refl }
@@ -56,9 +62,11 @@ CallsNothing-request k breaks AssignFormat = record { calls = refl; registers = 
 CallsNothing-request k breaks AppendMacro = record { calls = refl; registers = λ rs. refl }
 CallsNothing-request k breaks AppendString = record { calls = refl; registers = λ rs. refl }
 CallsNothing-request k breaks Break = record { calls = refl; registers = λ rs. refl }
+CallsNothing-request k breaks Centre = record { calls = refl; registers = λ rs. refl }
 CallsNothing-request k breaks DefineMacro = record { calls = refl; registers = λ rs. refl }
 CallsNothing-request k breaks DefineString = record { calls = refl; registers = λ rs. refl }
 CallsNothing-request k breaks Else = record { calls = refl; registers = λ rs. refl }
+CallsNothing-request k breaks SwitchEnvironment = CallsNothing-switch (breaks && false) k.has_left
 CallsNothing-request k breaks Exit = record { calls = refl; registers = λ rs. refl }
 CallsNothing-request k breaks Fill = record { calls = refl; registers = λ rs. refl }
 CallsNothing-request k breaks If = record { calls = refl; registers = λ rs. refl }
@@ -66,6 +74,7 @@ CallsNothing-request k breaks IfElse = record { calls = refl; registers = λ rs.
 CallsNothing-request k breaks Ignore = record { calls = refl; registers = λ rs. refl }
 CallsNothing-request k breaks Indent = record { calls = refl; registers = λ rs. refl }
 CallsNothing-request k breaks LineLength = record { calls = refl; registers = λ rs. refl }
+CallsNothing-request k breaks LineSpacing = record { calls = refl; registers = λ rs. refl }
 CallsNothing-request k breaks NoAdjust = record { calls = refl; registers = λ rs. refl }
 CallsNothing-request k breaks NoFill = record { calls = refl; registers = λ rs. refl }
 CallsNothing-request k breaks NumberRegister = record { calls = refl; registers = λ rs. refl }
@@ -73,6 +82,8 @@ CallsNothing-request k breaks RemoveNames = record { calls = refl; registers = �
 CallsNothing-request k breaks RemoveRegisters = record { calls = refl; registers = λ rs. refl }
 CallsNothing-request k breaks Rename = record { calls = refl; registers = λ rs. refl }
 CallsNothing-request k breaks SpaceDown = record { calls = refl; registers = λ rs. refl }
+CallsNothing-request k breaks TabStops = record { calls = refl; registers = λ rs. refl }
+CallsNothing-request k breaks TemporaryIndent = record { calls = refl; registers = λ rs. refl }
 CallsNothing-request k breaks TellMessage = record { calls = refl; registers = λ rs. refl }
 CallsNothing-request k breaks (WithoutEffect name) = record { calls = refl; registers = λ rs. refl }
 CallsNothing-request k breaks (LeftOut name) = record { calls = refl; registers = λ rs. refl }

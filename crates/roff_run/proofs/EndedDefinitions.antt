@@ -1,7 +1,7 @@
 -- The line that ends a definition: its text enters a name first, and what limit refuses that refuses the whole step.
 use Rattle.std.proofs.Common.{◌≡◌, ℕ, ◌+◌, ◌-◌, Bool, true, false, List, ◌++◌, length, Option, Some, None, Result, Ok, Err, refl, sym, subst, ap, ◌∙◌, arith}
 use Rattle.std.specs.Prelude.{nat_lt, sum_by, if◌then◌else◌}
-use Rattle.roff_lines.specs.declared.env.Env.{Env}
+use Rattle.roff_run.specs.declared.environments.Environments.{Environments as EnvironmentsOf}
 use Rattle.roff_num.specs.declared.limit.Limit.{Limit}
 use Rattle.roff_num.specs.declared.limit.Limit.TheVariants.{Conditions, Depth, Diversions, Names, Stack, Store}
 use Rattle.roff_num.specs.declared.limits.Limits.{Limits}
@@ -106,11 +106,11 @@ refused-behind l name appends i behind limit within same refused =
     ∙ refused_by_texts _ _ _ (ahead_refusal l (string_entered name appends i)) (ahead_refusal l behind) limit none refused
 
 -- nor is the step that goes on behind it
-pub TakesAs-not_entered : (name : Option ShortName) (appends : Bool) (end : Option ShortName) (b : ℕ) (env : Env) (old new : ReaderState) (before behind : PageUnread)
+pub TakesAs-not_entered : (name : Option ShortName) (appends : Bool) (end : Option ShortName) (b : ℕ) (es : EnvironmentsOf) (old new : ReaderState) (before behind : PageUnread)
     (limit : Limit) → ends_mark b ≡ true → InputBecame (string_entered name appends before.input) before behind (Err limit)
-    → TakesAs (λ k. behind_definition k (string_entered name appends before.input) end b) env old new before behind (Err limit)
-TakesAs-not_entered name appends end b env old new before behind limit ends refused = record {
-  takes = λ cap h stands ready.
+    → TakesAs (λ k. behind_definition k (string_entered name appends before.input) end b) es old new before behind (Err limit)
+TakesAs-not_entered name appends end b es old new before behind limit ends refused = record {
+  takes = λ l h stands ready.
       let entered : PageInput = string_entered name appends before.input in
       let k : Known = known_at h old.registers.all before.input in
       let step : Taking = behind_definition k entered end b in
@@ -123,20 +123,20 @@ TakesAs-not_entered name appends end b env old new before behind limit ends refu
 }
 
 -- what is taken once the text has entered its name
-pub TakesAs-entered : (t : Known → PageInput → Taking) (name : Option ShortName) (appends : Bool) (env : Env) (old new : ReaderState) (before mid behind : PageUnread)
+pub TakesAs-entered : (t : Known → PageInput → Taking) (name : Option ShortName) (appends : Bool) (es : EnvironmentsOf) (old new : ReaderState) (before mid behind : PageUnread)
     (done : Unit {0}) (result : Result Meaning Limit) → InputBecame (string_entered name appends before.input) before mid (Ok done)
-    → TakesAs (λ k. t k mid.input) env old new mid behind result
-    → TakesAs (λ k. t k (string_entered name appends before.input)) env old new before behind result
-TakesAs-entered t name appends env old new before mid behind done result became takes = record {
-  takes = λ cap h stands ready.
+    → TakesAs (λ k. t k mid.input) es old new mid behind result
+    → TakesAs (λ k. t k (string_entered name appends before.input)) es old new before behind result
+TakesAs-entered t name appends es old new before mid behind done result became takes = record {
+  takes = λ l h stands ready.
       let i : PageInput = string_entered name appends before.input in
       let now = became.becomes (refused_none old.registers before ready) in
-      let moved : TakesAs (λ k. t k i) env old new (record before { input = i }) behind result =
-      subst (λ (u : PageUnread). TakesAs (λ k. t k u.input) env old new u behind result) now.0 takes in
+      let moved : TakesAs (λ k. t k i) es old new (record before { input = i }) behind result =
+      subst (λ (u : PageUnread). TakesAs (λ k. t k u.input) es old new u behind result) now.0 takes in
       let within = first_passed-few_names before.limits old.registers.all i (few_names old.registers before ready) ∙ now.1 in
       subst (λ (k : Known). Takes (t k i) old.registers new before behind result) (known-entered name appends h old.registers.all before.input)
       (Takes-elsewhere (t (known_at h old.registers.all i) i) old.registers new before behind i result
-      (moved.takes cap h stands (record { cap = ready.cap; within = within })));
+      (moved.takes l h stands (record { cap = ready.cap; within = within })));
 }
 
 -- a line of which nothing was read counts for no more
@@ -144,18 +144,18 @@ NoMore-beginning : (i : PageInput) → NoMore (beginning_line i) i
 NoMore-beginning i = record { bytes = omega arith; texts = omega arith; results = omega arith; stored = omega arith; names = omega arith; open_texts = omega arith }
 
 -- what is taken once a line begins
-pub TakesAs-line_begun : (t : Known → PageInput → Taking) (env : Env) (old new : ReaderState) (before mid behind : PageUnread) (result : Result Meaning Limit)
-    → mid ≡ record before { input = beginning_line before.input } → TakesAs (λ k. t k mid.input) env old new mid behind result
-    → TakesAs (λ k. t k (beginning_line before.input)) env old new before behind result
-TakesAs-line_begun t env old new before mid behind result begins takes =
+pub TakesAs-line_begun : (t : Known → PageInput → Taking) (es : EnvironmentsOf) (old new : ReaderState) (before mid behind : PageUnread) (result : Result Meaning Limit)
+    → mid ≡ record before { input = beginning_line before.input } → TakesAs (λ k. t k mid.input) es old new mid behind result
+    → TakesAs (λ k. t k (beginning_line before.input)) es old new before behind result
+TakesAs-line_begun t es old new before mid behind result begins takes =
     let i : PageInput = beginning_line before.input in
-    let moved : TakesAs (λ k. t k i) env old new (record before { input = i }) behind result =
-    subst (λ (u : PageUnread). TakesAs (λ k. t k u.input) env old new u behind result) begins takes in
+    let moved : TakesAs (λ k. t k i) es old new (record before { input = i }) behind result =
+    subst (λ (u : PageUnread). TakesAs (λ k. t k u.input) es old new u behind result) begins takes in
     record {
-      takes = λ cap h stands ready.
+      takes = λ l h stands ready.
           let within = first_passed-no_more before.limits old.registers.all i before.input (NoMore-beginning before.input) ready.within in
           Takes-elsewhere (t (known_at h old.registers.all before.input) i) old.registers new before behind i result
-          (moved.takes cap h stands (record { cap = ready.cap; within = within }));
+          (moved.takes l h stands (record { cap = ready.cap; within = within }));
     }
 
 -- a unit of a line that isn't the last one is text, behind what stood in front of it

@@ -1,5 +1,5 @@
 -- How many endings are to come behind what is read, and how many each byte may add.
-use Rattle.std.proofs.Common.{◌≡◌, ℕ, ◌+◌, ◌≤◌, Bool, true, false, List, [], ◌∷◌, Option, Some, None, refl, arith}
+use Rattle.std.proofs.Common.{◌≡◌, ℕ, ℤ, ◌+◌, ◌≤◌, Bool, true, false, List, [], ◌∷◌, Option, Some, None, refl, arith}
 use Rattle.std.specs.Prelude.{◌&&◌, ◌||◌, not, nat_le, Result, Ok, Err, if◌then◌else◌, ◌==◌}
 use Rattle.roff_num.specs.declared.num.Num.{Num}
 use Rattle.roff_num.specs.declared.num.NumFault.{NumFault}
@@ -7,10 +7,10 @@ use Rattle.roff_scan.specs.Bytes.{start_of_text, tab, newline, blank, quote, dot
 use Rattle.roff_scan.specs.Conditions.{begins_expression, expression_valued, expression_over, delimiter_met, choice_made, unit_of_condition, byte_or_backslash, byte_of_condition, condition_ended}
 use Rattle.roff_scan.specs.Escapes.{escape_of, is_copied}
 use Rattle.roff_scan.specs.Half.{Half, Backslash, Comment, Name, Size, Delimited, Width, Condition, names_in}
-use Rattle.roff_scan.specs.Halves.{Reads, most_names, surroundings, reads_text, reads_widths, told, escape_given, motion_given, name_given, text_given, name_beginning, name_or_opening, name_begun, unit_of_name, unit_of_text, unit_taken, copied_escape, escape_read, is_sign, is_first_digit, size_read, byte_of_text, byte_of_width, byte_read, name_ended, reading_ended}
+use Rattle.roff_scan.specs.Halves.{Reads, most_names, place_above, surroundings, reads_text, reads_widths, told, escape_given, motion_given, name_given, text_given, name_beginning, name_or_opening, name_begun, unit_of_name, unit_of_text, unit_taken, copied_escape, escape_read, is_sign, is_first_digit, size_read, byte_of_text, byte_of_width, byte_read, name_ended, reading_ended}
 use Rattle.roff_scan.specs.Measures.{escape_measures, motion_of, name_measures}
 use Rattle.roff_scan.specs.declared.escapes.Escape.{Escape as Kind}
-use Rattle.roff_scan.specs.declared.escapes.Escape.TheVariants.{Prints, Blank, NoWidth, Nothing as GivesNothing, Brace, LeftOut as IsLeftOut, Comment as BeginsComment, Size as BeginsSize, Name as BeginsName, Text as BeginsText, Width as BeginsWidth}
+use Rattle.roff_scan.specs.declared.escapes.Escape.TheVariants.{Prints, Blank, NoWidth, Nothing as GivesNothing, Tab as GivesTab, Interrupts, Brace, LeftOut as IsLeftOut, Comment as BeginsComment, Size as BeginsSize, Name as BeginsName, Text as BeginsText, Width as BeginsWidth}
 use Rattle.roff_scan.specs.declared.escapes.NameUse.{NameUse}
 use Rattle.roff_scan.specs.declared.escapes.NameUse.TheVariants.{Register, Text, Argument, Character, Font, LeftOut}
 use Rattle.roff_scan.specs.declared.escapes.TextUse.{TextUse}
@@ -77,15 +77,15 @@ Leaves-escape_given (Delimited purpose d text ∷ rest) b = omega arith
 Leaves-escape_given (Width d width is_deep ∷ rest) b = omega (arith, told_nothing (escape_measures b (escape_of b)).remark)
 Leaves-escape_given (Condition part text ∷ rest) b = omega arith
 
-Leaves-motion_given : (rest : List Half) (text : List ℕ) → Leaves (endings_of rest) (motion_given rest (motion_of text))
-Leaves-motion_given [] text = omega arith
-Leaves-motion_given (Backslash ∷ rest) text = omega arith
-Leaves-motion_given (Comment ∷ rest) text = omega arith
-Leaves-motion_given (Name purpose part ∷ rest) text = omega arith
-Leaves-motion_given (Size part ∷ rest) text = omega arith
-Leaves-motion_given (Delimited purpose d held ∷ rest) text = omega arith
-Leaves-motion_given (Width d width is_deep ∷ rest) text = omega (arith, told_nothing (motion_of text).remark)
-Leaves-motion_given (Condition part held ∷ rest) text = omega arith
+Leaves-motion_given : (place : ℤ) (rest : List Half) (text : List ℕ) → Leaves (endings_of rest) (motion_given rest (motion_of place text))
+Leaves-motion_given place [] text = omega arith
+Leaves-motion_given place (Backslash ∷ rest) text = omega arith
+Leaves-motion_given place (Comment ∷ rest) text = omega arith
+Leaves-motion_given place (Name purpose part ∷ rest) text = omega arith
+Leaves-motion_given place (Size part ∷ rest) text = omega arith
+Leaves-motion_given place (Delimited purpose d held ∷ rest) text = omega arith
+Leaves-motion_given place (Width d width is_deep ∷ rest) text = omega (arith, told_nothing (motion_of place text).remark)
+Leaves-motion_given place (Condition part held ∷ rest) text = omega arith
 
 Leaves-name_given : (rest : List Half) (purpose : NameUse) (name : Option (List ℕ)) → Leaves (endings_of rest) (name_given rest purpose name)
 Leaves-name_given [] purpose name = omega arith
@@ -98,10 +98,10 @@ Leaves-name_given (Width d width is_deep ∷ rest) purpose name =
     Leaves-if _ (is_copied purpose) _ _ (omega arith) (omega (arith, told_nothing (name_measures purpose name).remark))
 Leaves-name_given (Condition part text ∷ rest) purpose name = omega arith
 
--- a text between delimiters
-Leaves-text_given : (rest : List Half) (purpose : TextUse) (text : List ℕ) → Leaves (endings_of rest) (text_given rest purpose text)
-Leaves-text_given rest OfMotion text = Leaves-motion_given rest text
-Leaves-text_given rest (LeftOutText b) text = Leaves-escape_given rest b
+-- a text between delimiters, at a place of the line
+Leaves-text_given : (place : ℤ) (rest : List Half) (purpose : TextUse) (text : List ℕ) → Leaves (endings_of rest) (text_given place rest purpose text)
+Leaves-text_given place rest OfMotion text = Leaves-motion_given place rest text
+Leaves-text_given place rest (LeftOutText b) text = Leaves-escape_given rest b
 
 -- what leaves no more leaves one more at most
 one_more : (r : Reads) (rest : List Half) → Leaves (endings_of rest) r → Leaves (endings_of rest + 1) r
@@ -253,6 +253,8 @@ Leaves-escape_read around rest b (Prints byte) = Leaves-plain (reads_text around
 Leaves-escape_read around rest b Blank = Leaves-plain (reads_text around) rest b
 Leaves-escape_read around rest b NoWidth = Leaves-plain (reads_text around) rest b
 Leaves-escape_read around rest b GivesNothing = Leaves-plain (reads_text around) rest b
+Leaves-escape_read around rest b GivesTab = Leaves-plain (reads_text around) rest b
+Leaves-escape_read around rest b Interrupts = Leaves-plain (reads_text around) rest b
 Leaves-escape_read around rest b Brace = Leaves-plain (reads_text around) rest b
 Leaves-escape_read around rest b IsLeftOut = Leaves-plain (reads_text around) rest b
 
@@ -263,12 +265,12 @@ Leaves-size_read rest Sign b = one_more (escape_given rest 115) rest (Leaves-esc
 Leaves-size_read rest Digit b = one_more (escape_given rest 115) rest (Leaves-escape_given rest 115)
 
 -- a byte of a text between delimiters
-Leaves-byte_of_text : (rest : List Half) (purpose : TextUse) (d : Option ℕ) (text : List ℕ) (b : ℕ)
-    → Leaves (endings_of rest + 2) (byte_of_text rest purpose d text b)
-Leaves-byte_of_text rest purpose None text b = omega arith
-Leaves-byte_of_text rest purpose (Some d) text b =
+Leaves-byte_of_text : (place : ℤ) (rest : List Half) (purpose : TextUse) (d : Option ℕ) (text : List ℕ) (b : ℕ)
+    → Leaves (endings_of rest + 2) (byte_of_text place rest purpose d text b)
+Leaves-byte_of_text place rest purpose None text b = omega arith
+Leaves-byte_of_text place rest purpose (Some d) text b =
     Leaves-if _ (b == d) _ _
-    (let given : Leaves (endings_of rest) (text_given rest purpose text) = Leaves-text_given rest purpose text in omega (arith, given))
+    (let given : Leaves (endings_of rest) (text_given place rest purpose text) = Leaves-text_given place rest purpose text in omega (arith, given))
     (Leaves-if _ (b == backslash) _ _ (omega arith)
     (let taken : Leaves (endings_of rest + 1) (unit_of_text rest purpose (Some d) text (Byte b)) = Leaves-unit_of_text rest purpose (Some d) text (Byte b) in
     omega (arith, taken)))
@@ -295,7 +297,8 @@ endings-byte_read base (Name purpose part ∷ rest) b =
 endings-byte_read base (Size part ∷ rest) b =
     let taken : Leaves (endings_of rest + 1) (size_read rest part b) = Leaves-size_read rest part b in omega (arith, taken)
 endings-byte_read base (Delimited purpose d text ∷ rest) b =
-    let taken : Leaves (endings_of rest + 2) (byte_of_text rest purpose d text b) = Leaves-byte_of_text rest purpose d text b in omega (arith, taken)
+    let place : ℤ = place_above base in
+    let taken : Leaves (endings_of rest + 2) (byte_of_text place rest purpose d text b) = Leaves-byte_of_text place rest purpose d text b in omega (arith, taken)
 endings-byte_read base (Width d width is_deep ∷ rest) b =
     let taken : Leaves (endings_of rest + 2) (byte_of_width rest d width is_deep b) = Leaves-byte_of_width rest d width is_deep b in omega (arith, taken)
 endings-byte_read base (Condition part text ∷ rest) b = Leaves-byte_of_condition rest part text b
@@ -319,6 +322,6 @@ endings-reading_ended base Comment rest =
     falls _ Comment rest (Leaves-if _ (reads_text (surroundings base rest)) _ _ (Leaves-escape_given rest quote) (omega arith))
 endings-reading_ended base (Name purpose part) rest = falls _ (Name purpose part) rest (Leaves-name_ended rest purpose part)
 endings-reading_ended base (Size part) rest = falls _ (Size part) rest (Leaves-escape_given rest 115)
-endings-reading_ended base (Delimited purpose d text) rest = falls _ (Delimited purpose d text) rest (Leaves-text_given rest purpose text)
+endings-reading_ended base (Delimited purpose d text) rest = falls _ (Delimited purpose d text) rest (Leaves-text_given (place_above base) rest purpose text)
 endings-reading_ended base (Width d width is_deep) rest = omega arith
 endings-reading_ended base (Condition part text) rest = Falls-condition_ended rest part text

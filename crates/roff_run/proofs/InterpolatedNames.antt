@@ -24,10 +24,10 @@ use Rattle.roff_store.specs.declared.register.Direction.TheVariants.{Up, Down}
 use Rattle.roff_run.specs.declared.reading.Reading.{Reading}
 use Rattle.roff_run.specs.declared.reading.Reading.TheVariants.{LineStart, Branch, Braced, Text as InText, Control, Name as NameOf, Arguments as InArguments, Deciding, StringName, StringText, Skipping, Dropped, Telling, Told, Exiting, Calling, Defining}
 use Rattle.roff_run.specs.declared.reading.TextLine.{TextLine}
-use Rattle.roff_run.proofs.Interpolation.{AtLast, Behind, FindsAtLast, Fits-IsWithin, FromAhead, FromSource, IsRead, IsRead-itself, Means, Origin, ReadsEscapes, AtBeginning, AtBranch, AtBraced, OnText, OnArguments, OnCondition, OnStringName, OnCall, OnStringText, OnDefinition, OnMessage, ReadsEscapes-reads_escapes, after-escape, ahead_at, going, input_of, interrupted-arguments, is-going, is_no_newline, line_behind, not-first, read_in, settled_for, settled_for-settled_for, settled_input, source_behind, tape_at, taking-reads}
+use Rattle.roff_run.proofs.Interpolation.{AtLast, Behind, FindsAtLast, Fits-IsWithin, FromAhead, FromSource, IsRead, IsRead-itself, Means, Origin, ReadsEscapes, AtBeginning, AtBranch, AtBraced, OnText, OnArguments, OnCondition, OnStringName, OnCall, OnStringText, OnDefinition, OnMessage, ReadsEscapes-reads_escapes, above, after-escape, ahead_at, going, input_of, interrupted-arguments, is-going, is_no_newline, line_behind, not-first, read_in, settled_for, settled_for-settled_for, settled_input, source_behind, tape_at, taking-reads}
 use Rattle.roff_run.specs.InterpolationLaws.{TakesItems, StandsForItself, IsEscapeOf, Short, Long, ShortString, LongString, OfArgument, reads_text, reads_escapes, reads_in_condition, reads_above, stepped, text_named, with_text_ahead, EscapesReadAsTexts, EscapesOfTheSourceReadAsTexts, EscapesOfTextReadAsTexts}
 use Rattle.roff_run.specs.Laws.{IsWithin}
-use Rattle.roff_run.specs.Reading.{PageInput, Taking, taking, interrupted, fresh_line, asking, name_taking}
+use Rattle.roff_run.specs.Reading.{PageInput, Taking, taking, interrupted, asking, first_name, name_taking}
 use Rattle.roff_run.specs.Registers.{Known, text_of_register}
 use Rattle.roff_run.specs.Requests.{PageEvent}
 use Rattle.roff_run.specs.Run.{State, known, taken_as, step, after}
@@ -206,28 +206,35 @@ name_taking-Interpolates k i reading line _ name (ARegister step) = refl
 name_taking-Interpolates k i reading line _ name AString = refl
 name_taking-Interpolates k i reading line _ name AnArgument = refl
 
+-- and where a line begins
+first_name-Interpolates : (k : Known) (i : PageInput) (reading : Reading) (purpose : NameUse) (name : Option (List ℕ)) → Interpolates purpose
+    → first_name k i reading purpose name ≡ asking k i reading purpose name
+first_name-Interpolates k i reading _ name (ARegister step) = refl
+first_name-Interpolates k i reading _ name AString = refl
+first_name-Interpolates k i reading _ name AnArgument = refl
+
 -- such a text is asked for
-read_in-asks : (k : Known) (reading : Reading) (base : Surroundings) (i : PageInput) (half : List Half) (asks : NameUse) (name : Option (List ℕ))
-    → Interpolates asks → ReadsEscapes reading base
+read_in-asks : (k : Known) (reading : Reading) (i : PageInput) (half : List Half) (asks : NameUse) (name : Option (List ℕ))
+    → Interpolates asks → ReadsEscapes reading
     → read_in k reading i (Asks asks name, half) ≡ asking k (settled_input reading half i) reading asks name
-read_in-asks k _ _ i half asks name of AtBeginning = name_taking-Interpolates k (record i { half = half }) LineStart fresh_line asks name of
-read_in-asks k _ _ i half asks name of AtBranch = name_taking-Interpolates k (record i { half = half }) Branch fresh_line asks name of
-read_in-asks k _ _ i half asks name of AtBraced = name_taking-Interpolates k (record i { half = half }) Braced fresh_line asks name of
-read_in-asks k _ _ i half asks name of (OnText line) = name_taking-Interpolates k (record i { half = half }) (InText line) line asks name of
-read_in-asks k _ _ i half asks name of (OnArguments breaks request) = refl
-read_in-asks k _ _ i half asks name of (OnCondition keeps) = refl
-read_in-asks k _ _ i half asks name of (OnStringName appends) = refl
-read_in-asks k _ _ i half asks name of (OnCall string) = refl
-read_in-asks k _ _ i half asks name of (OnStringText string appends is_front) = refl
-read_in-asks k _ _ i half asks name of (OnDefinition string appends end matched) = refl
-read_in-asks k _ _ i half asks name of (OnMessage aborts is_front) = refl
+read_in-asks k _ i half asks name of AtBeginning = first_name-Interpolates k (record i { half = half }) LineStart asks name of
+read_in-asks k _ i half asks name of AtBranch = first_name-Interpolates k (record i { half = half }) Branch asks name of
+read_in-asks k _ i half asks name of AtBraced = first_name-Interpolates k (record i { half = half }) Braced asks name of
+read_in-asks k _ i half asks name of (OnText line) = name_taking-Interpolates k (record i { half = half }) (InText line) line asks name of
+read_in-asks k _ i half asks name of (OnArguments breaks request) = refl
+read_in-asks k _ i half asks name of (OnCondition keeps) = refl
+read_in-asks k _ i half asks name of (OnStringName appends) = refl
+read_in-asks k _ i half asks name of (OnCall string) = refl
+read_in-asks k _ i half asks name of (OnStringText string appends is_front) = refl
+read_in-asks k _ i half asks name of (OnDefinition string appends end matched) = refl
+read_in-asks k _ i half asks name of (OnMessage aborts is_front) = refl
 
 -- a byte that asks for it
-taking-asks : (k : Known) (reading : Reading) (base : Surroundings) (i : PageInput) (b : ℕ) (half : List Half) (asks : NameUse) (name : Option (List ℕ))
-    → Interpolates asks → ReadsEscapes reading base → IsRead b → byte_read base i.half b ≡ (Asks asks name, half)
+taking-asks : (k : Known) (reading : Reading) (i : PageInput) (b : ℕ) (half : List Half) (asks : NameUse) (name : Option (List ℕ))
+    → Interpolates asks → ReadsEscapes reading → IsRead b → byte_read (above k reading) i.half b ≡ (Asks asks name, half)
     → taking k reading i b ≡ asking k (settled_input reading half i) reading asks name
-taking-asks k reading base i b half asks name of on read reads =
-    taking-reads k reading base i b on read ∙ ap (read_in k reading i) reads ∙ read_in-asks k reading base i half asks name of on
+taking-asks k reading i b half asks name of on read reads =
+    taking-reads k reading i b on read ∙ ap (read_in k reading i) reads ∙ read_in-asks k reading i half asks name of on
 
 -- a text was asked for in a run
 abbrev asked : State → Reading → Origin → Arguments → List Half → ℕ → ℕ → NameUse → List ℕ → State
@@ -249,13 +256,13 @@ taken_as-asking s reading from a before half charge line _ name AnArgument =
     ap (λ (m : List ℕ). record (asked s reading from a half charge line Argument name) { messages = m }) (append-nil s.messages)
 
 -- a byte that asks for a text
-means-asks : (s : State) (reading : Reading) (base : Surroundings) (from : Origin) (a : Arguments) (charge line : ℕ) (asks : NameUse) (name : List ℕ)
-    (behind : List Half) → Interpolates asks → ReadsEscapes reading base → settled_for reading a ≡ a
-    → Means s reading base from a charge line (Asks asks (Some name)) behind (asked s reading from a behind charge line asks name)
-means-asks s reading base from a charge line asks name behind of on same half b read reads =
+means-asks : (s : State) (reading : Reading) (from : Origin) (a : Arguments) (charge line : ℕ) (asks : NameUse) (name : List ℕ)
+    (behind : List Half) → Interpolates asks → ReadsEscapes reading → settled_for reading a ≡ a
+    → Means s reading from a charge line (Asks asks (Some name)) behind (asked s reading from a behind charge line asks name)
+means-asks s reading from a charge line asks name behind of on same half b read reads =
     let before : State = going s reading from [] a half charge line in
     let i : PageInput = input_of s from [] a behind charge line in
-    ap (λ (taking : Taking). taken_as taking before) (taking-asks (known s) reading base before.input b behind asks (Some name) of on read reads)
+    ap (λ (taking : Taking). taken_as taking before) (taking-asks (known s) reading before.input b behind asks (Some name) of on read reads)
     ∙ ap (λ (there : Arguments). taken_as (asking (known s) (record i { arguments = there }) reading asks (Some name)) before) same
     ∙ taken_as-asking s reading from a half behind charge line asks name of
 
@@ -264,34 +271,34 @@ abbrev read_from : Origin → NameUse → List ℕ → ℕ → State → State
 read_from from asks name taken s = with_text_ahead asks name taken (ahead_at from []) (stepped asks name (source_behind from s))
 
 -- before it no quote follows the quote before
-with_text_ahead-arguments : (asks : NameUse) (name : List ℕ) (taken : ℕ) (rest : List (Ahead PageEvent)) (s : State) (base : Surroundings) → ReadsEscapes s.reading base
+with_text_ahead-arguments : (asks : NameUse) (name : List ℕ) (taken : ℕ) (rest : List (Ahead PageEvent)) (s : State) → ReadsEscapes s.reading
     → with_text_ahead asks name taken rest s
     ≡ record s { input = pushing (text_named (known s) s.input asks name) (record s.input { ahead = rest; arguments = settled_for s.reading s.input.arguments; charge = s.input.charge + taken }) }
-with_text_ahead-arguments asks name taken rest s base on =
+with_text_ahead-arguments asks name taken rest s on =
     ap (λ (i : PageInput). record s { input = pushing (text_named (known s) s.input asks name) (record i { ahead = rest; charge = s.input.charge + taken }) })
-    (interrupted-arguments s.reading base s.input on)
+    (interrupted-arguments s.reading s.input on)
 
 -- so it is the text that was asked for
-read_from-asked : (s : State) (reading : Reading) (base : Surroundings) (from : Origin) (bytes : List ℕ) (a : Arguments) (half : List Half) (charge taken line : ℕ)
-    (asks : NameUse) (name : List ℕ) → Interpolates asks → ReadsEscapes reading base
+read_from-asked : (s : State) (reading : Reading) (from : Origin) (bytes : List ℕ) (a : Arguments) (half : List Half) (charge taken line : ℕ)
+    (asks : NameUse) (name : List ℕ) → Interpolates asks → ReadsEscapes reading
     → read_from from asks name taken (going s reading from bytes a half charge line)
     ≡ asked s reading from (settled_for reading a) half (charge + taken) (line_behind from s line) asks name
-read_from-asked s reading base (FromAhead rest) bytes a half charge taken line _ name (ARegister None) on =
-    with_text_ahead-arguments (Register None) name taken rest (going s reading (FromAhead rest) bytes a half charge line) base on
-read_from-asked s reading base (FromAhead rest) bytes a half charge taken line _ name (ARegister (Some direction)) on =
-    with_text_ahead-arguments (Register (Some direction)) name taken rest (stepped (Register (Some direction)) name (going s reading (FromAhead rest) bytes a half charge line)) base on
-read_from-asked s reading base (FromAhead rest) bytes a half charge taken line _ name AString on =
-    with_text_ahead-arguments OfText name taken rest (going s reading (FromAhead rest) bytes a half charge line) base on
-read_from-asked s reading base (FromAhead rest) bytes a half charge taken line _ name AnArgument on =
-    with_text_ahead-arguments Argument name taken rest (going s reading (FromAhead rest) bytes a half charge line) base on
-read_from-asked s reading base (FromSource tape) bytes a half charge taken line _ name (ARegister None) on =
-    with_text_ahead-arguments (Register None) name taken [] (going s reading (FromSource tape) [] a half charge (s.input.newlines + 1)) base on
-read_from-asked s reading base (FromSource tape) bytes a half charge taken line _ name (ARegister (Some direction)) on =
-    with_text_ahead-arguments (Register (Some direction)) name taken [] (stepped (Register (Some direction)) name (going s reading (FromSource tape) [] a half charge (s.input.newlines + 1))) base on
-read_from-asked s reading base (FromSource tape) bytes a half charge taken line _ name AString on =
-    with_text_ahead-arguments OfText name taken [] (going s reading (FromSource tape) [] a half charge (s.input.newlines + 1)) base on
-read_from-asked s reading base (FromSource tape) bytes a half charge taken line _ name AnArgument on =
-    with_text_ahead-arguments Argument name taken [] (going s reading (FromSource tape) [] a half charge (s.input.newlines + 1)) base on
+read_from-asked s reading (FromAhead rest) bytes a half charge taken line _ name (ARegister None) on =
+    with_text_ahead-arguments (Register None) name taken rest (going s reading (FromAhead rest) bytes a half charge line) on
+read_from-asked s reading (FromAhead rest) bytes a half charge taken line _ name (ARegister (Some direction)) on =
+    with_text_ahead-arguments (Register (Some direction)) name taken rest (stepped (Register (Some direction)) name (going s reading (FromAhead rest) bytes a half charge line)) on
+read_from-asked s reading (FromAhead rest) bytes a half charge taken line _ name AString on =
+    with_text_ahead-arguments OfText name taken rest (going s reading (FromAhead rest) bytes a half charge line) on
+read_from-asked s reading (FromAhead rest) bytes a half charge taken line _ name AnArgument on =
+    with_text_ahead-arguments Argument name taken rest (going s reading (FromAhead rest) bytes a half charge line) on
+read_from-asked s reading (FromSource tape) bytes a half charge taken line _ name (ARegister None) on =
+    with_text_ahead-arguments (Register None) name taken [] (going s reading (FromSource tape) [] a half charge (s.input.newlines + 1)) on
+read_from-asked s reading (FromSource tape) bytes a half charge taken line _ name (ARegister (Some direction)) on =
+    with_text_ahead-arguments (Register (Some direction)) name taken [] (stepped (Register (Some direction)) name (going s reading (FromSource tape) [] a half charge (s.input.newlines + 1))) on
+read_from-asked s reading (FromSource tape) bytes a half charge taken line _ name AString on =
+    with_text_ahead-arguments OfText name taken [] (going s reading (FromSource tape) [] a half charge (s.input.newlines + 1)) on
+read_from-asked s reading (FromSource tape) bytes a half charge taken line _ name AnArgument on =
+    with_text_ahead-arguments Argument name taken [] (going s reading (FromSource tape) [] a half charge (s.input.newlines + 1)) on
 
 -- its charge
 charge-asked : (s : State) (reading : Reading) (from : Origin) (a : Arguments) (half : List Half) (charge line : ℕ) (asks : NameUse) (name : List ℕ)
@@ -302,38 +309,38 @@ charge-asked s reading from a half charge line _ name AString = refl
 charge-asked s reading from a half charge line _ name AnArgument = refl
 
 -- an escape is read as its text, where a run takes items
-escape-going : (l : Limits) (s : State) (reading : Reading) (base : Surroundings) (from : Origin) (a : Arguments)
+escape-going : (l : Limits) (s : State) (reading : Reading) (from : Origin) (a : Arguments)
     (asks : NameUse) (name : List ℕ) (names : List Half) (bytes : List ℕ) (charge line : ℕ)
-    → Interpolates asks → ReadsEscapes reading base → reads_above names ≡ true → AsksAtLast base asks name names (Backslash ∷ names) bytes
+    → Interpolates asks → ReadsEscapes reading → reads_above names ≡ true → AsksAtLast (above (known s) reading) asks name names (Backslash ∷ names) bytes
     → let first : State = going s reading from (backslash ∷ bytes) a names charge line in
     let read : State = read_from from asks name (length (backslash ∷ bytes)) first in
     IsWithin l first → IsWithin l read → after l (length (backslash ∷ bytes)) first ≡ read
-escape-going l s reading base from a asks name names bytes charge line of on are last within within_read =
+escape-going l s reading from a asks name names bytes charge line of on are last within within_read =
     let first : State = going s reading from (backslash ∷ bytes) a names charge line in
     let read : State = read_from from asks name (length (backslash ∷ bytes)) first in
     let total : ℕ = charge + length (backslash ∷ bytes) in
     let t : State = asked s reading from (settled_for reading a) names total (line_behind from s line) asks name in
-    let is : read ≡ t = read_from-asked s reading base from (backslash ∷ bytes) a names charge (length (backslash ∷ bytes)) line asks name of on in
+    let is : read ≡ t = read_from-asked s reading from (backslash ∷ bytes) a names charge (length (backslash ∷ bytes)) line asks name of on in
     let within_t : IsWithin l t = subst (IsWithin l) is within_read in
     let charged : t.input.charge ≡ total = charge-asked s reading from (settled_for reading a) names total (line_behind from s line) asks name of in
-    after-escape l s reading base from a (Asks asks (Some name)) names names bytes charge line t on (goes_on-names names are) (byte_read-backslash base names are)
+    after-escape l s reading from a (Asks asks (Some name)) names names bytes charge line t on (goes_on-names names are) (byte_read-backslash (above (known s) reading) names are)
     last (omega (arith, within_t.bytes, charged)) (Fits-IsWithin l first within)
-    (means-asks s reading base from (settled_for reading a) total (line_behind from s line) asks name names of on (settled_for-settled_for reading base a on))
+    (means-asks s reading from (settled_for reading a) total (line_behind from s line) asks name names of on (settled_for-settled_for reading a on))
     (Fits-IsWithin l t within_t)
     ∙ sym is
 
 -- and in any state of such a run
-escape-reads : (l : Limits) (s : State) (base : Surroundings) (from : Origin) (asks : NameUse) (name bytes : List ℕ)
-    → Interpolates asks → TakesItems s → ReadsEscapes s.reading base → reads_above s.input.half ≡ true → AsksAtLast base asks name s.input.half (Backslash ∷ s.input.half) bytes
+escape-reads : (l : Limits) (s : State) (from : Origin) (asks : NameUse) (name bytes : List ℕ)
+    → Interpolates asks → TakesItems s → ReadsEscapes s.reading → reads_above s.input.half ≡ true → AsksAtLast (above (known s) s.reading) asks name s.input.half (Backslash ∷ s.input.half) bytes
     → s.input.ahead ≡ ahead_at from (backslash ∷ bytes) → s.tape ≡ tape_at from (backslash ∷ bytes) s.tape
     → let read : State = read_from from asks name (length (backslash ∷ bytes)) s in
     IsWithin l s → IsWithin l read → after l (length (backslash ∷ bytes)) s ≡ read
-escape-reads l s base from asks name bytes of takes on are last ahead tape =
+escape-reads l s from asks name bytes of takes on are last ahead tape =
     let Goal : State → Type 0 = λ t.
     IsWithin l t → IsWithin l (read_from from asks name (length (backslash ∷ bytes)) t)
     → after l (length (backslash ∷ bytes)) t ≡ read_from from asks name (length (backslash ∷ bytes)) t in
     subst Goal (is-going s from (backslash ∷ bytes) takes ahead tape)
-    (escape-going l s s.reading base from s.input.arguments asks name s.input.half bytes s.input.charge s.input.line of on are last)
+    (escape-going l s s.reading from s.input.arguments asks name s.input.half bytes s.input.charge s.input.line of on are last)
 
 -- each escape
 escapes_read_from : (l : Limits) (s : State) (from : Origin) (asks : NameUse) (name escape : List ℕ)
@@ -342,32 +349,37 @@ escapes_read_from : (l : Limits) (s : State) (from : Origin) (asks : NameUse) (n
     → let read : State = read_from from asks name (length escape) s in
     IsWithin l s → IsWithin l read → after l (length escape) s ≡ read
 escapes_read_from l s from _ _ _ (Short step x may plain) takes are few reads ahead tape =
-    let on = ReadsEscapes-reads_escapes s.reading reads in
-    escape-reads l s on.0 from (Register step) (x ∷ []) (110 ∷ sign step ++ x ∷ []) (ARegister step) takes on.1 are
-    (asks-signed on.0 step (x ∷ []) (x ∷ []) s.input.half few
-    (AtLast (Name (Register step) Nothing ∷ s.input.half) x (IsRead-itself x may) (is_no_newline x may) (byte_read-short on.0 step x s.input.half are plain))) ahead tape
+    let on : ReadsEscapes s.reading = ReadsEscapes-reads_escapes s.reading reads in
+    let base : Surroundings = above (known s) s.reading in
+    escape-reads l s from (Register step) (x ∷ []) (110 ∷ sign step ++ x ∷ []) (ARegister step) takes on are
+    (asks-signed base step (x ∷ []) (x ∷ []) s.input.half few
+    (AtLast (Name (Register step) Nothing ∷ s.input.half) x (IsRead-itself x may) (is_no_newline x may) (byte_read-short base step x s.input.half are plain))) ahead tape
 escapes_read_from l s from _ _ _ (Long step x y first second) takes are few reads ahead tape =
-    let on = ReadsEscapes-reads_escapes s.reading reads in
-    escape-reads l s on.0 from (Register step) (x ∷ y ∷ []) (110 ∷ sign step ++ 40 ∷ x ∷ y ∷ []) (ARegister step) takes on.1 are
-    (asks-signed on.0 step (x ∷ y ∷ []) (40 ∷ x ∷ y ∷ []) s.input.half few
-    (Behind _ _ 40 (x ∷ y ∷ []) refl refl (byte_read-opening on.0 step s.input.half) refl (asks-opened on.0 (Register step) x y s.input.half are first second))) ahead tape
+    let on : ReadsEscapes s.reading = ReadsEscapes-reads_escapes s.reading reads in
+    let base : Surroundings = above (known s) s.reading in
+    escape-reads l s from (Register step) (x ∷ y ∷ []) (110 ∷ sign step ++ 40 ∷ x ∷ y ∷ []) (ARegister step) takes on are
+    (asks-signed base step (x ∷ y ∷ []) (40 ∷ x ∷ y ∷ []) s.input.half few
+    (Behind _ _ 40 (x ∷ y ∷ []) refl refl (byte_read-opening base step s.input.half) refl (asks-opened base (Register step) x y s.input.half are first second))) ahead tape
 escapes_read_from l s from _ _ _ (ShortString x may no_opening) takes are few reads ahead tape =
-    let on = ReadsEscapes-reads_escapes s.reading reads in
-    escape-reads l s on.0 from OfText (x ∷ []) (42 ∷ x ∷ []) AString takes on.1 are
-    (asks-string on.0 (x ∷ []) (x ∷ []) s.input.half few
+    let on : ReadsEscapes s.reading = ReadsEscapes-reads_escapes s.reading reads in
+    let base : Surroundings = above (known s) s.reading in
+    escape-reads l s from OfText (x ∷ []) (42 ∷ x ∷ []) AString takes on are
+    (asks-string base (x ∷ []) (x ∷ []) s.input.half few
     (AtLast (Name OfText Nothing ∷ s.input.half) x (IsRead-itself x may) (is_no_newline x may)
-    (byte_read-string on.0 x s.input.half are (not-first (x == backslash) (is_dropped x || x == newline) may) no_opening))) ahead tape
+    (byte_read-string base x s.input.half are (not-first (x == backslash) (is_dropped x || x == newline) may) no_opening))) ahead tape
 escapes_read_from l s from _ _ _ (LongString x y first second) takes are few reads ahead tape =
-    let on = ReadsEscapes-reads_escapes s.reading reads in
-    escape-reads l s on.0 from OfText (x ∷ y ∷ []) (42 ∷ 40 ∷ x ∷ y ∷ []) AString takes on.1 are
-    (asks-string on.0 (x ∷ y ∷ []) (40 ∷ x ∷ y ∷ []) s.input.half few
-    (Behind _ _ 40 (x ∷ y ∷ []) refl refl refl refl (asks-opened on.0 OfText x y s.input.half are first second))) ahead tape
+    let on : ReadsEscapes s.reading = ReadsEscapes-reads_escapes s.reading reads in
+    let base : Surroundings = above (known s) s.reading in
+    escape-reads l s from OfText (x ∷ y ∷ []) (42 ∷ 40 ∷ x ∷ y ∷ []) AString takes on are
+    (asks-string base (x ∷ y ∷ []) (40 ∷ x ∷ y ∷ []) s.input.half few
+    (Behind _ _ 40 (x ∷ y ∷ []) refl refl refl refl (asks-opened base OfText x y s.input.half are first second))) ahead tape
 escapes_read_from l s from _ _ _ (OfArgument x may) takes are few reads ahead tape =
-    let on = ReadsEscapes-reads_escapes s.reading reads in
-    escape-reads l s on.0 from Argument (x ∷ []) (36 ∷ x ∷ []) AnArgument takes on.1 are
-    (asks-argument on.0 (x ∷ []) (x ∷ []) s.input.half few
+    let on : ReadsEscapes s.reading = ReadsEscapes-reads_escapes s.reading reads in
+    let base : Surroundings = above (known s) s.reading in
+    escape-reads l s from Argument (x ∷ []) (36 ∷ x ∷ []) AnArgument takes on are
+    (asks-argument base (x ∷ []) (x ∷ []) s.input.half few
     (AtLast (Name Argument Nothing ∷ s.input.half) x (IsRead-itself x may) (is_no_newline x may)
-    (byte_read-argument on.0 x s.input.half are (not-first (x == backslash) (is_dropped x || x == newline) may)))) ahead tape
+    (byte_read-argument base x s.input.half are (not-first (x == backslash) (is_dropped x || x == newline) may)))) ahead tape
 
 pub escapes_read_as_texts : EscapesReadAsTexts
 escapes_read_as_texts l s asks name escape rest is_escape takes are few reads ahead =

@@ -21,7 +21,7 @@ use Rattle.roff_scan.specs.declared.half.ConditionPart.TheVariants.{Choice, Expr
 use Rattle.roff_scan.specs.declared.half.Read.{Read}
 use Rattle.roff_scan.specs.declared.half.Read.TheVariants.{GoesOn}
 use Rattle.roff_scan.specs.declared.half.Surroundings.{Surroundings}
-use Rattle.roff_scan.specs.declared.half.Surroundings.TheVariants.{Text as AboveText, Arguments as AboveArguments, Copy as AboveCopy}
+use Rattle.roff_scan.specs.declared.half.Surroundings.TheVariants.{Arguments as AboveArguments, Copy as AboveCopy}
 use Rattle.roff_run.specs.declared.reading.Reading.{Reading}
 use Rattle.roff_run.specs.declared.reading.Reading.TheVariants.{LineStart, Branch, Braced, Text as InText, Control, Name as NameOf, Arguments as InArguments, Deciding, StringName, StringText, Skipping, Dropped, Telling, Told, Exiting, Calling, Defining}
 use Rattle.roff_run.specs.declared.reading.ShortName.{ShortName}
@@ -30,7 +30,7 @@ use Rattle.roff_run.specs.declared.request.Request.{Request}
 use Rattle.roff_run.specs.declared.status.Status.{Status}
 use Rattle.roff_run.specs.InterpolationLaws.{TakesItems, BytesAheadAreTaken, BytesOfTheSourceAreTaken, StandsForItself, reads_escapes, with_source_behind, cost_of_all, TextsCostTheirBytesAndOne}
 use Rattle.roff_run.specs.Laws.{IsWithin}
-use Rattle.roff_run.specs.Reading.{PageInput, call_read, definition_read, due, message_read, Taking, going_on, taking, kept_taking, beginning_read, text_read, arguments_read_on, condition_read, string_name_read, string_text_read, interrupted}
+use Rattle.roff_run.specs.Reading.{PageInput, at_start, on_line, call_read, definition_read, due, message_read, Taking, going_on, taking, kept_taking, beginning_read, text_read, arguments_read_on, condition_read, string_name_read, string_text_read, interrupted}
 use Rattle.roff_run.specs.Registers.{AllRegisters, Known}
 use Rattle.roff_run.specs.Requests.{PageEvent}
 use Rattle.roff_run.specs.Run.{State, known, made, byte_taken, front_seen, half_ends, awaited, awaited_of_source, answered, moved, in_front_taken, taking_ahead, taking_byte, taken_as, first_passed, grown, unless_refused, stopped_by, item_read, step, after}
@@ -190,34 +190,46 @@ not-second true second neither = absurd (cc)
 not-second false true neither = absurd (cc)
 not-second false false neither = refl
 
--- a reading that reads escapes, and what they stand above
-pub data ReadsEscapes : Reading → Surroundings → Type 0 where
-  AtBeginning : ReadsEscapes LineStart AboveText
-  AtBranch : ReadsEscapes Branch AboveText
-  AtBraced : ReadsEscapes Braced AboveText
-  OnText : (line : TextLine) → ReadsEscapes (InText line) AboveText
-  OnArguments : (breaks : Bool) (request : Request) → ReadsEscapes (InArguments breaks request) AboveArguments
-  OnCondition : (keeps : Bool) → ReadsEscapes (Deciding keeps) AboveArguments
-  OnStringName : (appends : Bool) → ReadsEscapes (StringName appends) AboveArguments
-  OnCall : (name : ShortName) → ReadsEscapes (Calling name) AboveArguments
-  OnStringText : (name : Option ShortName) (appends is_front : Bool) → ReadsEscapes (StringText name appends is_front) AboveCopy
+-- a reading that reads escapes
+pub data ReadsEscapes : Reading → Type 0 where
+  AtBeginning : ReadsEscapes LineStart
+  AtBranch : ReadsEscapes Branch
+  AtBraced : ReadsEscapes Braced
+  OnText : (line : TextLine) → ReadsEscapes (InText line)
+  OnArguments : (breaks : Bool) (request : Request) → ReadsEscapes (InArguments breaks request)
+  OnCondition : (keeps : Bool) → ReadsEscapes (Deciding keeps)
+  OnStringName : (appends : Bool) → ReadsEscapes (StringName appends)
+  OnCall : (name : ShortName) → ReadsEscapes (Calling name)
+  OnStringText : (name : Option ShortName) (appends is_front : Bool) → ReadsEscapes (StringText name appends is_front)
   OnDefinition : (name : Option ShortName) (appends : Bool) (end : Option ShortName) (matched : Option ℕ)
-      → ReadsEscapes (Defining name appends end matched) AboveCopy
-  OnMessage : (aborts is_front : Bool) → ReadsEscapes (Telling aborts is_front) AboveCopy
+      → ReadsEscapes (Defining name appends end matched)
+  OnMessage : (aborts is_front : Bool) → ReadsEscapes (Telling aborts is_front)
+
+-- and what they stand above there: a text line at a place, arguments, or what is copied
+abbrev pub above : Known → Reading → Surroundings
+above k (InText line) = on_line k line
+above k (InArguments breaks request) = AboveArguments
+above k (Deciding keeps) = AboveArguments
+above k (StringName appends) = AboveArguments
+above k (Calling name) = AboveArguments
+above k (StringText name appends is_front) = AboveCopy
+above k (Defining name appends end matched) = AboveCopy
+above k (Telling aborts is_front) = AboveCopy
+above k reading = at_start k
 
 -- there nothing is due
-pub none_due-reads : (reading : Reading) (base : Surroundings) → ReadsEscapes reading base → due reading ≡ None
-none_due-reads _ _ AtBeginning = refl
-none_due-reads _ _ AtBranch = refl
-none_due-reads _ _ AtBraced = refl
-none_due-reads _ _ (OnText line) = refl
-none_due-reads _ _ (OnArguments breaks request) = refl
-none_due-reads _ _ (OnCondition keeps) = refl
-none_due-reads _ _ (OnStringName appends) = refl
-none_due-reads _ _ (OnCall string) = refl
-none_due-reads _ _ (OnStringText string appends is_front) = refl
-none_due-reads _ _ (OnDefinition string appends end matched) = refl
-none_due-reads _ _ (OnMessage aborts is_front) = refl
+pub none_due-reads : (reading : Reading) → ReadsEscapes reading → due reading ≡ None
+none_due-reads _ AtBeginning = refl
+none_due-reads _ AtBranch = refl
+none_due-reads _ AtBraced = refl
+none_due-reads _ (OnText line) = refl
+none_due-reads _ (OnArguments breaks request) = refl
+none_due-reads _ (OnCondition keeps) = refl
+none_due-reads _ (OnStringName appends) = refl
+none_due-reads _ (OnCall string) = refl
+none_due-reads _ (OnStringText string appends is_front) = refl
+none_due-reads _ (OnDefinition string appends end matched) = refl
+none_due-reads _ (OnMessage aborts is_front) = refl
 
 -- what something reads there, with what is half read then
 abbrev pub read_in : Known → Reading → PageInput → Reads → Taking
@@ -232,26 +244,26 @@ read_in k (Telling aborts is_front) i r = message_read k i aborts is_front r
 read_in k reading i r = beginning_read k i reading r
 
 -- a byte that isn't dropped
-kept_taking-reads : (k : Known) (reading : Reading) (base : Surroundings) (i : PageInput) (b : ℕ) → ReadsEscapes reading base
-    → kept_taking k reading i b ≡ read_in k reading i (byte_read base i.half b)
-kept_taking-reads k _ _ i b AtBeginning = refl
-kept_taking-reads k _ _ i b AtBranch = refl
-kept_taking-reads k _ _ i b AtBraced = refl
-kept_taking-reads k _ _ i b (OnText line) = refl
-kept_taking-reads k _ _ i b (OnArguments breaks request) = refl
-kept_taking-reads k _ _ i b (OnCondition keeps) = refl
-kept_taking-reads k _ _ i b (OnStringName appends) = refl
-kept_taking-reads k _ _ i b (OnCall string) = refl
-kept_taking-reads k _ _ i b (OnStringText string appends is_front) = refl
-kept_taking-reads k _ _ i b (OnDefinition string appends end matched) = refl
-kept_taking-reads k _ _ i b (OnMessage aborts is_front) = refl
+kept_taking-reads : (k : Known) (reading : Reading) (i : PageInput) (b : ℕ) → ReadsEscapes reading
+    → kept_taking k reading i b ≡ read_in k reading i (byte_read (above k reading) i.half b)
+kept_taking-reads k _ i b AtBeginning = refl
+kept_taking-reads k _ i b AtBranch = refl
+kept_taking-reads k _ i b AtBraced = refl
+kept_taking-reads k _ i b (OnText line) = refl
+kept_taking-reads k _ i b (OnArguments breaks request) = refl
+kept_taking-reads k _ i b (OnCondition keeps) = refl
+kept_taking-reads k _ i b (OnStringName appends) = refl
+kept_taking-reads k _ i b (OnCall string) = refl
+kept_taking-reads k _ i b (OnStringText string appends is_front) = refl
+kept_taking-reads k _ i b (OnDefinition string appends end matched) = refl
+kept_taking-reads k _ i b (OnMessage aborts is_front) = refl
 
 -- a byte that is read
-pub taking-reads : (k : Known) (reading : Reading) (base : Surroundings) (i : PageInput) (b : ℕ) → ReadsEscapes reading base → IsRead b
-    → taking k reading i b ≡ read_in k reading i (byte_read base i.half b)
-taking-reads k reading base i b on read =
+pub taking-reads : (k : Known) (reading : Reading) (i : PageInput) (b : ℕ) → ReadsEscapes reading → IsRead b
+    → taking k reading i b ≡ read_in k reading i (byte_read (above k reading) i.half b)
+taking-reads k reading i b on read =
     ap (λ (d : Bool). if d then going_on (interrupted reading i) reading else kept_taking k reading i b) (not-first (is_dropped b) (b == newline) read)
-    ∙ kept_taking-reads k reading base i b on
+    ∙ kept_taking-reads k reading i b on
 
 -- the arguments of a line where no quote follows the quote before
 abbrev pub settled_for : Reading → Arguments → Arguments
@@ -265,25 +277,25 @@ abbrev pub settled_input : Reading → List Half → PageInput → PageInput
 settled_input reading half i = record i { half = half; arguments = settled_for reading i.arguments }
 
 -- nothing is found
-read_in-nothing : (k : Known) (reading : Reading) (base : Surroundings) (i : PageInput) (half : List Half) → ReadsEscapes reading base
+read_in-nothing : (k : Known) (reading : Reading) (i : PageInput) (half : List Half) → ReadsEscapes reading
     → read_in k reading i (GoesOn, half) ≡ going_on (settled_input reading half i) reading
-read_in-nothing k _ _ i half AtBeginning = refl
-read_in-nothing k _ _ i half AtBranch = refl
-read_in-nothing k _ _ i half AtBraced = refl
-read_in-nothing k _ _ i half (OnText line) = refl
-read_in-nothing k _ _ i half (OnArguments breaks request) = refl
-read_in-nothing k _ _ i half (OnCondition keeps) = refl
-read_in-nothing k _ _ i half (OnStringName appends) = refl
-read_in-nothing k _ _ i half (OnCall string) = refl
-read_in-nothing k _ _ i half (OnStringText string appends is_front) = refl
-read_in-nothing k _ _ i half (OnDefinition string appends end matched) = refl
-read_in-nothing k _ _ i half (OnMessage aborts is_front) = refl
+read_in-nothing k _ i half AtBeginning = refl
+read_in-nothing k _ i half AtBranch = refl
+read_in-nothing k _ i half AtBraced = refl
+read_in-nothing k _ i half (OnText line) = refl
+read_in-nothing k _ i half (OnArguments breaks request) = refl
+read_in-nothing k _ i half (OnCondition keeps) = refl
+read_in-nothing k _ i half (OnStringName appends) = refl
+read_in-nothing k _ i half (OnCall string) = refl
+read_in-nothing k _ i half (OnStringText string appends is_front) = refl
+read_in-nothing k _ i half (OnDefinition string appends end matched) = refl
+read_in-nothing k _ i half (OnMessage aborts is_front) = refl
 
 -- a byte that finds nothing
-taking-nothing : (k : Known) (reading : Reading) (base : Surroundings) (i : PageInput) (b : ℕ) (half : List Half) → ReadsEscapes reading base
-    → IsRead b → byte_read base i.half b ≡ (GoesOn, half) → taking k reading i b ≡ going_on (settled_input reading half i) reading
-taking-nothing k reading base i b half on read reads =
-    taking-reads k reading base i b on read ∙ ap (read_in k reading i) reads ∙ read_in-nothing k reading base i half on
+taking-nothing : (k : Known) (reading : Reading) (i : PageInput) (b : ℕ) (half : List Half) → ReadsEscapes reading
+    → IsRead b → byte_read (above k reading) i.half b ≡ (GoesOn, half) → taking k reading i b ≡ going_on (settled_input reading half i) reading
+taking-nothing k reading i b half on read reads =
+    taking-reads k reading i b on read ∙ ap (read_in k reading i) reads ∙ read_in-nothing k reading i half on
 
 -- what is within the limits on names, on the stack, on the depth and on conditions
 pub record Fits (l : Limits) (registers : AllRegisters) (i : PageInput) : Type 0 where
@@ -337,9 +349,9 @@ pub data FindsAtLast (base : Surroundings) (found : Read) (behind : List Half) :
       → texts_held other ≡ texts_held half → FindsAtLast base found behind other bytes → FindsAtLast base found behind half (b ∷ bytes)
 
 -- a byte that finds this leads to that state
-abbrev pub Means : State → Reading → Surroundings → Origin → Arguments → ℕ → ℕ → Read → List Half → State → Type 0
-Means s reading base from a charge line found behind t =
-    (half : List Half) (b : ℕ) → IsRead b → byte_read base half b ≡ (found, behind) → byte_taken b (going s reading from [] a half charge line) ≡ t
+abbrev pub Means : State → Reading → Origin → Arguments → ℕ → ℕ → Read → List Half → State → Type 0
+Means s reading from a charge line found behind t =
+    (half : List Half) (b : ℕ) → IsRead b → byte_read (above (known s) reading) half b ≡ (found, behind) → byte_taken b (going s reading from [] a half charge line) ≡ t
 
 -- behind a byte
 Fits-behind : (l : Limits) (registers : AllRegisters) (s : State) (from : Origin) (b : ℕ) (bytes : List ℕ) (a there : Arguments) (half other : List Half) (charge more line next : ℕ)
@@ -350,81 +362,81 @@ Fits-behind l registers s (FromSource tape) b bytes a there half other charge mo
     record { names = fits.names; stack = omega (arith, fits.stack); depth = fits.depth; store = fits.store; texts = fits.texts; making = fits.making; conditions = fits.conditions }
 
 -- the steps at them
-after-finds : (l : Limits) (s : State) (reading : Reading) (base : Surroundings) (from : Origin) (a : Arguments) (line : ℕ)
+after-finds : (l : Limits) (s : State) (reading : Reading) (from : Origin) (a : Arguments) (line : ℕ)
     (found : Read) (behind half : List Half) (bytes : List ℕ) (charge total : ℕ) (t : State)
-    → ReadsEscapes reading base → settled_for reading a ≡ a → line_behind from s line ≡ line → FindsAtLast base found behind half bytes
+    → ReadsEscapes reading → settled_for reading a ≡ a → line_behind from s line ≡ line → FindsAtLast (above (known s) reading) found behind half bytes
     → charge + length bytes ≡ total → total ≤ l.bytes → Fits l s.registers (input_of s from bytes a half charge line)
-    → Means s reading base from a total line found behind t → Fits l t.registers t.input
+    → Means s reading from a total line found behind t → Fits l t.registers t.input
     → after l (length bytes) (going s reading from bytes a half charge line) ≡ t
-after-finds l s reading base from a line found behind _ _ charge total t on same stays (AtLast half b read goes_on reads) sum within fits means fits_behind =
+after-finds l s reading from a line found behind _ _ charge total t on same stays (AtLast half b read goes_on reads) sum within fits means fits_behind =
     let one : charge + 1 ≡ total = sum in
     let is : byte_taken b (going s reading from [] a half (charge + 1) line) ≡ t =
     ap (λ (c : ℕ). byte_taken b (going s reading from [] a half c line)) one ∙ means half b read reads in
-    step-byte l s reading from b [] a half charge line t (none_due-reads reading base on) read goes_on (omega arith)
+    step-byte l s reading from b [] a half charge line t (none_due-reads reading on) read goes_on (omega arith)
     (ap (λ (n : ℕ). byte_taken b (going s reading from [] a half (charge + 1) n)) stays ∙ is) fits_behind
-after-finds l s reading base from a line found behind _ _ charge total t on same stays (Behind half other b others read goes_on reads as_many last) sum within fits means fits_behind =
+after-finds l s reading from a line found behind _ _ charge total t on same stays (Behind half other b others read goes_on reads as_many last) sum within fits means fits_behind =
     let next : State = going s reading from others a other (charge + 1) line in
     let before : State = going s reading from others a half (charge + 1) line in
     let is : byte_taken b before ≡ next =
-    ap (λ (taking : Taking). taken_as taking before) (taking-nothing (known s) reading base before.input b other on read reads)
+    ap (λ (taking : Taking). taken_as taking before) (taking-nothing (known s) reading before.input b other on read reads)
     ∙ ap (λ (there : Arguments). taken_as (going_on (record next.input { arguments = there }) reading) before) same
     ∙ taken_as-going_on next.input reading before in
     let fits_there : Fits l s.registers next.input = Fits-behind l s.registers s from b others a a half other charge (charge + 1) line line refl as_many fits in
-    ap (after l (length others)) (step-byte l s reading from b others a half charge line next (none_due-reads reading base on) read goes_on (omega arith)
+    ap (after l (length others)) (step-byte l s reading from b others a half charge line next (none_due-reads reading on) read goes_on (omega arith)
     (ap (λ (n : ℕ). byte_taken b (going s reading from others a half (charge + 1) n)) stays ∙ is) fits_there)
-    ∙ after-finds l s reading base from a line found behind other others (charge + 1) total t on same stays last (omega arith) within fits_there means fits_behind
+    ∙ after-finds l s reading from a line found behind other others (charge + 1) total t on same stays last (omega arith) within fits_there means fits_behind
 
 -- arguments where no quote follows the quote before stay so
-pub settled_for-settled_for : (reading : Reading) (base : Surroundings) (a : Arguments) → ReadsEscapes reading base
+pub settled_for-settled_for : (reading : Reading) (a : Arguments) → ReadsEscapes reading
     → settled_for reading (settled_for reading a) ≡ settled_for reading a
-settled_for-settled_for _ _ a AtBeginning = refl
-settled_for-settled_for _ _ a AtBranch = refl
-settled_for-settled_for _ _ a AtBraced = refl
-settled_for-settled_for _ _ a (OnText line) = refl
-settled_for-settled_for _ _ a (OnArguments breaks request) = settled-only_kept a
-settled_for-settled_for _ _ a (OnCondition keeps) = refl
-settled_for-settled_for _ _ a (OnStringName appends) = settled-only_kept a
-settled_for-settled_for _ _ a (OnCall string) = settled-only_kept a
-settled_for-settled_for _ _ a (OnStringText string appends is_front) = refl
-settled_for-settled_for _ _ a (OnDefinition string appends end matched) = refl
-settled_for-settled_for _ _ a (OnMessage aborts is_front) = refl
+settled_for-settled_for _ a AtBeginning = refl
+settled_for-settled_for _ a AtBranch = refl
+settled_for-settled_for _ a AtBraced = refl
+settled_for-settled_for _ a (OnText line) = refl
+settled_for-settled_for _ a (OnArguments breaks request) = settled-only_kept a
+settled_for-settled_for _ a (OnCondition keeps) = refl
+settled_for-settled_for _ a (OnStringName appends) = settled-only_kept a
+settled_for-settled_for _ a (OnCall string) = settled-only_kept a
+settled_for-settled_for _ a (OnStringText string appends is_front) = refl
+settled_for-settled_for _ a (OnDefinition string appends end matched) = refl
+settled_for-settled_for _ a (OnMessage aborts is_front) = refl
 
 -- and hold as many bytes
-held-settled_for : (reading : Reading) (base : Surroundings) (a : Arguments) → ReadsEscapes reading base → held (settled_for reading a) ≡ held a
-held-settled_for _ _ a AtBeginning = refl
-held-settled_for _ _ a AtBranch = refl
-held-settled_for _ _ a AtBraced = refl
-held-settled_for _ _ a (OnText line) = refl
-held-settled_for _ _ a (OnArguments breaks request) = held-only_kept-settled a
-held-settled_for _ _ a (OnCondition keeps) = refl
-held-settled_for _ _ a (OnStringName appends) = held-only_kept-settled a
-held-settled_for _ _ a (OnCall string) = held-only_kept-settled a
-held-settled_for _ _ a (OnStringText string appends is_front) = refl
-held-settled_for _ _ a (OnDefinition string appends end matched) = refl
-held-settled_for _ _ a (OnMessage aborts is_front) = refl
+held-settled_for : (reading : Reading) (a : Arguments) → ReadsEscapes reading → held (settled_for reading a) ≡ held a
+held-settled_for _ a AtBeginning = refl
+held-settled_for _ a AtBranch = refl
+held-settled_for _ a AtBraced = refl
+held-settled_for _ a (OnText line) = refl
+held-settled_for _ a (OnArguments breaks request) = held-only_kept-settled a
+held-settled_for _ a (OnCondition keeps) = refl
+held-settled_for _ a (OnStringName appends) = held-only_kept-settled a
+held-settled_for _ a (OnCall string) = held-only_kept-settled a
+held-settled_for _ a (OnStringText string appends is_front) = refl
+held-settled_for _ a (OnDefinition string appends end matched) = refl
+held-settled_for _ a (OnMessage aborts is_front) = refl
 
 -- the steps at an escape, where a backslash begins one
-pub after-escape : (l : Limits) (s : State) (reading : Reading) (base : Surroundings) (from : Origin) (a : Arguments)
+pub after-escape : (l : Limits) (s : State) (reading : Reading) (from : Origin) (a : Arguments)
     (found : Read) (half behind : List Half) (bytes : List ℕ) (charge line : ℕ) (t : State)
-    → ReadsEscapes reading base → seen_stays half (Some backslash) ≡ false → byte_read base half backslash ≡ (GoesOn, Backslash ∷ half)
-    → FindsAtLast base found behind (Backslash ∷ half) bytes
+    → ReadsEscapes reading → seen_stays half (Some backslash) ≡ false → byte_read (above (known s) reading) half backslash ≡ (GoesOn, Backslash ∷ half)
+    → FindsAtLast (above (known s) reading) found behind (Backslash ∷ half) bytes
     → charge + length (backslash ∷ bytes) ≤ l.bytes → Fits l s.registers (input_of s from (backslash ∷ bytes) a half charge line)
-    → Means s reading base from (settled_for reading a) (charge + length (backslash ∷ bytes)) (line_behind from s line) found behind t
+    → Means s reading from (settled_for reading a) (charge + length (backslash ∷ bytes)) (line_behind from s line) found behind t
     → Fits l t.registers t.input → after l (length (backslash ∷ bytes)) (going s reading from (backslash ∷ bytes) a half charge line) ≡ t
-after-escape l s reading base from a found half behind bytes charge line t on goes_on opens last within fits means fits_behind =
+after-escape l s reading from a found half behind bytes charge line t on goes_on opens last within fits means fits_behind =
     let there : Arguments = settled_for reading a in
     let next : ℕ = line_behind from s line in
     let taken : State = going s reading from bytes a half (charge + 1) next in
     let begun : State = going s reading from bytes there (Backslash ∷ half) (charge + 1) next in
     let is : byte_taken backslash taken ≡ begun =
-    ap (λ (taking : Taking). taken_as taking taken) (taking-nothing (known s) reading base taken.input backslash (Backslash ∷ half) on refl opens)
+    ap (λ (taking : Taking). taken_as taking taken) (taking-nothing (known s) reading taken.input backslash (Backslash ∷ half) on refl opens)
     ∙ taken_as-going_on begun.input reading taken in
     let fits_there : Fits l s.registers begun.input =
     Fits-behind l s.registers s from backslash bytes a there half (Backslash ∷ half) charge (charge + 1) line next
-    (held-settled_for reading base a on) refl fits in
-    ap (after l (length bytes)) (step-byte l s reading from backslash bytes a half charge line begun (none_due-reads reading base on) refl goes_on (omega arith) is fits_there)
-    ∙ after-finds l s reading base from there next found behind (Backslash ∷ half) bytes (charge + 1) (charge + length (backslash ∷ bytes)) t
-    on (settled_for-settled_for reading base a on) (line_behind-again from s line)
+    (held-settled_for reading a on) refl fits in
+    ap (after l (length bytes)) (step-byte l s reading from backslash bytes a half charge line begun (none_due-reads reading on) refl goes_on (omega arith) is fits_there)
+    ∙ after-finds l s reading from there next found behind (Backslash ∷ half) bytes (charge + 1) (charge + length (backslash ∷ bytes)) t
+    on (settled_for-settled_for reading a on) (line_behind-again from s line)
     last (omega arith) within fits_there means fits_behind
 
 -- a byte that stands for itself is read
@@ -441,19 +453,19 @@ source_behind (FromAhead rest) s = s
 source_behind (FromSource tape) s = with_source_behind tape s
 
 -- what isn't a byte of the line changes the arguments alone
-pub interrupted-arguments : (reading : Reading) (base : Surroundings) (i : PageInput) → ReadsEscapes reading base
+pub interrupted-arguments : (reading : Reading) (i : PageInput) → ReadsEscapes reading
     → interrupted reading i ≡ record i { arguments = settled_for reading i.arguments }
-interrupted-arguments _ _ i AtBeginning = refl
-interrupted-arguments _ _ i AtBranch = refl
-interrupted-arguments _ _ i AtBraced = refl
-interrupted-arguments _ _ i (OnText line) = refl
-interrupted-arguments _ _ i (OnArguments breaks request) = refl
-interrupted-arguments _ _ i (OnCondition keeps) = refl
-interrupted-arguments _ _ i (OnStringName appends) = refl
-interrupted-arguments _ _ i (OnCall string) = refl
-interrupted-arguments _ _ i (OnStringText string appends is_front) = refl
-interrupted-arguments _ _ i (OnDefinition string appends end matched) = refl
-interrupted-arguments _ _ i (OnMessage aborts is_front) = refl
+interrupted-arguments _ i AtBeginning = refl
+interrupted-arguments _ i AtBranch = refl
+interrupted-arguments _ i AtBraced = refl
+interrupted-arguments _ i (OnText line) = refl
+interrupted-arguments _ i (OnArguments breaks request) = refl
+interrupted-arguments _ i (OnCondition keeps) = refl
+interrupted-arguments _ i (OnStringName appends) = refl
+interrupted-arguments _ i (OnCall string) = refl
+interrupted-arguments _ i (OnStringText string appends is_front) = refl
+interrupted-arguments _ i (OnDefinition string appends end matched) = refl
+interrupted-arguments _ i (OnMessage aborts is_front) = refl
 
 -- a state within the limits is within those that a step looks at
 pub Fits-IsWithin : (l : Limits) (s : State) → IsWithin l s → Fits l s.registers s.input
@@ -461,18 +473,18 @@ Fits-IsWithin l s within =
     record { names = within.names; stack = within.stack; depth = within.depth; store = within.store; texts = within.texts; making = within.making; conditions = within.conditions }
 
 -- where escapes are read, text is or arguments or conditions are
-pub ReadsEscapes-reads_escapes : (reading : Reading) → reads_escapes reading ≡ true → (base : Surroundings) × ReadsEscapes reading base
-ReadsEscapes-reads_escapes LineStart is = (AboveText, AtBeginning)
-ReadsEscapes-reads_escapes Branch is = (AboveText, AtBranch)
-ReadsEscapes-reads_escapes Braced is = (AboveText, AtBraced)
-ReadsEscapes-reads_escapes (InText line) is = (AboveText, OnText line)
-ReadsEscapes-reads_escapes (InArguments breaks request) is = (AboveArguments, OnArguments breaks request)
-ReadsEscapes-reads_escapes (Deciding keeps) is = (AboveArguments, OnCondition keeps)
-ReadsEscapes-reads_escapes (StringName appends) is = (AboveArguments, OnStringName appends)
-ReadsEscapes-reads_escapes (Calling name) is = (AboveArguments, OnCall name)
-ReadsEscapes-reads_escapes (StringText name appends is_front) is = (AboveCopy, OnStringText name appends is_front)
-ReadsEscapes-reads_escapes (Defining name appends end matched) is = (AboveCopy, OnDefinition name appends end matched)
-ReadsEscapes-reads_escapes (Telling aborts is_front) is = (AboveCopy, OnMessage aborts is_front)
+pub ReadsEscapes-reads_escapes : (reading : Reading) → reads_escapes reading ≡ true → ReadsEscapes reading
+ReadsEscapes-reads_escapes LineStart is = AtBeginning
+ReadsEscapes-reads_escapes Branch is = AtBranch
+ReadsEscapes-reads_escapes Braced is = AtBraced
+ReadsEscapes-reads_escapes (InText line) is = OnText line
+ReadsEscapes-reads_escapes (InArguments breaks request) is = OnArguments breaks request
+ReadsEscapes-reads_escapes (Deciding keeps) is = OnCondition keeps
+ReadsEscapes-reads_escapes (StringName appends) is = OnStringName appends
+ReadsEscapes-reads_escapes (Calling name) is = OnCall name
+ReadsEscapes-reads_escapes (StringText name appends is_front) is = OnStringText name appends is_front
+ReadsEscapes-reads_escapes (Defining name appends end matched) is = OnDefinition name appends end matched
+ReadsEscapes-reads_escapes (Telling aborts is_front) is = OnMessage aborts is_front
 ReadsEscapes-reads_escapes (Told aborts) is = absurd (cc)
 ReadsEscapes-reads_escapes Exiting is = absurd (cc)
 ReadsEscapes-reads_escapes (Control breaks) is = absurd (cc)

@@ -1,8 +1,13 @@
+pub mod EnvironmentRing
+pub mod TabStops
+pub mod BreakEvents
 pub mod Leads
 pub mod Beginnings
 pub mod PerformedOrStopped
 pub mod Readings
 pub mod MarkEnds
+pub mod KeepingText
+pub mod KeepingLines
 pub mod Keeping
 pub mod StringRefusals
 pub mod Strings

@@ -3,8 +3,9 @@ use Rattle.std.proofs.Common.{◌≡◌, ℕ, ◌≤◌, Bool, true, false, List
 use Rattle.std.specs.Option.{option_to_list}
 use Rattle.std.proofs.lemmas.Bool.{le-ltb, ltb-false}
 use Rattle.std.specs.Prelude.{reverse, nat_lt, if◌then◌else◌}
-use Rattle.roff_lines.specs.Env.Stands.{Stands}
-use Rattle.roff_lines.specs.declared.env.Env.{Env}
+use Rattle.roff_num.specs.declared.limits.Limits.{Limits}
+use Rattle.roff_run.specs.Environments.Standing.{StandFor}
+use Rattle.roff_run.specs.declared.environments.Environments.{Environments as EnvironmentsOf}
 use Rattle.roff_num.specs.declared.limit.Limit.{Limit}
 use Rattle.roff_num.specs.declared.limit.Limit.TheVariants.{Names}
 use Rattle.roff_scan.specs.Arguments.{finished, no_arguments, only_kept}
@@ -14,7 +15,8 @@ use Rattle.roff_store.proofs.Calls.{length-without_entry_le}
 use Rattle.roff_store.specs.Named.{without_entry}
 use Rattle.roff_store.specs.Registers.{Registers}
 use Rattle.roff_store.specs.TextCalls.{Call}
-use Rattle.roff_run.specs.Output.{PageHistory, text_of}
+use Rattle.roff_run.specs.Events.Kept.{Told}
+use Rattle.roff_run.specs.Output.{PageHistory}
 use Rattle.roff_run.specs.Reader.State.{ReaderState}
 use Rattle.roff_run.specs.Reader.Taken.{ChangedTo, PageUnread, Refused, TakesAs, Took, behind_changes}
 use Rattle.roff_run.specs.Reading.{PageInput, calling_all, ended_by, line_ended, reading_behind}
@@ -51,8 +53,8 @@ abbrev pub texts_read : PageUnread → List (List ℕ)
 texts_read u = reverse u.input.arguments.whole
 
 -- a request was obeyed by what it means with its arguments
-pub record Obeys (env : Env) (rs : AllRegisters) (u : PageUnread) (breaks : Bool) (request : Request) (e : CodedEffect) : Type 0 where
-  pub effect_is : (cap : ℕ) (h : PageHistory) → Stands cap (text_of h) env
+pub record Obeys (es : EnvironmentsOf) (rs : AllRegisters) (u : PageUnread) (breaks : Bool) (request : Request) (e : CodedEffect) : Type 0 where
+  pub effect_is : (l : Limits) (h : PageHistory) → StandFor l h es
       → effect_of (texts_read u) e ≡ request_effect (known_at h rs u.input) breaks request (texts_read u)
 
 -- the input of a line that has ended
@@ -78,17 +80,17 @@ few_behind : (changes : List Change) (old : Capped) (u : PageUnread) (passes : B
 few_behind changes old u passes cap is = ap (λ (n : ℕ). nat_lt n (length (changed_by_all changes old.all).named)) (sym cap) ∙ is
 
 -- a request was obeyed, its changes made, and its arguments released
-pub TakesAs-obeyed : (env : Env) (old new : ReaderState) (before mid change behind : PageUnread) (breaks : Bool) (request : Request) (e : CodedEffect) (m : Meaning)
-    → mid ≡ line_finished before → Obeys env old.registers.all mid breaks request e
+pub TakesAs-obeyed : (es : EnvironmentsOf) (old new : ReaderState) (before mid change behind : PageUnread) (breaks : Bool) (request : Request) (e : CodedEffect) (m : Meaning)
+    → mid ≡ line_finished before → Obeys es old.registers.all mid breaks request e
     → ChangedTo (changes_of (texts_read mid) e.changes) old.registers new.registers
     → change ≡ called (calls_of (texts_read mid) e.changes) mid → behind ≡ released change
     → new.reading ≡ reading_behind (row_of request).line → m.message ≡ e.message → m.events ≡ e.events
-    → TakesAs (λ k. line_ended k before.input breaks request) env old new before behind (Ok m)
-TakesAs-obeyed env old new before mid change behind breaks request e m finishes obeying changed calls releases begins says means = record {
-  takes = λ cap h stands ready.
+    → TakesAs (λ k. line_ended k before.input breaks request) es old new before behind (Ok m)
+TakesAs-obeyed es old new before mid change behind breaks request e m finishes obeying changed calls releases begins says means = record {
+  takes = λ l h stands ready.
       let i : PageInput = before.input in
-      let obeys : Obeys env old.registers.all (line_finished before) breaks request e =
-      subst (λ (u : PageUnread). Obeys env old.registers.all u breaks request e) finishes obeying in
+      let obeys : Obeys es old.registers.all (line_finished before) breaks request e =
+      subst (λ (u : PageUnread). Obeys es old.registers.all u breaks request e) finishes obeying in
       let changes : List Change = changes_of (arguments_given i) e.changes in
       let registers : new.registers ≡ behind_changes changes old.registers =
       changed.registers ∙ ap (λ (u : PageUnread). behind_changes (changes_of (texts_read u) e.changes) old.registers) finishes in
@@ -104,7 +106,7 @@ TakesAs-obeyed env old new before mid change behind breaks request e m finishes 
       let input : behind ≡ record before { input = ended } =
       releases ∙ ap released calls ∙ ap (λ (u : PageUnread). released (called (calls_of (texts_read u) e.changes) u)) finishes
       ∙ released-called (calls_of (arguments_given i) e.changes) before in
-      subst (λ (effect : Effect). Took (ended_by i request effect) old.registers new before behind m) (obeys.effect_is cap h stands)
+      subst (λ (effect : Effect). Took (ended_by i request effect) old.registers new before behind m) (obeys.effect_is l h stands)
       (record {
         became = record {
           input = input;
@@ -114,26 +116,26 @@ TakesAs-obeyed env old new before mid change behind breaks request e m finishes 
               ∙ input_refusal-no_more before.limits ended i less none_before;
         };
         messages = ap (λ (message : Option Message). option_to_list message) says;
-        events = ap (λ (events : _). events.items) means;
+        events = ap (λ (events : Told). events.items) means;
       });
 }
 
 -- or more names than may would have a register
-pub TakesAs-not_obeyed : (env : Env) (old new : ReaderState) (before mid behind : PageUnread) (breaks : Bool) (request : Request) (e : CodedEffect) (limit : Limit)
-    → mid ≡ line_finished before → Obeys env old.registers.all mid breaks request e
+pub TakesAs-not_obeyed : (es : EnvironmentsOf) (old new : ReaderState) (before mid behind : PageUnread) (breaks : Bool) (request : Request) (e : CodedEffect) (limit : Limit)
+    → mid ≡ line_finished before → Obeys es old.registers.all mid breaks request e
     → Refused (changes_of (texts_read mid) e.changes) old.registers limit
-    → TakesAs (λ k. line_ended k before.input breaks request) env old new before behind (Err limit)
-TakesAs-not_obeyed env old new before mid behind breaks request e limit finishes obeying refused = record {
-  takes = λ cap h stands ready.
+    → TakesAs (λ k. line_ended k before.input breaks request) es old new before behind (Err limit)
+TakesAs-not_obeyed es old new before mid behind breaks request e limit finishes obeying refused = record {
+  takes = λ l h stands ready.
       let i : PageInput = before.input in
-      let obeys : Obeys env old.registers.all (line_finished before) breaks request e =
-      subst (λ (u : PageUnread). Obeys env old.registers.all u breaks request e) finishes obeying in
+      let obeys : Obeys es old.registers.all (line_finished before) breaks request e =
+      subst (λ (u : PageUnread). Obeys es old.registers.all u breaks request e) finishes obeying in
       let changes : List Change = changes_of (arguments_given i) e.changes in
       let past : is_past_cap (behind_changes changes old.registers) ≡ true =
       ap (λ (u : PageUnread). is_past_cap (behind_changes (changes_of (texts_read u) e.changes) old.registers)) (sym finishes) ∙ refused.past in
       let many : nat_lt before.limits.names (length (changed_by_all changes old.registers.all).named) ≡ true =
       few_behind changes old.registers before true ready.cap past in
       let ended : PageInput = calling_all (calls_of (arguments_given i) e.changes) (record i { arguments = no_arguments }) in
-      subst (λ (effect : Effect). first_passed before.limits (counts_in (changed_by_all effect.changes old.registers.all) (ended_by i request effect).input) ≡ Some limit) (obeys.effect_is cap h stands)
+      subst (λ (effect : Effect). first_passed before.limits (counts_in (changed_by_all effect.changes old.registers.all) (ended_by i request effect).input) ≡ Some limit) (obeys.effect_is l h stands)
       (ap (λ (many : Bool). if many then Some Names else input_refusal before.limits ended) many ∙ ap (λ (l : Limit). Some l) (sym refused.limit_is));
 }

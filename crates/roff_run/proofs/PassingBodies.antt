@@ -13,7 +13,7 @@ use Rattle.roff_run.specs.InterpolationLaws.{TakesItems}
 use Rattle.roff_run.specs.Reading.{PageInput, Passes, Taking}
 use Rattle.roff_run.specs.Registers.{AllRegisters}
 use Rattle.roff_run.specs.Requests.{PageEvent}
-use Rattle.roff_run.specs.Run.{State, after, counts_in, first_passed, made, step, taken_as, unless_refused}
+use Rattle.roff_run.specs.Run.{State, after, counts_in, first_passed, known_at, made, step, taken_as, unless_refused}
 use Rattle.roff_run.specs.TurnsToCome.{free_ahead, turns_within}
 
 -- the input behind a byte that stands in front of these items
@@ -51,7 +51,7 @@ step-byte l s b items input on front none_half within allowed passes =
     let done : State = record s { input = taken } in
     bytes_ahead_are_taken l before b items (record { going = on.going; not_closing = on.not_closing; idle = on.idle; none_due = on.none_due }) front
     (ap (λ (half : List Half). seen_stays half (Some b)) none_half) (omega (arith, allowed))
-    ∙ ap (λ (t : Taking). made l before (taken_as t done)) (passes _ taken)
+    ∙ ap (λ (t : Taking). made l before (taken_as t done)) (passes (known_at s.history s.registers taken) taken)
     ∙ ap (made l before) (taken_as-going_on taken s.reading done)
     ∙ ap (λ (r : Option Limit). unless_refused l r before done) (within-byte l s.registers b items input front within)
 

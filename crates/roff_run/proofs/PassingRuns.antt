@@ -12,7 +12,7 @@ use Rattle.roff_run.proofs.Interpolation.{taken_as-going_on, bytes_of_the_source
 use Rattle.roff_run.specs.InterpolationLaws.{TakesItems}
 use Rattle.roff_run.specs.Reading.{PageInput, Passes, Taking}
 use Rattle.roff_run.specs.TurnsToCome.{turns_within}
-use Rattle.roff_run.specs.Run.{State, after, counts_in, first_passed, made, step, taken_as, unless_refused}
+use Rattle.roff_run.specs.Run.{State, after, counts_in, first_passed, known_at, made, step, taken_as, unless_refused}
 
 -- a run that has come to these bytes of the source
 abbrev run_at : State → Tape → List ℕ → PageInput → State
@@ -36,7 +36,7 @@ step-passed l s tape b bytes input on plain within passes =
     let done : State = run_at s tape bytes (counting b input) in
     bytes_of_the_source_are_taken l before b (record { going = on.going; not_closing = on.not_closing; idle = on.idle; none_due = on.none_due }) plain.none_ahead refl
     (ap (λ (half : List Half). seen_stays half (Some b)) plain.none_half) (omega (arith, within))
-    ∙ ap (λ (t : Taking). made l before (taken_as t done)) (passes _ (counting b input))
+    ∙ ap (λ (t : Taking). made l before (taken_as t done)) (passes (known_at s.history s.registers (counting b input)) (counting b input))
     ∙ ap (made l before) (taken_as-going_on (counting b input) s.reading done)
     ∙ ap (λ (r : Option Limit). unless_refused l r before done) plain.within
 

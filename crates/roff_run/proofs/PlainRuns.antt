@@ -2,7 +2,6 @@
 use Rattle.std.proofs.Common.{◌≡◌, ℕ, ◌+◌, ◌-◌, ◌≤◌, false, List, [], ◌∷◌, ◌++◌, length, Some, None, refl, ap, sym, ◌∙◌, arith}
 use Rattle.std.specs.Prelude.{map, sum_by, if◌then◌else◌, ◌==◌}
 use Rattle.std.proofs.lemmas.List.{length-append}
-use Rattle.roff_lines.specs.Lines.{pending_length}
 use Rattle.roff_num.specs.declared.limits.Limits.{Limits}
 use Rattle.roff_scan.specs.Arguments.{Arguments, held}
 use Rattle.roff_scan.specs.Bytes.{newline}
@@ -15,8 +14,8 @@ use Rattle.roff_store.specs.Texts.{Entry, bytes_in}
 use Rattle.roff_run.proofs.Interpolation.{FromAhead, FromSource, Fits-IsWithin, Origin, ahead_at, bytes_ahead_are_taken, bytes_of_the_source_are_taken, made-Fits, taken_as-going_on, tape_at}
 use Rattle.roff_run.proofs.Leads.{after-add}
 use Rattle.roff_run.specs.InterpolationLaws.{TakesItems}
-use Rattle.roff_run.specs.Laws.{IsWithin}
-use Rattle.roff_run.specs.Output.{text_of}
+use Rattle.roff_run.specs.Laws.{EnvironmentsWithin, IsWithin}
+use Rattle.roff_run.specs.Environments.{environments}
 use Rattle.roff_run.specs.Reading.{PageInput, Taking, due, going_on, taking}
 use Rattle.roff_run.specs.Registers.{Known}
 use Rattle.roff_run.specs.Requests.{PageEvent}
@@ -132,7 +131,7 @@ pub record HasRoom (l : Limits) (s : State) (names : Named Entry) (from : Origin
   pub making : most.texts ≤ l.diversions + 1
   pub conditions : length i.kept ≤ l.conditions
   pub registers : length s.registers.named ≤ l.names
-  pub line : pending_length (text_of s.history) ≤ l.line
+  pub environments : EnvironmentsWithin l (environments s.history)
 
 -- behind a byte too
 stack_room-behind : (l : Limits) (from : Origin) (most : Most) (p q : Stage) (b : ℕ) (bytes : List ℕ) (i : PageInput)
@@ -155,7 +154,7 @@ HasRoom-behind l s names from most p q b bytes i grows room = record {
   making = room.making;
   conditions = room.conditions;
   registers = room.registers;
-  line = room.line;
+  environments = room.environments;
 }
 
 -- so the states on the way are within the limits
@@ -175,7 +174,7 @@ IsWithin-HasRoom l s names from most p bytes i small room = record {
   making = omega (arith, room.making, small.texts_few);
   conditions = room.conditions;
   names = room.registers;
-  line = room.line;
+  environments = room.environments;
 }
 
 -- a run takes one step for each byte of a path, and there is room behind it for the others
@@ -287,7 +286,7 @@ HasRoom-start l s names from most p bytes i within charged held_few stored_few t
   making = texts_few;
   conditions = within.conditions;
   registers = within.names;
-  line = within.line;
+  environments = within.environments;
 }
 
 -- where bytes were taken no more stands ahead than did

@@ -22,7 +22,8 @@ use Rattle.roff_run.specs.Run.{waiting, State, known, ending_as, ending_with, st
 use Rattle.roff_run.specs.declared.message.Message.TheVariants.{ReadFailed}
 use Rattle.roff_run.specs.declared.status.Status.TheVariants.{Device, Limit as Limited}
 use Rattle.roff_run.specs.TurnsToCome.{begun, endings_of}
-use Rattle.roff_run.proofs.Keeping.{Keeps, KeepsTwoMore-same, Keeps-taking, Keeps-interrupted, Keeps-half_ended, Keeps-line_ends}
+use Rattle.roff_run.proofs.KeepingText.{Keeps}
+use Rattle.roff_run.proofs.Keeping.{KeepsTwoMore-same, Keeps-taking, Keeps-interrupted, Keeps-half_ended, Keeps-line_ends}
 
 -- no count passes its limit in a state
 abbrev pub IsMade : Limits → State → Type 0

@@ -1,16 +1,15 @@
 -- No step passes a limit.
 --
 -- Each function f of the run has its lemma IsWithin-f here, with a line for each of its cases.
-use Rattle.std.proofs.Common.{◌≡◌, ◌≤◌, ℕ, zero, suc, Bool, true, false, List, [], ◌∷◌, Some, None, inl, inr, refl, arith}
-use Rattle.std.specs.Prelude.{nat_lt, if◌then◌else◌}
+use Rattle.std.proofs.Common.{◌≡◌, ◌≤◌, ◌+◌, ℕ, zero, suc, Bool, true, false, List, [], ◌∷◌, Some, None, inl, inr, refl, arith}
+use Rattle.std.specs.Prelude.{length, nat_lt, if◌then◌else◌}
 use Rattle.std.proofs.lemmas.Bool.{cases_Bool}
 use Rattle.roff_num.specs.declared.limit.Limit.{Limit}
 use Rattle.roff_num.specs.LimitValues.{value_of}
-use Rattle.roff_lines.specs.Lines.{pending_length}
 use Rattle.roff_num.specs.declared.limits.Limits.{Limits}
-use Rattle.roff_run.specs.Laws.{IsWithin, NoLimitIsPassed}
-use Rattle.roff_run.specs.Output.{PageHistory, text_of}
-use Rattle.roff_run.specs.Requests.{PageEvent, Text, Space}
+use Rattle.roff_run.specs.Environments.{PageHistory, EnvironmentNumber, Environments, environments, gone_back, is_same, turned, turned_to, turned_unless}
+use Rattle.roff_run.specs.Laws.{EnvironmentsWithin, IsWithin, NoLimitIsPassed}
+use Rattle.roff_run.specs.Requests.{PageEvent, Text, Space, Interrupt, Environment, Back}
 use Rattle.roff_run.specs.Run.{State, known, counts, first_passed, refusal, initial, grown, input_left, moved, step_with, step, after}
 use Rattle.roff_run.proofs.Keeping.{Keeps-end_taking}
 use Rattle.roff_run.proofs.PerformedOrStopped.{PerformedOrStopped, Performed, StoppedAt, performed_or_stopped}
@@ -28,7 +27,7 @@ IsWithin-same l s t input registers history is = record {
   making = rw input is.making;
   conditions = rw input is.conditions;
   names = rw registers is.names;
-  line = rw history is.line;
+  environments = rw history is.environments;
 }
 
 -- either of two states, by a test
@@ -49,15 +48,47 @@ counts_within l (c ∷ cs) none = elim (cases_Bool (nat_lt (value_of l c.0) c.1)
   | inr goes ↦ (within (value_of l c.0) c.1 goes, counts_within l cs (rw goes at none))
 ]
 
--- the pending line behind an event that no limit refuses
-line_within : (l : Limits) (h : PageHistory) (e : PageEvent) → pending_length (text_of h) ≤ l.line → refusal l h e ≡ None → pending_length (text_of (e ∷ h)) ≤ l.line
-line_within l h (Text e) is allowed = (counts_within l (counts h (Text e)) allowed).0
-line_within l h (Space lines) is allowed = is
+-- turning the ring of environments makes no line longer, and leaves none of them
+within-turned : (l : Limits) (es : Environments) → EnvironmentsWithin l es → EnvironmentsWithin l (turned es)
+within-turned l es is = record { in_force = is.next; next = is.last; last = is.in_force; left = is.left }
+
+within-turned_unless : (l : Limits) (is_there : Bool) (es : Environments) → EnvironmentsWithin l es → EnvironmentsWithin l (turned_unless is_there es)
+within-turned_unless l true es is = is
+within-turned_unless l false es is = within-turned l es is
+
+within-turned_to : (l : Limits) (number : EnvironmentNumber) (es : Environments) → EnvironmentsWithin l es → EnvironmentsWithin l (turned_to number es)
+within-turned_to l number es is =
+    let once : Environments = turned_unless (is_same es.number number) es in
+    within-turned_unless l (is_same once.number number) once (within-turned_unless l (is_same es.number number) es is)
+
+-- these are left, and no others
+within-left : (l : Limits) (left : List EnvironmentNumber) (es : Environments) → EnvironmentsWithin l es → length left ≤ l.environments
+    → EnvironmentsWithin l (record es { left = left })
+within-left l left es is few = record { in_force = is.in_force; next = is.next; last = is.last; left = few }
+
+-- the newest of those that were left is gone back to
+within-gone_back : (l : Limits) (left : List EnvironmentNumber) (es : Environments) → EnvironmentsWithin l es → length left ≤ l.environments
+    → EnvironmentsWithin l (gone_back left es)
+within-gone_back l [] es is few = is
+within-gone_back l (number ∷ left) es is few = within-turned_to l number _ (within-left l left es is (omega (arith, few)))
+
+-- the environments behind an event that no limit refuses
+environments_within : (l : Limits) (h : PageHistory) (e : PageEvent) → EnvironmentsWithin l (environments h) → refusal l h e ≡ None
+    → EnvironmentsWithin l (environments (e ∷ h))
+environments_within l h (Text e) is allowed =
+    record { in_force = (counts_within l (counts h (Text e)) allowed).0; next = is.next; last = is.last; left = is.left }
+environments_within l h (Space lines) is allowed = is
+environments_within l h (Interrupt untold) is allowed = record { in_force = is.in_force; next = is.next; last = is.last; left = is.left }
+environments_within l h (Environment number) is allowed =
+    let es : Environments = environments h in
+    let few : length es.left + 1 ≤ l.environments = (counts_within l (counts h (Environment number)) allowed).0 in
+    within-turned_to l number _ (within-left l (es.number ∷ es.left) es is (omega (arith, few)))
+environments_within l h Back is allowed = within-gone_back l (environments h).left (environments h) is is.left
 
 -- an event is performed, or the run ends at it
 IsWithin-event : (l : Limits) (e : PageEvent) (rest : List PageEvent) (s t : State) → PerformedOrStopped l e rest s t → IsWithin l s → IsWithin l t
 IsWithin-event l e rest s t (Performed allowed) is =
-    record { bytes = is.bytes; stack = is.stack; depth = is.depth; store = is.store; texts = is.texts; making = is.making; conditions = is.conditions; names = is.names; line = line_within l s.history e is.line allowed }
+    record { bytes = is.bytes; stack = is.stack; depth = is.depth; store = is.store; texts = is.texts; making = is.making; conditions = is.conditions; names = is.names; environments = environments_within l s.history e is.environments allowed }
 IsWithin-event l e rest s t (StoppedAt limit) is = IsWithin-same l s t refl refl refl is
 
 -- a step that is made, and takes no more than the limit says
@@ -74,7 +105,7 @@ IsWithin-made l s t charge history is_made is =
       making = omega (arith, others.1.0);
       conditions = ahead.1.1.0;
       names = others.0;
-      line = rw history is.line;
+      environments = rw history is.environments;
     }
 
 -- what was read, or how the run ended
@@ -121,4 +152,4 @@ IsWithin-after l (suc n) s is = IsWithin-after l n (step l s) (IsWithin-step l s
 
 -- no run passes a limit
 pub no_limit_is_passed : NoLimitIsPassed
-no_limit_is_passed l tape n = IsWithin-after l n (initial tape) (record { bytes = omega arith; stack = omega arith; depth = omega arith; store = omega arith; texts = omega arith; making = omega arith; conditions = omega arith; names = omega arith; line = omega arith })
+no_limit_is_passed l tape n = IsWithin-after l n (initial tape) (record { bytes = omega arith; stack = omega arith; depth = omega arith; store = omega arith; texts = omega arith; making = omega arith; conditions = omega arith; names = omega arith; environments = record { in_force = omega arith; next = omega arith; last = omega arith; left = omega arith } })

@@ -4,7 +4,7 @@ use Rattle.std.specs.Prelude.{nat_lt, if◌then◌else◌}
 use Rattle.std.proofs.lemmas.Bool.{cases_Bool}
 use Rattle.std.proofs.lemmas.List.{length-reverse, length-set}
 use Rattle.std.proofs.lemmas.List.Sums.{sum_by-append}
-use Rattle.roff_lines.specs.declared.env.Env.{Env}
+use Rattle.roff_run.specs.declared.environments.Environments.{Environments as EnvironmentsOf}
 use Rattle.roff_num.specs.declared.limit.Limit.{Limit}
 use Rattle.roff_num.specs.declared.limit.Limit.TheVariants.{Stack, Depth, Diversions, Store, Names, Conditions}
 use Rattle.roff_num.specs.declared.limits.Limits.{Limits}
@@ -122,19 +122,19 @@ InputBecame-refused_grown (Some name) unit before behind limit refused = record 
 }
 
 -- where a text can't be begun, its first unit isn't read
-pub TakesAs-not_begun : (name : Option ShortName) (appends : Bool) (unit : CopyUnit) (env : Env) (old new : ReaderState) (before behind : PageUnread)
+pub TakesAs-not_begun : (name : Option ShortName) (appends : Bool) (unit : CopyUnit) (es : EnvironmentsOf) (old new : ReaderState) (before behind : PageUnread)
     (limit : Limit) → (unit ≡ Byte 10 → ⊥) → InputBecame (string_begun name before.input) before behind (Err limit)
-    → TakesAs (λ k. string_unit (string_begun name before.input) name appends true unit) env old new before behind (Err limit)
-TakesAs-not_begun name appends (Kept b) env old new before behind limit no_newline refused =
-    TakesAs-not_became _ (StringText name appends false) env old new before behind limit
+    → TakesAs (λ k. string_unit (string_begun name before.input) name appends true unit) es old new before behind (Err limit)
+TakesAs-not_begun name appends (Kept b) es old new before behind limit no_newline refused =
+    TakesAs-not_became _ (StringText name appends false) es old new before behind limit
     (InputBecame-refused_grown name (Kept b) before behind limit refused)
-TakesAs-not_begun name appends (Byte b) env old new before behind limit no_newline refused =
+TakesAs-not_begun name appends (Byte b) es old new before behind limit no_newline refused =
     let newline : (b == 10) ≡ false = other b 10 (λ is. no_newline (ap (λ (c : ℕ). Byte c) is)) in
-    let Refuses : Taking → Type 0 = λ t. TakesAs (λ k. t) env old new before behind (Err limit) in
+    let Refuses : Taking → Type 0 = λ t. TakesAs (λ k. t) es old new before behind (Err limit) in
     rw newline
-    (one_of Refuses (b == 32) _ _ (TakesAs-not_became _ (StringText name appends true) env old new before behind limit refused)
-    (one_of Refuses (b == 34) _ _ (TakesAs-not_became _ (StringText name appends false) env old new before behind limit refused)
-    (TakesAs-not_became _ (StringText name appends false) env old new before behind limit
+    (one_of Refuses (b == 32) _ _ (TakesAs-not_became _ (StringText name appends true) es old new before behind limit refused)
+    (one_of Refuses (b == 34) _ _ (TakesAs-not_became _ (StringText name appends false) es old new before behind limit refused)
+    (TakesAs-not_became _ (StringText name appends false) es old new before behind limit
     (InputBecame-refused_grown name (Byte b) before behind limit refused))))
 
 -- the arguments behind a unit have none that is whole, or hold as many bytes as before
@@ -192,18 +192,18 @@ no_name i unit l limit none refused (inr same) =
     let passes = input_refusal-no_more l (holding unit i) i (NoMore-held i unit same) none in cc
 
 -- where a unit of a name is refused, the name isn't whole behind it
-pub TakesAs-not_held : (appends : Bool) (unit : CopyUnit) (env : Env) (old new : ReaderState) (before behind : PageUnread) (limit : Limit)
+pub TakesAs-not_held : (appends : Bool) (unit : CopyUnit) (es : EnvironmentsOf) (old new : ReaderState) (before behind : PageUnread) (limit : Limit)
     → ((unit ≡ Byte 34 → ⊥) → before.input.arguments.place ≡ BehindQuote → ⊥) → name_read before.input ≡ None
     → InputBecame (holding unit before.input) before behind (Err limit)
-    → TakesAs (λ k. string_name_behind (holding unit before.input) appends (name_read (holding unit before.input))) env old new before behind (Err limit)
-TakesAs-not_held appends unit env old new before behind limit apart none refused = record {
-  takes = λ cap h stands ready.
+    → TakesAs (λ k. string_name_behind (holding unit before.input) appends (name_read (holding unit before.input))) es old new before behind (Err limit)
+TakesAs-not_held appends unit es old new before behind limit apart none refused = record {
+  takes = λ l h stands ready.
       let within = refused_none old.registers before ready in
       let held = NoneOrAsMany-unit before.input.arguments unit (none_whole before.input none) apart in
       let still = no_name before.input unit before.limits limit within (refused.becomes within) held in
       let here = TakesAs-as (λ k. going_on (holding unit before.input) (StringName appends))
-      (λ k. string_name_behind (holding unit before.input) appends (name_read (holding unit before.input))) env old new before behind (Err limit)
+      (λ k. string_name_behind (holding unit before.input) appends (name_read (holding unit before.input))) es old new before behind (Err limit)
       (λ k. ap (string_name_behind (holding unit before.input) appends) (sym still))
-      (TakesAs-not_became (holding unit before.input) (StringName appends) env old new before behind limit refused) in
-      here.takes cap h stands ready;
+      (TakesAs-not_became (holding unit before.input) (StringName appends) es old new before behind limit refused) in
+      here.takes l h stands ready;
 }

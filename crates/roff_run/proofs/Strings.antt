@@ -3,7 +3,7 @@ use Rattle.std.proofs.Common.{◌≡◌, ℕ, Bool, true, false, [], Option, Som
 use Rattle.std.specs.Option.{option_to_list}
 use Rattle.std.specs.Prelude.{is_some, option_map, ◌&&◌}
 use Rattle.std.proofs.lemmas.Bool.{cases_Bool, eqb-true}
-use Rattle.roff_lines.specs.declared.env.Env.{Env}
+use Rattle.roff_run.specs.declared.environments.Environments.{Environments as EnvironmentsOf}
 use Rattle.roff_num.specs.declared.limit.Limit.{Limit}
 use Rattle.roff_scan.specs.Half.{unit_bytes}
 use Rattle.roff_scan.specs.Input.{adding, calling, holding_plain, texts_of}
@@ -93,11 +93,11 @@ pub refused_none : (r : Capped) (u : PageUnread) → IsReady r u → input_refus
 refused_none r u ready = sym (first_passed-few_names u.limits r.all u.input (few_names r u ready)) ∙ ready.within
 
 -- the input became this, and this is read on
-pub TakesAs-became : (i : PageInput) (place : Reading) (env : Env) (old new : ReaderState) (before behind : PageUnread) (m : Meaning) (done : Unit {0})
+pub TakesAs-became : (i : PageInput) (place : Reading) (es : EnvironmentsOf) (old new : ReaderState) (before behind : PageUnread) (m : Meaning) (done : Unit {0})
     → InputBecame i before behind (Ok done) → new ≡ record old { reading = place } → m.message ≡ None → m.events.items ≡ []
-    → TakesAs (λ k. going_on i place) env old new before behind (Ok m)
-TakesAs-became i place env old new before behind m done became came silent none = record {
-  takes = λ cap h stands ready.
+    → TakesAs (λ k. going_on i place) es old new before behind (Ok m)
+TakesAs-became i place es old new before behind m done became came silent none = record {
+  takes = λ l h stands ready.
       let now = became.becomes (refused_none old.registers before ready) in
       record {
         became = record {
@@ -112,10 +112,10 @@ TakesAs-became i place env old new before behind m done became came silent none 
 }
 
 -- or a limit refuses it
-pub TakesAs-not_became : (i : PageInput) (place : Reading) (env : Env) (old new : ReaderState) (before behind : PageUnread) (limit : Limit)
-    → InputBecame i before behind (Err limit) → TakesAs (λ k. going_on i place) env old new before behind (Err limit)
-TakesAs-not_became i place env old new before behind limit became = record {
-  takes = λ cap h stands ready.
+pub TakesAs-not_became : (i : PageInput) (place : Reading) (es : EnvironmentsOf) (old new : ReaderState) (before behind : PageUnread) (limit : Limit)
+    → InputBecame i before behind (Err limit) → TakesAs (λ k. going_on i place) es old new before behind (Err limit)
+TakesAs-not_became i place es old new before behind limit became = record {
+  takes = λ l h stands ready.
       first_passed-few_names before.limits old.registers.all i (few_names old.registers before ready)
       ∙ became.becomes (refused_none old.registers before ready);
 }
@@ -189,16 +189,16 @@ InputBecame-new name appends kind before behind result same no_body changes =
     (no_second appends _ (is_body-kind (entry_of (name_bytes name) before.input.names) kind same no_body)) changes
 
 -- what is taken once the input became another
-pub TakesAs-elsewhere : (t : PageInput → Taking) (i : PageInput) (env : Env) (old new : ReaderState) (before mid behind : PageUnread) (done : Unit {0})
-    (result : Result Meaning Limit) → InputBecame i before mid (Ok done) → TakesAs (λ k. t mid.input) env old new mid behind result
-    → TakesAs (λ k. t i) env old new before behind result
-TakesAs-elsewhere t i env old new before mid behind done result became takes = record {
-  takes = λ cap h stands ready.
+pub TakesAs-elsewhere : (t : PageInput → Taking) (i : PageInput) (es : EnvironmentsOf) (old new : ReaderState) (before mid behind : PageUnread) (done : Unit {0})
+    (result : Result Meaning Limit) → InputBecame i before mid (Ok done) → TakesAs (λ k. t mid.input) es old new mid behind result
+    → TakesAs (λ k. t i) es old new before behind result
+TakesAs-elsewhere t i es old new before mid behind done result became takes = record {
+  takes = λ l h stands ready.
       let now = became.becomes (refused_none old.registers before ready) in
-      let moved : TakesAs (λ k. t i) env old new (record before { input = i }) behind result =
-      subst (λ (u : PageUnread). TakesAs (λ k. t u.input) env old new u behind result) now.0 takes in
+      let moved : TakesAs (λ k. t i) es old new (record before { input = i }) behind result =
+      subst (λ (u : PageUnread). TakesAs (λ k. t u.input) es old new u behind result) now.0 takes in
       let within = first_passed-few_names before.limits old.registers.all i (few_names old.registers before ready) ∙ now.1 in
-      Takes-elsewhere (t i) old.registers new before behind i result (moved.takes cap h stands (record { cap = ready.cap; within = within }));
+      Takes-elsewhere (t i) old.registers new before behind i result (moved.takes l h stands (record { cap = ready.cap; within = within }));
 }
 
 -- another unit than a newline or a quote may be the text's first one, where no quote follows the quote before

@@ -8,6 +8,7 @@ use Rattle.std.proofs.lemmas.List.{append-nil, length-append, length-replicate, 
 use Rattle.std.proofs.lemmas.List.Elements.{All-head, All-tail}
 use Rattle.std.proofs.lemmas.List.Sums.{sum_by-cons}
 use Rattle.roff_lines.specs.Glyphs.{glyph_text, glyph_blank}
+use Rattle.roff_lines.specs.Places.{tab_width}
 use Rattle.roff_lines.specs.Words.{blanks, has_open_word, is_empty, open_glyphs, words}
 use Rattle.roff_lines.specs.declared.glyph.Glyph.{Glyph}
 use Rattle.roff_lines.specs.declared.glyph.Glyph.TheVariants.{Blanks}
@@ -24,7 +25,7 @@ use Rattle.roff_scan.specs.Unread.{seen_ahead}
 use Rattle.roff_scan.specs.declared.half.Read.TheVariants.{GoesOn, Measures}
 use Rattle.roff_scan.specs.declared.half.Surroundings.{Surroundings}
 use Rattle.roff_scan.specs.declared.half.Surroundings.TheVariants.{Text as AboveText, Arguments as AboveArguments, Copy as AboveCopy}
-use Rattle.roff_run.proofs.Interpolation.{Fits-IsWithin, FindsAtLast, AtLast, Behind, FromAhead, FromSource, IsRead, IsRead-itself, Means, Origin, ReadsEscapes, AtBeginning, AtBranch, AtBraced, OnText, OnArguments, OnCondition, OnStringName, OnCall, OnStringText, OnDefinition, OnMessage, ReadsEscapes-reads_escapes, after-escape, ahead_at, going, input_of, interrupted-arguments, is-going, is_no_newline, line_behind, not-first, not-second, read_in, settled_for, settled_for-settled_for, settled_input, source_behind, step-byte, tape_at, taken_as-going_on, taking-reads, made-Fits, none_due-reads, step-TakesItems}
+use Rattle.roff_run.proofs.Interpolation.{Fits-IsWithin, FindsAtLast, AtLast, Behind, FromAhead, FromSource, IsRead, IsRead-itself, Means, Origin, ReadsEscapes, AtBeginning, AtBranch, AtBraced, OnText, OnArguments, OnCondition, OnStringName, OnCall, OnStringText, OnDefinition, OnMessage, ReadsEscapes-reads_escapes, above, after-escape, ahead_at, going, input_of, interrupted-arguments, is-going, is_no_newline, line_behind, not-first, not-second, read_in, settled_for, settled_for-settled_for, settled_input, source_behind, step-byte, tape_at, taken_as-going_on, taking-reads, made-Fits, none_due-reads, step-TakesItems}
 use Rattle.roff_run.specs.InterpolationLaws.{TakesItems, StandsForItself, reads_escapes}
 use Rattle.roff_run.specs.Laws.{IsWithin}
 use Rattle.roff_run.specs.Output.{text_of}
@@ -32,30 +33,30 @@ use Rattle.roff_run.specs.Reading.{PageInput, Taking, measuring, taking, half_en
 use Rattle.roff_run.specs.Registers.{Known}
 use Rattle.roff_run.specs.Requests.{PageEvent}
 use Rattle.roff_run.specs.Run.{State, after, first_passed, known, step, taken_as, answered, awaited, awaited_of_source, ending_input, half_ends, in_front_taken, made, item_read}
-use Rattle.roff_run.specs.WidthLaws.{MayDelimit, IsPlain, text_units, width_escape, measures_texts, with_width_ahead, WidthsReadAsDigits, WidthsOfTheSourceReadAsDigits, MeasuredTextsReadAsDigits, MeasuredTextsOfTheSourceReadAsDigits, MotionsAreAsLongAsTheirColumns, MotionsCountInTheLine, EndsText, NewlineAhead, NewlineOfTheSource, EndOfTheSource, WidthsEndWithTheirLine}
+use Rattle.roff_run.specs.WidthLaws.{MayDelimit, IsPlain, text_units, width_escape, measures_texts, with_width_ahead, WidthsReadAsDigits, WidthsOfTheSourceReadAsDigits, MeasuredTextsReadAsDigits, MeasuredTextsOfTheSourceReadAsDigits, MotionsAreAsLongAsTheirColumns, MotionsCountInTheLine, TabsAreAsLongAsTheirColumns, TabsCountInTheLine, EndsText, NewlineAhead, NewlineOfTheSource, EndOfTheSource, WidthsEndWithTheirLine}
 use Rattle.roff_run.specs.declared.reading.Reading.{Reading}
 use Rattle.roff_run.specs.declared.reading.Reading.TheVariants.{LineStart, Branch, Braced, Text as InText, Control, Name as NameOf, Arguments as InArguments, Deciding, StringName, StringText, Skipping, Dropped, Telling, Told, Exiting, Calling, Defining}
 
 -- a width was measured where escapes are read
-read_in-measures : (k : Known) (reading : Reading) (base : Surroundings) (i : PageInput) (half : List Half) (width : ℕ) → ReadsEscapes reading base
+read_in-measures : (k : Known) (reading : Reading) (i : PageInput) (half : List Half) (width : ℕ) → ReadsEscapes reading
     → read_in k reading i (Measures width, half) ≡ measuring (settled_input reading half i) reading width
-read_in-measures k _ _ i half width AtBeginning = refl
-read_in-measures k _ _ i half width AtBranch = refl
-read_in-measures k _ _ i half width AtBraced = refl
-read_in-measures k _ _ i half width (OnText line) = refl
-read_in-measures k _ _ i half width (OnArguments breaks request) = refl
-read_in-measures k _ _ i half width (OnCondition keeps) = refl
-read_in-measures k _ _ i half width (OnStringName appends) = refl
-read_in-measures k _ _ i half width (OnCall string) = refl
-read_in-measures k _ _ i half width (OnStringText string appends is_front) = refl
-read_in-measures k _ _ i half width (OnDefinition string appends end matched) = refl
-read_in-measures k _ _ i half width (OnMessage aborts is_front) = refl
+read_in-measures k _ i half width AtBeginning = refl
+read_in-measures k _ i half width AtBranch = refl
+read_in-measures k _ i half width AtBraced = refl
+read_in-measures k _ i half width (OnText line) = refl
+read_in-measures k _ i half width (OnArguments breaks request) = refl
+read_in-measures k _ i half width (OnCondition keeps) = refl
+read_in-measures k _ i half width (OnStringName appends) = refl
+read_in-measures k _ i half width (OnCall string) = refl
+read_in-measures k _ i half width (OnStringText string appends is_front) = refl
+read_in-measures k _ i half width (OnDefinition string appends end matched) = refl
+read_in-measures k _ i half width (OnMessage aborts is_front) = refl
 
 -- a byte that ends a text that is measured
-taking-measures : (k : Known) (reading : Reading) (base : Surroundings) (i : PageInput) (b width : ℕ) (half : List Half) → ReadsEscapes reading base
-    → IsRead b → byte_read base i.half b ≡ (Measures width, half) → taking k reading i b ≡ measuring (settled_input reading half i) reading width
-taking-measures k reading base i b width half on read reads =
-    taking-reads k reading base i b on read ∙ ap (read_in k reading i) reads ∙ read_in-measures k reading base i half width on
+taking-measures : (k : Known) (reading : Reading) (i : PageInput) (b width : ℕ) (half : List Half) → ReadsEscapes reading
+    → IsRead b → byte_read (above k reading) i.half b ≡ (Measures width, half) → taking k reading i b ≡ measuring (settled_input reading half i) reading width
+taking-measures k reading i b width half on read reads =
+    taking-reads k reading i b on read ∙ ap (read_in k reading i) reads ∙ read_in-measures k reading i half width on
 
 -- a width was measured in such a run
 abbrev measured : State → Reading → Origin → Arguments → List Half → ℕ → ℕ → ℕ → State
@@ -64,13 +65,13 @@ measured s reading from a half charge line width =
     record t { input = pushing (decimal width) t.input }
 
 -- a byte that finds it
-means-measures : (s : State) (reading : Reading) (base : Surroundings) (from : Origin) (a : Arguments) (charge line width : ℕ) (behind : List Half)
-    → ReadsEscapes reading base
-    → Means s reading base from a charge line (Measures width) behind (measured s reading from (settled_for reading a) behind charge line width)
-means-measures s reading base from a charge line width behind on half b read reads =
+means-measures : (s : State) (reading : Reading) (from : Origin) (a : Arguments) (charge line width : ℕ) (behind : List Half)
+    → ReadsEscapes reading
+    → Means s reading from a charge line (Measures width) behind (measured s reading from (settled_for reading a) behind charge line width)
+means-measures s reading from a charge line width behind on half b read reads =
     let before : State = going s reading from [] a half charge line in
     let i : PageInput = input_of s from [] (settled_for reading a) behind charge line in
-    ap (λ (taking : Taking). taken_as taking before) (taking-measures (known s) reading base before.input b width behind on read reads)
+    ap (λ (taking : Taking). taken_as taking before) (taking-measures (known s) reading before.input b width behind on read reads)
     ∙ taken_as-going_on (pushing (decimal width) i) reading before
 
 -- its digits ahead of what is behind the bytes
@@ -78,22 +79,22 @@ abbrev width_from : Origin → ℕ → List Half → ℕ → State → State
 width_from from width half taken s = with_width_ahead width half taken (ahead_at from []) (source_behind from s)
 
 -- before them no quote follows the quote before
-with_width_ahead-arguments : (width : ℕ) (half : List Half) (taken : ℕ) (rest : List (Ahead PageEvent)) (s : State) (base : Surroundings) → ReadsEscapes s.reading base
+with_width_ahead-arguments : (width : ℕ) (half : List Half) (taken : ℕ) (rest : List (Ahead PageEvent)) (s : State) → ReadsEscapes s.reading
     → with_width_ahead width half taken rest s
     ≡ record s { input = pushing (decimal width) (record (settled_input s.reading half s.input) { ahead = rest; charge = s.input.charge + taken }) }
-with_width_ahead-arguments width half taken rest s base on =
+with_width_ahead-arguments width half taken rest s on =
     ap (λ (i : PageInput). record s { input = pushing (decimal width) (record i { ahead = rest; half = half; charge = s.input.charge + taken }) })
-    (interrupted-arguments s.reading base s.input on)
+    (interrupted-arguments s.reading s.input on)
 
 -- so it is the width that was measured
-width_from-measured : (s : State) (reading : Reading) (base : Surroundings) (from : Origin) (bytes : List ℕ) (a : Arguments) (half behind : List Half)
-    (charge taken line width : ℕ) → ReadsEscapes reading base
+width_from-measured : (s : State) (reading : Reading) (from : Origin) (bytes : List ℕ) (a : Arguments) (half behind : List Half)
+    (charge taken line width : ℕ) → ReadsEscapes reading
     → width_from from width behind taken (going s reading from bytes a half charge line)
     ≡ measured s reading from (settled_for reading a) behind (charge + taken) (line_behind from s line) width
-width_from-measured s reading base (FromAhead rest) bytes a half behind charge taken line width on =
-    with_width_ahead-arguments width behind taken rest (going s reading (FromAhead rest) bytes a half charge line) base on
-width_from-measured s reading base (FromSource tape) bytes a half behind charge taken line width on =
-    with_width_ahead-arguments width behind taken [] (going s reading (FromSource tape) [] a half charge (s.input.newlines + 1)) base on
+width_from-measured s reading (FromAhead rest) bytes a half behind charge taken line width on =
+    with_width_ahead-arguments width behind taken rest (going s reading (FromAhead rest) bytes a half charge line) on
+width_from-measured s reading (FromSource tape) bytes a half behind charge taken line width on =
+    with_width_ahead-arguments width behind taken [] (going s reading (FromSource tape) [] a half charge (s.input.newlines + 1)) on
 
 -- a byte is itself
 itself : (b : ℕ) → (b == b) ≡ true
@@ -105,20 +106,20 @@ byte_read-delimiter : (base : Surroundings) (d width : ℕ) (is_deep : Bool) (ha
 byte_read-delimiter base d width is_deep half = rw (itself d) refl
 
 -- the step at it
-step-delimiter : (l : Limits) (s : State) (reading : Reading) (base : Surroundings) (from : Origin) (a : Arguments) (d width : ℕ) (is_deep : Bool)
-    (half : List Half) (charge line : ℕ) → ReadsEscapes reading base → MayDelimit d
+step-delimiter : (l : Limits) (s : State) (reading : Reading) (from : Origin) (a : Arguments) (d width : ℕ) (is_deep : Bool)
+    (half : List Half) (charge line : ℕ) → ReadsEscapes reading → MayDelimit d
     → let first : State = going s reading from (d ∷ []) a (Width (Some d) width is_deep ∷ half) charge line in
     let read : State = width_from from width half 1 first in
     IsWithin l first → IsWithin l read → step l first ≡ read
-step-delimiter l s reading base from a d width is_deep half charge line on may within within_read =
+step-delimiter l s reading from a d width is_deep half charge line on may within within_read =
     let text : List Half = Width (Some d) width is_deep ∷ half in
     let next : ℕ = line_behind from s line in
     let t : State = measured s reading from (settled_for reading a) half (charge + 1) next width in
     let is : width_from from width half 1 (going s reading from (d ∷ []) a text charge line) ≡ t =
-    width_from-measured s reading base from (d ∷ []) a text half charge 1 line width on in
+    width_from-measured s reading from (d ∷ []) a text half charge 1 line width on in
     let within_t : IsWithin l t = subst (IsWithin l) is within_read in
-    step-byte l s reading from d [] a text charge line t (none_due-reads reading base on) may (not-second (is_dropped d) (d == newline) may) within_t.bytes
-    (means-measures s reading base from a (charge + 1) next width half on text d may (byte_read-delimiter base d width is_deep half))
+    step-byte l s reading from d [] a text charge line t (none_due-reads reading on) may (not-second (is_dropped d) (d == newline) may) within_t.bytes
+    (means-measures s reading from a (charge + 1) next width half on text d may (byte_read-delimiter (above (known s) reading) d width is_deep half))
     (Fits-IsWithin l t within_t)
     ∙ sym is
 
@@ -129,12 +130,12 @@ delimiter-reads : (l : Limits) (s : State) (from : Origin) (d width : ℕ) (is_d
     → let read : State = width_from from width half 1 s in
     IsWithin l s → IsWithin l read → step l s ≡ read
 delimiter-reads l s from d width is_deep half may takes reads measures ahead tape =
-    let on = ReadsEscapes-reads_escapes s.reading reads in
+    let on : ReadsEscapes s.reading = ReadsEscapes-reads_escapes s.reading reads in
     let Goal : State → Type 0 = λ t. IsWithin l t → IsWithin l (width_from from width half 1 t) → step l t ≡ width_from from width half 1 t in
     let is : going s s.reading from (d ∷ []) s.input.arguments (Width (Some d) width is_deep ∷ half) s.input.charge s.input.line ≡ s =
     ap (λ (h : List Half). going s s.reading from (d ∷ []) s.input.arguments h s.input.charge s.input.line) (sym measures)
     ∙ is-going s from (d ∷ []) takes ahead tape in
-    subst Goal is (step-delimiter l s s.reading on.0 from s.input.arguments d width is_deep half s.input.charge s.input.line on.1 may)
+    subst Goal is (step-delimiter l s s.reading from s.input.arguments d width is_deep half s.input.charge s.input.line on may)
 
 pub widths_read_as_digits : WidthsReadAsDigits
 widths_read_as_digits l s d width is_deep half rest may takes reads measures ahead =
@@ -145,28 +146,28 @@ widths_of_the_source_read_as_digits l s d width is_deep half tape may takes read
     delimiter-reads l s (FromSource tape) d width is_deep half may takes reads measures none stands
 
 -- what is half read ends
-half_ended-reads : (k : Known) (reading : Reading) (base : Surroundings) (i : PageInput) → ReadsEscapes reading base
-    → half_ended k reading i ≡ read_in k reading i (reading_ended base i.half)
-half_ended-reads k _ _ i AtBeginning = refl
-half_ended-reads k _ _ i AtBranch = refl
-half_ended-reads k _ _ i AtBraced = refl
-half_ended-reads k _ _ i (OnText line) = refl
-half_ended-reads k _ _ i (OnArguments breaks request) = refl
-half_ended-reads k _ _ i (OnCondition keeps) = refl
-half_ended-reads k _ _ i (OnStringName appends) = refl
-half_ended-reads k _ _ i (OnCall string) = refl
-half_ended-reads k _ _ i (OnStringText string appends is_front) = refl
-half_ended-reads k _ _ i (OnDefinition string appends end matched) = refl
-half_ended-reads k _ _ i (OnMessage aborts is_front) = refl
+half_ended-reads : (k : Known) (reading : Reading) (i : PageInput) → ReadsEscapes reading
+    → half_ended k reading i ≡ read_in k reading i (reading_ended (above k reading) i.half)
+half_ended-reads k _ i AtBeginning = refl
+half_ended-reads k _ i AtBranch = refl
+half_ended-reads k _ i AtBraced = refl
+half_ended-reads k _ i (OnText line) = refl
+half_ended-reads k _ i (OnArguments breaks request) = refl
+half_ended-reads k _ i (OnCondition keeps) = refl
+half_ended-reads k _ i (OnStringName appends) = refl
+half_ended-reads k _ i (OnCall string) = refl
+half_ended-reads k _ i (OnStringText string appends is_front) = refl
+half_ended-reads k _ i (OnDefinition string appends end matched) = refl
+half_ended-reads k _ i (OnMessage aborts is_front) = refl
 
 -- the end of a text that is measured
-half_ended-measures : (k : Known) (reading : Reading) (base : Surroundings) (i : PageInput) (delimiter : Option ℕ) (width : ℕ) (is_deep : Bool) (half : List Half)
-    → ReadsEscapes reading base → i.half ≡ Width delimiter width is_deep ∷ half
+half_ended-measures : (k : Known) (reading : Reading) (i : PageInput) (delimiter : Option ℕ) (width : ℕ) (is_deep : Bool) (half : List Half)
+    → ReadsEscapes reading → i.half ≡ Width delimiter width is_deep ∷ half
     → half_ended k reading i ≡ measuring (settled_input reading half i) reading width
-half_ended-measures k reading base i delimiter width is_deep half on measures =
-    half_ended-reads k reading base i on
-    ∙ ap (λ (h : List Half). read_in k reading i (reading_ended base h)) measures
-    ∙ read_in-measures k reading base i half width on
+half_ended-measures k reading i delimiter width is_deep half on measures =
+    half_ended-reads k reading i on
+    ∙ ap (λ (h : List Half). read_in k reading i (reading_ended (above k reading) h)) measures
+    ∙ read_in-measures k reading i half width on
 
 -- where it ends so, its end is the step
 item_read-ends : (l : Limits) (s : State) (delimiter : Option ℕ) (width : ℕ) (is_deep : Bool) (half : List Half) → EndsText s
@@ -191,13 +192,13 @@ item_read-ends l s delimiter width is_deep half (EndOfTheSource ahead ends) meas
 
 pub widths_end_with_their_line : WidthsEndWithTheirLine
 widths_end_with_their_line l s delimiter width is_deep half ends takes reads measures within within_read =
-    let on = ReadsEscapes-reads_escapes s.reading reads in
+    let on : ReadsEscapes s.reading = ReadsEscapes-reads_escapes s.reading reads in
     let read : State = with_width_ahead width half 0 s.input.ahead s in
     let is : half_ends s ≡ read =
-    ap (λ (taking : Taking). taken_as taking s) (half_ended-measures (known s) s.reading on.0 s.input delimiter width is_deep half on.1 measures)
+    ap (λ (taking : Taking). taken_as taking s) (half_ended-measures (known s) s.reading s.input delimiter width is_deep half on measures)
     ∙ taken_as-going_on (pushing (decimal width) (settled_input s.reading half s.input)) s.reading s
     ∙ ap (λ (c : ℕ). let t : State = record s { input = pushing (decimal width) (record (settled_input s.reading half s.input) { charge = c }) } in t) (omega arith)
-    ∙ sym (with_width_ahead-arguments width half 0 s.input.ahead s on.0 on.1) in
+    ∙ sym (with_width_ahead-arguments width half 0 s.input.ahead s on) in
     step-TakesItems l s takes ∙ item_read-ends l s delimiter width is_deep half ends measures
     ∙ ap (made l s) is ∙ made-Fits l s read (Fits-IsWithin l read within_read)
 
@@ -259,22 +260,22 @@ reads_escapes-measures_texts (Told aborts) is = absurd (cc)
 reads_escapes-measures_texts Exiting is = absurd (cc)
 
 -- above a text line and above arguments widths are read, but not where a string's text is copied
-reads_widths-above : (reading : Reading) (base : Surroundings) → ReadsEscapes reading base → measures_texts reading ≡ true → reads_widths base ≡ true
-reads_widths-above _ _ AtBeginning reads = refl
-reads_widths-above _ _ AtBranch reads = refl
-reads_widths-above _ _ AtBraced reads = refl
-reads_widths-above _ _ (OnText line) reads = refl
-reads_widths-above _ _ (OnArguments breaks request) reads = refl
-reads_widths-above _ _ (OnCondition keeps) reads = refl
-reads_widths-above _ _ (OnStringName appends) reads = refl
-reads_widths-above _ _ (OnCall string) reads = refl
-reads_widths-above _ _ (OnStringText string appends is_front) reads = absurd (cc)
-reads_widths-above _ _ (OnDefinition string appends end matched) reads = absurd (cc)
-reads_widths-above _ _ (OnMessage aborts is_front) reads = absurd (cc)
+reads_widths-above : (k : Known) (reading : Reading) → ReadsEscapes reading → measures_texts reading ≡ true → reads_widths (above k reading) ≡ true
+reads_widths-above k _ AtBeginning reads = refl
+reads_widths-above k _ AtBranch reads = refl
+reads_widths-above k _ AtBraced reads = refl
+reads_widths-above k _ (OnText line) reads = refl
+reads_widths-above k _ (OnArguments breaks request) reads = refl
+reads_widths-above k _ (OnCondition keeps) reads = refl
+reads_widths-above k _ (OnStringName appends) reads = refl
+reads_widths-above k _ (OnCall string) reads = refl
+reads_widths-above k _ (OnStringText string appends is_front) reads = absurd (cc)
+reads_widths-above k _ (OnDefinition string appends end matched) reads = absurd (cc)
+reads_widths-above k _ (OnMessage aborts is_front) reads = absurd (cc)
 
 -- `w`
 byte_read-w : (base : Surroundings) → reads_widths base ≡ true → byte_read base (Backslash ∷ []) 119 ≡ (GoesOn, Width None 0 false ∷ [])
-byte_read-w AboveText reads = refl
+byte_read-w (AboveText place) reads = refl
 byte_read-w AboveArguments reads = refl
 byte_read-w AboveCopy reads = absurd (cc)
 
@@ -287,25 +288,25 @@ finds-escape base d text reads may plain =
     (Behind (Width None 0 false ∷ []) (Width (Some d) 0 false ∷ []) d (text ++ d ∷ []) may (not-second (is_dropped d) (d == newline) may) refl refl (finds-text base d 0 text may plain)))
 
 -- the steps at the escape
-after-width : (l : Limits) (s : State) (reading : Reading) (base : Surroundings) (from : Origin) (a : Arguments) (d : ℕ) (text : List ℕ) (charge line : ℕ)
-    → ReadsEscapes reading base → measures_texts reading ≡ true → MayDelimit d → IsPlain d text
+after-width : (l : Limits) (s : State) (reading : Reading) (from : Origin) (a : Arguments) (d : ℕ) (text : List ℕ) (charge line : ℕ)
+    → ReadsEscapes reading → measures_texts reading ≡ true → MayDelimit d → IsPlain d text
     → let first : State = going s reading from (width_escape d text) a [] charge line in
     let read : State = width_from from (text_units text) [] (length (width_escape d text)) first in
     IsWithin l first → IsWithin l read → after l (length (width_escape d text)) first ≡ read
-after-width l s reading base from a d text charge line on reads may plain within within_read =
+after-width l s reading from a d text charge line on reads may plain within within_read =
     let escape : List ℕ = width_escape d text in
     let total : ℕ = charge + length escape in
     let next : ℕ = line_behind from s line in
     let there : Arguments = settled_for reading a in
     let t : State = measured s reading from there [] total next (text_units text) in
     let is : width_from from (text_units text) [] (length escape) (going s reading from escape a [] charge line) ≡ t =
-    width_from-measured s reading base from escape a [] [] charge (length escape) line (text_units text) on in
+    width_from-measured s reading from escape a [] [] charge (length escape) line (text_units text) on in
     let within_t : IsWithin l t = subst (IsWithin l) is within_read in
-    let means : Means s reading base from there total next (Measures (text_units text)) [] t =
-    subst (λ (b : Arguments). Means s reading base from there total next (Measures (text_units text)) [] (measured s reading from b [] total next (text_units text)))
-    (settled_for-settled_for reading base a on) (means-measures s reading base from there total next (text_units text) [] on) in
-    after-escape l s reading base from a (Measures (text_units text)) [] [] (119 ∷ d ∷ text ++ d ∷ []) charge line t on refl refl
-    (finds-escape base d text (reads_widths-above reading base on reads) may plain) within_t.bytes
+    let means : Means s reading from there total next (Measures (text_units text)) [] t =
+    subst (λ (b : Arguments). Means s reading from there total next (Measures (text_units text)) [] (measured s reading from b [] total next (text_units text)))
+    (settled_for-settled_for reading a on) (means-measures s reading from there total next (text_units text) [] on) in
+    after-escape l s reading from a (Measures (text_units text)) [] [] (119 ∷ d ∷ text ++ d ∷ []) charge line t on refl refl
+    (finds-escape (above (known s) reading) d text (reads_widths-above (known s) reading on reads) may plain) within_t.bytes
     (Fits-IsWithin l (going s reading from escape a [] charge line) within) means (Fits-IsWithin l t within_t)
     ∙ sym is
 
@@ -315,7 +316,7 @@ width-reads : (l : Limits) (s : State) (from : Origin) (d : ℕ) (text : List �
     → let read : State = width_from from (text_units text) [] (length (width_escape d text)) s in
     IsWithin l s → IsWithin l read → after l (length (width_escape d text)) s ≡ read
 width-reads l s from d text may plain takes reads none ahead tape =
-    let on = ReadsEscapes-reads_escapes s.reading (reads_escapes-measures_texts s.reading reads) in
+    let on : ReadsEscapes s.reading = ReadsEscapes-reads_escapes s.reading (reads_escapes-measures_texts s.reading reads) in
     let escape : List ℕ = width_escape d text in
     let Goal : State → Type 0 = λ t.
     IsWithin l t → IsWithin l (width_from from (text_units text) [] (length escape) t)
@@ -323,7 +324,7 @@ width-reads l s from d text may plain takes reads none ahead tape =
     let is : going s s.reading from escape s.input.arguments [] s.input.charge s.input.line ≡ s =
     ap (λ (h : List Half). going s s.reading from escape s.input.arguments h s.input.charge s.input.line) (sym none)
     ∙ is-going s from escape takes ahead tape in
-    subst Goal is (after-width l s s.reading on.0 from s.input.arguments d text s.input.charge s.input.line on.1 reads may plain)
+    subst Goal is (after-width l s s.reading from s.input.arguments d text s.input.charge s.input.line on reads may plain)
 
 pub measured_texts_read_as_digits : MeasuredTextsReadAsDigits
 measured_texts_read_as_digits l s d text rest may plain takes reads none ahead =
@@ -358,3 +359,9 @@ motions_are_as_long_as_their_columns h n =
 pub motions_count_in_the_line : MotionsCountInTheLine
 motions_count_in_the_line l h n =
     ap (λ (count : ℕ). first_passed l ((Line, count) ∷ [])) (motions_are_as_long_as_their_columns (text_of h) n)
+
+pub tabs_are_as_long_as_their_columns : TabsAreAsLongAsTheirColumns
+tabs_are_as_long_as_their_columns h = motions_are_as_long_as_their_columns h (tab_width h)
+
+pub tabs_count_in_the_line : TabsCountInTheLine
+tabs_count_in_the_line l h = refl

@@ -5,8 +5,8 @@ use Rattle.roff_num.specs.Lists.{IsBeginning}
 use Rattle.roff_num.specs.declared.limit.Limit.{Limit}
 use Rattle.roff_run.specs.declared.status.Status.TheVariants.{Device, Limit as Limited}
 use Rattle.roff_num.specs.declared.limits.Limits.{Limits}
+use Rattle.roff_run.specs.Environments.{Environments, environments}
 use Rattle.roff_run.specs.Limits.{AreWithin}
-use Rattle.roff_run.specs.Output.{text_of}
 use Rattle.roff_run.specs.Run.{State, initial, after, output, reported}
 use Rattle.roff_scan.specs.Input.{names_added, pushed, depth, results, stored}
 use Rattle.roff_scan.specs.Tape.{Tape, Item, Ending, Failed}
@@ -56,6 +56,13 @@ SameUntilTheFault =
     let whole : State = after l n (initial (going_on_behind items more ending)) in
     cut.ended ≢ Some Device → over cut.tape whole ≡ cut
 
+-- the pending line of each environment is within the limit on lines, and so few of them were left as may be
+pub record EnvironmentsWithin (l : Limits) (es : Environments) : Type 0 where
+  pub in_force : pending_length es.in_force.text ≤ l.line
+  pub next : pending_length es.next.text ≤ l.line
+  pub last : pending_length es.last.text ≤ l.line
+  pub left : length es.left ≤ l.environments
+
 -- a state is within the limits: it took no more, and no count is above its limit
 pub record IsWithin (l : Limits) (s : State) : Type 0 where
   pub bytes : s.input.charge ≤ l.bytes
@@ -66,7 +73,7 @@ pub record IsWithin (l : Limits) (s : State) : Type 0 where
   pub making : length s.input.open_texts ≤ l.diversions + 1
   pub conditions : results s.input ≤ l.conditions
   pub names : length s.registers.named ≤ l.names
-  pub line : pending_length (text_of s.history) ≤ l.line
+  pub environments : EnvironmentsWithin l (environments s.history)
 
 -- no run passes a limit
 abbrev pub NoLimitIsPassed : Type 0

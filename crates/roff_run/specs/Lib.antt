@@ -5,6 +5,9 @@ pub mod Numbers
 pub mod Registers
 pub mod RegisterLaws
 pub mod Requests
+pub mod Events
+pub mod Environments
+pub mod EnvironmentLaws
 pub mod RequestLaws
 pub mod Request
 pub mod ShortNames

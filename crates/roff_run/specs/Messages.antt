@@ -2,7 +2,7 @@
 use Rattle.std.specs.Prelude.{ℕ, Bool, true, false, List, [], ◌∷◌, ◌++◌, codes, decimal, Option, Some, None}
 use Rattle.roff_num.specs.LimitNames.{limit_name}
 use Rattle.roff_run.specs.declared.message.Message.{Message}
-use Rattle.roff_run.specs.declared.message.Message.TheVariants.{LimitReached, BadNumber, BadFormat, BackwardMotion, LeftOut, UnknownCharacter, DefinitionNotEnded, ReadFailed, WriteFailed}
+use Rattle.roff_run.specs.declared.message.Message.TheVariants.{LimitReached, BadNumber, BadFormat, BackwardMotion, LeftOut, UnknownCharacter, NoSuchEnvironment, DefinitionNotEnded, ReadFailed, WriteFailed}
 use Rattle.roff_run.specs.declared.message.CharacterName.{CharacterName}
 use Rattle.roff_run.specs.declared.message.CharacterName.TheVariants.{Nothing, One, Two}
 use Rattle.roff_scan.specs.Bytes.{newline, backslash}
@@ -31,6 +31,7 @@ message_text BadFormat = codes "bad format"
 message_text BackwardMotion = codes "backward motion"
 message_text (LeftOut name) = codes "left out: " ++ name
 message_text (UnknownCharacter name) = codes "unknown character: " ++ name_bytes name
+message_text NoSuchEnvironment = codes "no such environment"
 message_text DefinitionNotEnded = codes "definition not ended"
 message_text ReadFailed = codes "read failed"
 message_text WriteFailed = codes "write failed"

@@ -1,20 +1,10 @@
 -- What a history writes.
 use Rattle.std.specs.Prelude.{ℕ, List, [], ◌∷◌, ◌++◌, replicate, Option, Some, None}
-use Rattle.roff_lines.specs.Events.{History}
 use Rattle.roff_lines.specs.Lines.{Finished, finished}
 use Rattle.roff_lines.specs.Columns.{line_bytes}
 use Rattle.roff_scan.specs.Bytes.{newline}
-use Rattle.roff_run.specs.Requests.{PageEvent, Text, Space}
-
--- all that happened to the page, the newest first
-abbrev pub PageHistory : Type 0
-PageHistory = List PageEvent
-
--- what happened to the text
-abbrev pub text_of : PageHistory → History
-text_of [] = []
-text_of (Text e ∷ h) = e ∷ text_of h
-text_of (Space lines ∷ h) = text_of h
+use Rattle.roff_run.specs.Requests.{PageEvent, Text, Space, Interrupt, Environment, Back}
+pub use Rattle.roff_run.specs.Environments.{PageHistory, text_of}
 
 -- what is written of a line that an event finishes, if it finishes one
 abbrev pub finished_bytes : Option Finished → List ℕ
@@ -25,6 +15,9 @@ finished_bytes (Some line) = line_bytes line
 abbrev pub written_by : PageHistory → PageEvent → List ℕ
 written_by h (Text e) = finished_bytes (finished (text_of h) e)
 written_by h (Space lines) = replicate lines newline
+written_by h (Interrupt untold) = []
+written_by h (Environment number) = []
+written_by h Back = []
 
 -- what a history has written, event by event
 abbrev pub written : PageHistory → List ℕ

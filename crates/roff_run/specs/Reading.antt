@@ -1,6 +1,6 @@
 -- What is being read, and what each byte means there (manual, sections 1.1, 4.1, 8, 10.1 and 16).
-use Rattle.std.specs.Prelude.{◌≡◌, ℕ, get_or, ◌+◌, ◌-◌, Bool, true, false, ◌||◌, ◌&&◌, not, nat_le, List, [], ◌∷◌, ◌++◌, decimal, map, reverse, length, min, Some, None, Option, if◌then◌else◌, ◌==◌}
-use Rattle.roff_lines.specs.declared.event.Event.TheVariants.{Print, WordEnd, Gap, LineEnd, Break}
+use Rattle.std.specs.Prelude.{◌≡◌, ℕ, ℤ, pos, get_or, ◌+◌, ◌-◌, Bool, true, false, ◌||◌, ◌&&◌, not, nat_le, List, [], ◌∷◌, ◌++◌, decimal, map, reverse, length, min, Some, None, Option, if◌then◌else◌, ◌==◌}
+use Rattle.roff_lines.specs.declared.event.Event.TheVariants.{Print, Tab, WordEnd, Gap, LineEnd, Count, Break, Resume}
 use Rattle.roff_lines.specs.declared.glyph.Glyph.{Glyph}
 use Rattle.roff_lines.specs.declared.glyph.Glyph.TheVariants.{Printed, Blanks}
 use Rattle.roff_scan.specs.Arguments.{no_arguments, with_unit, settled, only_kept}
@@ -11,7 +11,7 @@ use Rattle.roff_scan.specs.Half.{unit_bytes}
 use Rattle.roff_scan.specs.Halves.{Reads, byte_read, reading_ended}
 use Rattle.roff_scan.specs.Input.{Input, pushing, holding_plain, holding_text, choosing, keeping, kept_last, without_last, texts_of, calling, body_named, adding, entering, calling_body, arguments_live, arguments_given, beginning_line, dropping}
 use Rattle.roff_scan.specs.declared.escapes.Escape.{Escape as Kind}
-use Rattle.roff_scan.specs.declared.escapes.Escape.TheVariants.{Prints, Blank, NoWidth, Brace, LeftOut as IsLeftOut, Text as BeginsText}
+use Rattle.roff_scan.specs.declared.escapes.Escape.TheVariants.{Prints, Blank, NoWidth, Tab as GivesTab, Interrupts, Brace, LeftOut as IsLeftOut, Text as BeginsText}
 use Rattle.roff_scan.specs.declared.escapes.NameUse.{NameUse}
 use Rattle.roff_scan.specs.declared.escapes.NameUse.TheVariants.{Register, Text as OfText, Argument as OfArgument, Character, Font, LeftOut as NameLeftOut}
 use Rattle.roff_scan.specs.declared.escapes.TextUse.TheVariants.{LeftOut as LeftOutText}
@@ -22,6 +22,7 @@ use Rattle.roff_scan.specs.declared.half.Decision.TheVariants.{Is, OnPages}
 use Rattle.roff_scan.specs.declared.half.Read.{Read}
 use Rattle.roff_scan.specs.declared.half.Read.TheVariants.{GoesOn, Unit, Holds, Escape, Asks, Motion, Measures, Tells, Decides}
 use Rattle.roff_scan.specs.declared.half.Remark.{Remark}
+use Rattle.roff_scan.specs.declared.half.Surroundings.{Surroundings}
 use Rattle.roff_scan.specs.declared.half.Surroundings.TheVariants.{Text as AboveText, Arguments as AboveArguments, Copy as AboveCopy}
 use Rattle.roff_store.specs.declared.register.Direction.{Direction}
 use Rattle.roff_store.specs.TextCalls.{Call, Open, Set}
@@ -46,8 +47,8 @@ use Rattle.roff_run.specs.declared.request.LinesFor.{LinesFor}
 use Rattle.roff_run.specs.declared.request.LinesFor.TheVariants.{Macro, Nobody}
 use Rattle.roff_run.specs.declared.request.Called.{Called}
 use Rattle.roff_run.specs.declared.request.Called.TheVariants.{Request as ARequest, Body as ABody, Nothing as Unknown}
-use Rattle.roff_run.specs.Registers.{Known, is_page_odd, known_behind, step_changes, step_messages, text_of_register}
-use Rattle.roff_run.specs.Requests.{PageEvent, Text, Space, Effect, doing, saying, called_by, row_of, request_effect}
+use Rattle.roff_run.specs.Registers.{Known, in_units, greatest_number, is_page_odd, known_behind, step_changes, step_messages, text_of_register}
+use Rattle.roff_run.specs.Requests.{PageEvent, Text, Space, Interrupt, Effect, doing, saying, called_by, row_of, request_effect}
 
 -- the input, as a run of the formatter has it
 abbrev pub PageInput : Type 0
@@ -86,7 +87,7 @@ blank_line = Text WordEnd ∷ Text Break ∷ Space 1 ∷ []
 -- the end of a text line: one on which nothing but braces and blanks stand does nothing
 abbrev pub text_line_end : TextLine → List PageEvent
 text_line_end line =
-    if line.has_glyph || line.has_other then Text WordEnd ∷ Text LineEnd ∷ []
+    if line.has_glyph || line.has_other then Text WordEnd ∷ Text LineEnd ∷ Text Count ∷ []
     else if line.has_brace then []
     else blank_line
 
@@ -98,6 +99,36 @@ leading_glyph n = if n == 0 then [] else Text (Print (Blanks n)) ∷ []
 abbrev pub leading_blank_events : ℕ → List PageEvent
 leading_blank_events before = if before == 0 then Text WordEnd ∷ Text Break ∷ [] else []
 
+-- The place on the input line behind what is told of it and these leading blanks, in basic units (manual, section 11.1: `\h'|N'`).
+abbrev pub place_behind : Known → ℕ → ℤ
+place_behind k leading = pos (min (in_units (k.place + leading)) greatest_number)
+
+-- how the bytes of a text line are read
+abbrev pub on_line : Known → TextLine → Surroundings
+on_line k line = AboveText (place_behind k line.leading)
+
+-- what is meant behind some events
+abbrev pub behind_events : List PageEvent → Taking → Taking
+behind_events events t = record t { effect = record t.effect { events = events ++ t.effect.events } }
+
+-- a text line that begins: the interrupted one, if one is to go on
+abbrev pub line_begun_as : Option TextLine → TextLine
+line_begun_as None = fresh_line
+line_begun_as (Some line) = line
+
+-- that it goes on is told
+abbrev pub going_on_told : Option TextLine → List PageEvent
+going_on_told None = []
+going_on_told (Some line) = Text Resume ∷ []
+
+-- a text line begins, and does this (manual, section 4.2: the line that was interrupted goes on)
+abbrev pub beginning_text : Known → (TextLine → Taking) → Taking
+beginning_text k does = behind_events (going_on_told k.interrupted) (does (line_begun_as k.interrupted))
+
+-- how the first byte of a line is read
+abbrev pub at_start : Known → Surroundings
+at_start k = on_line k (line_begun_as k.interrupted)
+
 -- glyphs of a text line, behind the leading blanks
 abbrev pub glyphs_taking : PageInput → TextLine → List Glyph → Taking
 glyphs_taking i line glyphs =
@@ -106,6 +137,15 @@ glyphs_taking i line glyphs =
 -- one glyph
 abbrev pub glyph_taking : PageInput → TextLine → Glyph → Taking
 glyph_taking i line glyph = glyphs_taking i line (glyph ∷ [])
+
+-- a tab: a glyph that moves to the next tab stop (manual, section 9.1)
+abbrev pub tab_taking : PageInput → TextLine → Taking
+tab_taking i line =
+    meaning_events i (InText (record line { has_glyph = true; leading = 0 })) (leading_glyph line.leading ++ Text Tab ∷ [])
+
+-- the escape that interrupts the line: the rest of it is dropped, and the next text line goes on (manual, section 4.2)
+abbrev pub interrupt_taking : PageInput → TextLine → Taking
+interrupt_taking i line = meaning_events i Dropped (Interrupt line.leading ∷ [])
 
 -- something of a text line that prints nothing, and makes the line more than blanks
 abbrev pub other_taking : PageInput → TextLine → Taking
@@ -149,11 +189,12 @@ blank_taking i line =
     if line.has_glyph then meaning_events i (InText line) (Text WordEnd ∷ Text (Gap 1) ∷ [])
     else meaning_events i (InText (record line { leading = min (line.leading + 1) most_leading })) (leading_blank_events line.leading)
 
--- a byte of a text line; a tab prints nothing, as there are no tab stops yet
+-- a byte of a text line
 abbrev pub text_taking : PageInput → TextLine → ℕ → Taking
 text_taking i line b =
     if b == newline then meaning_events i LineStart (text_line_end line)
-    else if b == tab || is_silent b then other_taking i line
+    else if b == tab then tab_taking i line
+    else if is_silent b then other_taking i line
     else if b == blank then blank_taking i line
     else glyph_taking i line (Printed b)
 
@@ -166,6 +207,8 @@ abbrev pub escape_meant : PageInput → TextLine → ℕ → Kind → Taking
 escape_meant i line b (Prints byte) = glyph_taking i line (Printed byte)
 escape_meant i line b Blank = glyph_taking i line (Blanks 1)
 escape_meant i line b NoWidth = glyph_taking i line (Blanks 0)
+escape_meant i line b GivesTab = tab_taking i line
+escape_meant i line b Interrupts = interrupt_taking i line
 escape_meant i line b Brace = brace_taking i line
 escape_meant i line b IsLeftOut = left_out_taking i line b
 escape_meant i line b (BeginsText (LeftOutText byte)) = left_out_taking i line byte
@@ -230,28 +273,39 @@ name_taking k i reading line Font name = other_taking i line
 name_taking k i reading line (NameLeftOut b) name = left_out_taking i line b
 name_taking k i reading line purpose name = asking k i reading purpose name
 
+-- the same where a line begins, or a branch: what is read in the escape's place leaves it there
+abbrev pub first_name : Known → PageInput → Reading → NameUse → Option (List ℕ) → Taking
+first_name k i reading Character name = beginning_text k (λ line. character_taking i line name)
+first_name k i reading Font name = beginning_text k (λ line. other_taking i line)
+first_name k i reading (NameLeftOut b) name = beginning_text k (λ line. left_out_taking i line b)
+first_name k i reading purpose name = asking k i reading purpose name
+
 -- the first byte of a line
-abbrev pub line_begun : PageInput → ℕ → Taking
-line_begun i b =
+abbrev pub line_begun : Known → PageInput → ℕ → Taking
+line_begun k i b =
     if b == dot then going_on i (Control true)
     else if b == apostrophe then going_on i (Control false)
-    else text_taking i fresh_line b
+    else beginning_text k (λ line. text_taking i line b)
 
 -- a byte where a line begins, or a branch, or its rest behind its brace: there blanks come first, and a newline behind
 -- the brace
-abbrev pub first_taking : PageInput → Reading → ℕ → Taking
-first_taking i Branch b = if b == blank then going_on i Branch else line_begun i b
-first_taking i Braced b =
+abbrev pub first_taking : Known → PageInput → Reading → ℕ → Taking
+first_taking k i Branch b = if b == blank then going_on i Branch else line_begun k i b
+first_taking k i Braced b =
     if b == blank then going_on i Braced
     else if b == newline then going_on i LineStart
-    else line_begun i b
-first_taking i (_) b = line_begun i b
+    else line_begun k i b
+first_taking k i (_) b = line_begun k i b
+
+-- an escape that begins a text line
+abbrev pub escape_begun : Known → PageInput → ℕ → Taking
+escape_begun k i b = beginning_text k (λ line. escape_taking i line b)
 
 -- an escape there: the brace of a branch, and a newline behind it
-abbrev pub first_escape : PageInput → Reading → ℕ → Taking
-first_escape i Branch b = if b == 123 then going_on i Braced else escape_taking i fresh_line b
-first_escape i Braced b = if b == newline then going_on i LineStart else escape_taking i fresh_line b
-first_escape i (_) b = escape_taking i fresh_line b
+abbrev pub first_escape : Known → PageInput → Reading → ℕ → Taking
+first_escape k i Branch b = if b == 123 then going_on i Braced else escape_begun k i b
+first_escape k i Braced b = if b == newline then going_on i LineStart else escape_begun k i b
+first_escape k i (_) b = escape_begun k i b
 
 -- what was found of a text line
 abbrev pub text_found : Known → PageInput → TextLine → Read → Taking
@@ -270,12 +324,12 @@ text_found k i line (Decides decision freed) = going_on i (InText line)
 -- and decides nothing.
 abbrev pub beginning_found : Known → PageInput → Reading → Read → Taking
 beginning_found k i reading GoesOn = going_on i reading
-beginning_found k i reading (Unit (Byte b)) = first_taking i reading b
-beginning_found k i reading (Unit (Kept b)) = first_escape i reading b
+beginning_found k i reading (Unit (Byte b)) = first_taking k i reading b
+beginning_found k i reading (Unit (Kept b)) = first_escape k i reading b
 beginning_found k i reading (Holds unit) = going_on (holding_text unit i) reading
-beginning_found k i reading (Escape b) = first_escape i reading b
-beginning_found k i reading (Asks purpose name) = name_taking k i reading fresh_line purpose name
-beginning_found k i reading (Motion columns remark) = motion_taking i fresh_line columns remark
+beginning_found k i reading (Escape b) = first_escape k i reading b
+beginning_found k i reading (Asks purpose name) = first_name k i reading purpose name
+beginning_found k i reading (Motion columns remark) = beginning_text k (λ line. motion_taking i line columns remark)
 beginning_found k i reading (Measures width) = measuring i reading width
 beginning_found k i reading (Tells remark) = telling i reading remark
 beginning_found k i reading (Decides decision freed) = going_on i reading
@@ -512,7 +566,7 @@ branch_of false = Skipping 0 0 false
 
 -- its first byte
 abbrev pub branch_taking : Known → PageInput → Bool → ℕ → Taking
-branch_taking k i true b = beginning_read k i Branch (byte_read AboveText i.half b)
+branch_taking k i true b = beginning_read k i Branch (byte_read (at_start k) i.half b)
 branch_taking k i false b = skipping_taking i 0 0 false b
 
 -- whether a condition is so that asks this
@@ -628,10 +682,10 @@ definition_read k i name appends end matched r = definition_found k (record i { 
 
 -- a byte that isn't dropped
 abbrev pub kept_taking : Known → Reading → PageInput → ℕ → Taking
-kept_taking k LineStart i b = beginning_read k i LineStart (byte_read AboveText i.half b)
-kept_taking k Branch i b = beginning_read k i Branch (byte_read AboveText i.half b)
-kept_taking k Braced i b = beginning_read k i Braced (byte_read AboveText i.half b)
-kept_taking k (InText line) i b = text_read k i line (byte_read AboveText i.half b)
+kept_taking k LineStart i b = beginning_read k i LineStart (byte_read (at_start k) i.half b)
+kept_taking k Branch i b = beginning_read k i Branch (byte_read (at_start k) i.half b)
+kept_taking k Braced i b = beginning_read k i Braced (byte_read (at_start k) i.half b)
+kept_taking k (InText line) i b = text_read k i line (byte_read (on_line k line) i.half b)
 kept_taking k (Control breaks) i b =
     if b == blank || b == tab then going_on i (Control breaks)
     else if ends_name b then dropped_taking i b
@@ -668,10 +722,10 @@ Passes reading b = (k : Known) (i : PageInput) → taking k reading i b ≡ goin
 
 -- what is half read ends before what stays, or at the input's end
 abbrev pub half_ended : Known → Reading → PageInput → Taking
-half_ended k LineStart i = beginning_read k i LineStart (reading_ended AboveText i.half)
-half_ended k Branch i = beginning_read k i Branch (reading_ended AboveText i.half)
-half_ended k Braced i = beginning_read k i Braced (reading_ended AboveText i.half)
-half_ended k (InText line) i = text_read k i line (reading_ended AboveText i.half)
+half_ended k LineStart i = beginning_read k i LineStart (reading_ended (at_start k) i.half)
+half_ended k Branch i = beginning_read k i Branch (reading_ended (at_start k) i.half)
+half_ended k Braced i = beginning_read k i Braced (reading_ended (at_start k) i.half)
+half_ended k (InText line) i = text_read k i line (reading_ended (on_line k line) i.half)
 half_ended k (InArguments breaks request) i = arguments_read_on k i breaks request (reading_ended AboveArguments i.half)
 half_ended k (Deciding keeps) i = condition_read k i keeps (reading_ended AboveArguments i.half)
 half_ended k (StringName appends) i = string_name_read k i appends (reading_ended AboveArguments i.half)
@@ -679,7 +733,7 @@ half_ended k (StringText name appends is_front) i = string_text_read k i name ap
 half_ended k (Telling aborts is_front) i = message_read k i aborts is_front (reading_ended AboveCopy i.half)
 half_ended k (Calling name) i = call_read k i name (reading_ended AboveArguments i.half)
 half_ended k (Defining name appends end matched) i = definition_read k i name appends end matched (reading_ended AboveCopy i.half)
-half_ended k reading i = going_on (record i { half = (reading_ended AboveText i.half).1 }) reading
+half_ended k reading i = going_on (record i { half = (reading_ended (AboveText (pos 0)) i.half).1 }) reading
 
 -- What is due before anything more is taken, by what is read: a message whose line has ended is told, and may abort the
 -- run; behind the line of `.ex` the input is left.
@@ -708,8 +762,25 @@ behind_return Braced = LineStart
 behind_return (InText line) = LineStart
 behind_return reading = reading
 
--- the end of the input: an unfinished line ends as by a newline, and a definition is dropped
+-- the end of an interrupted line that is to go on, if there is one
+abbrev pub interrupted_end : Option TextLine → List PageEvent
+interrupted_end None = []
+interrupted_end (Some line) = Text Resume ∷ text_line_end line
+
+-- a line ends with the input that means nothing more, and an interrupted one with it
+abbrev pub last_line_ended : Known → PageInput → Taking
+last_line_ended k i = meaning_events i LineStart (interrupted_end k.interrupted)
+
+-- The end of the input: an unfinished line ends as by a newline, and so does an interrupted one that no text line went on with;
+-- a definition is dropped.
 abbrev pub end_taking : Known → Reading → PageInput → Taking
-end_taking k LineStart i = going_on i LineStart
+end_taking k LineStart i = last_line_ended k i
+end_taking k Braced i = last_line_ended k i
+end_taking k (Control breaks) i = last_line_ended k i
+end_taking k (StringName appends) i = last_line_ended k (string_line_ended i appends (name_at 0 (arguments_given i))).input
+end_taking k (StringText name appends is_front) i = last_line_ended k (string_entered name appends i)
+end_taking k (Skipping opened closed behind) i = last_line_ended k i
+end_taking k Dropped i = last_line_ended k i
+end_taking k Exiting i = meaning_events i Exiting (interrupted_end k.interrupted)
 end_taking k (Defining name appends end matched) i = definition_cut i name
 end_taking k reading i = kept_taking k reading i newline

@@ -11,6 +11,7 @@ use Rattle.roff_store.specs.Registers.{Registers, register_of, unset_register, n
 use Rattle.roff_store.specs.declared.register.Direction.{Direction}
 use Rattle.roff_store.specs.declared.register.Register.{Register}
 use Rattle.roff_run.specs.declared.message.Message.{Message}
+use Rattle.roff_run.specs.declared.reading.TextLine.{TextLine}
 use Rattle.roff_run.specs.declared.message.Message.TheVariants.{BadNumber}
 use Rattle.roff_run.specs.declared.registers.Query.{Query}
 use Rattle.roff_run.specs.declared.registers.Query.TheVariants.{Newlines, Indent, LineLength, LastWidth, Filling, LineSpacing, ColumnWidth, Arguments, Later}
@@ -37,6 +38,12 @@ pub record Known : Type 0 where
   pub last_width : ℕ
   -- how many arguments the innermost body has that a line called
   pub arguments : ℕ
+  -- the place on the line of the input, in columns
+  pub place : ℕ
+  -- the interrupted line that the next text line goes on with, if there is one
+  pub interrupted : Option TextLine
+  -- whether an environment was left that may be gone back to
+  pub has_left : Bool
 
 -- the read-only registers, each with what it asks for; those whose part isn't built yet are 0
 abbrev pub read_only : List (List ℕ × Query)

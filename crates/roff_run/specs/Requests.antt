@@ -4,27 +4,31 @@ use Rattle.roff_store.specs.Named.{Named, entry_of}
 use Rattle.roff_store.specs.Texts.{Entry, Body, Request as RequestEntry}
 use Rattle.roff_lines.specs.declared.settings.Param.TheVariants.{Filling, Adjusting}
 pub use Rattle.roff_run.specs.declared.event.PageEvent.{PageEvent}
-pub use Rattle.roff_run.specs.declared.event.PageEvent.TheVariants.{Text, Space}
+pub use Rattle.roff_run.specs.declared.event.PageEvent.TheVariants.{Text, Space, Interrupt, Environment, Back}
 pub use Rattle.roff_run.specs.Registers.{Known}
 use Rattle.roff_run.specs.declared.request.LineReading.{LineReading}
 use Rattle.roff_run.specs.declared.request.LineReading.TheVariants.{ByArguments, ByCondition, ByElse, ByLastLine, ByMessage, ByString, ByLines}
 use Rattle.roff_run.specs.declared.request.Request.{Request}
-use Rattle.roff_run.specs.declared.request.Request.TheVariants.{Abort, Adjust, AppendString, AssignFormat, Break, DefineString, Else, Exit, Fill, If, IfElse, Indent, LineLength, NoAdjust, NoFill, NumberRegister, RemoveNames, RemoveRegisters, Rename, Space as SpaceDown, TellMessage, WithoutEffect, LeftOut, AppendMacro, DefineMacro, Ignore}
+use Rattle.roff_run.specs.declared.request.Request.TheVariants.{Abort, Adjust, AppendString, AssignFormat, Break, DefineString, Else, Exit, Fill, If, IfElse, Indent, LineLength, NoAdjust, NoFill, NumberRegister, RemoveNames, RemoveRegisters, Rename, Space as SpaceDown, TellMessage, WithoutEffect, LeftOut, AppendMacro, DefineMacro, Ignore, Centre, Environment as SwitchEnvironment, LineSpacing, TabStops, TemporaryIndent}
 use Rattle.roff_run.specs.declared.request.Called.{Called}
 use Rattle.roff_run.specs.declared.request.Called.TheVariants.{Request as ARequest, Body as ABody, Nothing as Unknown}
 use Rattle.roff_run.specs.declared.request.LinesFor.TheVariants.{Macro, Nobody}
 use Rattle.roff_run.specs.declared.reading.ShortName.{ShortName}
 use Rattle.roff_run.specs.ShortNames.{name_bytes}
 pub use Rattle.roff_run.specs.Requests.Effects.{Effect, doing, saying, Done, Ignored, Does, nothing, setting, left_out, meant_by}
-use Rattle.roff_run.specs.Requests.Adjustment.{adjust}
-use Rattle.roff_run.specs.Requests.Spacing.{space_down}
-use Rattle.roff_run.specs.Requests.Lengths.{line_length, indent}
+use Rattle.roff_run.specs.Requests.Adjustment.{adjust, centre}
+use Rattle.roff_run.specs.Requests.Spacing.{space_down, line_spacing}
+use Rattle.roff_run.specs.Requests.Lengths.{line_length, indent, temporary_indent}
+use Rattle.roff_run.specs.Requests.Tabs.{tab_stops}
+use Rattle.roff_run.specs.Requests.Switching.{switch}
 use Rattle.roff_run.specs.Requests.Naming.{remove_names, rename}
 use Rattle.roff_run.specs.Requests.Numbering.{assign_format, set_register, remove_registers}
 pub mod Effects
 pub mod Adjustment
 pub mod Spacing
 pub mod Lengths
+pub mod Tabs
+pub mod Switching
 pub mod Numbering
 pub mod Naming
 
@@ -51,9 +55,11 @@ row_of AssignFormat = row (codes "af") ByArguments false (λ known. assign_forma
 row_of AppendMacro = row (codes "am") (ByLines (Macro true)) false (always nothing)  -- section 7
 row_of AppendString = row (codes "as") (ByString true) false (always nothing)  -- section 7
 row_of Break = row (codes "br") ByArguments true (always nothing)  -- section 4
+row_of Centre = row (codes "ce") ByArguments true (λ known. centre)  -- section 4
 row_of DefineMacro = row (codes "de") (ByLines (Macro false)) false (always nothing)  -- section 7
 row_of DefineString = row (codes "ds") (ByString false) false (always nothing)  -- section 7
 row_of Else = row (codes "el") ByElse false (always nothing)  -- section 16
+row_of SwitchEnvironment = row (codes "ev") ByArguments false switch  -- section 17
 row_of Exit = row (codes "ex") ByLastLine false (always nothing)  -- section 18
 row_of Fill = row (codes "fi") ByArguments true (always (setting (Filling true)))  -- section 4
 row_of IfElse = row (codes "ie") (ByCondition true) false (always nothing)  -- section 16
@@ -61,6 +67,7 @@ row_of If = row (codes "if") (ByCondition false) false (always nothing)  -- sect
 row_of Ignore = row (codes "ig") (ByLines Nobody) false (always nothing)  -- section 20
 row_of Indent = row (codes "in") ByArguments true indent  -- section 6
 row_of LineLength = row (codes "ll") ByArguments false line_length  -- section 6
+row_of LineSpacing = row (codes "ls") ByArguments false line_spacing  -- section 5
 row_of NoAdjust = row (codes "na") ByArguments false (always (setting (Adjusting false)))  -- section 4
 row_of NoFill = row (codes "nf") ByArguments true (always (setting (Filling false)))  -- section 4
 row_of NumberRegister = row (codes "nr") ByArguments false set_register  -- section 8
@@ -68,6 +75,8 @@ row_of RemoveNames = row (codes "rm") ByArguments false (λ known. remove_names)
 row_of Rename = row (codes "rn") ByArguments false (λ known. rename)  -- section 7
 row_of RemoveRegisters = row (codes "rr") ByArguments false (λ known. remove_registers)  -- section 8
 row_of SpaceDown = row (codes "sp") ByArguments true (λ known. space_down)  -- section 5
+row_of TabStops = row (codes "ta") ByArguments false (λ known. tab_stops)  -- section 9
+row_of TemporaryIndent = row (codes "ti") ByArguments true temporary_indent  -- section 6
 row_of TellMessage = row (codes "tm") (ByMessage false) false (always nothing)  -- section 20
 row_of (WithoutEffect name) = row name ByArguments false (always nothing)
 row_of (LeftOut name) = row name ByArguments false (always (left_out name))
@@ -96,9 +105,9 @@ names_left_out =
 -- the requests that are built, in the order of their names
 abbrev pub built : List Request
 built =
-    Abort ∷ Adjust ∷ AssignFormat ∷ AppendMacro ∷ AppendString ∷ Break ∷ DefineMacro ∷ DefineString ∷ Else ∷ Exit ∷ Fill ∷ IfElse
-    ∷ If ∷ Ignore ∷ Indent ∷ LineLength ∷ NoAdjust ∷ NoFill ∷ NumberRegister ∷ RemoveNames ∷ Rename ∷ RemoveRegisters ∷ SpaceDown
-    ∷ TellMessage ∷ []
+    Abort ∷ Adjust ∷ AssignFormat ∷ AppendMacro ∷ AppendString ∷ Break ∷ Centre ∷ DefineMacro ∷ DefineString ∷ Else
+    ∷ SwitchEnvironment ∷ Exit ∷ Fill ∷ IfElse ∷ If ∷ Ignore ∷ Indent ∷ LineLength ∷ LineSpacing ∷ NoAdjust ∷ NoFill
+    ∷ NumberRegister ∷ RemoveNames ∷ Rename ∷ RemoveRegisters ∷ SpaceDown ∷ TabStops ∷ TemporaryIndent ∷ TellMessage ∷ []
 
 -- those that do nothing, or nothing but say that they are left out
 abbrev pub others : List Request

@@ -1,12 +1,14 @@
 -- The run: a machine of small steps over the source's tape.
-use Rattle.std.specs.Prelude.{◌≡◌, ℕ, zero, suc, ◌+◌, ◌-◌, Bool, true, false, List, [], ◌∷◌, ◌++◌, length, nat_lt, Option, Some, None, if◌then◌else◌}
+use Rattle.std.specs.Prelude.{◌≡◌, ℕ, zero, suc, ◌+◌, ◌-◌, Bool, true, false, not, List, [], ◌∷◌, ◌++◌, length, nat_lt, Option, Some, None, if◌then◌else◌}
 use Rattle.roff_lines.specs.Events.{settings_after}
 use Rattle.roff_lines.specs.LastLine.{last_width}
+use Rattle.roff_lines.specs.Places.{input_place}
+use Rattle.roff_lines.specs.Words.{is_empty}
 use Rattle.roff_lines.specs.Lines.{pending_length}
 use Rattle.roff_lines.specs.declared.event.Event.TheVariants.{WordEnd, Break}
 use Rattle.roff_num.specs.LimitValues.{value_of}
 use Rattle.roff_num.specs.declared.limit.Limit.{Limit}
-use Rattle.roff_num.specs.declared.limit.Limit.TheVariants.{Bytes, Names, Stack, Depth, Line, Conditions, Store, Diversions}
+use Rattle.roff_num.specs.declared.limit.Limit.TheVariants.{Bytes, Names, Stack, Depth, Line, Conditions, Store, Diversions, Environments as EnvironmentsLimit}
 use Rattle.roff_num.specs.declared.limits.Limits.{Limits}
 use Rattle.roff_scan.specs.Halves.{decides_now, newline_stays, seen_stays}
 use Rattle.roff_scan.specs.Input.{Ahead, ByteAhead, FreeAhead, EndAhead, DoAhead, initial_input, names_added, pushed, depth, results, stored, cost, item_taken, counting, leaving, ReturnAhead, arguments_live}
@@ -15,10 +17,11 @@ use Rattle.roff_scan.specs.Unread.{Unread, Sighted, SeesByte, SeesNothing, SeesN
 use Rattle.roff_scan.specs.Arguments.{no_arguments}
 use Rattle.roff_scan.specs.Half.{Half}
 use Rattle.roff_run.specs.Messages.{message_line, message_lines, told_line}
+use Rattle.roff_run.specs.Environments.{environments, interrupted_line}
 use Rattle.roff_run.specs.Output.{PageHistory, text_of, written}
 use Rattle.roff_run.specs.Reading.{PageInput, Taking, taking, half_ended, end_taking, interrupted, due, line_ends_first, message_text_read, behind_return}
 use Rattle.roff_run.specs.Registers.{AllRegisters, Known, no_registers, changed_by_all}
-use Rattle.roff_run.specs.Requests.{PageEvent, Text, Space, Effect, first_entries, requests}
+use Rattle.roff_run.specs.Requests.{PageEvent, Text, Space, Interrupt, Environment, Back, Effect, first_entries, requests}
 use Rattle.roff_run.specs.declared.message.Message.{Message}
 use Rattle.roff_run.specs.declared.message.Message.TheVariants.{LimitReached, ReadFailed}
 use Rattle.roff_run.specs.declared.reading.Due.{Due}
@@ -81,6 +84,9 @@ known_at h rs i = record {
   newlines = i.newlines;
   last_width = last_width (text_of h);
   arguments = length (arguments_live i);
+  place = input_place (text_of h);
+  interrupted = interrupted_line h;
+  has_left = not (is_empty (environments h).left);
 }
 
 -- the same of a state
@@ -115,6 +121,9 @@ passes_bytes l i = nat_lt l.bytes (i.charge + 1)
 abbrev pub counts : PageHistory → PageEvent → List (Limit × ℕ)
 counts h (Text e) = (Line, pending_length (e ∷ text_of h)) ∷ []
 counts h (Space lines) = []
+counts h (Interrupt untold) = []
+counts h (Environment number) = (EnvironmentsLimit, length (environments h).left + 1) ∷ []
+counts h Back = []
 
 -- the first limit that a count is above
 abbrev pub first_passed : Limits → List (Limit × ℕ) → Option Limit

@@ -3,8 +3,9 @@
 use Rattle.std.specs.Prelude.{◌≡◌, ℕ, ◌+◌, ◌*◌, Bool, true, false, not, ◌||◌, List, [], ◌∷◌, ◌++◌, decimal, length, map, min, nat_lt, sum_by, All, IsTrue, Option, Some, None, ◌==◌, if◌then◌else◌}
 use Rattle.roff_lines.specs.Events.{History}
 use Rattle.roff_lines.specs.Lines.{pending_length}
+use Rattle.roff_lines.specs.Places.{tab_width}
 use Rattle.roff_lines.specs.Words.{blanks, has_open_word, is_empty, words}
-use Rattle.roff_lines.specs.declared.event.Event.TheVariants.{Print}
+use Rattle.roff_lines.specs.declared.event.Event.TheVariants.{Print, Tab}
 use Rattle.roff_lines.specs.declared.glyph.Glyph.TheVariants.{Blanks}
 use Rattle.roff_num.specs.declared.limit.Limit.TheVariants.{Line}
 use Rattle.roff_num.specs.declared.limits.Limits.{Limits}
@@ -121,3 +122,11 @@ MotionsCountInTheLine =
     (l : Limits) (h : PageHistory) (n : ℕ) →
     refusal l h (Text (Print (Blanks n)))
     ≡ (if nat_lt l.line (pending_length (text_of h) + gap_begun (text_of h) + n) then Some Line else None)
+
+-- so is a tab of the blanks that lead to its stop (manual, section 9.1)
+abbrev pub TabsAreAsLongAsTheirColumns : Type 0
+TabsAreAsLongAsTheirColumns = (h : History) → pending_length (Tab ∷ h) ≡ pending_length h + gap_begun h + tab_width h
+
+-- and it is refused where a motion of as many columns would be
+abbrev pub TabsCountInTheLine : Type 0
+TabsCountInTheLine = (l : Limits) (h : PageHistory) → refusal l h (Text Tab) ≡ refusal l h (Text (Print (Blanks (tab_width (text_of h)))))

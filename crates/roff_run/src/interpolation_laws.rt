@@ -3,7 +3,7 @@
 ghost use Rattle.roff_run.specs.InterpolationLaws.{UnreadInputIsTheTape, StepsFollowTheTape, BytesAheadAreTaken, BytesOfTheSourceAreTaken, EscapesReadAsTexts, EscapesOfTheSourceReadAsTexts, EscapesOfTextReadAsTexts, PushedBytesCostAsOthers, TextsCostTheirBytesAndOne};
 ghost use Rattle.roff_run.specs.Quoting.{RequestsGetQuotedArguments};
 ghost use Rattle.roff_run.specs.WidthLaws.{WidthsReadAsDigits, WidthsOfTheSourceReadAsDigits, MeasuredTextsReadAsDigits, MeasuredTextsOfTheSourceReadAsDigits, WidthsEndWithTheirLine};
-ghost use Rattle.roff_run.specs.WidthLaws.{MotionsAreAsLongAsTheirColumns, MotionsCountInTheLine};
+ghost use Rattle.roff_run.specs.WidthLaws.{MotionsAreAsLongAsTheirColumns, MotionsCountInTheLine, TabsAreAsLongAsTheirColumns, TabsCountInTheLine};
 
 /// Where nothing stands ahead of the source and nothing is half read, the unread input is the
 /// source's tape: a step does what the front of the tape says.
@@ -56,8 +56,10 @@ pub fn widths()
 {}
 
 /// A motion makes the pending line as much longer as it has columns, and counts so in the limit on
-/// a line.
+/// a line; so does a tab, whose columns lead to the next tab stop.
 pub fn motions()
     ensures length { MotionsAreAsLongAsTheirColumns }
     ensures limit { MotionsCountInTheLine }
+    ensures length_of_a_tab { TabsAreAsLongAsTheirColumns }
+    ensures limit_of_a_tab { TabsCountInTheLine }
 {}

@@ -6,6 +6,8 @@ pub mod call_laws;
 pub mod condition_laws;
 mod definition;
 pub mod definition_laws;
+pub mod environment_laws;
+mod environments;
 mod event;
 pub mod interpolation_laws;
 pub mod laws;
@@ -18,7 +20,8 @@ mod registers;
 mod request;
 mod status;
 
-pub use event::{Events, PageEvent};
+pub use environments::{Environment, EnvironmentNumber, Environments, Left};
+pub use event::{AllEvents, Events, PageEvent};
 pub use message::{CharacterName, Message, MessageLine};
 pub use reader::{Meaning, Reader, first_unread};
 pub use reading::Due;

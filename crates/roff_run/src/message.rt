@@ -24,6 +24,8 @@ pub enum Message {
     LeftOut([u8; 2]),
     /// No character has this name.
     UnknownCharacter(CharacterName),
+    /// No environment has this number, or none was left that may be gone back to.
+    NoSuchEnvironment,
     /// The input ended within a definition.
     DefinitionNotEnded,
     /// The source failed.
@@ -85,6 +87,7 @@ impl Message {
                 append(text, b"unknown character: ");
                 name.say(text);
             }
+            Message::NoSuchEnvironment => append(text, b"no such environment"),
             Message::DefinitionNotEnded => append(text, b"definition not ended"),
             Message::ReadFailed => append(text, b"read failed"),
             Message::WriteFailed => append(text, b"write failed"),

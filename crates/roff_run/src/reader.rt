@@ -1,7 +1,7 @@
 //! Reading: what each item of the input means, before it is done.
 
 ghost use Rattle.std.specs.Prelude.{◌≡◌, [], None, IfOk, Ok};
-ghost use Rattle.roff_run.specs.Clauses.{Env, LineStart, PageUnread, TakesAs, fresh_reader};
+ghost use Rattle.roff_run.specs.Clauses.{EnvironmentsOf, LineStart, PageUnread, TakesAs, fresh_reader};
 ghost use Rattle.roff_run.specs.Clauses.{interrupted, first_unread, taking, due, line_ends_first};
 ghost use Rattle.roff_run.specs.Clauses.{behind_return};
 
@@ -15,17 +15,18 @@ mod ends;
 mod escapes;
 mod messages;
 mod obeying;
+mod places;
 mod registers;
 mod string_names;
 mod strings;
 mod text_lines;
 
+use crate::environments::Environments;
 use crate::event::{Events, PageEvent};
 use crate::message::Message;
 use crate::reading::{Due, Reading};
 use crate::registers::RunRegisters;
 use crate::request::Request;
-use roff_lines::Env;
 use roff_num::{Limit, Limits, Name};
 use roff_scan::{Unread, is_dropped};
 use roff_store::Entry;
@@ -77,17 +78,17 @@ impl Reader {
     pub fn read(
         &mut self,
         byte: u8,
-        env: &Env,
+        environments: &Environments,
         unread: &mut Unread<PageEvent>,
     ) -> Result<Meaning, Limit>
         ensures { TakesAs (λ k. taking k self.old.reading unread.old.input byte)
-            env.now self.old self.new unread.old unread.new result }
+            environments.now self.old self.new unread.old unread.new result }
     {
         if is_dropped(byte) {
             self.interrupt(unread);
             return Ok(Meaning::nothing());
         }
-        self.read_kept(byte, env, unread)
+        self.read_kept(byte, environments, unread)
     }
 
     /// What is due before anything more is taken.

@@ -1,9 +1,18 @@
 //! What is being read of a line, and what stands on it.
 
 ghost use Rattle.std.specs.Prelude.{◌≡◌, ℕ, ◌≤◌, ◌+◌, ◌++◌, ◌∷◌, [], length, map, true, min};
-ghost use Rattle.roff_lines.specs.declared.event.Event.TheVariants.{Gap, Print, WordEnd};
+ghost use Rattle.roff_lines.specs.declared.event.Event.TheVariants.{Gap, Print, Tab, WordEnd};
 ghost use Rattle.roff_lines.specs.declared.glyph.Glyph.TheVariants.{Printed};
-ghost use Rattle.roff_run.specs.Reading.{PageInput, due, line_ends_first, name_bytes, reading_behind, short_name, branch_of, counted_if, going_on, kept_taking, dropped_taking, skipping_taking, ends_name, brace_taking, character_taking, escape_taking, fresh_line, glyph_taking, glyphs_taking, blank_taking, leading_blank_events, leading_glyph, left_out_taking, meaning_events, most_leading, motion_taking, other_taking, taking, told_taking, text_line_end, text_taking, behind_return};
+ghost use Rattle.roff_run.specs.Reading.{PageInput, due, line_ends_first, name_bytes};
+ghost use Rattle.roff_run.specs.Reading.{reading_behind, short_name, branch_of, counted_if};
+ghost use Rattle.roff_run.specs.Reading.{going_on, kept_taking, dropped_taking, skipping_taking};
+ghost use Rattle.roff_run.specs.Reading.{ends_name, brace_taking, character_taking, escape_taking};
+ghost use Rattle.roff_run.specs.Reading.{fresh_line, glyph_taking, glyphs_taking, blank_taking};
+ghost use Rattle.roff_run.specs.Reading.{leading_blank_events, leading_glyph, left_out_taking};
+ghost use Rattle.roff_run.specs.Reading.{meaning_events, most_leading, motion_taking, other_taking};
+ghost use Rattle.roff_run.specs.Reading.{taking, told_taking, text_line_end, text_taking};
+ghost use Rattle.roff_run.specs.Reading.{behind_return, line_begun_as};
+ghost use Rattle.roff_run.specs.Reading.{interrupt_taking, tab_taking};
 ghost use Rattle.std.specs.Option.{option_to_list};
 ghost use Rattle.roff_run.specs.Messages.{remark_messages};
 ghost use Rattle.roff_run.specs.Requests.{Text};
@@ -11,7 +20,7 @@ ghost use Rattle.roff_run.specs.TextLine.Stepping.{step_at};
 ghost use Rattle.roff_run.specs.Registers.{Known};
 ghost use Rattle.roff_run.specs.declared.reading.Reading.TheVariants.{Control as BehindControl, Text as InText};
 
-use crate::event::{Events, PageEvent};
+use crate::event::{LineEvents, PageEvent};
 use crate::message::{CharacterName, Message};
 use crate::request::{LineReading, Request};
 use roff_lines::{Event, Glyph};
@@ -133,7 +142,7 @@ pub(crate) struct TextLine {
 pub(crate) struct TextStep {
     pub(crate) reading: Reading,
     pub(crate) message: Option<Message>,
-    pub(crate) events: Events,
+    pub(crate) events: LineEvents,
 }
 
 impl Reading {
@@ -290,6 +299,16 @@ impl TextLine {
         }
     }
 
+    /// The line that begins: the interrupted one, if one is to go on.
+    pub(crate) fn begun_as(interrupted: Option<TextLine>) -> Self
+        ensures { result ≡ line_begun_as interrupted }
+    {
+        match interrupted {
+            Some(line) => line,
+            None => TextLine::new(),
+        }
+    }
+
     /// Whether a byte is a glyph behind another on the line, and does nothing else. Most are.
     pub(crate) fn goes_on_with(self, byte: u8) -> bool
         ensures { result ≡ true → (k : Known) (i : PageInput) → i.half ≡ []
@@ -310,16 +329,17 @@ impl TextLine {
 
     /// The events of the line's end: a line of blanks alone is a break and a blank line, and one of
     /// braces and blanks nothing.
-    pub(crate) fn end(self) -> Events
+    pub(crate) fn end(self) -> LineEvents
         ensures { result.items ≡ text_line_end self }
     {
         if self.has_glyph || self.has_other {
             events(&[
                 PageEvent::Text(Event::WordEnd),
                 PageEvent::Text(Event::LineEnd),
+                PageEvent::Text(Event::Count),
             ])
         } else if self.has_brace {
-            Events::new()
+            LineEvents::new()
         } else {
             events(&[
                 PageEvent::Text(Event::WordEnd),
@@ -339,7 +359,9 @@ impl TextLine {
                 message: None,
                 events: self.end(),
             }
-        } else if byte == b'\t' || is_silent(byte) {
+        } else if byte == b'\t' {
+            self.tab()
+        } else if is_silent(byte) {
             self.other()
         } else if byte == b' ' {
             self.blank()
@@ -356,6 +378,8 @@ impl TextLine {
             Escape::Prints(printed) => self.glyph(Glyph::Printed(printed)),
             Escape::Blank => self.glyph(Glyph::Blanks(1)),
             Escape::NoWidth => self.glyph(Glyph::Blanks(0)),
+            Escape::Tab => self.tab(),
+            Escape::Interrupts => self.interrupt(),
             Escape::Brace => self.brace(),
             Escape::LeftOut => self.left_out(byte),
             Escape::Nothing => self.other(),
@@ -406,7 +430,27 @@ impl TextLine {
         TextStep {
             reading: Reading::Text(behind),
             message: Some(message),
-            events: Events::new(),
+            events: LineEvents::new(),
+        }
+    }
+
+    /// A tab, behind the leading blanks.
+    fn tab(self) -> TextStep
+        ensures { (i : PageInput) → step_at i result ≡ tab_taking i self }
+    {
+        let mut events = leading_glyph(self.leading);
+        events.push(PageEvent::Text(Event::Tab));
+        self.printed(events)
+    }
+
+    /// The line is interrupted: the rest of it is dropped.
+    fn interrupt(self) -> TextStep
+        ensures { (i : PageInput) → step_at i result ≡ interrupt_taking i self }
+    {
+        TextStep {
+            reading: Reading::Dropped,
+            message: None,
+            events: events(&[PageEvent::Interrupt(self.leading)]),
         }
     }
 
@@ -419,7 +463,7 @@ impl TextLine {
         TextStep {
             reading: Reading::Text(behind),
             message: None,
-            events: Events::new(),
+            events: LineEvents::new(),
         }
     }
 
@@ -432,7 +476,7 @@ impl TextLine {
         TextStep {
             reading: Reading::Text(behind),
             message: None,
-            events: Events::new(),
+            events: LineEvents::new(),
         }
     }
 
@@ -454,7 +498,7 @@ impl TextLine {
     }
 
     /// Glyphs of the line: these are their events.
-    fn printed(self, events: Events) -> TextStep
+    fn printed(self, events: LineEvents) -> TextStep
         ensures { (i : PageInput) → step_at i result
             ≡ meaning_events i (InText (record self { has_glyph = true; leading = 0 })) events.items }
     {
@@ -493,7 +537,7 @@ impl TextLine {
 }
 
 /// The events of a glyph behind so many leading blanks.
-fn printed(leading: u32, glyph: Glyph) -> Events
+fn printed(leading: u32, glyph: Glyph) -> LineEvents
     ensures { result.items ≡ leading_glyph leading ++ Text (Print glyph) ∷ [] }
 {
     let mut events = leading_glyph(leading);
@@ -502,11 +546,11 @@ fn printed(leading: u32, glyph: Glyph) -> Events
 }
 
 /// The leading blanks, as a glyph of their own.
-fn leading_glyph(leading: u32) -> Events
+fn leading_glyph(leading: u32) -> LineEvents
     ensures items { result.items ≡ leading_glyph leading }
     ensures few { length result.items ≤ 1 }
 {
-    let mut events = Events::new();
+    let mut events = LineEvents::new();
     if leading != 0 {
         events.push(PageEvent::Text(Event::Print(Glyph::Blanks(leading))));
     }
@@ -514,7 +558,7 @@ fn leading_glyph(leading: u32) -> Events
 }
 
 /// Adds the events of bytes that are printed.
-fn print_bytes(events: &mut Events, text: &[u8])
+fn print_bytes(events: &mut LineEvents, text: &[u8])
     requires { length events.old.items + length text.now ≤ 5 }
     ensures { events.new.items
         ≡ events.old.items ++ map (λ byte. Text (Print (Printed byte))) text.now }
@@ -527,7 +571,7 @@ fn print_bytes(events: &mut Events, text: &[u8])
 }
 
 /// The events of a blank behind so many others at a line's beginning.
-fn leading_blank(before: u32) -> Events
+fn leading_blank(before: u32) -> LineEvents
     ensures { result.items ≡ leading_blank_events before }
 {
     if before == 0 {
@@ -536,16 +580,16 @@ fn leading_blank(before: u32) -> Events
             PageEvent::Text(Event::Break),
         ])
     } else {
-        Events::new()
+        LineEvents::new()
     }
 }
 
 /// These events.
-fn events(all: &[PageEvent]) -> Events
+fn events(all: &[PageEvent]) -> LineEvents
     requires { length all.now ≤ 5 }
     ensures { result.items ≡ all.now }
 {
-    let mut events = Events::new();
+    let mut events = LineEvents::new();
     events.try_extend_from_slice(all).unwrap();
     events
 }

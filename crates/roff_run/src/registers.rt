@@ -12,6 +12,7 @@ ghost use Rattle.roff_run.specs.declared.message.Message.TheVariants.{BadNumber}
 mod read_only;
 
 use crate::message::Message;
+use crate::reading::TextLine;
 use read_only::{is_read_only, query_of};
 use roff_lines::Settings;
 use roff_num::{Format, Limit, Name, Num, NumText, write_num};
@@ -53,6 +54,12 @@ pub(crate) struct Facts {
     pub(crate) last_width: u32,
     /// How many arguments the innermost body has that a line called.
     pub(crate) arguments: usize,
+    /// The place on the line of the input, in columns.
+    pub(crate) place: u32,
+    /// The interrupted line that the next text line goes on with.
+    pub(crate) interrupted: Option<TextLine>,
+    /// Whether an environment was left that may be gone back to.
+    pub(crate) has_left: bool,
 }
 
 /// A change that a request makes.

@@ -11,6 +11,8 @@ mod lengths;
 mod naming;
 mod numbering;
 mod spacing;
+mod switching;
+mod tabs;
 
 use crate::reading::ShortName;
 use LineReading::{ByArguments, ByCondition, ByElse, ByLastLine, ByLines, ByMessage, ByString};
@@ -18,6 +20,7 @@ use Request::{LeftOut, WithoutEffect};
 pub(crate) use effects::{Changes, Done, Effect, Known};
 pub(crate) use numbering::{name_given, register_named};
 use roff_lines::Param;
+use roff_scan::ArgumentList;
 
 /// A request.
 #[derive(Clone, Copy, Debug, PartialEq, Eq)]
@@ -34,12 +37,16 @@ pub(crate) enum Request {
     AssignFormat,
     /// `br`: a break.
     Break,
+    /// `ce`: lines are centred.
+    Centre,
     /// `de`: a macro.
     DefineMacro,
     /// `ds`: a string.
     DefineString,
     /// `el`: the other branch of a condition.
     Else,
+    /// `ev`: another environment, or back.
+    Environment,
     /// `ex`: the end of all input.
     Exit,
     /// `fi`: filling on.
@@ -54,6 +61,8 @@ pub(crate) enum Request {
     Indent,
     /// `ll`: the line length.
     LineLength,
+    /// `ls`: the spacing of lines.
+    LineSpacing,
     /// `na`: adjusting off.
     NoAdjust,
     /// `nf`: filling off.
@@ -68,6 +77,10 @@ pub(crate) enum Request {
     Rename,
     /// `sp`: blank lines.
     Space,
+    /// `ta`: tab stops.
+    TabStops,
+    /// `ti`: the indent of one line.
+    TemporaryIndent,
     /// `tm`: a message.
     TellMessage,
     /// One of this name that is read without effect.
@@ -127,9 +140,10 @@ pub(crate) enum Called {
     Nothing,
 }
 
-/// The first arguments of a request, as far as they are given.
+/// The arguments of a request, and the first of them, as far as they are given.
 #[derive(Clone, Copy, Debug)]
 pub(crate) struct Given<'a> {
+    pub(crate) all: ArgumentList<'a>,
     pub(crate) first: Option<&'a [u8]>,
     pub(crate) second: Option<&'a [u8]>,
     pub(crate) third: Option<&'a [u8]>,
@@ -147,16 +161,18 @@ pub(crate) struct Row {
 }
 
 /// The requests that are built, in the order of their names.
-static BUILT: [Request; 24] = [
+static BUILT: [Request; 29] = [
     Request::Abort,
     Request::Adjust,
     Request::AssignFormat,
     Request::AppendMacro,
     Request::AppendString,
     Request::Break,
+    Request::Centre,
     Request::DefineMacro,
     Request::DefineString,
     Request::Else,
+    Request::Environment,
     Request::Exit,
     Request::Fill,
     Request::IfElse,
@@ -164,6 +180,7 @@ static BUILT: [Request; 24] = [
     Request::Ignore,
     Request::Indent,
     Request::LineLength,
+    Request::LineSpacing,
     Request::NoAdjust,
     Request::NoFill,
     Request::NumberRegister,
@@ -171,6 +188,8 @@ static BUILT: [Request; 24] = [
     Request::Rename,
     Request::RemoveRegisters,
     Request::Space,
+    Request::TabStops,
+    Request::TemporaryIndent,
     Request::TellMessage,
 ];
 
@@ -199,7 +218,7 @@ static LEFT_OUT: [[u8; 2]; 24] = [
 
 impl Request {
     /// How many there are.
-    pub(crate) const COUNT: u16 = 63;
+    pub(crate) const COUNT: u16 = 68;
 
     /// The request of this place in the table, if there is one.
     pub(crate) fn numbered(number: usize) -> Option<Request>
@@ -227,9 +246,11 @@ impl Request {
             Request::AppendMacro => Row { name: *b"am", line: ByLines(LinesFor::Macro { appends: true }), breaks: false },
             Request::AppendString => Row { name: *b"as", line: ByString { appends: true }, breaks: false },
             Request::Break => Row { name: *b"br", line: ByArguments, breaks: true },
+            Request::Centre => Row { name: *b"ce", line: ByArguments, breaks: true },
             Request::DefineMacro => Row { name: *b"de", line: ByLines(LinesFor::Macro { appends: false }), breaks: false },
             Request::DefineString => Row { name: *b"ds", line: ByString { appends: false }, breaks: false },
             Request::Else => Row { name: *b"el", line: ByElse, breaks: false },
+            Request::Environment => Row { name: *b"ev", line: ByArguments, breaks: false },
             Request::Exit => Row { name: *b"ex", line: ByLastLine, breaks: false },
             Request::Fill => Row { name: *b"fi", line: ByArguments, breaks: true },
             Request::IfElse => Row { name: *b"ie", line: ByCondition { keeps: true }, breaks: false },
@@ -237,6 +258,7 @@ impl Request {
             Request::Ignore => Row { name: *b"ig", line: ByLines(LinesFor::Nobody), breaks: false },
             Request::Indent => Row { name: *b"in", line: ByArguments, breaks: true },
             Request::LineLength => Row { name: *b"ll", line: ByArguments, breaks: false },
+            Request::LineSpacing => Row { name: *b"ls", line: ByArguments, breaks: false },
             Request::NoAdjust => Row { name: *b"na", line: ByArguments, breaks: false },
             Request::NoFill => Row { name: *b"nf", line: ByArguments, breaks: true },
             Request::NumberRegister => Row { name: *b"nr", line: ByArguments, breaks: false },
@@ -244,6 +266,8 @@ impl Request {
             Request::Rename => Row { name: *b"rn", line: ByArguments, breaks: false },
             Request::RemoveRegisters => Row { name: *b"rr", line: ByArguments, breaks: false },
             Request::Space => Row { name: *b"sp", line: ByArguments, breaks: true },
+            Request::TabStops => Row { name: *b"ta", line: ByArguments, breaks: false },
+            Request::TemporaryIndent => Row { name: *b"ti", line: ByArguments, breaks: true },
             Request::TellMessage => Row { name: *b"tm", line: ByMessage { aborts: false }, breaks: false },
             WithoutEffect(name) => Row { name, line: ByArguments, breaks: false },
             LeftOut(name) => Row { name, line: ByArguments, breaks: false },
@@ -272,9 +296,11 @@ impl Request {
             Request::AppendMacro => Done::nothing(),
             Request::AppendString => Done::nothing(),
             Request::Break => Done::nothing(),
+            Request::Centre => adjustment::centre(given.first),
             Request::DefineMacro => Done::nothing(),
             Request::DefineString => Done::nothing(),
             Request::Else => Done::nothing(),
+            Request::Environment => switching::switch(known, given.first),
             Request::Exit => Done::nothing(),
             Request::Fill => Done::setting(Param::Filling(true)),
             Request::IfElse => Done::nothing(),
@@ -282,6 +308,7 @@ impl Request {
             Request::Ignore => Done::nothing(),
             Request::Indent => lengths::indent(known, given.first),
             Request::LineLength => lengths::line_length(known, given.first),
+            Request::LineSpacing => spacing::line_spacing(known, given.first),
             Request::NoAdjust => Done::setting(Param::Adjusting(false)),
             Request::NoFill => Done::setting(Param::Filling(false)),
             Request::NumberRegister => numbering::set_register(known, given),
@@ -289,6 +316,8 @@ impl Request {
             Request::Rename => naming::rename(given.first, given.second),
             Request::RemoveRegisters => Done::changing(Changes::RemoveGiven),
             Request::Space => spacing::space_down(given.first),
+            Request::TabStops => tabs::tab_stops(given.all),
+            Request::TemporaryIndent => lengths::temporary_indent(known, given.first),
             Request::TellMessage => Done::nothing(),
             WithoutEffect(_) => Done::nothing(),
             LeftOut(name) => Done::left_out(name),

@@ -11,7 +11,7 @@ use Rattle.roff_scan.specs.Half.{Half, Backslash, unit_bytes}
 use Rattle.roff_scan.specs.HalfLaws.{FindsBytes, begins_reading, copied, copied_escape, doubled, found_before, half_behind, is_only_copied, reads_through, reads_to_end}
 use Rattle.roff_scan.specs.Halves.{Reads, copied_escape as copies_escape, escape_given, escape_read, escape_taken, name_beginning, reading_ended, reads_text, unit_taken}
 use Rattle.roff_scan.specs.declared.escapes.Escape.{Escape as Kind}
-use Rattle.roff_scan.specs.declared.escapes.Escape.TheVariants.{Prints, Blank, NoWidth, Nothing as GivesNothing, Brace, LeftOut as IsLeftOut, Comment as BeginsComment, Size as BeginsSize, Name as BeginsName, Text as BeginsText, Width as BeginsWidth}
+use Rattle.roff_scan.specs.declared.escapes.Escape.TheVariants.{Prints, Blank, NoWidth, Nothing as GivesNothing, Tab as GivesTab, Interrupts, Brace, LeftOut as IsLeftOut, Comment as BeginsComment, Size as BeginsSize, Name as BeginsName, Text as BeginsText, Width as BeginsWidth}
 use Rattle.roff_scan.specs.declared.escapes.Row.{Row}
 use Rattle.roff_scan.specs.declared.half.CopyUnit.{CopyUnit}
 use Rattle.roff_scan.specs.declared.half.CopyUnit.TheVariants.{Byte, Kept}
@@ -143,6 +143,8 @@ read-plain base b Blank copies plain = copied_unless base _ b copies
 read-plain base b NoWidth copies plain = copied_unless base _ b copies
 read-plain base b GivesNothing copies plain = copied_unless base _ b copies
 read-plain base b Brace copies plain = copied_unless base _ b copies
+read-plain base b GivesTab copies plain = copied_unless base _ b copies
+read-plain base b Interrupts copies plain = copied_unless base _ b copies
 read-plain base b IsLeftOut copies plain = copied_unless base _ b copies
 read-plain base b BeginsSize copies plain = copied_unless base _ b copies
 read-plain base b (BeginsText purpose) copies plain = copied_unless base _ b copies

@@ -1,6 +1,6 @@
 -- How many things may be half read within each other.
 use Rattle.std.proofs.Common.{◌≡◌, ℕ, ◌+◌, ◌*◌, ◌<◌, ◌≤◌, Bool, true, false, ◌&&◌, not, List, [], ◌∷◌, length, Option, refl, ap, arith, rules}
-use Rattle.std.specs.Prelude.{nat_le, if◌then◌else◌}
+use Rattle.std.specs.Prelude.{pos, nat_le, if◌then◌else◌}
 use Rattle.std.proofs.lemmas.Bool.{leb-false}
 use Rattle.roff_scan.specs.Half.{Half, Backslash, Comment, Name, Size, Delimited, Width, Condition, names_in, text_held, widths_in}
 use Rattle.roff_scan.specs.Halves.{most_names, most_widths, surroundings, reads_text, reads_widths}
@@ -51,7 +51,7 @@ nothing-below part text rest nested = nothing-half rest (may_stand-rest (Conditi
 
 -- where text is read widths are too
 reads_widths-text : (around : Surroundings) → reads_text around ≡ true → reads_widths around ≡ true
-reads_widths-text InText reads = refl
+reads_widths-text (InText place) reads = refl
 reads_widths-text InArguments reads = refl
 reads_widths-text InCopy reads = reads
 
@@ -60,10 +60,10 @@ widths-below : (delimiter : Option ℕ) (width : ℕ) (rest : List Half) → IsN
 widths-below delimiter width rest nested =
     leb-false most_widths (widths_in rest)
     (not_true (nat_le most_widths (widths_in rest))
-    (second_of (reads_widths (surroundings InText rest)) (not (nat_le most_widths (widths_in rest))) (may_stand-rest (Width delimiter width false) rest nested)))
+    (second_of (reads_widths (surroundings (InText (pos 0)) rest)) (not (nat_le most_widths (widths_in rest))) (may_stand-rest (Width delimiter width false) rest nested)))
 
 -- where widths are read, there are no more than may be
-widths-around : (half : List Half) → IsNested half → reads_widths (surroundings InText half) ≡ true → widths_in half ≤ most_widths
+widths-around : (half : List Half) → IsNested half → reads_widths (surroundings (InText (pos 0)) half) ≡ true → widths_in half ≤ most_widths
 widths-around [] nested around = omega arith
 widths-around (Backslash ∷ rest) nested around = absurd (search (rules, around))
 widths-around (Comment ∷ rest) nested around = absurd (search (rules, around))
@@ -71,7 +71,7 @@ widths-around (Name purpose part ∷ rest) nested around = absurd (search (rules
 widths-around (Size part ∷ rest) nested around = absurd (search (rules, around))
 widths-around (Delimited purpose delimiter text ∷ rest) nested around =
     widths-around rest (IsNested-rest (Delimited purpose delimiter text) rest nested)
-    (reads_widths-text (surroundings InText rest) (may_stand-rest (Delimited purpose delimiter text) rest nested))
+    (reads_widths-text (surroundings (InText (pos 0)) rest) (may_stand-rest (Delimited purpose delimiter text) rest nested))
 widths-around (Width delimiter width true ∷ rest) nested around = absurd (search (rules, around))
 widths-around (Width delimiter width false ∷ rest) nested around = omega (arith, widths-below delimiter width rest nested)
 widths-around (Condition part text ∷ rest) nested around = omega (arith, ap widths_in (nothing-below part text rest nested))
@@ -85,8 +85,8 @@ widths-nested (Name purpose part ∷ rest) nested = widths-nested rest (IsNested
 widths-nested (Size part ∷ rest) nested = widths-nested rest (IsNested-rest (Size part) rest nested)
 widths-nested (Delimited purpose delimiter text ∷ rest) nested = widths-nested rest (IsNested-rest (Delimited purpose delimiter text) rest nested)
 widths-nested (Width delimiter width is_deep ∷ rest) nested =
-    let around : reads_widths (surroundings InText rest) ≡ true =
-    first_of (reads_widths (surroundings InText rest)) (if is_deep then nat_le most_widths (widths_in rest) else not (nat_le most_widths (widths_in rest)))
+    let around : reads_widths (surroundings (InText (pos 0)) rest) ≡ true =
+    first_of (reads_widths (surroundings (InText (pos 0)) rest)) (if is_deep then nat_le most_widths (widths_in rest) else not (nat_le most_widths (widths_in rest)))
     (may_stand-rest (Width delimiter width is_deep) rest nested) in
     omega (arith, widths-around rest (IsNested-rest (Width delimiter width is_deep) rest nested) around)
 widths-nested (Condition part text ∷ rest) nested = widths-nested rest (IsNested-rest (Condition part text) rest nested)
@@ -127,7 +127,7 @@ spare-open (Delimited purpose delimiter text ∷ rest) is = omega arith
 spare-open (Width delimiter width is_deep ∷ rest) is = omega arith
 spare-open (Condition part text ∷ rest) is = omega arith
 
-spare-text : (half : List Half) → reads_text (surroundings InText half) ≡ true → spare half ≡ 0
+spare-text : (half : List Half) → reads_text (surroundings (InText (pos 0)) half) ≡ true → spare half ≡ 0
 spare-text [] around = refl
 spare-text (Backslash ∷ rest) around = absurd (search (rules, around))
 spare-text (Comment ∷ rest) around = absurd (search (rules, around))

@@ -1,6 +1,6 @@
 -- What is half read stays within each other as it may be, whatever is read.
 use Rattle.std.proofs.Common.{◌≡◌, ℕ, Bool, true, false, ◌&&◌, List, [], ◌∷◌, Option, Some, None, Result, Ok, Err, refl}
-use Rattle.std.specs.Prelude.{◌==◌, ◌||◌, not, nat_le, if◌then◌else◌}
+use Rattle.std.specs.Prelude.{ℤ, pos, ◌==◌, ◌||◌, not, nat_le, if◌then◌else◌}
 use Rattle.roff_num.specs.declared.num.Num.{Num}
 use Rattle.roff_num.specs.declared.num.NumFault.{NumFault}
 use Rattle.roff_scan.specs.Bytes.{start_of_text, tab, newline, blank, dot, backslash, quote}
@@ -8,11 +8,11 @@ use Rattle.roff_scan.specs.Conditions.{begins_expression, byte_of_condition, byt
 use Rattle.roff_scan.specs.Escapes.{escape_of, is_copied}
 use Rattle.roff_scan.specs.Half.{Half, Backslash, Comment, Name, Size, Delimited, Width, Condition, names_in, widths_in}
 use Rattle.roff_scan.specs.HalfLaws.{half_behind, reads_through}
-use Rattle.roff_scan.specs.Halves.{Reads, byte_of_text, byte_of_width, byte_read, copied_escape, escape_given, escape_read, is_first_digit, is_sign, most_names, most_widths, motion_given, name_begun, name_ended, name_given, name_or_opening, part_at_first, reading_ended, reads_text, reads_widths, size_read, surroundings, text_given, unit_of_name, unit_of_text, unit_taken}
+use Rattle.roff_scan.specs.Halves.{Reads, byte_of_text, byte_of_width, byte_read, copied_escape, escape_given, escape_read, is_first_digit, is_sign, most_names, most_widths, motion_given, name_begun, name_ended, name_given, name_or_opening, part_at_first, place_above, reading_ended, reads_text, reads_widths, size_read, surroundings, text_given, unit_of_name, unit_of_text, unit_taken}
 use Rattle.roff_scan.specs.Measures.{motion_of}
 use Rattle.roff_scan.specs.Nesting.{IsNested, is_nested, is_open, may_stand}
 use Rattle.roff_scan.specs.declared.escapes.Escape.{Escape as Kind}
-use Rattle.roff_scan.specs.declared.escapes.Escape.TheVariants.{Prints, Blank, NoWidth, Nothing as GivesNothing, Brace, LeftOut as IsLeftOut, Comment as BeginsComment, Size as BeginsSize, Name as BeginsName, Text as BeginsText, Width as BeginsWidth}
+use Rattle.roff_scan.specs.declared.escapes.Escape.TheVariants.{Prints, Blank, NoWidth, Nothing as GivesNothing, Tab as GivesTab, Interrupts, Brace, LeftOut as IsLeftOut, Comment as BeginsComment, Size as BeginsSize, Name as BeginsName, Text as BeginsText, Width as BeginsWidth}
 use Rattle.roff_scan.specs.declared.escapes.NameUse.{NameUse}
 use Rattle.roff_scan.specs.declared.escapes.NameUse.TheVariants.{Register, Text, Argument, Character, Font, LeftOut}
 use Rattle.roff_scan.specs.declared.escapes.TextUse.{TextUse}
@@ -79,9 +79,9 @@ IsNested-name_given purpose name (Width d width is_deep ∷ rest) nested = eithe
 IsNested-name_given purpose name (Condition part text ∷ rest) nested = nested
 
 -- a text between delimiters
-IsNested-text_given : (purpose : TextUse) (text : List ℕ) (rest : List Half) → IsNested rest → IsNested (text_given rest purpose text).1
-IsNested-text_given OfMotion text rest nested = IsNested-motion_given (motion_of text) rest nested
-IsNested-text_given (LeftOutText b) text rest nested = IsNested-escape_given b rest nested
+IsNested-text_given : (place : ℤ) (purpose : TextUse) (text : List ℕ) (rest : List Half) → IsNested rest → IsNested (text_given place rest purpose text).1
+IsNested-text_given place OfMotion text rest nested = IsNested-motion_given (motion_of place text) rest nested
+IsNested-text_given place (LeftOutText b) text rest nested = IsNested-escape_given b rest nested
 
 -- a name, or the parenthesis of one
 IsNested-name_or_opening : (purpose : NameUse) (b : ℕ) (rest : List Half) → IsNested (Name purpose Nothing ∷ rest) → IsNested (name_or_opening rest purpose b).1
@@ -210,24 +210,26 @@ IsNested-name_beginning purpose true rest full is_free nested = nested
 IsNested-name_beginning purpose false rest room is_free nested = above (Name purpose (part_at_first purpose)) rest is_free (rw room refl) nested
 
 -- what is read above anything is read above a text line too
-reads_text-above : (base : Surroundings) (rest : List Half) → reads_text (surroundings base rest) ≡ true → reads_text (surroundings InText rest) ≡ true
+reads_text-above : (base : Surroundings) (rest : List Half) → reads_text (surroundings base rest) ≡ true → reads_text (surroundings (InText (pos 0)) rest) ≡ true
 reads_text-above base [] reads = refl
 reads_text-above base (Backslash ∷ rest) reads = reads
 reads_text-above base (Comment ∷ rest) reads = reads
 reads_text-above base (Name purpose part ∷ rest) reads = reads
 reads_text-above base (Size part ∷ rest) reads = reads
 reads_text-above base (Delimited purpose d text ∷ rest) reads = reads
-reads_text-above base (Width d width is_deep ∷ rest) reads = reads
+reads_text-above base (Width d width true ∷ rest) reads = reads
+reads_text-above base (Width d width false ∷ rest) reads = refl
 reads_text-above base (Condition part text ∷ rest) reads = reads
 
-reads_widths-above : (base : Surroundings) (rest : List Half) → reads_widths (surroundings base rest) ≡ true → reads_widths (surroundings InText rest) ≡ true
+reads_widths-above : (base : Surroundings) (rest : List Half) → reads_widths (surroundings base rest) ≡ true → reads_widths (surroundings (InText (pos 0)) rest) ≡ true
 reads_widths-above base [] reads = refl
 reads_widths-above base (Backslash ∷ rest) reads = reads
 reads_widths-above base (Comment ∷ rest) reads = reads
 reads_widths-above base (Name purpose part ∷ rest) reads = reads
 reads_widths-above base (Size part ∷ rest) reads = reads
 reads_widths-above base (Delimited purpose d text ∷ rest) reads = reads
-reads_widths-above base (Width d width is_deep ∷ rest) reads = reads
+reads_widths-above base (Width d width true ∷ rest) reads = reads
+reads_widths-above base (Width d width false ∷ rest) reads = refl
 reads_widths-above base (Condition part text ∷ rest) reads = reads
 
 -- a text that is measured begins, a deep one or not
@@ -256,13 +258,15 @@ module _ (base : Surroundings) (b : ℕ) (rest : List Half) (is_free : is_open r
   IsNested-escape_read BeginsWidth =
       let is_deep = nat_le most_widths (widths_in rest) in
       either (reads_widths (surroundings base rest)) _ _
-      (λ reads. above (Width None 0 is_deep) rest is_free (deep_or_not (reads_widths (surroundings InText rest)) is_deep (reads_widths-above base rest reads)) nested)
+      (λ reads. above (Width None 0 is_deep) rest is_free (deep_or_not (reads_widths (surroundings (InText (pos 0)) rest)) is_deep (reads_widths-above base rest reads)) nested)
       (λ copies. IsNested-copied_escape b rest nested)
   IsNested-escape_read (Prints byte) = plain
   IsNested-escape_read Blank = plain
   IsNested-escape_read NoWidth = plain
   IsNested-escape_read GivesNothing = plain
   IsNested-escape_read Brace = plain
+  IsNested-escape_read GivesTab = plain
+  IsNested-escape_read Interrupts = plain
   IsNested-escape_read IsLeftOut = plain
 
 -- a byte of a size
@@ -275,11 +279,11 @@ IsNested-size_read Digit b rest nested = IsNested-escape_given 115 rest (IsNeste
 
 -- a byte of a text between delimiters
 IsNested-byte_of_text :
-    (purpose : TextUse) (d : Option ℕ) (text : List ℕ) (b : ℕ) (rest : List Half)
-    → IsNested (Delimited purpose d text ∷ rest) → IsNested (byte_of_text rest purpose d text b).1
-IsNested-byte_of_text purpose None text b rest nested = nested
-IsNested-byte_of_text purpose (Some d) text b rest nested =
-    either (b == d) _ _ (λ ends. IsNested-text_given purpose text rest (IsNested-rest (Delimited purpose (Some d) text) rest nested)) λ other.
+    (place : ℤ) (purpose : TextUse) (d : Option ℕ) (text : List ℕ) (b : ℕ) (rest : List Half)
+    → IsNested (Delimited purpose d text ∷ rest) → IsNested (byte_of_text place rest purpose d text b).1
+IsNested-byte_of_text place purpose None text b rest nested = nested
+IsNested-byte_of_text place purpose (Some d) text b rest nested =
+    either (b == d) _ _ (λ ends. IsNested-text_given place purpose text rest (IsNested-rest (Delimited purpose (Some d) text) rest nested)) λ other.
     either (b == backslash) _ _ (λ escape. nested) λ other. IsNested-unit_of_text purpose (Some d) text (Byte b) rest nested
 
 -- a byte of a text that is measured
@@ -300,7 +304,7 @@ IsNested-byte_read base b (Comment ∷ rest) nested = nested
 IsNested-byte_read base b (Name purpose part ∷ rest) nested =
     either (b == backslash) _ _ (λ escape. nested) (λ unit. IsNested-unit_of_name purpose part (Byte b) rest nested)
 IsNested-byte_read base b (Size part ∷ rest) nested = IsNested-size_read part b rest nested
-IsNested-byte_read base b (Delimited purpose d text ∷ rest) nested = IsNested-byte_of_text purpose d text b rest nested
+IsNested-byte_read base b (Delimited purpose d text ∷ rest) nested = IsNested-byte_of_text (place_above base) purpose d text b rest nested
 IsNested-byte_read base b (Width d width is_deep ∷ rest) nested = IsNested-byte_of_width d width is_deep b rest nested
 IsNested-byte_read base b (Condition part text ∷ rest) nested = IsNested-byte_of_condition part text b rest nested
 
@@ -321,7 +325,8 @@ IsNested-reading_ended base (Comment ∷ rest) nested =
     either (reads_text (surroundings base rest)) _ _ (λ reads. IsNested-escape_given quote rest below) (λ copies. below)
 IsNested-reading_ended base (Name purpose part ∷ rest) nested = IsNested-name_ended purpose part rest (IsNested-rest (Name purpose part) rest nested)
 IsNested-reading_ended base (Size part ∷ rest) nested = IsNested-escape_given 115 rest (IsNested-rest (Size part) rest nested)
-IsNested-reading_ended base (Delimited purpose d text ∷ rest) nested = IsNested-text_given purpose text rest (IsNested-rest (Delimited purpose d text) rest nested)
+IsNested-reading_ended base (Delimited purpose d text ∷ rest) nested =
+    IsNested-text_given (place_above base) purpose text rest (IsNested-rest (Delimited purpose d text) rest nested)
 IsNested-reading_ended base (Width d width is_deep ∷ rest) nested = IsNested-rest (Width d width is_deep) rest nested
 IsNested-reading_ended base (Condition part text ∷ rest) nested = IsNested-condition_ended part text rest nested
 

@@ -1,6 +1,6 @@
 -- Reading makes no text longer: only what is held does.
 use Rattle.std.proofs.Common.{◌≡◌, ℕ, ◌+◌, ◌≤◌, Bool, true, false, ◌&&◌, List, [], ◌∷◌, length, Option, Some, None, Result, Ok, Err, refl, arith}
-use Rattle.std.specs.Prelude.{pos, ◌==◌, ◌||◌, not, nat_le, if◌then◌else◌}
+use Rattle.std.specs.Prelude.{ℤ, pos, ◌==◌, ◌||◌, not, nat_le, if◌then◌else◌}
 use Rattle.roff_num.specs.Expressions.{value_at}
 use Rattle.roff_num.specs.declared.num.Num.{Num}
 use Rattle.roff_num.specs.declared.num.NumFault.{NumFault}
@@ -9,10 +9,10 @@ use Rattle.roff_scan.specs.Bytes.{start_of_text, tab, newline, blank, quote, dot
 use Rattle.roff_scan.specs.Conditions.{begins_expression, byte_of_condition, byte_or_backslash, choice_made, condition_ended, delimiter_met, expression_over, expression_valued, unit_of_condition}
 use Rattle.roff_scan.specs.Escapes.{escape_of, is_copied}
 use Rattle.roff_scan.specs.Half.{Half, Backslash, Comment, Name, Size, Delimited, Width, Condition, names_in, texts_held}
-use Rattle.roff_scan.specs.Halves.{Reads, byte_of_text, byte_of_width, byte_read, copied_escape, escape_given, escape_read, is_first_digit, is_sign, most_names, motion_given, name_begun, name_ended, name_given, name_or_opening, part_at_first, reading_ended, reads_text, reads_widths, size_read, surroundings, text_given, unit_of_name, unit_of_text, unit_taken}
+use Rattle.roff_scan.specs.Halves.{Reads, byte_of_text, byte_of_width, byte_read, copied_escape, escape_given, escape_read, is_first_digit, is_sign, most_names, motion_given, name_begun, name_ended, name_given, name_or_opening, part_at_first, place_above, reading_ended, reads_text, reads_widths, size_read, surroundings, text_given, unit_of_name, unit_of_text, unit_taken}
 use Rattle.roff_scan.specs.Measures.{motion_of}
 use Rattle.roff_scan.specs.declared.escapes.Escape.{Escape as Kind}
-use Rattle.roff_scan.specs.declared.escapes.Escape.TheVariants.{Prints, Blank, NoWidth, Nothing as GivesNothing, Brace, LeftOut as IsLeftOut, Comment as BeginsComment, Size as BeginsSize, Name as BeginsName, Text as BeginsText, Width as BeginsWidth}
+use Rattle.roff_scan.specs.declared.escapes.Escape.TheVariants.{Prints, Blank, NoWidth, Nothing as GivesNothing, Tab as GivesTab, Interrupts, Brace, LeftOut as IsLeftOut, Comment as BeginsComment, Size as BeginsSize, Name as BeginsName, Text as BeginsText, Width as BeginsWidth}
 use Rattle.roff_scan.specs.declared.escapes.NameUse.{NameUse}
 use Rattle.roff_scan.specs.declared.escapes.NameUse.TheVariants.{Register, Text, Argument, Character, Font, LeftOut}
 use Rattle.roff_scan.specs.declared.escapes.TextUse.{TextUse}
@@ -67,9 +67,9 @@ held-name_given purpose name (Width d width is_deep ∷ rest) = either (is_copie
 held-name_given purpose name (Condition part text ∷ rest) = refl
 
 -- a text between delimiters that is whole is held no more
-held-text_given : (purpose : TextUse) (text : List ℕ) (rest : List Half) → texts_held (text_given rest purpose text).1 ≡ texts_held rest
-held-text_given OfMotion text rest = held-motion_given (motion_of text) rest
-held-text_given (LeftOutText b) text rest = held-escape_given b rest
+held-text_given : (place : ℤ) (purpose : TextUse) (text : List ℕ) (rest : List Half) → texts_held (text_given place rest purpose text).1 ≡ texts_held rest
+held-text_given place OfMotion text rest = held-motion_given (motion_of place text) rest
+held-text_given place (LeftOutText b) text rest = held-escape_given b rest
 
 -- a name, or the parenthesis of one
 held-name_or_opening : (purpose : NameUse) (b : ℕ) (rest : List Half) → texts_held (name_or_opening rest purpose b).1 ≡ texts_held rest
@@ -176,6 +176,8 @@ held-escape_read around b Blank rest = held-plain (reads_text around) b rest
 held-escape_read around b NoWidth rest = held-plain (reads_text around) b rest
 held-escape_read around b GivesNothing rest = held-plain (reads_text around) b rest
 held-escape_read around b Brace rest = held-plain (reads_text around) b rest
+held-escape_read around b GivesTab rest = held-plain (reads_text around) b rest
+held-escape_read around b Interrupts rest = held-plain (reads_text around) b rest
 held-escape_read around b IsLeftOut rest = held-plain (reads_text around) b rest
 
 -- a byte of a size
@@ -207,10 +209,11 @@ either-within true x y held of_x of_y = of_x
 either-within false x y held of_x of_y = of_y
 
 -- a byte of a text between delimiters
-held-byte_of_text : (purpose : TextUse) (d : Option ℕ) (text : List ℕ) (b : ℕ) (rest : List Half) → texts_held (byte_of_text rest purpose d text b).1 ≤ length text + texts_held rest
-held-byte_of_text purpose None text b rest = omega arith
-held-byte_of_text purpose (Some d) text b rest =
-    either-within (b == d) _ _ _ (omega (arith, held-text_given purpose text rest))
+held-byte_of_text : (place : ℤ) (purpose : TextUse) (d : Option ℕ) (text : List ℕ) (b : ℕ) (rest : List Half)
+    → texts_held (byte_of_text place rest purpose d text b).1 ≤ length text + texts_held rest
+held-byte_of_text place purpose None text b rest = omega arith
+held-byte_of_text place purpose (Some d) text b rest =
+    either-within (b == d) _ _ _ (omega (arith, held-text_given place purpose text rest))
     (either-within (b == backslash) _ _ _ (omega arith) (omega (arith, held-unit_of_text purpose (Some d) text (Byte b) rest)))
 
 -- a byte makes no text longer
@@ -221,7 +224,7 @@ texts_held-byte_read base b (Comment ∷ rest) = omega arith
 texts_held-byte_read base b (Name purpose part ∷ rest) =
     either-within (b == backslash) _ _ _ (omega arith) (omega (arith, held-unit_of_name purpose part (Byte b) rest))
 texts_held-byte_read base b (Size part ∷ rest) = omega (arith, held-size_read part b rest)
-texts_held-byte_read base b (Delimited purpose d text ∷ rest) = held-byte_of_text purpose d text b rest
+texts_held-byte_read base b (Delimited purpose d text ∷ rest) = held-byte_of_text (place_above base) purpose d text b rest
 texts_held-byte_read base b (Width d width is_deep ∷ rest) = omega (arith, held-byte_of_width d width is_deep b rest)
 texts_held-byte_read base b (Condition part text ∷ rest) = omega (arith, held-byte_of_condition part text b rest)
 
@@ -247,6 +250,6 @@ texts_held-reading_ended base (Comment ∷ rest) =
     either-within (reads_text (surroundings base rest)) _ _ _ (omega (arith, held-escape_given quote rest)) (omega arith)
 texts_held-reading_ended base (Name purpose part ∷ rest) = omega (arith, held-name_ended purpose part rest)
 texts_held-reading_ended base (Size part ∷ rest) = omega (arith, held-escape_given 115 rest)
-texts_held-reading_ended base (Delimited purpose d text ∷ rest) = omega (arith, held-text_given purpose text rest)
+texts_held-reading_ended base (Delimited purpose d text ∷ rest) = omega (arith, held-text_given (place_above base) purpose text rest)
 texts_held-reading_ended base (Width d width is_deep ∷ rest) = omega arith
 texts_held-reading_ended base (Condition part text ∷ rest) = held-condition_ended part text rest

@@ -1,6 +1,6 @@
 -- Texts between delimiters, read as they are.
 use Rattle.std.proofs.Common.{◌≡◌, ℕ, ◌+◌, ◌*◌, ◌≤◌, Bool, true, false, ◌&&◌, List, [], ◌∷◌, ◌++◌, Some, refl, sym, ap, append_assoc, arith, ◌∙◌}
-use Rattle.std.specs.Prelude.{◌==◌, ◌||◌, min, not, if◌then◌else◌}
+use Rattle.std.specs.Prelude.{ℤ, ◌==◌, ◌||◌, min, not, if◌then◌else◌}
 use Rattle.std.proofs.lemmas.Bool.{eq-eqb}
 use Rattle.std.proofs.lemmas.List.{append-nil}
 use Rattle.std.proofs.lemmas.List.Sums.{sum_by-cons}
@@ -52,7 +52,7 @@ module _ (base : Surroundings) (d : ℕ) where
 -- its escape
 width_begun : (base : Surroundings) (d : ℕ) (text : List ℕ) → reads_widths base ≡ true
     → reads_through base [] (text_escape 119 d text) ≡ reads_through base (Width (Some d) 0 false ∷ []) (text ++ d ∷ [])
-width_begun InText d text reads = refl
+width_begun (InText place) d text reads = refl
 width_begun InArguments d text reads = refl
 width_begun InCopy d text reads = cc
 
@@ -64,35 +64,36 @@ width_read base d text reads between =
     ∙ ap (λ (w : ℕ). (Measures (min w most_width) ∷ [], [])) (omega arith)
 
 -- what a motion's text finds
-abbrev moved : List ℕ → List Read × List Half
-moved text = (Motion (motion_of text).columns (motion_of text).remark ∷ [], [])
+abbrev moved : ℤ → List ℕ → List Read × List Half
+moved place text = (Motion (motion_of place text).columns (motion_of place text).remark ∷ [], [])
 
 -- the text of a motion is held
-motion_within : (d : ℕ) (text so_far : List ℕ) → is_between d text ≡ true
-    → reads_through InText (Delimited OfMotion (Some d) so_far ∷ []) (text ++ d ∷ []) ≡ moved (so_far ++ text)
-motion_within d [] so_far between =
-    ap (λ (c : Bool). read_on InText [] (if c then text_given [] OfMotion so_far else if d == backslash then (GoesOn, Backslash ∷ Delimited OfMotion (Some d) so_far ∷ []) else unit_of_text [] OfMotion (Some d) so_far (Byte d))) (eq-eqb d d refl)
-    ∙ ap moved (sym (append-nil so_far))
-motion_within d (b ∷ text) so_far between =
+motion_within : (place : ℤ) (d : ℕ) (text so_far : List ℕ) → is_between d text ≡ true
+    → reads_through (InText place) (Delimited OfMotion (Some d) so_far ∷ []) (text ++ d ∷ []) ≡ moved place (so_far ++ text)
+motion_within place d [] so_far between =
+    ap (λ (c : Bool). read_on (InText place) [] (if c then text_given place [] OfMotion so_far else if d == backslash then (GoesOn, Backslash ∷ Delimited OfMotion (Some d) so_far ∷ []) else unit_of_text [] OfMotion (Some d) so_far (Byte d))) (eq-eqb d d refl)
+    ∙ ap (moved place) (sym (append-nil so_far))
+motion_within place d (b ∷ text) so_far between =
     let parts = between_parts (b == d) (b == backslash) (b == newline) (is_between d text) between in
-    ap (read_on InText (text ++ d ∷ [])) (inner_byte (b == d) (b == backslash) _ _ _ parts.0 parts.1)
-    ∙ motion_within d text (so_far ++ b ∷ []) parts.2
-    ∙ ap moved (append_assoc so_far (b ∷ []) text)
+    ap (read_on (InText place) (text ++ d ∷ [])) (inner_byte (b == d) (b == backslash) _ _ _ parts.0 parts.1)
+    ∙ motion_within place d text (so_far ++ b ∷ []) parts.2
+    ∙ ap (moved place) (append_assoc so_far (b ∷ []) text)
 
-pub motion_read : (d : ℕ) (text : List ℕ) → is_between d text ≡ true → reads_through InText [] (text_escape 104 d text) ≡ moved text
-motion_read d text between = motion_within d text [] between
+pub motion_read : (place : ℤ) (d : ℕ) (text : List ℕ) → is_between d text ≡ true
+    → reads_through (InText place) [] (text_escape 104 d text) ≡ moved place text
+motion_read place d text between = motion_within place d text [] between
 
 -- a text that is left out is dropped
-left_out_within : (kind d : ℕ) (text : List ℕ) → is_between d text ≡ true
-    → reads_through InText (Delimited (LeftOutText kind) (Some d) [] ∷ []) (text ++ d ∷ []) ≡ (Escape kind ∷ [], [])
-left_out_within kind d [] between =
-    ap (λ (c : Bool). read_on InText [] (if c then text_given [] (LeftOutText kind) [] else if d == backslash then (GoesOn, Backslash ∷ Delimited (LeftOutText kind) (Some d) [] ∷ []) else unit_of_text [] (LeftOutText kind) (Some d) [] (Byte d))) (eq-eqb d d refl)
-left_out_within kind d (b ∷ text) between =
+left_out_within : (place : ℤ) (kind d : ℕ) (text : List ℕ) → is_between d text ≡ true
+    → reads_through (InText place) (Delimited (LeftOutText kind) (Some d) [] ∷ []) (text ++ d ∷ []) ≡ (Escape kind ∷ [], [])
+left_out_within place kind d [] between =
+    ap (λ (c : Bool). read_on (InText place) [] (if c then text_given place [] (LeftOutText kind) [] else if d == backslash then (GoesOn, Backslash ∷ Delimited (LeftOutText kind) (Some d) [] ∷ []) else unit_of_text [] (LeftOutText kind) (Some d) [] (Byte d))) (eq-eqb d d refl)
+left_out_within place kind d (b ∷ text) between =
     let parts = between_parts (b == d) (b == backslash) (b == newline) (is_between d text) between in
-    ap (read_on InText (text ++ d ∷ [])) (inner_byte (b == d) (b == backslash) _ _ _ parts.0 parts.1)
-    ∙ left_out_within kind d text parts.2
+    ap (read_on (InText place) (text ++ d ∷ [])) (inner_byte (b == d) (b == backslash) _ _ _ parts.0 parts.1)
+    ∙ left_out_within place kind d text parts.2
 
-pub left_out_read : (b kind d : ℕ) (text : List ℕ) → escape_of b ≡ BeginsText (LeftOutText kind) → is_between d text ≡ true
-    → reads_through InText [] (text_escape b d text) ≡ (Escape kind ∷ [], [])
-left_out_read b kind d text is between =
-    ap (λ (kind : Kind). read_on InText (d ∷ text ++ d ∷ []) (escape_read InText [] b kind)) is ∙ left_out_within kind d text between
+pub left_out_read : (place : ℤ) (b kind d : ℕ) (text : List ℕ) → escape_of b ≡ BeginsText (LeftOutText kind) → is_between d text ≡ true
+    → reads_through (InText place) [] (text_escape b d text) ≡ (Escape kind ∷ [], [])
+left_out_read place b kind d text is between =
+    ap (λ (kind : Kind). read_on (InText place) (d ∷ text ++ d ∷ []) (escape_read (InText place) [] b kind)) is ∙ left_out_within place kind d text between

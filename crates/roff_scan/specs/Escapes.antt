@@ -2,7 +2,7 @@
 use Rattle.std.specs.Prelude.{ℕ, Bool, true, false, List, [], ◌∷◌, find, Option, Some, None, ◌==◌}
 use Rattle.roff_scan.specs.Bytes.{backslash}
 use Rattle.roff_scan.specs.declared.escapes.Escape.{Escape}
-use Rattle.roff_scan.specs.declared.escapes.Escape.TheVariants.{Prints, Blank, NoWidth, Nothing, Brace, LeftOut, Comment, Size, Name as NameOf, Text as TextOf, Width}
+use Rattle.roff_scan.specs.declared.escapes.Escape.TheVariants.{Prints, Blank, NoWidth, Nothing, Tab, Interrupts, Brace, LeftOut, Comment, Size, Name as NameOf, Text as TextOf, Width}
 use Rattle.roff_scan.specs.declared.escapes.NameUse.{NameUse}
 use Rattle.roff_scan.specs.declared.escapes.NameUse.TheVariants.{Register, Text, Argument, Character, Font, LeftOut as LeftOutName}
 use Rattle.roff_scan.specs.declared.escapes.Row.{Row}
@@ -23,12 +23,12 @@ escapes =
     ∷ row 37 Nothing  -- \%
     ∷ row 124 Nothing  -- \|
     ∷ row 94 Nothing  -- \^
-    ∷ row 99 Nothing  -- \c
-    ∷ row 116 Nothing  -- \t
+    ∷ row 99 Interrupts  -- \c
+    ∷ row 116 Tab  -- \t
     ∷ row 123 Brace  -- \{
     ∷ row 125 Brace  -- \}
     ∷ row 10 Nothing  -- \ and a newline
-    ∷ row 9 Nothing  -- \ and a tab
+    ∷ row 9 Tab  -- \ and a tab
     ∷ row 2 Nothing  -- \ and STX
     ∷ row 3 Nothing  -- \ and ETX
     ∷ row 5 Nothing  -- \ and ENQ

@@ -2,7 +2,7 @@
 -- 7.2, 8, 10.1, 11 and 16).
 --
 -- Units of copy mode are handed down from what stands above: a byte, or an escape that is kept.
-use Rattle.std.specs.Prelude.{ℕ, Bool, true, false, ◌&&◌, ◌||◌, not, List, [], ◌∷◌, take, nat_le, Option, Some, None, if◌then◌else◌, ◌==◌}
+use Rattle.std.specs.Prelude.{ℕ, ℤ, pos, Bool, true, false, ◌&&◌, ◌||◌, not, List, [], ◌∷◌, take, nat_le, Option, Some, None, if◌then◌else◌, ◌==◌}
 use Rattle.roff_store.specs.declared.register.Direction.TheVariants.{Up, Down}
 use Rattle.roff_scan.specs.Bytes.{start_of_text, tab, newline, quote, dot, backslash, is_digit, is_dropped}
 use Rattle.roff_scan.specs.Conditions.{byte_of_condition, condition_ended, ends_at_backslash, is_decided, ends_at_newline, ends_condition, is_read_in_arguments, unit_of_condition}
@@ -37,25 +37,31 @@ most_names = 8
 abbrev pub most_widths : ℕ
 most_widths = 8
 
+-- the place on the input line, in basic units: that of a text line, and 0 elsewhere
+abbrev pub place_above : Surroundings → ℤ
+place_above (InText place) = place
+place_above InArguments = pos 0
+place_above InCopy = pos 0
+
 -- how a backslash is read above these, which stand above a text line, above arguments, or in copy mode: within names and
 -- texts too deep to be measured in copy mode, within texts between delimiters and conditions as in arguments, and within
 -- measured ones as in text
 abbrev pub surroundings : Surroundings → List Half → Surroundings
 surroundings base [] = base
 surroundings base (Delimited purpose d text ∷ rest) = InArguments
-surroundings base (Width d width is_deep ∷ rest) = if is_deep then InCopy else InText
+surroundings base (Width d width is_deep ∷ rest) = if is_deep then InCopy else InText (place_above base)
 surroundings base (Condition part text ∷ rest) = InArguments
 surroundings base (half ∷ rest) = InCopy
 
 -- whether every escape is read there
 abbrev pub reads_text : Surroundings → Bool
-reads_text InText = true
+reads_text (InText place) = true
 reads_text InArguments = false
 reads_text InCopy = false
 
 -- whether widths are
 abbrev pub reads_widths : Surroundings → Bool
-reads_widths InText = true
+reads_widths (InText place) = true
 reads_widths InArguments = true
 reads_widths InCopy = false
 
@@ -89,10 +95,10 @@ abbrev pub name_given : List Half → NameUse → Option (List ℕ) → Reads
 name_given (Width d width is_deep ∷ rest) purpose name = name_measured rest d width is_deep purpose name
 name_given rest purpose name = (Asks purpose name, rest)
 
--- a text between delimiters that is whole, above these
-abbrev pub text_given : List Half → TextUse → List ℕ → Reads
-text_given rest OfMotion text = motion_given rest (motion_of text)
-text_given rest (LeftOutText b) text = escape_given rest b
+-- a text between delimiters that is whole, at this place of the line, above these
+abbrev pub text_given : ℤ → List Half → TextUse → List ℕ → Reads
+text_given place rest OfMotion text = motion_given rest (motion_of place text)
+text_given place rest (LeftOutText b) text = escape_given rest b
 
 -- a name that is whole
 abbrev pub name_whole : List Half → NameUse → List ℕ → Reads
@@ -195,10 +201,10 @@ abbrev pub escape_taken : Surroundings → List Half → ℕ → Reads
 escape_taken base rest b = escape_read (surroundings base rest) rest b (escape_of b)
 
 -- a byte of a text between delimiters: the first delimits it, whatever it is, and the same ends it
-abbrev pub byte_of_text : List Half → TextUse → Option ℕ → List ℕ → ℕ → Reads
-byte_of_text rest purpose None text b = (GoesOn, Delimited purpose (Some b) text ∷ rest)
-byte_of_text rest purpose (Some d) text b =
-    if b == d then text_given rest purpose text
+abbrev pub byte_of_text : ℤ → List Half → TextUse → Option ℕ → List ℕ → ℕ → Reads
+byte_of_text place rest purpose None text b = (GoesOn, Delimited purpose (Some b) text ∷ rest)
+byte_of_text place rest purpose (Some d) text b =
+    if b == d then text_given place rest purpose text
     else if b == backslash then (GoesOn, Backslash ∷ Delimited purpose (Some d) text ∷ rest)
     else unit_of_text rest purpose (Some d) text (Byte b)
 
@@ -223,7 +229,7 @@ byte_read base (Comment ∷ rest) b = (GoesOn, Comment ∷ rest)
 byte_read base (Name purpose part ∷ rest) b =
     if b == backslash then (GoesOn, Backslash ∷ Name purpose part ∷ rest) else unit_of_name rest purpose part (Byte b)
 byte_read base (Size part ∷ rest) b = size_read rest part b
-byte_read base (Delimited purpose d text ∷ rest) b = byte_of_text rest purpose d text b
+byte_read base (Delimited purpose d text ∷ rest) b = byte_of_text (place_above base) rest purpose d text b
 byte_read base (Width d width is_deep ∷ rest) b = byte_of_width rest d width is_deep b
 byte_read base (Condition part text ∷ rest) b = byte_of_condition rest part text b
 
@@ -243,7 +249,7 @@ reading_ended base (Comment ∷ rest) =
     if reads_text (surroundings base rest) then escape_given rest quote else (GoesOn, rest)
 reading_ended base (Name purpose part ∷ rest) = name_ended rest purpose part
 reading_ended base (Size part ∷ rest) = size_over rest
-reading_ended base (Delimited purpose d text ∷ rest) = text_given rest purpose text
+reading_ended base (Delimited purpose d text ∷ rest) = text_given (place_above base) rest purpose text
 reading_ended base (Width d width is_deep ∷ rest) = (Measures width, rest)
 reading_ended base (Condition part text ∷ rest) = condition_ended rest part text
 

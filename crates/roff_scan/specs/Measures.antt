@@ -67,7 +67,7 @@ abbrev pub motion_by : Result ℤ NumFault → Measured
 motion_by (Ok length) = motion_over length
 motion_by (Err fault) = remarked BadNumber
 
--- The motion that a text asks for: it counts columns where it has no scale letter, and is rounded to them. There is no
--- place on the line to measure from.
-abbrev pub motion_of : List ℕ → Measured
-motion_of text = motion_by (followed (value_at text 0 Columns None) (λ r. Ok (rounded 24 r.0.0)))
+-- The motion that a text asks for at this place of the input line, in basic units: it counts columns where it has no scale
+-- letter, and is rounded to them. `|` measures from the place.
+abbrev pub motion_of : ℤ → List ℕ → Measured
+motion_of place text = motion_by (followed (value_at text 0 Columns (Some place)) (λ r. Ok (rounded 24 r.0.0)))

@@ -1,5 +1,5 @@
 -- How deep things may be half read within each other (manual, sections 8 and 16).
-use Rattle.std.specs.Prelude.{◌≡◌, ◌≤◌, Bool, true, false, not, ◌&&◌, is_some, List, [], ◌∷◌, length, nat_le, if◌then◌else◌}
+use Rattle.std.specs.Prelude.{◌≡◌, ◌≤◌, pos, Bool, true, false, not, ◌&&◌, is_some, List, [], ◌∷◌, length, nat_le, if◌then◌else◌}
 use Rattle.roff_scan.specs.Half.{Half, Backslash, Comment, Name, Size, Delimited, Width, Condition, names_in, widths_in}
 use Rattle.roff_scan.specs.Halves.{most_names, most_widths, surroundings, reads_text, reads_widths}
 use Rattle.roff_scan.specs.declared.half.Surroundings.TheVariants.{Text as InText}
@@ -38,10 +38,10 @@ abbrev pub may_stand : Half → List Half → Bool
 may_stand Backslash rest = true
 may_stand Comment rest = true
 may_stand (Name purpose part) rest = not (nat_le most_names (names_in rest))
-may_stand (Size part) rest = reads_text (surroundings InText rest)
-may_stand (Delimited purpose delimiter text) rest = reads_text (surroundings InText rest)
+may_stand (Size part) rest = reads_text (surroundings (InText (pos 0)) rest)
+may_stand (Delimited purpose delimiter text) rest = reads_text (surroundings (InText (pos 0)) rest)
 may_stand (Width delimiter width is_deep) rest =
-    reads_widths (surroundings InText rest) && (if is_deep then nat_le most_widths (widths_in rest) else not (nat_le most_widths (widths_in rest)))
+    reads_widths (surroundings (InText (pos 0)) rest) && (if is_deep then nat_le most_widths (widths_in rest) else not (nat_le most_widths (widths_in rest)))
 may_stand (Condition part text) rest = is_nothing rest
 
 -- whether each stands where it may

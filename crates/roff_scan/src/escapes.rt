@@ -17,6 +17,10 @@ pub enum Escape {
     NoWidth,
     /// It gives nothing.
     Nothing,
+    /// A tab.
+    Tab,
+    /// It drops the rest of its line; the next text line goes on.
+    Interrupts,
     /// It begins or ends a branch of a condition over several lines, and gives nothing elsewhere.
     Brace,
     /// It is left out, and has neither name nor text behind it.
@@ -79,12 +83,12 @@ static ROWS: [Row; 49] = [
     Row { byte: b'%', escape: Escape::Nothing },
     Row { byte: b'|', escape: Escape::Nothing },
     Row { byte: b'^', escape: Escape::Nothing },
-    Row { byte: b'c', escape: Escape::Nothing },
-    Row { byte: b't', escape: Escape::Nothing },
+    Row { byte: b'c', escape: Escape::Interrupts },
+    Row { byte: b't', escape: Escape::Tab },
     Row { byte: b'{', escape: Escape::Brace },
     Row { byte: b'}', escape: Escape::Brace },
     Row { byte: b'\n', escape: Escape::Nothing },
-    Row { byte: b'\t', escape: Escape::Nothing },
+    Row { byte: b'\t', escape: Escape::Tab },
     Row { byte: 2, escape: Escape::Nothing },
     Row { byte: 3, escape: Escape::Nothing },
     Row { byte: 5, escape: Escape::Nothing },

@@ -1,5 +1,8 @@
 //! What is half read: backslashes, comments, conditions, and names, sizes and texts behind escapes.
 
+ghost use Rattle.std.specs.Prelude.{◌≡◌};
+ghost use Rattle.roff_scan.specs.Halves.{place_above, reads_text};
+
 use crate::escapes::{NameUse, TextUse};
 use roff_num::Name;
 
@@ -77,12 +80,32 @@ pub enum Decision {
 /// How the byte behind a backslash is read.
 #[derive(Clone, Copy, Debug, PartialEq, Eq)]
 pub enum Surroundings {
-    /// As in a text line: every escape is one.
-    Text,
+    /// As in a text line: every escape is one. This is the place on the line, in basic units.
+    Text(i32),
     /// As in arguments: copied, but for widths.
     Arguments,
     /// In copy mode.
     Copy,
+}
+
+impl Surroundings {
+    /// Whether every escape is read there.
+    pub(crate) fn reads_text(self) -> bool
+        ensures { result ≡ reads_text self }
+    {
+        matches!(self, Surroundings::Text(_))
+    }
+
+    /// The place on the input line, in basic units: 0 where no text line is read.
+    pub(crate) fn place(self) -> i32
+        ensures { result ≡ place_above self }
+    {
+        match self {
+            Surroundings::Text(place) => place,
+            Surroundings::Arguments => 0,
+            Surroundings::Copy => 0,
+        }
+    }
 }
 
 /// Something that is half read. The texts stand behind each other in one block.

@@ -2,7 +2,7 @@
 
 ghost use Rattle.std.specs.Prelude.{◌++◌, ◌≡◌, ℕ, ◌*◌, ◌<◌, ◌≤◌, Bool, true, false, not, List, []};
 ghost use Rattle.std.specs.Prelude.{◌∷◌, bytes_eq, codes, length, map, min, replicate, Option};
-ghost use Rattle.std.specs.Prelude.{None, Some, ◌==◌};
+ghost use Rattle.std.specs.Prelude.{None, Some, ◌==◌, ℤ, pos};
 ghost use Rattle.roff_scan.specs.Bytes.{backslash, blank, quote};
 ghost use Rattle.roff_scan.specs.Escapes.{escape_of, is_copied};
 ghost use Rattle.roff_scan.specs.Half.{Half, Comment, Name};
@@ -66,8 +66,8 @@ pub fn text_escapes()
 
 /// A character's escape in text finds its two bytes.
 pub fn character_escapes()
-    ensures { (x y : ℕ) → (x == backslash) ≡ false → (y == backslash) ≡ false
-        → reads_through InText [] (backslash ∷ 40 ∷ x ∷ y ∷ [])
+    ensures { (place : ℤ) (x y : ℕ) → (x == backslash) ≡ false → (y == backslash) ≡ false
+        → reads_through (InText place) [] (backslash ∷ 40 ∷ x ∷ y ∷ [])
         ≡ (Asks Character (Some (x ∷ y ∷ [])) ∷ [], []) }
 {}
 
@@ -127,24 +127,25 @@ pub fn widths()
 {}
 
 /// `\h'text'` moves by the number that its text is, in columns. One below 0 is none, and is told,
-/// and so is one that isn't a number.
+/// and so is one that isn't a number. `|` measures from the place on the line.
 pub fn motions()
-    ensures read { (delimiter : ℕ) (text : List ℕ) → is_between delimiter text ≡ true
-        → reads_through InText [] (text_escape 104 delimiter text)
-        ≡ (Motion (motion_of text).columns (motion_of text).remark ∷ [], []) }
-    ensures columns { motion_of (codes "7") ≡ columns_of 7 }
-    ensures inches { motion_of (codes "1i-2") ≡ columns_of 8 }
-    ensures rounded { motion_of (codes "37u") ≡ columns_of 2 }
-    ensures backward { motion_of (codes "-1") ≡ remarked BackwardMotion }
-    ensures no_number { motion_of (codes "x") ≡ remarked BadNumber }
-    ensures no_place { motion_of (codes "|3") ≡ remarked BadNumber }
+    ensures read { (place : ℤ) (delimiter : ℕ) (text : List ℕ) → is_between delimiter text ≡ true
+        → reads_through (InText place) [] (text_escape 104 delimiter text)
+        ≡ (Motion (motion_of place text).columns (motion_of place text).remark ∷ [], []) }
+    ensures columns { motion_of (pos 0) (codes "7") ≡ columns_of 7 }
+    ensures inches { motion_of (pos 0) (codes "1i-2") ≡ columns_of 8 }
+    ensures rounded { motion_of (pos 0) (codes "37u") ≡ columns_of 2 }
+    ensures backward { motion_of (pos 0) (codes "-1") ≡ remarked BackwardMotion }
+    ensures no_number { motion_of (pos 0) (codes "x") ≡ remarked BadNumber }
+    ensures to_a_place { motion_of (pos 48) (codes "|3") ≡ columns_of 1 }
+    ensures behind_a_place { motion_of (pos 96) (codes "|3") ≡ remarked BackwardMotion }
 {}
 
 /// An escape that is left out is found with nothing of the text between its delimiters.
 pub fn left_out_texts()
-    ensures { (b kind delimiter : ℕ) (text : List ℕ)
+    ensures { (place : ℤ) (b kind delimiter : ℕ) (text : List ℕ)
         → escape_of b ≡ BeginsText (LeftOutText kind) → is_between delimiter text ≡ true
-        → reads_through InText [] (text_escape b delimiter text) ≡ (Escape kind ∷ [], []) }
+        → reads_through (InText place) [] (text_escape b delimiter text) ≡ (Escape kind ∷ [], []) }
 {}
 
 /// A condition of two texts is whether they are the same bytes, and behind a `!` whether they

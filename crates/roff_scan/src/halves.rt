@@ -2,13 +2,14 @@
 //! behind escapes.
 
 ghost use Rattle.std.specs.Prelude.{◌≡◌, ◌≤◌, ◌+◌, ◌==◌, ℕ, true, false, List, Option, Some, None};
-ghost use Rattle.std.specs.Prelude.{[], ◌∷◌, drop, length, IfOk, MatchOption};
+ghost use Rattle.std.specs.Prelude.{[], ◌∷◌, drop, length, IfOk, MatchOption, pos};
 ghost use Rattle.roff_scan.specs.Half.{Half, Backslash as BackslashHalf};
 ghost use Rattle.roff_scan.specs.Half.{Delimited as DelimitedHalf, Name as NameHalf};
 ghost use Rattle.roff_scan.specs.Half.{Size as SizeHalf, Condition as ConditionHalf, names_in};
 ghost use Rattle.roff_scan.specs.Half.{text_held, texts_held, widths_in};
 ghost use Rattle.roff_scan.specs.HalfTexts.{BeginsBehind, IsOnTop, begun, holds_text, leaving};
-ghost use Rattle.roff_scan.specs.HalfTexts.{names_among, text_on_top, widths_among};
+ghost use Rattle.roff_scan.specs.HalfTexts.{names_among, text_on_top, widths_among, IsSound};
+ghost use Rattle.roff_scan.specs.HalfTexts.{KeptHalves, kept_by};
 ghost use Rattle.roff_scan.specs.Halves.{byte_of_text, byte_of_width, byte_read, copied_escape};
 ghost use Rattle.roff_scan.specs.Halves.{decides_now, ends_backslash, escape_given, escape_taken};
 ghost use Rattle.roff_scan.specs.Halves.{grown, is_of_size, motion_given, name_beginning};
@@ -16,7 +17,7 @@ ghost use Rattle.roff_scan.specs.Halves.{name_begun, name_ended, name_given, new
 ghost use Rattle.roff_scan.specs.Halves.{part_at_first, reading_ended, reads_widths, seen_stays};
 ghost use Rattle.roff_scan.specs.Halves.{size_read, surroundings, takes_backslash_alone};
 ghost use Rattle.roff_scan.specs.Halves.{text_given, unit_of_name, unit_of_text, unit_taken};
-ghost use Rattle.roff_scan.specs.Halves.{width_beginning};
+ghost use Rattle.roff_scan.specs.Halves.{width_beginning, place_above};
 ghost use Rattle.roff_scan.specs.Conditions.{byte_of_condition, byte_or_backslash, choice_made};
 ghost use Rattle.roff_scan.specs.Conditions.{condition_ended, delimiter_met, expression_over};
 ghost use Rattle.roff_scan.specs.Conditions.{to_decide, texts_compared, unit_of_condition};
@@ -209,7 +210,7 @@ impl Halves {
                 self.read_size(part, byte)
             }
             Some(HalfRead::Delimited(purpose, delimiter, begin)) => {
-                self.read_byte_of_text(purpose, delimiter, begin, byte)
+                self.read_byte_of_text(base, purpose, delimiter, begin, byte)
             }
             Some(HalfRead::Width(delimiter, width, is_deep)) => {
                 self.read_byte_of_width(delimiter, width, is_deep, byte)
@@ -228,7 +229,7 @@ impl Halves {
             None => Read::GoesOn,
             Some(HalfRead::Backslash) => {
                 self.pop();
-                if self.surroundings(base) == Surroundings::Text {
+                if self.surroundings(base).reads_text() {
                     self.give_escape(START_OF_TEXT)
                 } else {
                     self.read_unit(CopyUnit::Byte(b'\\'))
@@ -236,7 +237,7 @@ impl Halves {
             }
             Some(HalfRead::Comment) => {
                 self.pop();
-                if self.surroundings(base) == Surroundings::Text {
+                if self.surroundings(base).reads_text() {
                     self.give_escape(b'"')
                 } else {
                     Read::GoesOn
@@ -250,7 +251,7 @@ impl Halves {
                 self.pop();
                 self.give_escape(b's')
             }
-            Some(HalfRead::Delimited(purpose, _, begin)) => self.end_text(purpose, begin),
+            Some(HalfRead::Delimited(purpose, _, begin)) => { self.end_text(base, purpose, begin) }
             Some(HalfRead::Width(_, width, _)) => {
                 self.pop();
                 Read::Measures(width)
@@ -268,7 +269,7 @@ impl Halves {
             None => base,
             Some(HalfRead::Delimited(..)) => Surroundings::Arguments,
             Some(HalfRead::Condition(..)) => Surroundings::Arguments,
-            Some(HalfRead::Width(_, _, false)) => Surroundings::Text,
+            Some(HalfRead::Width(_, _, false)) => Surroundings::Text(base.place()),
             Some(_) => Surroundings::Copy,
         }
     }
@@ -279,7 +280,7 @@ impl Halves {
         ensures { (result, self.new) ≡ leaving (escape_taken base self.old.half byte) self.old }
     {
         let around = self.surroundings(base);
-        let in_text = around == Surroundings::Text;
+        let in_text = around.reads_text();
         match escape_of(byte) {
             Escape::Comment => self.begin(HalfRead::Comment),
             Escape::Name(purpose) => {
@@ -351,7 +352,7 @@ impl Halves {
     /// A text that is measured begins, or one too deep for it.
     fn begin_width(&mut self) -> Read
         requires nested { IsNested (BackslashHalf ∷ self.old.half) }
-        requires around { reads_widths (surroundings Surroundings.Text self.old.half) ≡ true }
+        requires around { reads_widths (surroundings (Surroundings.Text (pos 0)) self.old.half) ≡ true }
         ensures { (result, self.new) ≡ leaving (width_beginning self.old.half) self.old }
     {
         let is_deep = self.widths() >= MOST_WIDTHS;
@@ -451,6 +452,7 @@ impl Halves {
     /// A byte of the text between delimiters on top: the first delimits it, and the same ends it.
     fn read_byte_of_text(
         &mut self,
+        base: Surroundings,
         purpose: TextUse,
         delimiter: Option<u8>,
         begin: usize,
@@ -461,7 +463,7 @@ impl Halves {
         ensures { (text : List ℕ) (rest : List Half)
             → self.old.half ≡ DelimitedHalf purpose delimiter text ∷ rest
             → (result, self.new)
-            ≡ leaving (byte_of_text rest purpose delimiter text byte) self.old }
+            ≡ leaving (byte_of_text (place_above base) rest purpose delimiter text byte) self.old }
     {
         match delimiter {
             None => {
@@ -470,7 +472,7 @@ impl Halves {
             }
             Some(delimiter) => {
                 if byte == delimiter {
-                    self.end_text(purpose, begin)
+                    self.end_text(base, purpose, begin)
                 } else if byte == b'\\' {
                     self.begin(HalfRead::Backslash)
                 } else {
@@ -515,15 +517,15 @@ impl Halves {
     }
 
     /// The text between delimiters on top is whole.
-    fn end_text(&mut self, purpose: TextUse, begin: usize) -> Read
+    fn end_text(&mut self, base: Surroundings, purpose: TextUse, begin: usize) -> Read
         requires { begin ≡ texts_held (drop 1 self.old.half) }
         ensures { (delimiter : Option ℕ) (text : List ℕ) (rest : List Half)
             → self.old.half ≡ DelimitedHalf purpose delimiter text ∷ rest
-            → (result, self.new) ≡ leaving (text_given rest purpose text) self.old }
+            → (result, self.new) ≡ leaving (text_given (place_above base) rest purpose text) self.old }
     {
         match purpose {
             TextUse::Motion => {
-                let measured = Measured::of_motion(self.text(begin));
+                let measured = Measured::of_motion(base.place(), self.text(begin));
                 self.pop();
                 self.give_motion(measured)
             }

@@ -84,11 +84,11 @@ impl Measured {
         }
     }
 
-    /// The motion that a text asks for.
-    pub(crate) fn of_motion(text: &[u8]) -> Self
-        ensures { result ≡ motion_of text.now }
+    /// The motion that a text asks for, at this place of the input line in basic units.
+    pub(crate) fn of_motion(place: i32, text: &[u8]) -> Self
+        ensures { result ≡ motion_of place text.now }
     {
-        match eval(text, 0, Scale::Columns, None) {
+        match eval(text, 0, Scale::Columns, Some(place)) {
             Ok((length, _)) => Measured::of_length(round_h(length.0)),
             Err(_) => Measured::remarked(Remark::BadNumber),
         }

@@ -4,15 +4,15 @@ use Rattle.std.specs.Io.KnownBytes.{Appends}
 use Rattle.roff_num.specs.declared.limit.Limit.{Limit}
 use Rattle.roff_num.specs.declared.limits.Limits.{Limits}
 use Rattle.roff_scan.specs.Tape.{Tape, Rises}
-use Rattle.roff_lines.specs.declared.env.Env.{Env}
 use Rattle.roff_lines.specs.declared.event.Event.TheVariants.{WordEnd, Break}
-use Rattle.roff_lines.specs.Env.Stands.{Stands}
+use Rattle.roff_run.specs.Environments.Standing.{StandFor}
+use Rattle.roff_run.specs.declared.environments.Environments.{Environments as EnvironmentsOf}
 use Rattle.roff_engine.specs.declared.formatter.Formatter.{Formatter}
 use Rattle.roff_engine.specs.declared.halt.Halt.{Halt}
 use Rattle.roff_engine.specs.declared.halt.Halt.TheVariants.{Limit as Limited, Refused, Output, Messages}
 use Rattle.roff_engine.specs.Engine.Outcome.{Seen, AppendsBetween, NoFewerFaults, OutputStops, Reaches, seen}
 use Rattle.roff_run.specs.Messages.{message_lines}
-use Rattle.roff_run.specs.Output.{PageHistory, text_of, written}
+use Rattle.roff_run.specs.Output.{PageHistory, written}
 use Rattle.roff_run.specs.Reading.{PageInput, Taking}
 use Rattle.roff_run.specs.Registers.{AllRegisters, Known}
 use Rattle.roff_run.specs.declared.event.PageEvent.{PageEvent}
@@ -28,10 +28,10 @@ abbrev pub acting : State → List PageEvent → PageHistory → State
 acting s to_do history = record s { to_do = to_do; history = history; ended = None }
 
 -- the events were performed: the definition comes to the state behind them, for which the environment stands
-pub record AllPerformed (l : Limits) (t : Tape) (before now : Seen) (s : State) (rest : List PageEvent) (env : Env) : Type 0 where
+pub record AllPerformed (l : Limits) (t : Tape) (before now : Seen) (s : State) (rest : List PageEvent) (es : EnvironmentsOf) : Type 0 where
   pub history : PageHistory
   pub reaches : Reaches l t before now (acting s rest history)
-  pub stands : Stands l.line (text_of history) env
+  pub stands : StandFor l history es
 
 -- the definition comes to a state whose next event a limit refuses
 pub record StoppedAt (l : Limits) (t : Tape) (before now : Seen) (s : State) (limit : Limit) : Type 0 where
@@ -51,23 +51,23 @@ pub record FailedAt (l : Limits) (t : Tape) (before now : Seen) (s : State) : Ty
   pub faults : NoFewerFaults before now
 
 -- how far the code performed the events in front of `rest`, by its answer
-abbrev pub Performs : Limits → Tape → Seen → Seen → State → List PageEvent → Result (Unit {0}) Halt → Env → Type 0
-Performs l t before now s rest (Ok done) env = AllPerformed l t before now s rest env
-Performs l t before now s rest (Err (Limited limit)) env = StoppedAt l t before now s limit
-Performs l t before now s rest (Err Output) env = FailedAt l t before now s
-Performs l t before now s rest (Err Messages) env = ⊥
-Performs l t before now s rest (Err (Refused limit)) env = ⊥
+abbrev pub Performs : Limits → Tape → Seen → Seen → State → List PageEvent → Result (Unit {0}) Halt → EnvironmentsOf → Type 0
+Performs l t before now s rest (Ok done) es = AllPerformed l t before now s rest es
+Performs l t before now s rest (Err (Limited limit)) es = StoppedAt l t before now s limit
+Performs l t before now s rest (Err Output) es = FailedAt l t before now s
+Performs l t before now s rest (Err Messages) es = ⊥
+Performs l t before now s rest (Err (Refused limit)) es = ⊥
 
 -- An environment and a sink performed some events, as far as the answer says: for each state of a run that has
 -- these events in front of others to do.
-pub record PerformsEvents (events : List PageEvent) (old new : Env) (out_old out_new : Sunk) (result : Result (Unit {0}) Halt) : Type 0 where
+pub record PerformsEvents (events : List PageEvent) (old new : EnvironmentsOf) (out_old out_new : Sunk) (result : Result (Unit {0}) Halt) : Type 0 where
   pub performs : (l : Limits) (t : Tape) (before : Seen) (failures : ℕ) (err : Sunk) (s : State) (h : PageHistory) (rest : List PageEvent)
-      → Stands l.line (text_of h) old → Reaches l t before (seen failures out_old err) (acting s (events ++ rest) h)
+      → StandFor l h old → Reaches l t before (seen failures out_old err) (acting s (events ++ rest) h)
       → Performs l t before (seen failures out_new err) s rest result new
 
 -- a formatter did that, and changed nothing else: what is read stays as it was
 pub record PerformsOnly (events : List PageEvent) (old new : Formatter) (out_old out_new : Sunk) (result : Result (Unit {0}) Halt) : Type 0 where
-  pub events_performed : PerformsEvents events old.env new.env out_old out_new result
+  pub events_performed : PerformsEvents events old.environments new.environments out_old out_new result
   pub reader : new.reader ≡ old.reader
 
 -- One step from a state takes an item that means these messages, which are told on this line, and these events,
@@ -87,9 +87,9 @@ pub record LostAt (l : Limits) (t : Tape) (before now : Seen) (from : State) : T
   pub fault : Rises before.err.failures now.err.failures
 
 -- how far the code did what an item means, by its answer
-abbrev pub Does : Limits → Tape → Seen → Seen → State → State → List PageEvent → Result (Unit {0}) Halt → Env → Type 0
-Does l t before now from s rest (Err Messages) env = LostAt l t before now from
-Does l t before now from s rest result env = Performs l t before now s rest result env
+abbrev pub Does : Limits → Tape → Seen → Seen → State → State → List PageEvent → Result (Unit {0}) Halt → EnvironmentsOf → Type 0
+Does l t before now from s rest (Err Messages) es = LostAt l t before now from
+Does l t before now from s rest result es = Performs l t before now s rest result es
 
 -- what both sinks of a run tell
 pub record Sinks : Type 0 where
@@ -103,9 +103,9 @@ sinks out err = record { out = out; err = err }
 -- A formatter did what an item means, as far as it answers: for each state of a run whose next step means that.
 pub record DoesMeaning (line : ℕ) (messages : List Message) (events : List PageEvent) (old new : Formatter) (told_old told_new : Sinks) (result : Result (Unit {0}) Halt) : Type 0 where
   pub does : (l : Limits) (t : Tape) (before : Seen) (failures : ℕ) (from s : State) (h : PageHistory) (rest : List PageEvent)
-      → Stands l.line (text_of h) old.env → Reaches l t before (seen failures told_old.out told_old.err) from
+      → StandFor l h old.environments → Reaches l t before (seen failures told_old.out told_old.err) from
       → Means l from s h line messages events rest
-      → Does l t before (seen failures told_new.out told_new.err) from s rest result new.env
+      → Does l t before (seen failures told_new.out told_new.err) from s rest result new.environments
   pub reader : new.reader ≡ old.reader
 
 -- a state of a run that hasn't ended, by all that it has
@@ -138,22 +138,22 @@ pub record RefusedAt (l : Limits) (t : Tape) (before now : Seen) (from : State) 
   pub stops : step l from ≡ stopped_by l limit from
 
 -- how far the code did a taking, from this state to that, by its answer
-abbrev pub Did : Limits → Tape → Seen → Seen → State → State → List PageEvent → Result (Unit {0}) Halt → Env → Type 0
-Did l t before now from done rest (Err (Refused limit)) env = RefusedAt l t before now from limit
-Did l t before now from done rest result env = Does l t before now from done rest result env
+abbrev pub Did : Limits → Tape → Seen → Seen → State → State → List PageEvent → Result (Unit {0}) Halt → EnvironmentsOf → Type 0
+Did l t before now from done rest (Err (Refused limit)) es = RefusedAt l t before now from limit
+Did l t before now from done rest result es = Does l t before now from done rest result es
 
 -- The code did what the definition takes, and performed some events more, as far as it answers: for each state of a
 -- run from which one step leads to the taking's, with these events and others to do behind its own.
 pub record DoesTaking (t : Known → Taking) (more : List PageEvent) (old new : Formatter) (before behind : PageUnread) (told_old told_new : Sinks) (result : Result (Unit {0}) Halt) : Type 0 where
-  pub became : (cap : ℕ) (h : PageHistory) → Stands cap (text_of h) old.env → IsReady old.reader.registers before
+  pub became : (l : Limits) (h : PageHistory) → StandFor l h old.environments → IsReady old.reader.registers before
       → OnOk result (Became (t (known_at h old.reader.registers.all before.input)) old.reader.registers new.reader before behind)
   pub does : (t0 : Tape) (start : Seen) (failures : ℕ) (from : State) (tape : Tape) (h : PageHistory) (messages : List ℕ) (is_closing : Bool) (rest : List PageEvent)
-      → Stands before.limits.line (text_of h) old.env → IsReady old.reader.registers before
+      → StandFor before.limits h old.environments → IsReady old.reader.registers before
       → Reaches before.limits t0 start (seen failures told_old.out told_old.err) from
       → let known : Known = known_at h old.reader.registers.all before.input in
       let state : State = going tape before.input old.reader.reading old.reader.registers.all h messages is_closing (more ++ rest) in
       Opens before.limits from (taken_as (t known) state) h messages
-      → Did before.limits t0 start (seen failures told_new.out told_new.err) from (taken_as (t known) state) rest result new.env
+      → Did before.limits t0 start (seen failures told_new.out told_new.err) from (taken_as (t known) state) rest result new.environments
 
 -- the events that finish the last line
 abbrev pub closing_events : List PageEvent

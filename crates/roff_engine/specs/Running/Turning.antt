@@ -5,7 +5,7 @@ use Rattle.roff_num.specs.declared.limit.Limit.{Limit}
 use Rattle.roff_num.specs.declared.limits.Limits.{Limits}
 use Rattle.roff_scan.specs.Tape.{Tape, Item, items_then}
 use Rattle.roff_scan.specs.Unread.{asks_to_take, looked_then}
-use Rattle.roff_lines.specs.Env.Stands.{Stands}
+use Rattle.roff_run.specs.Environments.Standing.{StandFor}
 use Rattle.roff_engine.specs.declared.formatter.Formatter.{Formatter}
 use Rattle.roff_engine.specs.declared.running.Running.{Running as Coded}
 use Rattle.roff_run.specs.declared.status.Status.{Status}
@@ -21,7 +21,7 @@ use Rattle.roff_run.specs.Reading.{due, line_ends_first}
 use Rattle.roff_run.specs.declared.reading.Reading.{Reading}
 use Rattle.roff_run.specs.declared.reading.Reading.TheVariants.{Exiting}
 use Rattle.roff_scan.specs.Half.{Half}
-use Rattle.roff_run.specs.Output.{PageHistory, text_of}
+use Rattle.roff_run.specs.Environments.{PageHistory}
 use Rattle.roff_run.specs.Run.{State, first_unread, half_ends, input_ended, step, stopped_by, reported}
 
 -- the state of a run that reads on, where the source still gives this tape
@@ -53,7 +53,7 @@ pub record IsAt (t tape : Tape) (start now : Seen) (run : Coded) : Type 0 where
   pub history : PageHistory
   pub messages : List ℕ
   pub reaches : Reaches run.limits t start now (state_at tape run history messages)
-  pub stands : Stands run.limits.line (text_of history) run.formatter.env
+  pub stands : StandFor run.limits history run.formatter.environments
   pub ready : IsReady run.formatter.reader.registers run.unread
   pub limits : run.unread.limits ≡ run.limits
 
@@ -101,7 +101,7 @@ pub record TookFrom (t tape : Tape) (start now : Seen) (line : ℕ) (does : Stat
   pub messages : List ℕ
   pub reaches : Reaches run.limits t start now from
   pub opens : Opens run.limits from (does (state_at tape run history messages)) history messages
-  pub stands : Stands run.limits.line (text_of history) run.formatter.env
+  pub stands : StandFor run.limits history run.formatter.environments
   pub ready : IsReady run.formatter.reader.registers run.unread
   pub limits : run.unread.limits ≡ run.limits
   pub quiet : from.last_message ≡ []

@@ -1,12 +1,13 @@
 -- What the code takes, as the definition takes it.
-use Rattle.std.specs.Prelude.{◌≡◌, ℕ, true, false, List, None, Some, Result, Ok, Err}
+use Rattle.std.specs.Prelude.{◌≡◌, true, false, List, None, Some, Result, Ok, Err}
 use Rattle.std.specs.Option.{option_to_list}
-use Rattle.roff_lines.specs.Env.Stands.{Stands}
-use Rattle.roff_lines.specs.declared.env.Env.{Env}
 use Rattle.roff_num.specs.declared.limit.Limit.{Limit}
 use Rattle.roff_num.specs.declared.limit.Limit.TheVariants.{Names}
+use Rattle.roff_num.specs.declared.limits.Limits.{Limits}
 use Rattle.roff_scan.specs.Unread.{Unread, input_refusal}
-use Rattle.roff_run.specs.Output.{PageHistory, text_of}
+use Rattle.roff_run.specs.Environments.{PageHistory}
+use Rattle.roff_run.specs.Environments.Standing.{StandFor}
+use Rattle.roff_run.specs.declared.environments.Environments.{Environments as EnvironmentsOf}
 use Rattle.roff_run.specs.Reading.{PageInput, Taking}
 use Rattle.roff_run.specs.Registers.{Change, Known, changed_by_all}
 use Rattle.roff_run.specs.Registers.Capped.{Capped, is_past_cap}
@@ -72,7 +73,7 @@ pub record IsReady (r : Capped) (u : PageUnread) : Type 0 where
   pub cap : r.cap ≡ u.limits.names
   pub within : first_passed u.limits (counts_in r.all u.input) ≡ None
 
--- The code took what the definition takes, by what is known of the run, wherever the environment stands for a history.
-pub record TakesAs (t : Known → Taking) (env : Env) (old new : ReaderState) (before behind : PageUnread) (result : Result Meaning Limit) : Type 0 where
-  pub takes : (cap : ℕ) (h : PageHistory) → Stands cap (text_of h) env → IsReady old.registers before
+-- The code took what the definition takes, by what is known of the run, wherever the environments stand for a history.
+pub record TakesAs (t : Known → Taking) (es : EnvironmentsOf) (old new : ReaderState) (before behind : PageUnread) (result : Result Meaning Limit) : Type 0 where
+  pub takes : (l : Limits) (h : PageHistory) → StandFor l h es → IsReady old.registers before
       → Takes (t (known_at h old.registers.all before.input)) old.registers new before behind result

@@ -19,6 +19,9 @@ known_of facts all = record {
   newlines = facts.newlines;
   last_width = facts.last_width;
   arguments = facts.arguments;
+  place = facts.place;
+  interrupted = facts.interrupted;
+  has_left = facts.has_left;
 }
 
 -- a change that a request makes

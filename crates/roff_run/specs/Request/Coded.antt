@@ -8,12 +8,14 @@ use Rattle.roff_run.specs.declared.request.Row.{Row as CodedRow}
 use Rattle.roff_run.specs.declared.request.effects.Changes.{Changes}
 use Rattle.roff_run.specs.declared.request.effects.Changes.TheVariants.{Nothing, One, RemoveGiven, RemoveNamesGiven, Rename as RenameGiven}
 use Rattle.roff_run.specs.declared.request.effects.Done.{Done as CodedDone}
-use Rattle.roff_run.specs.declared.request.effects.Done.TheVariants.{Ignored as IgnoredWith, Does as DoesWith}
+use Rattle.roff_run.specs.declared.request.effects.Done.TheVariants.{Ignored as IgnoredWith, Does as DoesWith, SetsStops}
 use Rattle.roff_run.specs.declared.request.effects.Effect.{Effect as CodedEffect}
 use Rattle.roff_run.specs.declared.request.effects.Known.{Known as CodedKnown}
+use Rattle.roff_run.specs.Events.{stops_set}
 use Rattle.roff_run.specs.Registers.{Known, Change, Remove, value_in_force}
 use Rattle.roff_run.specs.Registers.Coded.{change_of}
 use Rattle.roff_store.specs.TextCalls.{Call, Rename}
+use Rattle.roff_scan.specs.ArgumentList.{listed}
 use Rattle.roff_run.specs.Requests.{Row, row_of, Done, Ignored, Does, Effect}
 use Rattle.roff_run.specs.Requests.Naming.{removals}
 use Rattle.roff_run.specs.Requests.Numbering.{name_given, names_given}
@@ -26,6 +28,7 @@ coded_row request =
 
 -- the code was given the first of these arguments
 pub record GivesFirst (as_given : List (List ℕ)) (given : Given) : Type 0 where
+  pub all : listed given.all ≡ as_given
   pub first : option_copied given.first ≡ slice_get as_given 0
   pub second : option_copied given.second ≡ slice_get as_given 1
   pub third : option_copied given.third ≡ slice_get as_given 2
@@ -43,6 +46,7 @@ name_in (Some text) = name_of (name_given text)
 -- the code knows what a request asks for: the settings, and the value of the register that the first argument names
 pub record KnowsOf (k : Known) (as_given : List (List ℕ)) (known : CodedKnown) : Type 0 where
   pub settings : known.settings ≡ k.settings
+  pub has_left : known.has_left ≡ k.has_left
   pub in_force : IfSome (register_named as_given) (λ name. known.in_force ≡ value_in_force k name)
 
 -- the changes of registers that a request makes, given these arguments
@@ -66,6 +70,7 @@ abbrev pub done_of : List (List ℕ) → CodedDone → Done
 done_of as_given (IgnoredWith message) = Ignored (option_to_list message)
 done_of as_given (DoesWith message changes events) =
     Does (option_to_list message) (changes_of as_given changes) (calls_of as_given changes) events.items
+done_of as_given (SetsStops stops) = Does [] [] [] (stops_set stops.items)
 
 -- what it means there
 abbrev pub effect_of : List (List ℕ) → CodedEffect → Effect

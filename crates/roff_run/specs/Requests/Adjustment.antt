@@ -1,11 +1,14 @@
--- Adjusting (manual, section 4).
-use Rattle.std.specs.Prelude.{ℕ, true, List, [], ◌∷◌, Option, Some, None, if◌then◌else◌, ◌==◌}
+-- Adjusting and centring (manual, section 4).
+use Rattle.std.specs.Prelude.{ℕ, ℤ, true, List, [], ◌∷◌, Option, Some, None, Result, Ok, Err, if◌then◌else◌, ◌==◌}
 use Rattle.roff_lines.specs.declared.event.Event.TheVariants.{Set}
 use Rattle.roff_lines.specs.declared.settings.AdjustMode.{AdjustMode}
 use Rattle.roff_lines.specs.declared.settings.AdjustMode.TheVariants.{Left, Right, Centre, Both}
-use Rattle.roff_lines.specs.declared.settings.Param.TheVariants.{Adjusting, Mode}
+use Rattle.roff_lines.specs.declared.settings.Param.TheVariants.{Adjusting, Mode, Centring}
+use Rattle.roff_num.specs.declared.num.NumFault.{NumFault}
+use Rattle.roff_num.specs.declared.num.Scale.TheVariants.{Units}
+use Rattle.roff_run.specs.Numbers.{value_in, at_least_zero}
 use Rattle.roff_run.specs.declared.event.PageEvent.TheVariants.{Text}
-use Rattle.roff_run.specs.Requests.Effects.{Done, happens, setting}
+use Rattle.roff_run.specs.Requests.Effects.{Done, happens, setting, bad_number}
 
 -- the mode of adjusting that a letter stands for
 abbrev pub mode_named : ℕ → Option AdjustMode
@@ -31,3 +34,13 @@ adjusting_in (Some mode) = happens [] (Text (Set (Mode mode)) ∷ Text (Set (Adj
 -- `ad`: the mode is that of the argument, if it names one
 abbrev pub adjust : List (List ℕ) → Done
 adjust as_given = adjusting_in (mode_wanted as_given)
+
+-- so many lines are centred from now on, none where that is below 0
+abbrev pub centring : Result ℤ NumFault → Done
+centring (Ok count) = setting (Centring (at_least_zero count))
+centring (Err fault) = bad_number
+
+-- `ce`: one line where no number is given
+abbrev pub centre : List (List ℕ) → Done
+centre [] = setting (Centring 1)
+centre (text ∷ others) = centring (value_in Units text)

@@ -5,7 +5,7 @@ use Rattle.roff_lines.specs.declared.settings.Param.{Param}
 use Rattle.roff_run.specs.declared.event.PageEvent.{PageEvent}
 use Rattle.roff_run.specs.declared.event.PageEvent.TheVariants.{Text}
 use Rattle.roff_run.specs.declared.message.Message.{Message}
-use Rattle.roff_run.specs.declared.message.Message.TheVariants.{BadNumber, BadFormat, LeftOut}
+use Rattle.roff_run.specs.declared.message.Message.TheVariants.{BadNumber, BadFormat, LeftOut, NoSuchEnvironment}
 use Rattle.roff_run.specs.Registers.{Change}
 use Rattle.roff_store.specs.TextCalls.{Call}
 
@@ -58,6 +58,10 @@ bad_number = Ignored (BadNumber ∷ [])
 -- an argument isn't a format
 abbrev pub bad_format : Done
 bad_format = Ignored (BadFormat ∷ [])
+
+-- an argument is no environment's number, or there is none to go back to
+abbrev pub no_such_environment : Done
+no_such_environment = Ignored (NoSuchEnvironment ∷ [])
 
 -- a request of this name isn't built
 abbrev pub left_out : List ℕ → Done

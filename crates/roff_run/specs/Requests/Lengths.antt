@@ -1,13 +1,13 @@
--- The line length and the indent (manual, section 6).
+-- The line length, the indent, and the indent of one line (manual, section 6).
 use Rattle.std.specs.Prelude.{ℕ, ◌/◌, pos, List, [], ◌∷◌, Result, Ok, Err}
 use Rattle.roff_lines.specs.declared.settings.Param.{Param}
-use Rattle.roff_lines.specs.declared.settings.Param.TheVariants.{LineLength, Indent}
+use Rattle.roff_lines.specs.declared.settings.Param.TheVariants.{LineLength, Indent, TemporaryIndent}
 use Rattle.roff_num.specs.Steps.{followed}
 use Rattle.roff_num.specs.declared.num.NumFault.{NumFault}
 use Rattle.roff_num.specs.declared.num.Scale.TheVariants.{Columns}
 use Rattle.roff_run.specs.Numbers.{value_beside, rounded_in_range, at_least_zero}
 use Rattle.roff_run.specs.Registers.{Known, in_units}
-use Rattle.roff_run.specs.Requests.Effects.{Done, setting, bad_number}
+use Rattle.roff_run.specs.Requests.Effects.{Done, Ignored, setting, bad_number}
 
 -- the length in columns that a text sets: it is rounded, and not below 0
 abbrev pub length_set : ℕ → List ℕ → Result ℕ NumFault
@@ -34,3 +34,8 @@ line_length known as_given =
 abbrev pub indent : Known → List (List ℕ) → Done
 indent known as_given =
     let s = known.settings in setting_length Indent (length_wanted s.indent s.previous_indent as_given)
+
+-- `ti`: the indent of the next line that a word begins; without an argument it is ignored
+abbrev pub temporary_indent : Known → List (List ℕ) → Done
+temporary_indent known [] = Ignored []
+temporary_indent known (text ∷ others) = setting_length TemporaryIndent (length_set known.settings.indent text)

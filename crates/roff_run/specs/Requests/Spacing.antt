@@ -1,12 +1,14 @@
--- Blank lines (manual, section 5).
-use Rattle.std.specs.Prelude.{ℕ, ◌/◌, ℤ, pos, negsuc, List, [], ◌∷◌, Result, Ok, Err}
+-- Blank lines, and the spacing of lines (manual, section 5).
+use Rattle.std.specs.Prelude.{ℕ, ◌/◌, ℤ, pos, negsuc, List, [], ◌∷◌, max, Result, Ok, Err}
+use Rattle.roff_lines.specs.declared.settings.Param.TheVariants.{Spacing}
 use Rattle.roff_num.specs.Steps.{followed}
 use Rattle.roff_num.specs.declared.num.NumFault.{NumFault}
-use Rattle.roff_num.specs.declared.num.Scale.TheVariants.{Lines}
-use Rattle.roff_run.specs.Numbers.{value_in, rounded_in_range}
+use Rattle.roff_num.specs.declared.num.Scale.TheVariants.{Lines, Units}
+use Rattle.roff_run.specs.Numbers.{value_in, rounded_in_range, at_least_zero}
+use Rattle.roff_run.specs.Registers.{Known}
 use Rattle.roff_run.specs.declared.event.PageEvent.TheVariants.{Space}
 use Rattle.roff_run.specs.declared.message.Message.TheVariants.{BackwardMotion}
-use Rattle.roff_run.specs.Requests.Effects.{Done, happens, bad_number}
+use Rattle.roff_run.specs.Requests.Effects.{Done, happens, setting, bad_number}
 
 -- the blank lines of a height in basic units: none if it is below 0, which is reported
 abbrev pub spaced : Result ℤ NumFault → Done
@@ -18,3 +20,13 @@ spaced (Err fault) = bad_number
 abbrev pub space_down : List (List ℕ) → Done
 space_down [] = happens [] (Space 1 ∷ [])
 space_down (text ∷ others) = spaced (followed (value_in Lines text) (rounded_in_range 40))
+
+-- lines stand so far from each other, and at least one apart
+abbrev pub spacing : Result ℤ NumFault → Done
+spacing (Ok lines) = setting (Spacing (max 1 (at_least_zero lines)))
+spacing (Err fault) = bad_number
+
+-- `ls`: the previous spacing where none is given
+abbrev pub line_spacing : Known → List (List ℕ) → Done
+line_spacing known [] = setting (Spacing known.settings.previous_spacing)
+line_spacing known (text ∷ others) = spacing (value_in Units text)

@@ -1,15 +1,15 @@
 //! The arguments of requests, and the names that they give.
 
 ghost use Rattle.std.specs.Prelude.{◌≡◌};
-ghost use Rattle.roff_run.specs.Clauses.{Env, TakesAs, arguments_found, going_on, holding, listed};
+ghost use Rattle.roff_run.specs.Clauses.{EnvironmentsOf, TakesAs, arguments_found, going_on, holding, listed};
 ghost use Rattle.roff_run.specs.Clauses.{row_of, no_unit_found, unit_found, arguments_ended};
 ghost use Rattle.roff_run.specs.Clauses.{name_at as name_given_at};
 
 use super::{Meaning, Reader};
+use crate::environments::Environments;
 use crate::event::PageEvent;
 use crate::reading::{Reading, ShortName};
 use crate::request::{LineReading, Request};
-use roff_lines::Env;
 use roff_num::Limit;
 use roff_scan::{ArgumentList, CopyUnit, Read, Unread};
 
@@ -20,21 +20,21 @@ impl Reader {
         breaks: bool,
         request: Request,
         found: Read,
-        env: &Env,
+        environments: &Environments,
         unread: &mut Unread<PageEvent>,
     ) -> Result<Meaning, Limit>
         ensures { TakesAs (λ k. arguments_found k unread.old.input breaks request found)
-            env.now self.old self.new unread.old unread.new result }
+            environments.now self.old self.new unread.old unread.new result }
     {
         match found {
-            Read::Unit(unit) => self.read_unit(breaks, request, unit, env, unread),
+            Read::Unit(unit) => self.read_unit(breaks, request, unit, environments, unread),
             Read::Escape(byte) => {
-                self.read_unit(breaks, request, CopyUnit::Kept(byte), env, unread)
+                self.read_unit(breaks, request, CopyUnit::Kept(byte), environments, unread)
             }
             _ => {
                 unread.settle();
                 let reading = Reading::Arguments { breaks, request };
-                self.read_in_arguments(reading, found, env, unread)
+                self.read_in_arguments(reading, found, environments, unread)
             }
         }
     }
@@ -45,14 +45,14 @@ impl Reader {
         breaks: bool,
         request: Request,
         unit: CopyUnit,
-        env: &Env,
+        environments: &Environments,
         unread: &mut Unread<PageEvent>,
     ) -> Result<Meaning, Limit>
         ensures { TakesAs (λ k. unit_found k unread.old.input breaks request unit)
-            env.now self.old self.new unread.old unread.new result }
+            environments.now self.old self.new unread.old unread.new result }
     {
         match unit {
-            CopyUnit::Byte(b'\n') => self.end_arguments(breaks, request, env, unread),
+            CopyUnit::Byte(b'\n') => self.end_arguments(breaks, request, environments, unread),
             _ => self.hold(unit, Reading::Arguments { breaks, request }, unread),
         }
     }
@@ -62,16 +62,16 @@ impl Reader {
         &mut self,
         breaks: bool,
         request: Request,
-        env: &Env,
+        environments: &Environments,
         unread: &mut Unread<PageEvent>,
     ) -> Result<Meaning, Limit>
         ensures { TakesAs (λ k. arguments_ended k unread.old.input breaks request
             (row_of request).line)
-            env.now self.old self.new unread.old unread.new result }
+            environments.now self.old self.new unread.old unread.new result }
     {
         match request.row().line {
             LineReading::ByLines(lines) => self.begin_lines(lines, unread),
-            _ => self.obey(breaks, request, env, unread),
+            _ => self.obey(breaks, request, environments, unread),
         }
     }
 
@@ -82,9 +82,9 @@ impl Reader {
         reading: Reading,
         unread: &mut Unread<PageEvent>,
     ) -> Result<Meaning, Limit>
-        ensures { (env : Env)
+        ensures { (es : EnvironmentsOf)
             → TakesAs (λ k. going_on (holding unit unread.old.input) reading)
-            env self.old self.new unread.old unread.new result }
+            es self.old self.new unread.old unread.new result }
     {
         unread.hold(unit)?;
         Ok(self.read_on(reading))
@@ -95,17 +95,17 @@ impl Reader {
         &mut self,
         reading: Reading,
         found: Read,
-        env: &Env,
+        environments: &Environments,
         unread: &mut Unread<PageEvent>,
     ) -> Result<Meaning, Limit>
         ensures { TakesAs (λ k. no_unit_found k unread.old.input reading found)
-            env.now self.old self.new unread.old unread.new result }
+            environments.now self.old self.new unread.old unread.new result }
     {
         match found {
             Read::Holds(unit) => self.hold_text(unit, reading, unread),
             Read::Asks(purpose, name) => {
                 self.reading = reading;
-                self.ask(purpose, name, env, unread)
+                self.ask(purpose, name, environments, unread)
             }
             Read::Measures(width) => self.measure(width, reading, unread),
             Read::Tells(remark) => Ok(self.tell(remark, reading)),

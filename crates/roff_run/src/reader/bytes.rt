@@ -8,10 +8,11 @@ ghost use Rattle.roff_run.specs.Registers.{Known as KnownOf};
 ghost use Rattle.roff_run.specs.Clauses.{Passes, TakesAs, meaning_events, is_passed, kept_taking};
 ghost use Rattle.roff_run.specs.Clauses.{taking, due};
 
+use super::places::{at_start, on_line};
 use super::{Meaning, Reader};
+use crate::environments::Environments;
 use crate::event::PageEvent;
 use crate::reading::Reading;
-use roff_lines::Env;
 use roff_num::Limit;
 use roff_scan::{Surroundings, Unread};
 
@@ -65,42 +66,48 @@ impl Reader {
     pub(super) fn read_kept(
         &mut self,
         byte: u8,
-        env: &Env,
+        environments: &Environments,
         unread: &mut Unread<PageEvent>,
     ) -> Result<Meaning, Limit>
         ensures { TakesAs (λ k. kept_taking k self.old.reading unread.old.input byte)
-            env.now self.old self.new unread.old unread.new result }
+            environments.now self.old self.new unread.old unread.new result }
     {
         match self.reading {
             Reading::LineStart => {
-                let found = unread.read_byte(Surroundings::Text, byte);
-                self.begin_line(Reading::LineStart, found, env, unread)
+                let found = unread.read_byte(at_start(environments), byte);
+                self.begin_line(Reading::LineStart, found, environments, unread)
             }
             Reading::Branch => {
-                let found = unread.read_byte(Surroundings::Text, byte);
-                self.begin_line(Reading::Branch, found, env, unread)
+                let found = unread.read_byte(at_start(environments), byte);
+                self.begin_line(Reading::Branch, found, environments, unread)
             }
             Reading::Braced => {
-                let found = unread.read_byte(Surroundings::Text, byte);
-                self.begin_line(Reading::Braced, found, env, unread)
+                let found = unread.read_byte(at_start(environments), byte);
+                self.begin_line(Reading::Braced, found, environments, unread)
             }
             Reading::Text(line) => {
-                let found = unread.read_byte(Surroundings::Text, byte);
-                self.read_text(line, found, env, unread)
+                let found = unread.read_byte(on_line(environments, line), byte);
+                self.read_text(line, found, environments, unread)
             }
             Reading::Control { breaks } => Ok(self.read_on(Reading::behind_control(breaks, byte))),
-            Reading::Name { breaks, first } => self.end_name(breaks, first, byte, env, unread),
+            Reading::Name { breaks, first } => self.end_name(
+                breaks,
+                first,
+                byte,
+                environments,
+                unread,
+            ),
             Reading::Arguments { breaks, request } => {
                 let found = unread.read_byte(Surroundings::Arguments, byte);
-                self.read_arguments(breaks, request, found, env, unread)
+                self.read_arguments(breaks, request, found, environments, unread)
             }
             Reading::Deciding { keeps } => {
                 let found = unread.read_byte(Surroundings::Arguments, byte);
-                self.read_condition(keeps, found, env, unread)
+                self.read_condition(keeps, found, environments, unread)
             }
             Reading::StringName { appends } => {
                 let found = unread.read_byte(Surroundings::Arguments, byte);
-                self.read_string_name(appends, found, env, unread)
+                self.read_string_name(appends, found, environments, unread)
             }
             Reading::StringText {
                 name,
@@ -108,11 +115,11 @@ impl Reader {
                 is_front,
             } => {
                 let found = unread.read_byte(Surroundings::Copy, byte);
-                self.read_string(name, appends, is_front, found, env, unread)
+                self.read_string(name, appends, is_front, found, environments, unread)
             }
             Reading::Calling { name } => {
                 let found = unread.read_byte(Surroundings::Arguments, byte);
-                self.read_call(name, found, env, unread)
+                self.read_call(name, found, environments, unread)
             }
             Reading::Defining {
                 name,
@@ -121,7 +128,7 @@ impl Reader {
                 matched,
             } => {
                 let found = unread.read_byte(Surroundings::Copy, byte);
-                self.read_definition(name, appends, end, matched, found, env, unread)
+                self.read_definition(name, appends, end, matched, found, environments, unread)
             }
             Reading::Skipping {
                 opened,
@@ -131,7 +138,7 @@ impl Reader {
             Reading::Dropped => Ok(self.read_on(Reading::behind_dropped(byte))),
             Reading::Telling { aborts, is_front } => {
                 let read = unread.read_byte(Surroundings::Copy, byte);
-                self.read_message(aborts, is_front, read, env, unread)
+                self.read_message(aborts, is_front, read, environments, unread)
             }
             Reading::Told { aborts } => Ok(self.read_on(Reading::Told { aborts })),
             Reading::Exiting => Ok(self.read_on(Reading::Exiting)),

@@ -1,11 +1,11 @@
 //! Lines that call bodies.
 
-ghost use Rattle.roff_run.specs.Clauses.{Env, TakesAs, call_found, call_unit};
+ghost use Rattle.roff_run.specs.Clauses.{EnvironmentsOf, TakesAs, call_found, call_unit};
 
 use super::{Meaning, Reader};
+use crate::environments::Environments;
 use crate::event::PageEvent;
 use crate::reading::{Reading, ShortName};
-use roff_lines::Env;
 use roff_num::Limit;
 use roff_scan::{CopyUnit, Read, Unread};
 
@@ -18,18 +18,18 @@ impl Reader {
         &mut self,
         name: ShortName,
         found: Read,
-        env: &Env,
+        environments: &Environments,
         unread: &mut Unread<PageEvent>,
     ) -> Result<Meaning, Limit>
         ensures { TakesAs (λ k. call_found k unread.old.input name found)
-            env.now self.old self.new unread.old unread.new result }
+            environments.now self.old self.new unread.old unread.new result }
     {
         match found {
             Read::Unit(unit) => self.read_unit_of_call(name, unit, unread),
             Read::Escape(byte) => self.read_unit_of_call(name, CopyUnit::Kept(byte), unread),
             _ => {
                 unread.settle();
-                self.read_in_arguments(Reading::Calling { name }, found, env, unread)
+                self.read_in_arguments(Reading::Calling { name }, found, environments, unread)
             }
         }
     }
@@ -42,9 +42,9 @@ impl Reader {
         unit: CopyUnit,
         unread: &mut Unread<PageEvent>,
     ) -> Result<Meaning, Limit>
-        ensures { (env : Env)
+        ensures { (es : EnvironmentsOf)
             → TakesAs (λ k. call_unit unread.old.input name unit)
-            env self.old self.new unread.old unread.new result }
+            es self.old self.new unread.old unread.new result }
     {
         match unit {
             CopyUnit::Byte(b'\n') => {

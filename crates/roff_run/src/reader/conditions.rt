@@ -4,10 +4,11 @@ ghost use Rattle.std.specs.Prelude.{◌≡◌};
 ghost use Rattle.roff_run.specs.Registers.{Known as KnownOf};
 ghost use Rattle.roff_run.specs.Clauses.{TakesAs, condition_found, decided, is_so, condition_begun};
 
+use super::places::at_start;
 use super::{Meaning, Reader};
+use crate::environments::Environments;
 use crate::event::PageEvent;
 use crate::reading::Reading;
-use roff_lines::Env;
 use roff_num::Limit;
 use roff_scan::{Decision, Read, Surroundings, Unread};
 
@@ -17,19 +18,19 @@ impl Reader {
         &mut self,
         keeps: bool,
         byte: u8,
-        env: &Env,
+        environments: &Environments,
         unread: &mut Unread<PageEvent>,
     ) -> Result<Meaning, Limit>
         ensures { TakesAs (λ k. condition_begun k unread.old.input keeps byte)
-            env.now self.old self.new unread.old unread.new result }
+            environments.now self.old self.new unread.old unread.new result }
     {
         if byte == b'\n' {
             let found = Read::Decides(Decision::Is(false), Some(byte));
-            return self.read_condition(keeps, found, env, unread);
+            return self.read_condition(keeps, found, environments, unread);
         }
         unread.begin_condition();
         let found = unread.read_byte(Surroundings::Arguments, byte);
-        self.read_condition(keeps, found, env, unread)
+        self.read_condition(keeps, found, environments, unread)
     }
 
     /// Something of a condition.
@@ -37,23 +38,23 @@ impl Reader {
         &mut self,
         keeps: bool,
         found: Read,
-        env: &Env,
+        environments: &Environments,
         unread: &mut Unread<PageEvent>,
     ) -> Result<Meaning, Limit>
         ensures { TakesAs (λ k. condition_found k unread.old.input keeps found)
-            env.now self.old self.new unread.old unread.new result }
+            environments.now self.old self.new unread.old unread.new result }
     {
         match found {
             Read::Decides(decision, freed) => {
                 let so = self.is_so(decision);
                 // The limit on results is the last that is looked at.
-                let meaning = self.begin_branch(so, freed, env, unread)?;
+                let meaning = self.begin_branch(so, freed, environments, unread)?;
                 if keeps {
                     unread.keep(so)?;
                 }
                 Ok(meaning)
             }
-            _ => self.read_in_arguments(Reading::Deciding { keeps }, found, env, unread),
+            _ => self.read_in_arguments(Reading::Deciding { keeps }, found, environments, unread),
         }
     }
 
@@ -73,18 +74,18 @@ impl Reader {
         &mut self,
         so: bool,
         freed: Option<u8>,
-        env: &Env,
+        environments: &Environments,
         unread: &mut Unread<PageEvent>,
     ) -> Result<Meaning, Limit>
         ensures { TakesAs (λ k. decided k unread.old.input so freed)
-            env.now self.old self.new unread.old unread.new result }
+            environments.now self.old self.new unread.old unread.new result }
     {
         let branch = Reading::branch(so);
         match freed {
             None => Ok(self.read_on(branch)),
             Some(byte) if so => {
-                let found = unread.read_byte(Surroundings::Text, byte);
-                self.begin_line(branch, found, env, unread)
+                let found = unread.read_byte(at_start(environments), byte);
+                self.begin_line(branch, found, environments, unread)
             }
             Some(byte) => Ok(self.read_on(Reading::behind_skipped(0, 0, false, byte))),
         }

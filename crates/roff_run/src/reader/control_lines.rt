@@ -1,14 +1,14 @@
 //! The names of control lines, and how what is behind one is read.
 
 ghost use Rattle.std.specs.Prelude.{◌≡◌, Ok};
-ghost use Rattle.roff_run.specs.Clauses.{Env, NameOf, TakesAs, behind_name, kept_taking};
+ghost use Rattle.roff_run.specs.Clauses.{EnvironmentsOf, NameOf, TakesAs, behind_name, kept_taking};
 ghost use Rattle.roff_run.specs.Clauses.{line_taking, row_of, name_ended_taking, called_by};
 
 use super::{Meaning, Reader};
+use crate::environments::Environments;
 use crate::event::PageEvent;
 use crate::reading::{Reading, ShortName, ends_name};
 use crate::request::{Called, LineReading, Request};
-use roff_lines::Env;
 use roff_num::Limit;
 use roff_scan::{Surroundings, Unread};
 use roff_store::Kind;
@@ -20,18 +20,18 @@ impl Reader {
         breaks: bool,
         first: u8,
         byte: u8,
-        env: &Env,
+        environments: &Environments,
         unread: &mut Unread<PageEvent>,
     ) -> Result<Meaning, Limit>
         ensures { TakesAs (λ k. kept_taking k (NameOf breaks first) unread.old.input byte)
-            env.now self.old self.new unread.old unread.new result }
+            environments.now self.old self.new unread.old unread.new result }
     {
         if ends_name(byte) {
             let name = ShortName {
                 first,
                 second: None,
             };
-            return self.read_behind_name(breaks, name, byte, env, unread);
+            return self.read_behind_name(breaks, name, byte, environments, unread);
         }
         let name = ShortName {
             first,
@@ -50,17 +50,23 @@ impl Reader {
         breaks: bool,
         name: ShortName,
         byte: u8,
-        env: &Env,
+        environments: &Environments,
         unread: &mut Unread<PageEvent>,
     ) -> Result<Meaning, Limit>
         ensures { TakesAs (λ k. name_ended_taking k unread.old.input breaks name byte)
-            env.now self.old self.new unread.old unread.new result }
+            environments.now self.old self.new unread.old unread.new result }
     {
         match called_by(name, unread) {
-            Called::Request(request) => self.read_first(breaks, request, byte, env, unread),
+            Called::Request(request) => self.read_first(
+                breaks,
+                request,
+                byte,
+                environments,
+                unread,
+            ),
             Called::Body(name) => {
                 let found = unread.read_byte(Surroundings::Arguments, byte);
-                self.read_call(name, found, env, unread)
+                self.read_call(name, found, environments, unread)
             }
             Called::Nothing => Ok(self.read_on(Reading::behind_dropped(byte))),
         }
@@ -72,38 +78,43 @@ impl Reader {
         breaks: bool,
         request: Request,
         byte: u8,
-        env: &Env,
+        environments: &Environments,
         unread: &mut Unread<PageEvent>,
     ) -> Result<Meaning, Limit>
         ensures { TakesAs (λ k. line_taking k unread.old.input breaks request
             (row_of request).line byte)
-            env.now self.old self.new unread.old unread.new result }
+            environments.now self.old self.new unread.old unread.new result }
     {
         match request.row().line {
             LineReading::ByArguments => {
                 let found = unread.read_byte(Surroundings::Arguments, byte);
-                self.read_arguments(breaks, request, found, env, unread)
+                self.read_arguments(breaks, request, found, environments, unread)
             }
-            LineReading::ByCondition { keeps } => self.begin_condition(keeps, byte, env, unread),
+            LineReading::ByCondition { keeps } => self.begin_condition(
+                keeps,
+                byte,
+                environments,
+                unread,
+            ),
             LineReading::ByString { appends } => {
                 let found = unread.read_byte(Surroundings::Arguments, byte);
-                self.read_string_name(appends, found, env, unread)
+                self.read_string_name(appends, found, environments, unread)
             }
             LineReading::ByLastLine => {
                 let found = unread.read_byte(Surroundings::Arguments, byte);
-                self.read_arguments(breaks, request, found, env, unread)
+                self.read_arguments(breaks, request, found, environments, unread)
             }
             LineReading::ByMessage { aborts } => {
                 let read = unread.read_byte(Surroundings::Copy, byte);
-                self.read_message(aborts, true, read, env, unread)
+                self.read_message(aborts, true, read, environments, unread)
             }
             LineReading::ByLines(_) => {
                 let found = unread.read_byte(Surroundings::Arguments, byte);
-                self.read_arguments(breaks, request, found, env, unread)
+                self.read_arguments(breaks, request, found, environments, unread)
             }
             LineReading::ByElse => {
                 let so = unread.take_kept() == Some(false);
-                self.begin_branch(so, Some(byte), env, unread)
+                self.begin_branch(so, Some(byte), environments, unread)
             }
         }
     }
@@ -115,9 +126,9 @@ impl Reader {
         request: Request,
         unread: &mut Unread<PageEvent>,
     ) -> Meaning
-        ensures { (env : Env)
+        ensures { (es : EnvironmentsOf)
             → TakesAs (λ k. behind_name unread.old.input breaks request (row_of request).line)
-            env self.old self.new unread.old unread.new (Ok result) }
+            es self.old self.new unread.old unread.new (Ok result) }
     {
         let reading = match request.row().line {
             LineReading::ByArguments => Reading::Arguments { breaks, request },

@@ -1,7 +1,7 @@
 //! Lines by which macros are defined, or that are ignored.
 
 ghost use Rattle.std.specs.Prelude.{◌≡◌, ◌≤◌, ◌++◌, true, length};
-ghost use Rattle.roff_run.specs.Clauses.{Env, TakesAs, InputBecame, arguments_given};
+ghost use Rattle.roff_run.specs.Clauses.{EnvironmentsOf, TakesAs, InputBecame, arguments_given};
 ghost use Rattle.roff_run.specs.Clauses.{string_entered, lines_begun, behind_definition};
 ghost use Rattle.roff_run.specs.Clauses.{definition_begun, definition_found, definition_grown};
 ghost use Rattle.roff_run.specs.Clauses.{definition_line, ends_mark, unit_bytes};
@@ -10,11 +10,11 @@ use super::arguments::short_name_at;
 use super::strings::{begin_string, enter_string};
 use super::{Meaning, Reader};
 use crate::definition::{DefinitionLine, EndMark, matched_behind};
+use crate::environments::Environments;
 use crate::event::PageEvent;
 use crate::reading::{Reading, ShortName};
 use crate::request::LinesFor;
 use arrayvec::ArrayVec;
-use roff_lines::Env;
 use roff_num::Limit;
 use roff_scan::{CopyUnit, Read, Unread};
 
@@ -25,9 +25,9 @@ impl Reader {
         lines: LinesFor,
         unread: &mut Unread<PageEvent>,
     ) -> Result<Meaning, Limit>
-        ensures { (env : Env)
+        ensures { (es : EnvironmentsOf)
             → TakesAs (λ k. lines_begun unread.old.input lines (arguments_given unread.old.input))
-            env self.old self.new unread.old unread.new result }
+            es self.old self.new unread.old unread.new result }
     {
         unread.finish_arguments();
         let first = short_name_at(0, unread.arguments());
@@ -52,9 +52,9 @@ impl Reader {
         end: Option<ShortName>,
         unread: &mut Unread<PageEvent>,
     ) -> Result<Meaning, Limit>
-        ensures { (env : Env)
+        ensures { (es : EnvironmentsOf)
             → TakesAs (λ k. definition_begun unread.old.input name appends end)
-            env self.old self.new unread.old unread.new result }
+            es self.old self.new unread.old unread.new result }
     {
         begin_string(name, unread)?;
         Ok(self.read_on(Reading::Defining {
@@ -73,19 +73,35 @@ impl Reader {
         end: Option<ShortName>,
         matched: Option<u8>,
         found: Read,
-        env: &Env,
+        environments: &Environments,
         unread: &mut Unread<PageEvent>,
     ) -> Result<Meaning, Limit>
         ensures { TakesAs (λ k. definition_found k unread.old.input name appends end matched found)
-            env.now self.old self.new unread.old unread.new result }
+            environments.now self.old self.new unread.old unread.new result }
     {
         match found {
             Read::Unit(unit) => {
-                self.read_unit_of_definition(name, appends, end, matched, unit, env, unread)
+                self.read_unit_of_definition(
+                    name,
+                    appends,
+                    end,
+                    matched,
+                    unit,
+                    environments,
+                    unread,
+                )
             }
             Read::Escape(byte) => {
                 let unit = CopyUnit::Kept(byte);
-                self.read_unit_of_definition(name, appends, end, matched, unit, env, unread)
+                self.read_unit_of_definition(
+                    name,
+                    appends,
+                    end,
+                    matched,
+                    unit,
+                    environments,
+                    unread,
+                )
             }
             _ => {
                 let reading = Reading::Defining {
@@ -94,7 +110,7 @@ impl Reader {
                     end,
                     matched,
                 };
-                self.read_in_arguments(reading, found, env, unread)
+                self.read_in_arguments(reading, found, environments, unread)
             }
         }
     }
@@ -108,11 +124,11 @@ impl Reader {
         end: Option<ShortName>,
         matched: Option<u8>,
         unit: CopyUnit,
-        env: &Env,
+        environments: &Environments,
         unread: &mut Unread<PageEvent>,
     ) -> Result<Meaning, Limit>
         ensures { TakesAs (λ k. definition_line k unread.old.input name appends end matched unit)
-            env.now self.old self.new unread.old unread.new result }
+            environments.now self.old self.new unread.old unread.new result }
     {
         let defining = |matched| Reading::Defining {
             name,
@@ -124,7 +140,7 @@ impl Reader {
         match mark.line_with(matched, unit) {
             DefinitionLine::MayBeLast(matched) => Ok(self.read_on(defining(Some(matched)))),
             DefinitionLine::IsLast(byte) => {
-                self.end_definition(name, appends, end, byte, env, unread)
+                self.end_definition(name, appends, end, byte, environments, unread)
             }
             DefinitionLine::IsText => {
                 grow_definition(name, mark.front(matched), unit, unread)?;
@@ -140,16 +156,16 @@ impl Reader {
         appends: bool,
         end: Option<ShortName>,
         byte: u8,
-        env: &Env,
+        environments: &Environments,
         unread: &mut Unread<PageEvent>,
     ) -> Result<Meaning, Limit>
         requires { ends_mark byte ≡ true }
         ensures { TakesAs (λ k. behind_definition k
             (string_entered name appends unread.old.input) end byte)
-            env.now self.old self.new unread.old unread.new result }
+            environments.now self.old self.new unread.old unread.new result }
     {
         enter_string(name, appends, unread)?;
-        self.read_behind_definition(end, byte, env, unread)
+        self.read_behind_definition(end, byte, environments, unread)
     }
 
     /// The first byte behind the name on that line: the name is called, if there is one, and else
@@ -158,16 +174,16 @@ impl Reader {
         &mut self,
         end: Option<ShortName>,
         byte: u8,
-        env: &Env,
+        environments: &Environments,
         unread: &mut Unread<PageEvent>,
     ) -> Result<Meaning, Limit>
         ensures { TakesAs (λ k. behind_definition k unread.old.input end byte)
-            env.now self.old self.new unread.old unread.new result }
+            environments.now self.old self.new unread.old unread.new result }
     {
         match end {
             Some(end) => {
                 unread.begin_line();
-                self.read_behind_name(true, end, byte, env, unread)
+                self.read_behind_name(true, end, byte, environments, unread)
             }
             None => Ok(self.read_on(Reading::behind_dropped(byte))),
         }

@@ -1,15 +1,17 @@
 //! The end of what is half read, and of the input.
 
 ghost use Rattle.std.specs.Prelude.{Ok};
-ghost use Rattle.roff_run.specs.Clauses.{Env, TakesAs, end_taking, half_ended, definition_cut};
+ghost use Rattle.roff_run.specs.Clauses.{EnvironmentsOf, PageUnread, TakesAs, definition_cut};
+ghost use Rattle.roff_run.specs.Clauses.{end_taking, half_ended, interrupted_end, meaning_events};
 
+use super::places::{at_start, on_line};
 use super::{Meaning, Reader};
+use crate::environments::Environments;
 use crate::event::{Events, PageEvent};
 use crate::message::Message;
-use crate::reading::{Reading, ShortName};
-use roff_lines::Env;
+use crate::reading::{Reading, ShortName, TextStep};
 use roff_num::Limit;
-use roff_scan::{Surroundings, Unread};
+use roff_scan::{CopyUnit, Surroundings, Unread};
 
 impl Reader {
     /// What is half read ends, before what stays or at the end of the input.
@@ -17,38 +19,42 @@ impl Reader {
     /// # Errors
     ///
     /// A limit that it would pass; what was changed then is of no more use.
-    pub fn end_half(&mut self, env: &Env, unread: &mut Unread<PageEvent>) -> Result<Meaning, Limit>
+    pub fn end_half(
+        &mut self,
+        environments: &Environments,
+        unread: &mut Unread<PageEvent>,
+    ) -> Result<Meaning, Limit>
         ensures { TakesAs (λ k. half_ended k self.old.reading unread.old.input)
-            env.now self.old self.new unread.old unread.new result }
+            environments.now self.old self.new unread.old unread.new result }
     {
         match self.reading {
             Reading::LineStart => {
-                let found = unread.end_reading(Surroundings::Text);
-                self.begin_line(Reading::LineStart, found, env, unread)
+                let found = unread.end_reading(at_start(environments));
+                self.begin_line(Reading::LineStart, found, environments, unread)
             }
             Reading::Branch => {
-                let found = unread.end_reading(Surroundings::Text);
-                self.begin_line(Reading::Branch, found, env, unread)
+                let found = unread.end_reading(at_start(environments));
+                self.begin_line(Reading::Branch, found, environments, unread)
             }
             Reading::Braced => {
-                let found = unread.end_reading(Surroundings::Text);
-                self.begin_line(Reading::Braced, found, env, unread)
+                let found = unread.end_reading(at_start(environments));
+                self.begin_line(Reading::Braced, found, environments, unread)
             }
             Reading::Text(line) => {
-                let found = unread.end_reading(Surroundings::Text);
-                self.read_text(line, found, env, unread)
+                let found = unread.end_reading(on_line(environments, line));
+                self.read_text(line, found, environments, unread)
             }
             Reading::Arguments { breaks, request } => {
                 let found = unread.end_reading(Surroundings::Arguments);
-                self.read_arguments(breaks, request, found, env, unread)
+                self.read_arguments(breaks, request, found, environments, unread)
             }
             Reading::Deciding { keeps } => {
                 let found = unread.end_reading(Surroundings::Arguments);
-                self.read_condition(keeps, found, env, unread)
+                self.read_condition(keeps, found, environments, unread)
             }
             Reading::StringName { appends } => {
                 let found = unread.end_reading(Surroundings::Arguments);
-                self.read_string_name(appends, found, env, unread)
+                self.read_string_name(appends, found, environments, unread)
             }
             Reading::StringText {
                 name,
@@ -56,15 +62,15 @@ impl Reader {
                 is_front,
             } => {
                 let found = unread.end_reading(Surroundings::Copy);
-                self.read_string(name, appends, is_front, found, env, unread)
+                self.read_string(name, appends, is_front, found, environments, unread)
             }
             Reading::Telling { aborts, is_front } => {
                 let found = unread.end_reading(Surroundings::Copy);
-                self.read_message(aborts, is_front, found, env, unread)
+                self.read_message(aborts, is_front, found, environments, unread)
             }
             Reading::Calling { name } => {
                 let found = unread.end_reading(Surroundings::Arguments);
-                self.read_call(name, found, env, unread)
+                self.read_call(name, found, environments, unread)
             }
             Reading::Defining {
                 name,
@@ -73,10 +79,10 @@ impl Reader {
                 matched,
             } => {
                 let found = unread.end_reading(Surroundings::Copy);
-                self.read_definition(name, appends, end, matched, found, env, unread)
+                self.read_definition(name, appends, end, matched, found, environments, unread)
             }
             _ => {
-                let _ = unread.end_reading(Surroundings::Text);
+                let _ = unread.end_reading(Surroundings::Text(0));
                 Ok(Meaning::nothing())
             }
         }
@@ -89,16 +95,54 @@ impl Reader {
     /// A limit that it would pass; what was changed then is of no more use.
     pub fn end_line_of_input(
         &mut self,
-        env: &Env,
+        environments: &Environments,
         unread: &mut Unread<PageEvent>,
     ) -> Result<Meaning, Limit>
         ensures { TakesAs (λ k. end_taking k self.old.reading unread.old.input)
-            env.now self.old self.new unread.old unread.new result }
+            environments.now self.old self.new unread.old unread.new result }
     {
         match self.reading {
-            Reading::LineStart => Ok(Meaning::nothing()),
+            Reading::LineStart => Ok(self.end_interrupted(Reading::LineStart, environments)),
+            Reading::Braced => Ok(self.end_interrupted(Reading::LineStart, environments)),
+            Reading::Control { .. } => Ok(self.end_interrupted(Reading::LineStart, environments)),
+            Reading::StringName { appends } => {
+                self.end_string_line(appends, unread)?;
+                Ok(self.end_interrupted(Reading::LineStart, environments))
+            }
+            Reading::StringText {
+                name,
+                appends,
+                is_front,
+            } => {
+                let end = CopyUnit::Byte(b'\n');
+                self.read_unit_of_string(name, appends, is_front, end, unread)?;
+                Ok(self.end_interrupted(Reading::LineStart, environments))
+            }
+            Reading::Skipping { .. } => Ok(self.end_interrupted(Reading::LineStart, environments)),
+            Reading::Dropped => Ok(self.end_interrupted(Reading::LineStart, environments)),
+            Reading::Exiting => Ok(self.end_interrupted(Reading::Exiting, environments)),
             Reading::Defining { name, .. } => Ok(self.drop_definition(name, unread)),
-            _ => self.read_kept(b'\n', env, unread),
+            _ => self.read_kept(b'\n', environments, unread),
+        }
+    }
+
+    /// An interrupted line that no text line went on with ends, and this is read.
+    fn end_interrupted(&mut self, behind: Reading, environments: &Environments) -> Meaning
+        ensures { (u : PageUnread) → TakesAs
+            (λ k. meaning_events u.input behind (interrupted_end k.interrupted))
+            environments.now self.old self.new u u (Ok result) }
+    {
+        self.reading = behind;
+        match environments.interrupted_line() {
+            None => Meaning::nothing(),
+            Some(line) => {
+                let step = TextStep {
+                    reading: behind,
+                    message: None,
+                    events: line.end(),
+                };
+                self.begin_text(step, Some(line))
+            }
         }
     }
 
@@ -108,9 +152,9 @@ impl Reader {
         name: Option<ShortName>,
         unread: &mut Unread<PageEvent>,
     ) -> Meaning
-        ensures { (env : Env)
+        ensures { (es : EnvironmentsOf)
             → TakesAs (λ k. definition_cut unread.old.input name)
-            env self.old self.new unread.old unread.new (Ok result) }
+            es self.old self.new unread.old unread.new (Ok result) }
     {
         if name.is_some() {
             unread.drop_text();

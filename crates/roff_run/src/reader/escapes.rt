@@ -1,16 +1,16 @@
 //! What stands for something else: names behind escapes, and widths.
 
 ghost use Rattle.std.specs.Prelude.{Ok};
-ghost use Rattle.roff_run.specs.Clauses.{Env, PageUnread, TakesAs, asking, going_on, holding_text};
+ghost use Rattle.roff_run.specs.Clauses.{EnvironmentsOf, PageUnread, TakesAs, asking, going_on, holding_text};
 ghost use Rattle.roff_run.specs.Clauses.{measuring, putting_nothing, telling, putting_string};
 ghost use Rattle.roff_run.specs.Clauses.{putting_argument};
 
 use super::{Meaning, Reader};
+use crate::environments::Environments;
 use crate::event::{Events, PageEvent};
 use crate::message::Message;
 use crate::reading::Reading;
 use itoa::Buffer;
-use roff_lines::Env;
 use roff_num::{Limit, Name};
 use roff_scan::{CopyUnit, NameUse, Remark, Unread};
 
@@ -20,18 +20,18 @@ impl Reader {
         &mut self,
         purpose: NameUse,
         name: Option<Name>,
-        env: &Env,
+        environments: &Environments,
         unread: &mut Unread<PageEvent>,
     ) -> Result<Meaning, Limit>
         ensures { TakesAs (λ k. asking k unread.old.input self.old.reading purpose name)
-            env.now self.old self.new unread.old unread.new result }
+            environments.now self.old self.new unread.old unread.new result }
     {
         let name = match name {
             None => return Ok(Meaning::nothing()),
             Some(name) => name,
         };
         match purpose {
-            NameUse::Register(step) => self.interpolate(step, &name, env, unread),
+            NameUse::Register(step) => self.interpolate(step, &name, environments, unread),
             NameUse::Text => self.put_string(&name, unread),
             NameUse::Argument => self.put_argument(&name, unread),
             // Copy mode reads no such name, and text reads it otherwise.
@@ -43,9 +43,9 @@ impl Reader {
 
     /// A string is put in front.
     fn put_string(&self, name: &Name, unread: &mut Unread<PageEvent>) -> Result<Meaning, Limit>
-        ensures { (env : Env)
+        ensures { (es : EnvironmentsOf)
             → TakesAs (λ k. putting_string unread.old.input self.now.reading name.now)
-            env self.now self.now unread.old unread.new result }
+            es self.now self.now unread.old unread.new result }
     {
         unread.push_body(name)?;
         Ok(Meaning::nothing())
@@ -53,9 +53,9 @@ impl Reader {
 
     /// An argument is put in front.
     fn put_argument(&self, name: &Name, unread: &mut Unread<PageEvent>) -> Result<Meaning, Limit>
-        ensures { (env : Env)
+        ensures { (es : EnvironmentsOf)
             → TakesAs (λ k. putting_argument unread.old.input self.now.reading name.now)
-            env self.now self.now unread.old unread.new result }
+            es self.now self.now unread.old unread.new result }
     {
         match name.as_bytes() {
             [digit @ b'1'..=b'9'] => unread.push_argument((*digit - b'1') as usize)?,
@@ -66,8 +66,8 @@ impl Reader {
 
     /// An empty text is put in front.
     fn put_nothing(&self, unread: &mut Unread<PageEvent>) -> Result<Meaning, Limit>
-        ensures { (env : Env) → TakesAs (λ k. putting_nothing unread.old.input self.now.reading)
-            env self.now self.now unread.old unread.new result }
+        ensures { (es : EnvironmentsOf) → TakesAs (λ k. putting_nothing unread.old.input self.now.reading)
+            es self.now self.now unread.old unread.new result }
     {
         unread.push(&[])?;
         Ok(Meaning::nothing())
@@ -80,9 +80,9 @@ impl Reader {
         reading: Reading,
         unread: &mut Unread<PageEvent>,
     ) -> Result<Meaning, Limit>
-        ensures { (env : Env)
+        ensures { (es : EnvironmentsOf)
             → TakesAs (λ k. going_on (holding_text unit unread.old.input) reading)
-            env self.old self.new unread.old unread.new result }
+            es self.old self.new unread.old unread.new result }
     {
         unread.hold_text(unit)?;
         Ok(self.read_on(reading))
@@ -95,9 +95,9 @@ impl Reader {
         reading: Reading,
         unread: &mut Unread<PageEvent>,
     ) -> Result<Meaning, Limit>
-        ensures { (env : Env)
+        ensures { (es : EnvironmentsOf)
             → TakesAs (λ k. measuring unread.old.input reading width)
-            env self.old self.new unread.old unread.new result }
+            es self.old self.new unread.old unread.new result }
     {
         unread.push(Buffer::new().format(width).as_bytes())?;
         Ok(self.read_on(reading))
@@ -106,8 +106,8 @@ impl Reader {
     /// This is said of something within a text that is measured or a condition, and this is read
     /// on.
     pub(super) fn tell(&mut self, remark: Remark, reading: Reading) -> Meaning
-        ensures { (env : Env) (u : PageUnread)
-            → TakesAs (λ k. telling u.input reading remark) env self.old self.new u u (Ok result) }
+        ensures { (es : EnvironmentsOf) (u : PageUnread)
+            → TakesAs (λ k. telling u.input reading remark) es self.old self.new u u (Ok result) }
     {
         self.reading = reading;
         Meaning {

@@ -1,13 +1,13 @@
 //! The texts of messages.
 
 ghost use Rattle.std.specs.Prelude.{false};
-ghost use Rattle.roff_run.specs.Clauses.{Env, Telling, TakesAs, going_on, holding_plain};
+ghost use Rattle.roff_run.specs.Clauses.{EnvironmentsOf, Telling, TakesAs, going_on, holding_plain};
 ghost use Rattle.roff_run.specs.Clauses.{message_found, message_unit};
 
 use super::{Meaning, Reader};
+use crate::environments::Environments;
 use crate::event::PageEvent;
 use crate::reading::Reading;
-use roff_lines::Env;
 use roff_num::Limit;
 use roff_scan::{CopyUnit, Read, Unread};
 
@@ -18,11 +18,11 @@ impl Reader {
         aborts: bool,
         is_front: bool,
         found: Read,
-        env: &Env,
+        environments: &Environments,
         unread: &mut Unread<PageEvent>,
     ) -> Result<Meaning, Limit>
         ensures { TakesAs (λ k. message_found k unread.old.input aborts is_front found)
-            env.now self.old self.new unread.old unread.new result }
+            environments.now self.old self.new unread.old unread.new result }
     {
         match found {
             Read::Unit(unit) => self.read_unit_of_message(aborts, is_front, unit, unread),
@@ -31,7 +31,7 @@ impl Reader {
             }
             _ => {
                 let reading = Reading::Telling { aborts, is_front };
-                self.read_in_arguments(reading, found, env, unread)
+                self.read_in_arguments(reading, found, environments, unread)
             }
         }
     }
@@ -44,9 +44,9 @@ impl Reader {
         unit: CopyUnit,
         unread: &mut Unread<PageEvent>,
     ) -> Result<Meaning, Limit>
-        ensures { (env : Env)
+        ensures { (es : EnvironmentsOf)
             → TakesAs (λ k. message_unit unread.old.input aborts is_front unit)
-            env self.old self.new unread.old unread.new result }
+            es self.old self.new unread.old unread.new result }
     {
         match unit {
             CopyUnit::Byte(b'\n') => Ok(self.read_on(Reading::Told { aborts })),
@@ -65,9 +65,9 @@ impl Reader {
         aborts: bool,
         unread: &mut Unread<PageEvent>,
     ) -> Result<Meaning, Limit>
-        ensures { (env : Env)
+        ensures { (es : EnvironmentsOf)
             → TakesAs (λ k. going_on (holding_plain unit unread.old.input) (Telling aborts false))
-            env self.old self.new unread.old unread.new result }
+            es self.old self.new unread.old unread.new result }
     {
         unread.hold_plain(unit)?;
         Ok(self.read_on(Reading::Telling {

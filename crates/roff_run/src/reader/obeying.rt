@@ -1,17 +1,17 @@
 //! The end of a request's line: what it means, and what it changes.
 
 ghost use Rattle.std.specs.Prelude.{◌≡◌, ℕ, reverse, slice_get};
+ghost use Rattle.roff_num.specs.declared.limits.Limits.{Limits};
 ghost use Rattle.roff_run.specs.Clauses.{Changed, calling_all, calls_of, name_in, removals};
-ghost use Rattle.roff_run.specs.Clauses.{PageHistory, Stands, TakesAs, changes_of, effect_of};
+ghost use Rattle.roff_run.specs.Clauses.{PageHistory, StandFor, TakesAs, changes_of, effect_of};
 ghost use Rattle.roff_run.specs.Clauses.{known_at, line_ended, names_given, request_effect};
-ghost use Rattle.roff_run.specs.Clauses.{text_of};
 
 use super::registers::facts;
 use super::{Meaning, Reader};
+use crate::environments::Environments;
 use crate::event::PageEvent;
 use crate::reading::Reading;
 use crate::request::{Changes, Effect, Given, Known, Request, name_given};
-use roff_lines::Env;
 use roff_num::{Limit, Name};
 use roff_scan::Unread;
 
@@ -21,14 +21,14 @@ impl Reader {
         &mut self,
         breaks: bool,
         request: Request,
-        env: &Env,
+        environments: &Environments,
         unread: &mut Unread<PageEvent>,
     ) -> Result<Meaning, Limit>
         ensures { TakesAs (λ k. line_ended k unread.old.input breaks request)
-            env.now self.old self.new unread.old unread.new result }
+            environments.now self.old self.new unread.old unread.new result }
     {
         unread.finish_arguments();
-        let effect = self.effect(breaks, request, env, unread);
+        let effect = self.effect(breaks, request, environments, unread);
         self.change(effect.changes, unread)?;
         let behind = Reading::behind_line(request.row().line);
         unread.begin_arguments();
@@ -44,10 +44,10 @@ impl Reader {
         &self,
         breaks: bool,
         request: Request,
-        env: &Env,
+        environments: &Environments,
         unread: &Unread<PageEvent>,
     ) -> Effect
-        ensures { (cap : ℕ) (h : PageHistory) → Stands cap (text_of h) env.now
+        ensures { (l : Limits) (h : PageHistory) → StandFor l h environments.now
             → let as_given = reverse unread.now.input.arguments.whole in
             effect_of as_given result
             ≡ request_effect (known_at h self.now.registers.all unread.now.input) breaks request
@@ -55,14 +55,16 @@ impl Reader {
     {
         let arguments = unread.arguments();
         let given = Given {
+            all: arguments,
             first: arguments.get(0),
             second: arguments.get(1),
             third: arguments.get(2),
         };
-        let facts = facts(env, unread);
+        let facts = facts(environments, unread);
         let known = Known {
             settings: facts.settings,
             in_force: self.in_force(given.first, facts),
+            has_left: facts.has_left,
         };
         request.effect(breaks, known, given)
     }

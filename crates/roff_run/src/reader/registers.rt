@@ -2,15 +2,16 @@
 
 ghost use Rattle.std.specs.Prelude.{◌≡◌, ℕ, List, IfSome, slice_get};
 ghost use Rattle.std.specs.Option.{option_copied};
-ghost use Rattle.roff_run.specs.Clauses.{AllRegisters, PageHistory, Remove, Stands, TakesAs};
+ghost use Rattle.roff_num.specs.declared.limits.Limits.{Limits};
+ghost use Rattle.roff_run.specs.Clauses.{AllRegisters, PageHistory, Remove, StandFor, TakesAs};
 ghost use Rattle.roff_run.specs.Clauses.{changed_by, interpolating, known_at, known_of, listed};
-ghost use Rattle.roff_run.specs.Clauses.{names_given, register_named, text_of, value_in_force};
+ghost use Rattle.roff_run.specs.Clauses.{names_given, register_named, value_in_force};
 
 use super::{Meaning, Reader};
+use crate::environments::Environments;
 use crate::event::{Events, PageEvent};
 use crate::registers::Facts;
 use crate::request::{name_given, register_named};
-use roff_lines::Env;
 use roff_num::{Limit, Name, Num};
 use roff_scan::{ArgumentList, Unread};
 use roff_store::Direction;
@@ -21,13 +22,13 @@ impl Reader {
         &mut self,
         step: Option<Direction>,
         name: &Name,
-        env: &Env,
+        environments: &Environments,
         unread: &mut Unread<PageEvent>,
     ) -> Result<Meaning, Limit>
         ensures { TakesAs (λ k. interpolating k unread.old.input self.old.reading step name.now)
-            env.now self.old self.new unread.old unread.new result }
+            environments.now self.old self.new unread.old unread.new result }
     {
-        let facts = facts(env, unread);
+        let facts = facts(environments, unread);
         let given = self.registers.interpolate(step, name, facts);
         unread.push(&given.text)?;
         Ok(Meaning {
@@ -67,14 +68,18 @@ impl Reader {
 }
 
 /// What is known of the run beside its registers.
-pub(super) fn facts(env: &Env, unread: &Unread<PageEvent>) -> Facts
-    ensures { (cap : ℕ) (h : PageHistory) (all : AllRegisters) → Stands cap (text_of h) env.now
+pub(super) fn facts(environments: &Environments, unread: &Unread<PageEvent>) -> Facts
+    ensures { (l : Limits) (h : PageHistory) (all : AllRegisters) → StandFor l h environments.now
         → known_of result all ≡ known_at h all unread.now.input }
 {
+    let lines = &environments.in_force.lines;
     Facts {
-        settings: env.settings(),
+        settings: lines.settings(),
         newlines: unread.newlines(),
-        last_width: env.last_width(),
+        last_width: lines.last_width(),
         arguments: unread.argument_count(),
+        place: lines.input_place(),
+        interrupted: environments.interrupted_line(),
+        has_left: environments.has_left(),
     }
 }

@@ -3,7 +3,7 @@
 ghost use Rattle.std.specs.Prelude.{◌≢◌, Some};
 ghost use Rattle.roff_scan.specs.declared.arguments.Place.TheVariants.{BehindQuote};
 ghost use Rattle.roff_scan.specs.declared.half.CopyUnit.TheVariants.{Byte};
-ghost use Rattle.roff_run.specs.Clauses.{Env, TakesAs, InputBecame, arguments_given, name_read};
+ghost use Rattle.roff_run.specs.Clauses.{EnvironmentsOf, TakesAs, InputBecame, arguments_given, name_read};
 ghost use Rattle.roff_run.specs.Clauses.{string_emptied, string_line_ended, string_name_behind};
 ghost use Rattle.roff_run.specs.Clauses.{string_name_found, string_name_or_text, string_name_unit};
 ghost use Rattle.roff_run.specs.Clauses.{name_at as name_given_at};
@@ -11,9 +11,9 @@ ghost use Rattle.roff_run.specs.Clauses.{name_at as name_given_at};
 use super::arguments::first_name;
 use super::strings::begin_string;
 use super::{Meaning, Reader};
+use crate::environments::Environments;
 use crate::event::PageEvent;
 use crate::reading::{Reading, ShortName};
-use roff_lines::Env;
 use roff_num::Limit;
 use roff_scan::{CopyUnit, Read, Unread};
 use roff_store::{Entry, Kind};
@@ -24,11 +24,11 @@ impl Reader {
         &mut self,
         appends: bool,
         found: Read,
-        env: &Env,
+        environments: &Environments,
         unread: &mut Unread<PageEvent>,
     ) -> Result<Meaning, Limit>
         ensures { TakesAs (λ k. string_name_found k unread.old.input appends found)
-            env.now self.old self.new unread.old unread.new result }
+            environments.now self.old self.new unread.old unread.new result }
     {
         match found {
             Read::Unit(unit) => self.read_unit_of_string_name(appends, unit, unread),
@@ -37,7 +37,7 @@ impl Reader {
             }
             _ => {
                 unread.settle();
-                self.read_in_arguments(Reading::StringName { appends }, found, env, unread)
+                self.read_in_arguments(Reading::StringName { appends }, found, environments, unread)
             }
         }
     }
@@ -49,9 +49,9 @@ impl Reader {
         unit: CopyUnit,
         unread: &mut Unread<PageEvent>,
     ) -> Result<Meaning, Limit>
-        ensures { (env : Env)
+        ensures { (es : EnvironmentsOf)
             → TakesAs (λ k. string_name_unit unread.old.input appends unit)
-            env self.old self.new unread.old unread.new result }
+            es self.old self.new unread.old unread.new result }
     {
         match unit {
             CopyUnit::Byte(b'\n') => self.end_string_line(appends, unread),
@@ -72,10 +72,10 @@ impl Reader {
     ) -> Result<Meaning, Limit>
         requires line_goes_on { unit ≢ Byte 10 }
         requires apart { unit ≢ Byte 34 → unread.old.input.arguments.place ≢ BehindQuote }
-        ensures { (env : Env)
+        ensures { (es : EnvironmentsOf)
             → TakesAs (λ k. string_name_or_text unread.old.input appends unit
             (name_read unread.old.input))
-            env self.old self.new unread.old unread.new result }
+            es self.old self.new unread.old unread.new result }
     {
         match first_name(unread.arguments()) {
             Some(name) => {
@@ -95,10 +95,10 @@ impl Reader {
         appends: bool,
         unread: &mut Unread<PageEvent>,
     ) -> Result<Meaning, Limit>
-        ensures { (env : Env)
+        ensures { (es : EnvironmentsOf)
             → TakesAs (λ k. string_name_behind unread.old.input appends
             (name_read unread.old.input))
-            env self.old self.new unread.old unread.new result }
+            es self.old self.new unread.old unread.new result }
     {
         match first_name(unread.arguments()) {
             Some(name) => {
@@ -114,15 +114,15 @@ impl Reader {
     }
 
     /// The line of a string ends where its name is read.
-    fn end_string_line(
+    pub(super) fn end_string_line(
         &mut self,
         appends: bool,
         unread: &mut Unread<PageEvent>,
     ) -> Result<Meaning, Limit>
-        ensures { (env : Env)
+        ensures { (es : EnvironmentsOf)
             → TakesAs (λ k. string_line_ended unread.old.input appends
             (name_given_at 0 (arguments_given unread.old.input)))
-            env self.old self.new unread.old unread.new result }
+            es self.old self.new unread.old unread.new result }
     {
         unread.finish_arguments();
         let given = first_name(unread.arguments());

@@ -1,12 +1,12 @@
 //! The texts of strings that are defined.
 
-ghost use Rattle.roff_run.specs.Clauses.{Env, TakesAs, InputBecame, string_begun, string_entered};
+ghost use Rattle.roff_run.specs.Clauses.{EnvironmentsOf, TakesAs, InputBecame, string_begun, string_entered};
 ghost use Rattle.roff_run.specs.Clauses.{string_grown, string_text_found, string_unit};
 
 use super::{Meaning, Reader};
+use crate::environments::Environments;
 use crate::event::PageEvent;
 use crate::reading::{Reading, ShortName};
-use roff_lines::Env;
 use roff_num::Limit;
 use roff_scan::{CopyUnit, Read, Unread};
 
@@ -18,11 +18,11 @@ impl Reader {
         appends: bool,
         is_front: bool,
         found: Read,
-        env: &Env,
+        environments: &Environments,
         unread: &mut Unread<PageEvent>,
     ) -> Result<Meaning, Limit>
         ensures { TakesAs (λ k. string_text_found k unread.old.input name appends is_front found)
-            env.now self.old self.new unread.old unread.new result }
+            environments.now self.old self.new unread.old unread.new result }
     {
         match found {
             Read::Unit(unit) => self.read_unit_of_string(name, appends, is_front, unit, unread),
@@ -35,7 +35,7 @@ impl Reader {
                     appends,
                     is_front,
                 };
-                self.read_in_arguments(reading, found, env, unread)
+                self.read_in_arguments(reading, found, environments, unread)
             }
         }
     }
@@ -50,9 +50,9 @@ impl Reader {
         unit: CopyUnit,
         unread: &mut Unread<PageEvent>,
     ) -> Result<Meaning, Limit>
-        ensures { (env : Env)
+        ensures { (es : EnvironmentsOf)
             → TakesAs (λ k. string_unit unread.old.input name appends is_front unit)
-            env self.old self.new unread.old unread.new result }
+            es self.old self.new unread.old unread.new result }
     {
         let text = |is_front| Reading::StringText {
             name,

@@ -1,13 +1,13 @@
 //! The beginning of a line, and text lines.
 
-ghost use Rattle.std.specs.Prelude.{◌≡◌, Ok};
-ghost use Rattle.roff_run.specs.Clauses.{Env, PageUnread, TakesAs, beginning_found, first_escape};
-ghost use Rattle.roff_run.specs.Clauses.{first_taking, line_begun, name_taking, text_found};
+ghost use Rattle.std.specs.Prelude.{◌≡◌, ◌++◌, Ok};
+ghost use Rattle.roff_run.specs.Clauses.{PageUnread, TakesAs, beginning_found, first_escape, first_name};
+ghost use Rattle.roff_run.specs.Clauses.{first_taking, going_on_told, line_begun, name_taking, text_found};
 
 use super::{Meaning, Reader};
-use crate::event::PageEvent;
+use crate::environments::Environments;
+use crate::event::{Events, PageEvent};
 use crate::reading::{Reading, TextLine, TextStep};
-use roff_lines::Env;
 use roff_num::{Limit, Name};
 use roff_scan::{CopyUnit, NameUse, Read, Unread};
 
@@ -17,65 +17,75 @@ impl Reader {
         &mut self,
         at: Reading,
         found: Read,
-        env: &Env,
+        environments: &Environments,
         unread: &mut Unread<PageEvent>,
     ) -> Result<Meaning, Limit>
         ensures { TakesAs (λ k. beginning_found k unread.old.input at found)
-            env.now self.old self.new unread.old unread.new result }
+            environments.now self.old self.new unread.old unread.new result }
     {
         match found {
             Read::GoesOn => Ok(self.read_on(at)),
-            Read::Unit(CopyUnit::Byte(byte)) => Ok(self.begin_with(at, byte)),
-            Read::Unit(CopyUnit::Kept(byte)) => Ok(self.begin_with_escape(at, byte)),
-            Read::Escape(byte) => Ok(self.begin_with_escape(at, byte)),
+            Read::Unit(CopyUnit::Byte(byte)) => Ok(self.begin_with(at, byte, environments)),
+            Read::Unit(CopyUnit::Kept(byte)) => Ok(self.begin_with_escape(at, byte, environments)),
+            Read::Escape(byte) => Ok(self.begin_with_escape(at, byte, environments)),
             Read::Holds(unit) => self.hold_text(unit, at, unread),
             Read::Motion(columns, remark) => {
-                Ok(self.step(TextLine::new().motion(columns, remark)))
+                let interrupted = environments.interrupted_line();
+                let step = TextLine::begun_as(interrupted).motion(columns, remark);
+                Ok(self.begin_text(step, interrupted))
             }
             Read::Measures(width) => self.measure(width, at, unread),
             Read::Tells(remark) => Ok(self.tell(remark, at)),
             Read::Asks(purpose, name) => {
                 self.reading = at;
-                self.read_name(TextLine::new(), purpose, name, env, unread)
+                self.begin_with_name(purpose, name, environments, unread)
             }
             Read::Decides(..) => Ok(self.read_on(at)),
         }
     }
 
     /// A byte where a line begins, or a branch, or its rest behind its brace.
-    fn begin_with(&mut self, at: Reading, byte: u8) -> Meaning
-        ensures { (env : Env) (u : PageUnread)
-            → TakesAs (λ k. first_taking u.input at byte) env self.old self.new u u (Ok result) }
+    fn begin_with(&mut self, at: Reading, byte: u8, environments: &Environments) -> Meaning
+        ensures { (u : PageUnread) → TakesAs (λ k. first_taking k u.input at byte)
+            environments.now self.old self.new u u (Ok result) }
     {
         match (at, byte) {
             (Reading::Branch, b' ') => self.read_on(Reading::Branch),
             (Reading::Braced, b' ') => self.read_on(Reading::Braced),
             (Reading::Braced, b'\n') => self.read_on(Reading::LineStart),
-            (_, _) => self.begin_with_any(byte),
+            (_, _) => self.begin_with_any(byte, environments),
         }
     }
 
     /// The first byte of a line: a dot or an apostrophe begins a control line, another a text line.
-    fn begin_with_any(&mut self, byte: u8) -> Meaning
-        ensures { (env : Env) (u : PageUnread)
-            → TakesAs (λ k. line_begun u.input byte) env self.old self.new u u (Ok result) }
+    fn begin_with_any(&mut self, byte: u8, environments: &Environments) -> Meaning
+        ensures { (u : PageUnread) → TakesAs (λ k. line_begun k u.input byte)
+            environments.now self.old self.new u u (Ok result) }
     {
         match byte {
             b'.' => self.read_on(Reading::Control { breaks: true }),
             b'\'' => self.read_on(Reading::Control { breaks: false }),
-            _ => self.step(TextLine::new().taking(byte)),
+            _ => {
+                let interrupted = environments.interrupted_line();
+                let step = TextLine::begun_as(interrupted).taking(byte);
+                self.begin_text(step, interrupted)
+            }
         }
     }
 
     /// An escape where a line begins, or a branch, or its rest behind its brace.
-    fn begin_with_escape(&mut self, at: Reading, byte: u8) -> Meaning
-        ensures { (env : Env) (u : PageUnread)
-            → TakesAs (λ k. first_escape u.input at byte) env self.old self.new u u (Ok result) }
+    fn begin_with_escape(&mut self, at: Reading, byte: u8, environments: &Environments) -> Meaning
+        ensures { (u : PageUnread) → TakesAs (λ k. first_escape k u.input at byte)
+            environments.now self.old self.new u u (Ok result) }
     {
         match (at, byte) {
             (Reading::Branch, b'{') => self.read_on(Reading::Braced),
             (Reading::Braced, b'\n') => self.read_on(Reading::LineStart),
-            (_, _) => self.step(TextLine::new().escape(byte)),
+            (_, _) => {
+                let interrupted = environments.interrupted_line();
+                let step = TextLine::begun_as(interrupted).escape(byte);
+                self.begin_text(step, interrupted)
+            }
         }
     }
 
@@ -84,11 +94,11 @@ impl Reader {
         &mut self,
         line: TextLine,
         found: Read,
-        env: &Env,
+        environments: &Environments,
         unread: &mut Unread<PageEvent>,
     ) -> Result<Meaning, Limit>
         ensures { TakesAs (λ k. text_found k unread.old.input line found)
-            env.now self.old self.new unread.old unread.new result }
+            environments.now self.old self.new unread.old unread.new result }
     {
         match found {
             Read::GoesOn => Ok(self.read_on(Reading::Text(line))),
@@ -102,9 +112,33 @@ impl Reader {
             Read::Tells(remark) => Ok(self.tell(remark, Reading::Text(line))),
             Read::Asks(purpose, name) => {
                 self.reading = Reading::Text(line);
-                self.read_name(line, purpose, name, env, unread)
+                self.read_name(line, purpose, name, environments, unread)
             }
             Read::Decides(..) => Ok(self.read_on(Reading::Text(line))),
+        }
+    }
+
+    /// The name behind an escape where a line begins, or a branch: what is read in the escape's place
+    /// leaves it there.
+    fn begin_with_name(
+        &mut self,
+        purpose: NameUse,
+        name: Option<Name>,
+        environments: &Environments,
+        unread: &mut Unread<PageEvent>,
+    ) -> Result<Meaning, Limit>
+        ensures { TakesAs (λ k. first_name k unread.old.input self.old.reading purpose name)
+            environments.now self.old self.new unread.old unread.new result }
+    {
+        let interrupted = environments.interrupted_line();
+        let line = TextLine::begun_as(interrupted);
+        match purpose {
+            NameUse::Character => Ok(self.begin_text(line.character(name), interrupted)),
+            NameUse::Font => Ok(self.begin_text(line.other(), interrupted)),
+            NameUse::LeftOut(byte) => Ok(self.begin_text(line.left_out(byte), interrupted)),
+            NameUse::Register(_) => self.ask(purpose, name, environments, unread),
+            NameUse::Text => self.ask(purpose, name, environments, unread),
+            NameUse::Argument => self.ask(purpose, name, environments, unread),
         }
     }
 
@@ -114,24 +148,24 @@ impl Reader {
         line: TextLine,
         purpose: NameUse,
         name: Option<Name>,
-        env: &Env,
+        environments: &Environments,
         unread: &mut Unread<PageEvent>,
     ) -> Result<Meaning, Limit>
         ensures { TakesAs (λ k. name_taking k unread.old.input self.old.reading line purpose name)
-            env.now self.old self.new unread.old unread.new result }
+            environments.now self.old self.new unread.old unread.new result }
     {
         match purpose {
             NameUse::Character => Ok(self.step(line.character(name))),
             NameUse::Font => Ok(self.step(line.other())),
             NameUse::LeftOut(byte) => Ok(self.step(line.left_out(byte))),
-            NameUse::Register(_) => self.ask(purpose, name, env, unread),
-            NameUse::Text => self.ask(purpose, name, env, unread),
-            NameUse::Argument => self.ask(purpose, name, env, unread),
+            NameUse::Register(_) => self.ask(purpose, name, environments, unread),
+            NameUse::Text => self.ask(purpose, name, environments, unread),
+            NameUse::Argument => self.ask(purpose, name, environments, unread),
         }
     }
 
     /// What something of a text line does.
-    fn step(&mut self, step: TextStep) -> Meaning
+    pub(super) fn step(&mut self, step: TextStep) -> Meaning
         ensures reading { self.new ≡ record self.old { reading = step.reading } }
         ensures message { result.message ≡ step.message }
         ensures events { result.events.items ≡ step.events.items }
@@ -139,7 +173,20 @@ impl Reader {
         self.reading = step.reading;
         Meaning {
             message: step.message,
-            events: step.events,
+            events: Events::of_line(false, &step.events),
+        }
+    }
+
+    /// The same where it begins a text line: an interrupted one goes on, and that is told first.
+    pub(super) fn begin_text(&mut self, step: TextStep, interrupted: Option<TextLine>) -> Meaning
+        ensures reading { self.new ≡ record self.old { reading = step.reading } }
+        ensures message { result.message ≡ step.message }
+        ensures events { result.events.items ≡ going_on_told interrupted ++ step.events.items }
+    {
+        self.reading = step.reading;
+        Meaning {
+            message: step.message,
+            events: Events::of_line(interrupted.is_some(), &step.events),
         }
     }
 }

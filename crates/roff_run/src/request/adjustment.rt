@@ -1,13 +1,15 @@
-//! Adjusting.
+//! Adjusting and centring.
 
 ghost use Rattle.std.specs.Prelude.{◌≡◌, ℕ, List, slice_get};
 ghost use Rattle.std.specs.Option.{option_copied};
 ghost use Rattle.roff_run.specs.Request.Coded.{done_of};
-ghost use Rattle.roff_run.specs.Requests.Adjustment.{adjust, mode_named, mode_wanted};
+ghost use Rattle.roff_run.specs.Requests.Adjustment.{adjust, centre, mode_named, mode_wanted};
 
 use crate::event::PageEvent;
+use crate::number::value_in;
 use crate::request::Done;
 use roff_lines::{AdjustMode, Event, Param};
+use roff_num::Scale;
 
 /// `ad`: adjusting on, in the mode of the argument or the one in force.
 pub(super) fn adjust(argument: Option<&[u8]>) -> Done
@@ -23,6 +25,20 @@ pub(super) fn adjust(argument: Option<&[u8]>) -> Done
                 PageEvent::Text(Event::Set(Param::Adjusting(true))),
             ],
         ),
+    }
+}
+
+/// `ce`: so many lines are centred, one where no number is given.
+pub(super) fn centre(argument: Option<&[u8]>) -> Done
+    ensures { (as_given : List (List ℕ)) → option_copied argument.entry ≡ slice_get as_given 0
+        → done_of as_given result ≡ centre as_given }
+{
+    match argument {
+        None => Done::setting(Param::Centring(1)),
+        Some(text) => match value_in(Scale::Units, text) {
+            Ok(count) => Done::setting(Param::Centring(count.max(0) as u32)),
+            Err(_) => Done::bad_number(),
+        },
     }
 }
 

@@ -3,9 +3,9 @@
 ghost use Rattle.std.specs.Prelude.{◌≡◌, ◌≤◌, ℕ, List, [], length};
 ghost use Rattle.std.specs.Option.{option_to_list};
 ghost use Rattle.roff_run.specs.Request.Coded.{calls_of, changes_of, done_of, effect_of};
-ghost use Rattle.roff_run.specs.Requests.Effects.{Does, Ignored, bad_format, bad_number, happens, left_out, meant_by, nothing, setting};
+ghost use Rattle.roff_run.specs.Requests.Effects.{Does, Ignored, bad_format, bad_number, behind_break, happens, left_out, meant_by, no_such_environment, nothing, setting};
 
-use crate::event::{Events, PageEvent, RequestEvents};
+use crate::event::{Events, FewEvents, PageEvent, RequestEvents, Stops};
 use crate::message::Message;
 use crate::registers::Change;
 use roff_lines::{Event, Param, Settings};
@@ -18,6 +18,8 @@ pub(crate) struct Known {
     pub(crate) settings: Settings,
     /// The value of the register that the first argument names, if it names one.
     pub(crate) in_force: Num,
+    /// Whether an environment was left that may be gone back to.
+    pub(crate) has_left: bool,
 }
 
 /// What a request does with its arguments.
@@ -27,6 +29,8 @@ pub(crate) enum Done {
     Ignored(Option<Message>),
     /// It says this, registers or names change so, and this happens behind its break.
     Does(Option<Message>, Changes, RequestEvents),
+    /// These stops are set behind its break, in place of those in force.
+    SetsStops(Stops),
 }
 
 /// What a request changes of the registers, or of what names stand for.
@@ -102,6 +106,13 @@ impl Done {
         Done::Ignored(Some(Message::BadFormat))
     }
 
+    /// An argument is no environment's number, or there is none to go back to.
+    pub(super) fn no_such_environment() -> Done
+        ensures { (as_given : List (List ℕ)) → done_of as_given result ≡ no_such_environment }
+    {
+        Done::Ignored(Some(Message::NoSuchEnvironment))
+    }
+
     /// It is left out.
     pub(super) fn left_out(name: [u8; 2]) -> Done
         ensures { (as_given : List (List ℕ)) → done_of as_given result ≡ left_out name }
@@ -125,25 +136,39 @@ impl Done {
         ensures { (as_given : List (List ℕ))
             → effect_of as_given result ≡ meant_by breaks (done_of as_given self) }
     {
-        let mut events = Events::new();
         match self {
             Done::Ignored(message) => Effect {
                 message,
                 changes: Changes::Nothing,
-                events,
+                events: Events::new(),
             },
-            Done::Does(message, changes, behind_break) => {
-                if breaks {
-                    events.push(PageEvent::Text(Event::WordEnd));
-                    events.push(PageEvent::Text(Event::Break));
-                }
-                events.try_extend_from_slice(&behind_break).unwrap();
+            Done::Does(message, changes, events) => {
+                let mut few = break_events(breaks);
+                few.try_extend_from_slice(&events).unwrap();
                 Effect {
                     message,
                     changes,
-                    events,
+                    events: Events::few(few),
                 }
             }
+            Done::SetsStops(stops) => Effect {
+                message: None,
+                changes: Changes::Nothing,
+                events: Events::setting_stops(break_events(breaks), stops),
+            },
         }
     }
+}
+
+/// The events of a break, if there is one.
+fn break_events(breaks: bool) -> FewEvents
+    ensures items { result.items ≡ behind_break breaks [] }
+    ensures few { length result.items ≤ 2 }
+{
+    let mut events = FewEvents::new();
+    if breaks {
+        events.push(PageEvent::Text(Event::WordEnd));
+        events.push(PageEvent::Text(Event::Break));
+    }
+    events
 }

@@ -1,10 +1,10 @@
-//! The line length and the indent.
+//! The line length, the indent, and the indent of one line.
 
 ghost use Rattle.std.specs.Prelude.{◌≡◌, ℕ, List, slice_get};
 ghost use Rattle.std.specs.Option.{option_copied};
 ghost use Rattle.roff_run.specs.Registers.{Known as KnownOfRun};
 ghost use Rattle.roff_run.specs.Request.Coded.{done_of};
-ghost use Rattle.roff_run.specs.Requests.Lengths.{indent, length_set, length_wanted, line_length};
+ghost use Rattle.roff_run.specs.Requests.Lengths.{indent, length_set, length_wanted, line_length, temporary_indent};
 
 use crate::number::{rounded_to_columns, value_beside};
 use crate::request::{Done, Known};
@@ -37,6 +37,21 @@ pub(super) fn indent(known: Known, argument: Option<&[u8]>) -> Done
     match length_wanted(s.indent, s.previous_indent, argument) {
         Ok(columns) => Done::setting(Param::Indent(columns)),
         Err(_) => Done::bad_number(),
+    }
+}
+
+/// `ti`: the indent of the next line that a word begins; without an argument it is ignored.
+pub(super) fn temporary_indent(known: Known, argument: Option<&[u8]>) -> Done
+    ensures { (k : KnownOfRun) (as_given : List (List ℕ)) → known.settings ≡ k.settings
+        → option_copied argument.entry ≡ slice_get as_given 0
+        → done_of as_given result ≡ temporary_indent k as_given }
+{
+    match argument {
+        None => Done::unsaid(),
+        Some(text) => match length_set(known.settings.indent, text) {
+            Ok(columns) => Done::setting(Param::TemporaryIndent(columns)),
+            Err(_) => Done::bad_number(),
+        },
     }
 }
 

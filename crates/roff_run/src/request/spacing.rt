@@ -1,14 +1,16 @@
-//! Blank lines.
+//! Blank lines, and the spacing of lines.
 
 ghost use Rattle.std.specs.Prelude.{◌≡◌, ℕ, List, slice_get, Ok};
 ghost use Rattle.std.specs.Option.{option_copied};
 ghost use Rattle.roff_run.specs.Request.Coded.{done_of};
-ghost use Rattle.roff_run.specs.Requests.Spacing.{space_down, spaced};
+ghost use Rattle.roff_run.specs.Requests.Spacing.{line_spacing, space_down, spaced};
+ghost use Rattle.roff_run.specs.Registers.{Known as KnownOfRun};
 
 use crate::event::PageEvent;
 use crate::message::Message;
 use crate::number::{rounded_to_lines, value_in};
-use crate::request::Done;
+use crate::request::{Done, Known};
+use roff_lines::Param;
 use roff_num::Scale;
 
 /// The basic units of a line.
@@ -36,4 +38,19 @@ fn spaced(height: i32) -> Done
         return Done::doing(Some(Message::BackwardMotion), &[PageEvent::Space(0)]);
     }
     Done::doing(None, &[PageEvent::Space(height as u32 / LINE)])
+}
+
+/// `ls`: the spacing of lines, the previous one where none is given.
+pub(super) fn line_spacing(known: Known, argument: Option<&[u8]>) -> Done
+    ensures { (k : KnownOfRun) (as_given : List (List ℕ)) → known.settings ≡ k.settings
+        → option_copied argument.entry ≡ slice_get as_given 0
+        → done_of as_given result ≡ line_spacing k as_given }
+{
+    match argument {
+        None => Done::setting(Param::Spacing(known.settings.previous_spacing)),
+        Some(text) => match value_in(Scale::Units, text) {
+            Ok(lines) => Done::setting(Param::Spacing(lines.max(1) as u32)),
+            Err(_) => Done::bad_number(),
+        },
+    }
 }

@@ -5,4 +5,4 @@ use Rattle.roff_scan.proofs.NamesRead.{opened_read}
 use Rattle.roff_scan.proofs.half_laws.character_escapes.Goals as goal
 
 pub returns : goal.returns
-returns c = opened_read InText [] (record { all = refl; few = omega arith }) Character
+returns c place = opened_read (InText place) [] (record { all = refl; few = omega arith }) Character

@@ -26,6 +26,10 @@ pub returns-clause-no_number : goal.returns-clause-no_number
 unfolding folded_onto operand_within value_at
 returns-clause-no_number c = refl
 
-pub returns-clause-no_place : goal.returns-clause-no_place
+pub returns-clause-to_a_place : goal.returns-clause-to_a_place
 unfolding folded_onto operand_within value_at
-returns-clause-no_place c = refl
+returns-clause-to_a_place c = refl
+
+pub returns-clause-behind_a_place : goal.returns-clause-behind_a_place
+unfolding folded_onto operand_within value_at
+returns-clause-behind_a_place c = refl

@@ -3,12 +3,12 @@ use Rattle.roff_num.specs.declared.limit.Limit.TheVariants.{Line}
 use Rattle.roff_lines.specs.declared.event.Event.TheVariants.{Print}
 use Rattle.roff_run.specs.Output.{text_of}
 use Rattle.roff_run.specs.declared.event.PageEvent.TheVariants.{Text}
-use Rattle.roff_engine.proofs.Performed.{event_stopped, text_changes_only, text_refused}
+use Rattle.roff_engine.proofs.Performed.{event_stopped, lines_behind, text_changes_only, text_refused}
 use Rattle.roff_engine.proofs.formatter.Formatter.glyph.Goals as goal
 
 pub returns-in-Ok : goal.returns-in-Ok
 returns-in-Ok c = λ told. text_changes_only (Print c.args.glyph) _ _ told
-    (λ l h stood. c.in-Ok.ensures.stands l.line (text_of h) stood) (λ h. refl) (search rules)
+    (lines_behind (Print c.args.glyph) c.args.self.now.environments _ c.in-Ok.ensures.stands) (λ h. refl) (search rules)
 
 pub returns-in-Err : goal.returns-in-Err
 returns-in-Err c = λ told. record {
@@ -16,7 +16,7 @@ returns-in-Err c = λ told. record {
     performs = λ l t before failures err s h rest stood reached.
         let is_line : c.in-Err.limit ≡ Line = search rules in
         rw is_line (event_stopped l t before failures err s h (Text (Print c.args.glyph)) rest told reached Line
-        (text_refused l h (Print c.args.glyph) ((c.in-Err.ensures.limit l.line (text_of h) stood).0 refl)));
+        (text_refused l h (Print c.args.glyph) ((c.in-Err.ensures.limit l.line (text_of h) stood.in_force.lines).0 refl)));
   };
   reader = search rules;
 }

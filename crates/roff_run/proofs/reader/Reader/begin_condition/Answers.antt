@@ -18,12 +18,12 @@ returns-then-byte-eq10 c =
     let keeps = c.args.keeps in
     let done = c.read_condition in
     let ends : (b == newline) ≡ true = search rules in
-    TakesAs-as (λ k. condition_found k u.input keeps (Decides (Is false) (Some b))) (λ k. condition_begun k u.input keeps b) c.args.env.now c.args.self.now done.new.self
+    TakesAs-as (λ k. condition_found k u.input keeps (Decides (Is false) (Some b))) (λ k. condition_begun k u.input keeps b) c.args.environments.now c.args.self.now done.new.self
     u done.new.unread done.result (λ k. rw ends refl) done.ensures
 
 pub returns : goal.returns
 returns c =
-    let env = c.args.env.now in
+    let es = c.args.environments.now in
     let old = c.args.self.now in
     let u = c.args.unread.now in
     let b = c.args.byte in
@@ -32,12 +32,12 @@ returns c =
     let read = c.read_byte-found in
     let done = c.read_condition-2 in
     let goes_on : (b == newline) ≡ false = search rules in
-    let took = TakesAs-read (λ k i found. condition_found k i keeps found) (byte_read AboveArguments begun.input.half b) env old done.new.self begun read.new.self done.new.unread
+    let took = TakesAs-read (λ k i found. condition_found k i keeps found) (byte_read AboveArguments begun.input.half b) es old done.new.self begun read.new.self done.new.unread
     read.result done.result read.ensures.reading (texts_held-byte_read AboveArguments b begun.input.half) done.ensures in
     let At : PageUnread → Type 0 = λ v. TakesAs (λ k.
     condition_found k (with_half (byte_read AboveArguments v.input.half b).1 v.input) keeps (byte_read AboveArguments v.input.half b).0)
-    env old done.new.self v done.new.unread done.result in
-    TakesAs-as (λ k. condition_read k u.input keeps (byte_read AboveArguments (choosing u.input).half b)) (λ k. condition_begun k u.input keeps b) env old done.new.self
+    es old done.new.self v done.new.unread done.result in
+    TakesAs-as (λ k. condition_read k u.input keeps (byte_read AboveArguments (choosing u.input).half b)) (λ k. condition_begun k u.input keeps b) es old done.new.self
     u done.new.unread done.result (λ k. rw goes_on refl)
-    (TakesAs-less (choosing u.input) (λ k. condition_read k u.input keeps (byte_read AboveArguments (choosing u.input).half b)) env old done.new.self u done.new.unread done.result
+    (TakesAs-less (choosing u.input) (λ k. condition_read k u.input keeps (byte_read AboveArguments (choosing u.input).half b)) es old done.new.self u done.new.unread done.result
     (NoMore-choosing u.input) refl refl (subst At c.begin_condition.ensures.change took))

@@ -8,7 +8,7 @@ use Rattle.roff_run.proofs.BegunDefinitions.{TakesAs-behind_line, flatten-name}
 use Rattle.roff_run.proofs.reader.Reader.begin_lines.Goals as goal
 
 pub returns-in-Nobody-default : goal.returns-in-Nobody-default
-returns-in-Nobody-default c = λ env.
+returns-in-Nobody-default c = λ es.
     let old = c.args.self.now in
     let u = c.args.unread.now in
     let done = c.begin_definition in
@@ -17,12 +17,12 @@ returns-in-Nobody-default c = λ env.
     let first : c.short_name_at-first.result ≡ name_at 0 given = c.short_name_at-first.ensures ∙ ap (name_at 0) (c.arguments.ensures ∙ ends) in
     let end : c.flatten.result ≡ name_or_none (name_at 0 given) = c.flatten.ensures ∙ flatten-name c.short_name_at-first.result ∙ ap name_or_none first in
     rw c.in-Nobody-default.is-0
-    (subst (λ (end : Option ShortName). TakesAs (λ k. definition_begun u.input None false end) env old done.new.self u done.new.unread done.result) end
-    (TakesAs-behind_line None false c.flatten.result env old done.new.self u c.finish_arguments.new.self done.new.unread done.result
-    c.finish_arguments.ensures.change (done.ensures env)))
+    (subst (λ (end : Option ShortName). TakesAs (λ k. definition_begun u.input None false end) es old done.new.self u done.new.unread done.result) end
+    (TakesAs-behind_line None false c.flatten.result es old done.new.self u c.finish_arguments.new.self done.new.unread done.result
+    c.finish_arguments.ensures.change (done.ensures es)))
 
 pub returns-in-Macro-Some-Some : goal.returns-in-Macro-Some-Some
-returns-in-Macro-Some-Some c = λ env.
+returns-in-Macro-Some-Some c = λ es.
     let old = c.args.self.now in
     let u = c.args.unread.now in
     let done = c.begin_definition-in-Macro-Some-Some in
@@ -37,7 +37,7 @@ returns-in-Macro-Some-Some c = λ env.
     let end : flat.result ≡ name_or_none (name_at 1 given) = flat.ensures ∙ flatten-name c.short_name_at-second.result ∙ ap name_or_none second in
     rw c.in-Macro-Some-Some.is-0
     (subst (λ (first : Option (Option ShortName)).
-    TakesAs (λ k. definition_named u.input appends first (name_or_none (name_at 1 given))) env old done.new.self u done.new.unread done.result) (sym named ∙ first)
-    (subst (λ (end : Option ShortName). TakesAs (λ k. definition_begun u.input (Some name) appends end) env old done.new.self u done.new.unread done.result) end
-    (TakesAs-behind_line (Some name) appends flat.result env old done.new.self u c.finish_arguments.new.self done.new.unread done.result
-    c.finish_arguments.ensures.change (done.ensures env))))
+    TakesAs (λ k. definition_named u.input appends first (name_or_none (name_at 1 given))) es old done.new.self u done.new.unread done.result) (sym named ∙ first)
+    (subst (λ (end : Option ShortName). TakesAs (λ k. definition_begun u.input (Some name) appends end) es old done.new.self u done.new.unread done.result) end
+    (TakesAs-behind_line (Some name) appends flat.result es old done.new.self u c.finish_arguments.new.self done.new.unread done.result
+    c.finish_arguments.ensures.change (done.ensures es))))

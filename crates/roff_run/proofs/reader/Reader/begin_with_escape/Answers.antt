@@ -1,19 +1,21 @@
-use Rattle.std.proofs.Common.{◌≡◌, rules, ap, ◌∙◌}
-use Rattle.roff_run.specs.Reading.{PageInput, escape_taking, first_escape, fresh_line}
-use Rattle.roff_run.specs.declared.reading.TextLine.{TextLine}
-use Rattle.roff_run.specs.TextLine.Stepping.{step_at}
-use Rattle.roff_run.proofs.TakesAs.{TakesAs-stepped, first_escape-any}
+use Rattle.std.proofs.Common.{◌≡◌, Ok, rules}
+use Rattle.roff_run.specs.Reading.{escape_begun, escape_taking, first_escape}
+use Rattle.roff_run.specs.Registers.{Known}
+use Rattle.roff_run.proofs.TakesAs.{TakesAs-as, TakesAs-begun, first_escape-any}
 use Rattle.roff_run.proofs.reader.Reader.begin_with_escape.Goals.{in_default-via-in-Branch+in_default, in_default-via-in-Braced+in_default, in_default-via-in_default}
 use Rattle.roff_run.proofs.reader.Reader.begin_with_escape.Goals as goal
 
 pub returns-in_default : goal.returns-in_default
-returns-in_default c = λ env u.
+returns-in_default c = λ u.
     let b = c.args.byte in
-    let begun : (i : PageInput) → escape_taking i fresh_line b ≡ first_escape i c.args.at b = λ i. elim c.in_default.branch [
-      | in_default-via-in-Branch+in_default w ↦ first_escape-any i c.args.at b (λ at. search rules) (λ at. absurd (search rules))
-      | in_default-via-in-Braced+in_default w ↦ first_escape-any i c.args.at b (λ at. absurd (search rules)) (λ at. search rules)
-      | in_default-via-in_default w ↦ first_escape-any i c.args.at b (λ at. absurd (search rules)) (λ at. absurd (search rules))
+    let es = c.args.environments.now in
+    let old = c.args.self.now in
+    let done = c.begin_text in
+    let as_defined : (k : Known) → escape_begun k u.input b ≡ first_escape k u.input c.args.at b = λ k. elim c.in_default.branch [
+      | in_default-via-in-Branch+in_default w ↦ first_escape-any k u.input c.args.at b (λ at. search rules) (λ at. absurd (search rules))
+      | in_default-via-in-Braced+in_default w ↦ first_escape-any k u.input c.args.at b (λ at. absurd (search rules)) (λ at. search rules)
+      | in_default-via-in_default w ↦ first_escape-any k u.input c.args.at b (λ at. absurd (search rules)) (λ at. absurd (search rules))
     ] in
-    let as_defined : (i : PageInput) → step_at i c.escape.result ≡ first_escape i c.args.at b = λ i.
-    c.escape.ensures i ∙ ap (λ (line : TextLine). escape_taking i line b) c.new.ensures ∙ begun i in
-    TakesAs-stepped (λ i. first_escape i c.args.at b) c.escape.result env c.args.self.now c.step.new.self u c.step.result as_defined c.step.ensures.reading c.step.ensures.message c.step.ensures.events
+    TakesAs-as (λ k. escape_begun k u.input b) (λ k. first_escape k u.input c.args.at b) es old done.new.self u u (Ok done.result) as_defined
+    (TakesAs-begun (λ i line. escape_taking i line b) c.escape-step.result c.interrupted_line-interrupted.result c.begun_as.result es old done.new.self u done.result
+    c.interrupted_line-interrupted.ensures c.begun_as.ensures c.escape-step.ensures done.ensures.reading done.ensures.message done.ensures.events)

@@ -13,7 +13,7 @@ returns-then-ends_name c =
     let done = c.read_behind_name in
     let name : ShortName = record { first = c.args.first; second = None } in
     let ends : ends_name b ≡ true = search rules in
-    TakesAs-as (λ k. name_ended_taking k i c.args.breaks name b) (λ k. kept_taking k (Name c.args.breaks c.args.first) i b) c.args.env.now c.args.self.now done.new.self
+    TakesAs-as (λ k. name_ended_taking k i c.args.breaks name b) (λ k. kept_taking k (Name c.args.breaks c.args.first) i b) c.args.environments.now c.args.self.now done.new.self
     c.args.unread.now done.new.unread done.result (λ k. rw ends refl) done.ensures
 
 pub returns-in-Request : goal.returns-in-Request
@@ -24,8 +24,8 @@ returns-in-Request c =
     let request = c.in-Request.request in
     let begun = c.begin_request in
     let goes_on : ends_name b ≡ false = search rules in
-    TakesAs-as (λ k. behind_name i breaks request (row_of request).line) (λ k. kept_taking k (Name breaks c.args.first) i b) c.args.env.now c.args.self.now begun.new.self
-    c.args.unread.now begun.new.unread (Ok begun.result) (λ k. rw goes_on (ap (behind_called i breaks) c.in-Request.ensures)) (begun.ensures c.args.env.now)
+    TakesAs-as (λ k. behind_name i breaks request (row_of request).line) (λ k. kept_taking k (Name breaks c.args.first) i b) c.args.environments.now c.args.self.now begun.new.self
+    c.args.unread.now begun.new.unread (Ok begun.result) (λ k. rw goes_on (ap (behind_called i breaks) c.in-Request.ensures)) (begun.ensures c.args.environments.now)
 
 pub returns-in-Body : goal.returns-in-Body
 returns-in-Body c =
@@ -33,7 +33,7 @@ returns-in-Body c =
     let breaks = c.args.breaks in
     let done = c.read_on in
     let goes_on : ends_name c.args.byte ≡ false = search rules in
-    TakesAs-meant (λ k. kept_taking k (Name breaks c.args.first) i c.args.byte) (Calling c.in-Body.name) [] c.args.env.now c.args.self.now done.new.self
+    TakesAs-meant (λ k. kept_taking k (Name breaks c.args.first) i c.args.byte) (Calling c.in-Body.name) [] c.args.environments.now c.args.self.now done.new.self
     c.args.unread.now done.result (λ k. rw goes_on (sym (ap (behind_called i breaks) c.in-Body.ensures)))
     done.ensures.reading done.ensures.message done.ensures.events
 
@@ -43,6 +43,6 @@ returns-in-Nothing c =
     let breaks = c.args.breaks in
     let done = c.read_on-in-Nothing in
     let goes_on : ends_name c.args.byte ≡ false = search rules in
-    TakesAs-meant (λ k. kept_taking k (Name breaks c.args.first) i c.args.byte) Dropped [] c.args.env.now c.args.self.now done.new.self
+    TakesAs-meant (λ k. kept_taking k (Name breaks c.args.first) i c.args.byte) Dropped [] c.args.environments.now c.args.self.now done.new.self
     c.args.unread.now done.result (λ k. rw goes_on (sym (ap (behind_called i breaks) c.in-Nothing.ensures)))
     done.ensures.reading done.ensures.message done.ensures.events

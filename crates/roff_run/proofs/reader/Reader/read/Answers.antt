@@ -6,14 +6,14 @@ use Rattle.roff_run.proofs.reader.Reader.read.Goals as goal
 
 pub returns-then-is_dropped : goal.returns-then-is_dropped
 returns-then-is_dropped c =
-    let env = c.args.env.now in
+    let es = c.args.environments.now in
     let old = c.args.self.now in
     let u = c.args.unread.now in
     let b = c.args.byte in
     let is : true ≡ is_dropped b = search rules in
-    TakesAs-as (λ k. going_on (interrupted old.reading u.input) old.reading) (λ k. taking k old.reading u.input b) env old old u c.interrupt.new.unread (Ok c.nothing.result)
+    TakesAs-as (λ k. going_on (interrupted old.reading u.input) old.reading) (λ k. taking k old.reading u.input b) es old old u c.interrupt.new.unread (Ok c.nothing.result)
     (λ k. taking-of k old.reading u.input b true is)
-    (TakesAs-interrupted env old u c.interrupt.new.unread c.nothing.result c.interrupt.ensures c.nothing.ensures.message c.nothing.ensures.events)
+    (TakesAs-interrupted es old u c.interrupt.new.unread c.nothing.result c.interrupt.ensures c.nothing.ensures.message c.nothing.ensures.events)
 
 pub returns : goal.returns
 returns c =
@@ -21,5 +21,5 @@ returns c =
     let u = c.args.unread.now in
     let b = c.args.byte in
     let is : false ≡ is_dropped b = search rules in
-    TakesAs-as (λ k. kept_taking k old.reading u.input b) (λ k. taking k old.reading u.input b) c.args.env.now old c.read_kept.new.self u c.read_kept.new.unread c.read_kept.result
+    TakesAs-as (λ k. kept_taking k old.reading u.input b) (λ k. taking k old.reading u.input b) c.args.environments.now old c.read_kept.new.self u c.read_kept.new.unread c.read_kept.result
     (λ k. taking-of k old.reading u.input b false is) c.read_kept.ensures

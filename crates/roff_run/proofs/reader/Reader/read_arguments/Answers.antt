@@ -12,7 +12,7 @@ returns-in-Escape c = rw c.in-Escape.is c.read_unit-in-Escape.ensures
 
 pub returns-in_default : goal.returns-in_default
 returns-in_default c =
-    let env = c.args.env.now in
+    let es = c.args.environments.now in
     let old = c.args.self.now in
     let u = c.args.unread.now in
     let breaks = c.args.breaks in
@@ -20,6 +20,6 @@ returns-in_default c =
     let place : Reading = InArguments breaks request in
     let found = c.args.found in
     let done = c.read_in_arguments in
-    TakesAs-as (λ k. no_unit_found k (settling u.input) place found) (λ k. arguments_found k u.input breaks request found) env old done.new.self u done.new.unread done.result
+    TakesAs-as (λ k. no_unit_found k (settling u.input) place found) (λ k. arguments_found k u.input breaks request found) es old done.new.self u done.new.unread done.result
     (λ k. arguments_found-no_unit k u.input breaks request found c.in_default.not-Unit c.in_default.not-Escape)
-    (TakesAs-settled (λ k i. no_unit_found k i place found) env old done.new.self u c.settle.new.self done.new.unread done.result c.settle.ensures.change done.ensures)
+    (TakesAs-settled (λ k i. no_unit_found k i place found) es old done.new.self u c.settle.new.self done.new.unread done.result c.settle.ensures.change done.ensures)

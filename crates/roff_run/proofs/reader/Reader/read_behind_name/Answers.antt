@@ -15,12 +15,12 @@ returns-in-Request c =
     let breaks = c.args.breaks in
     let request = c.in-Request.request in
     let done = c.read_first in
-    TakesAs-as (λ k. line_taking k i breaks request (row_of request).line b) (λ k. name_ended_taking k i breaks c.args.name b) c.args.env.now c.args.self.now done.new.self
+    TakesAs-as (λ k. line_taking k i breaks request (row_of request).line b) (λ k. name_ended_taking k i breaks c.args.name b) c.args.environments.now c.args.self.now done.new.self
     c.args.unread.now done.new.unread done.result (λ k. ap (λ (called : Called). called_taking k i breaks called b) c.in-Request.ensures) done.ensures
 
 pub returns-in-Body : goal.returns-in-Body
 returns-in-Body c =
-    let env = c.args.env.now in
+    let es = c.args.environments.now in
     let old = c.args.self.now in
     let u = c.args.unread.now in
     let b = c.args.byte in
@@ -28,9 +28,9 @@ returns-in-Body c =
     let name = c.in-Body.name in
     let read = c.read_byte-found in
     let done = c.read_call in
-    TakesAs-as (λ k. call_read k u.input name (byte_read AboveArguments u.input.half b)) (λ k. name_ended_taking k u.input breaks c.args.name b) env old done.new.self
+    TakesAs-as (λ k. call_read k u.input name (byte_read AboveArguments u.input.half b)) (λ k. name_ended_taking k u.input breaks c.args.name b) es old done.new.self
     u done.new.unread done.result (λ k. ap (λ (called : Called). called_taking k u.input breaks called b) c.in-Body.ensures)
-    (TakesAs-read (λ k i found. call_found k i name found) (byte_read AboveArguments u.input.half b) env old done.new.self u read.new.self done.new.unread
+    (TakesAs-read (λ k i found. call_found k i name found) (byte_read AboveArguments u.input.half b) es old done.new.self u read.new.self done.new.unread
     read.result done.result read.ensures.reading (texts_held-byte_read AboveArguments b u.input.half) done.ensures)
 
 pub returns-in-Nothing : goal.returns-in-Nothing
@@ -39,6 +39,6 @@ returns-in-Nothing c =
     let b = c.args.byte in
     let breaks = c.args.breaks in
     let done = c.read_on in
-    TakesAs-meant (λ k. name_ended_taking k i breaks c.args.name b) c.behind_dropped.result [] c.args.env.now c.args.self.now done.new.self c.args.unread.now done.result
+    TakesAs-meant (λ k. name_ended_taking k i breaks c.args.name b) c.behind_dropped.result [] c.args.environments.now c.args.self.now done.new.self c.args.unread.now done.result
     (λ k. sym (ap (λ (called : Called). called_taking k i breaks called b) c.in-Nothing.ensures) ∙ c.behind_dropped.ensures i)
     done.ensures.reading done.ensures.message done.ensures.events

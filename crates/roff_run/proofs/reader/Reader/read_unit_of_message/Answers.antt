@@ -8,7 +8,7 @@ use Rattle.roff_run.proofs.reader.Reader.read_unit_of_message.Goals.{in_default-
 use Rattle.roff_run.proofs.reader.Reader.read_unit_of_message.Goals as goal
 
 pub returns-in_default : goal.returns-in_default
-returns-in_default c = λ env.
+returns-in_default c = λ es.
     let u = c.args.unread.now in
     let aborts = c.args.aborts in
     let is_front = c.args.is_front in
@@ -19,5 +19,5 @@ returns-in_default c = λ env.
       | in_default-via-in-Byte+in_default w ↦ message_unit-held u.input aborts is_front unit (λ is. search rules) (λ is front. search rules)
       | in_default-via-in_default w ↦ message_unit-held u.input aborts is_front unit (λ is. search rules) (λ is front. search rules)
     ] in
-    TakesAs-as (λ k. going_on (holding_plain unit u.input) (Telling aborts false)) (λ k. message_unit u.input aborts is_front unit) env c.args.self.now
-    done.new.self u done.new.unread done.result (λ k. held) (done.ensures env)
+    TakesAs-as (λ k. going_on (holding_plain unit u.input) (Telling aborts false)) (λ k. message_unit u.input aborts is_front unit) es c.args.self.now
+    done.new.self u done.new.unread done.result (λ k. held) (done.ensures es)

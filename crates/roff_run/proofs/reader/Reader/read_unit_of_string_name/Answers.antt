@@ -6,24 +6,24 @@ use Rattle.roff_run.proofs.TakesAs.{TakesAs-as, TakesAs-settled}
 use Rattle.roff_run.proofs.reader.Reader.read_unit_of_string_name.Goals as goal
 
 pub returns-in-Byte-eq10 : goal.returns-in-Byte-eq10
-returns-in-Byte-eq10 c = λ env. let is : c.args.unit ≡ Byte 10 = search rules in rw is (c.end_string_line.ensures env)
+returns-in-Byte-eq10 c = λ es. let is : c.args.unit ≡ Byte 10 = search rules in rw is (c.end_string_line.ensures es)
 
 pub returns-in-Byte-eq34 : goal.returns-in-Byte-eq34
-returns-in-Byte-eq34 c = λ env.
+returns-in-Byte-eq34 c = λ es.
     let u = c.args.unread.now in
     let done = c.read_name_or_string in
     let is : c.args.unit ≡ Byte 34 = search rules in
-    TakesAs-as (λ k. string_name_or_text u.input c.args.appends c.args.unit (name_read u.input)) (λ k. string_name_unit u.input c.args.appends c.args.unit) env
-    c.args.self.now done.new.self u done.new.unread done.result (λ k. string_name_unit-quote u.input c.args.appends c.args.unit is) (done.ensures env)
+    TakesAs-as (λ k. string_name_or_text u.input c.args.appends c.args.unit (name_read u.input)) (λ k. string_name_unit u.input c.args.appends c.args.unit) es
+    c.args.self.now done.new.self u done.new.unread done.result (λ k. string_name_unit-quote u.input c.args.appends c.args.unit is) (done.ensures es)
 
 pub returns-in_default : goal.returns-in_default
-returns-in_default c = λ env.
+returns-in_default c = λ es.
     let old = c.args.self.now in
     let u = c.args.unread.now in
     let appends = c.args.appends in
     let unit = c.args.unit in
     let done = c.read_name_or_string-in_default in
-    TakesAs-as (λ k. string_name_or_text (settling u.input) appends unit (name_read (settling u.input))) (λ k. string_name_unit u.input appends unit) env old done.new.self u
+    TakesAs-as (λ k. string_name_or_text (settling u.input) appends unit (name_read (settling u.input))) (λ k. string_name_unit u.input appends unit) es old done.new.self u
     done.new.unread done.result (λ k. string_name_unit-other u.input appends unit (λ is. search rules) (λ is. search rules))
-    (TakesAs-settled (λ k i. string_name_or_text i appends unit (name_read i)) env old done.new.self u c.settle.new.self done.new.unread done.result
-    c.settle.ensures.change (done.ensures env))
+    (TakesAs-settled (λ k i. string_name_or_text i appends unit (name_read i)) es old done.new.self u c.settle.new.self done.new.unread done.result
+    c.settle.ensures.change (done.ensures es))

@@ -54,3 +54,11 @@ returns-in-Width c = λ i.
 pub returns-in-Brace : goal.returns-in-Brace
 returns-in-Brace c = λ i.
     c.brace.ensures i ∙ ap (escape_meant i c.args.self c.args.byte) (sym c.in-Brace.is ∙ c.escape_of.ensures)
+
+pub returns-in-Tab : goal.returns-in-Tab
+returns-in-Tab c = λ i.
+    c.tab.ensures i ∙ ap (escape_meant i c.args.self c.args.byte) (sym c.in-Tab.is ∙ c.escape_of.ensures)
+
+pub returns-in-Interrupts : goal.returns-in-Interrupts
+returns-in-Interrupts c = λ i.
+    c.interrupt.ensures i ∙ ap (escape_meant i c.args.self c.args.byte) (sym c.in-Interrupts.is ∙ c.escape_of.ensures)

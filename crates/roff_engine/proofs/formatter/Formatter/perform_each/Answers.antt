@@ -1,7 +1,7 @@
 use Rattle.std.proofs.Common.{◌≡◌, ◌++◌, ◌∷◌, rules, ◌∙◌}
 use Rattle.std.proofs.lemmas.List.{nil_from_length}
 use Rattle.roff_engine.proofs.Performed.{performs_halted}
-use Rattle.roff_engine.proofs.formatter.Formatter.perform_all.Goals as goal
+use Rattle.roff_engine.proofs.formatter.Formatter.perform_each.Goals as goal
 
 pub loop-event-init : goal.loop-event-init
 loop-event-init g c = record {

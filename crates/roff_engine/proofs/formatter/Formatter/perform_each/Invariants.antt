@@ -1,21 +1,21 @@
 use Rattle.std.proofs.Common.{◌≡◌, ℕ, ◌++◌, List, length}
 use Rattle.roff_num.specs.declared.limits.Limits.{Limits}
 use Rattle.roff_scan.specs.Tape.{Tape}
-use Rattle.roff_lines.specs.Env.Stands.{Stands}
 use Rattle.roff_engine.specs.Engine.Outcome.{Reaches, Seen, seen}
 use Rattle.roff_engine.specs.Formatter.Performing.{AllPerformed, acting}
-use Rattle.roff_run.specs.Output.{PageHistory, text_of}
+use Rattle.roff_run.specs.Environments.Standing.{StandFor}
+use Rattle.roff_run.specs.Output.{PageHistory}
 use Rattle.roff_run.specs.declared.event.PageEvent.{PageEvent}
 use Rattle.roff_run.specs.Run.{State}
 use Rattle.roff_engine.specs.Sinks.{Sunk}
-use Rattle.roff_engine.proofs.formatter.Formatter.perform_all.Given as goal
+use Rattle.roff_engine.proofs.formatter.Formatter.perform_each.Given as goal
 
 abbrev pub invariant-loop-event : goal.invariant-loop-event
 invariant-loop-event g l = record {
   performed : (k : Limits) (t : Tape) (before : Seen) (failures : ℕ) (err : Sunk) (s : State) (h : PageHistory) (rest : List PageEvent)
-      → Stands k.line (text_of h) l.initial.self.env
+      → StandFor k h l.initial.self.environments
       → Reaches k t before (seen failures (g.O.ByteSink.sunk l.initial.out) err) (acting s (l.events ++ rest) h)
-      → AllPerformed k t before (seen failures (g.O.ByteSink.sunk l.out) err) s (l.rest ++ rest) l.self.env;
+      → AllPerformed k t before (seen failures (g.O.ByteSink.sunk l.out) err) s (l.rest ++ rest) l.self.environments;
   reader : l.self.reader ≡ l.initial.self.reader;
 }
 

@@ -1,0 +1,345 @@
+-- What reading of control lines changes in the input: its counts stay, no free byte comes ahead, and few endings more are to
+-- come.
+--
+-- Each function f of reading has its lemma here, with a line for each of its cases: Alike-f where it changes arguments and
+-- texts alone, and else Keeps-f.
+use Rattle.std.proofs.Common.{◌≡◌, ℕ, ◌≤◌, Bool, true, false, List, [], ◌∷◌, Option, Some, None, refl, ap, ◌∙◌, arith}
+use Rattle.std.specs.Prelude.{◌&&◌, length, nat_le, if◌then◌else◌, ◌==◌}
+use Rattle.roff_scan.specs.Bytes.{newline, blank, quote}
+use Rattle.roff_scan.specs.Input.{arguments_given, body_named, called_text, calling, calling_body, calling_on}
+use Rattle.roff_scan.specs.declared.half.CopyUnit.{CopyUnit}
+use Rattle.roff_scan.specs.declared.half.CopyUnit.TheVariants.{Byte, Kept}
+use Rattle.roff_scan.specs.Half.{unit_bytes}
+use Rattle.roff_scan.specs.declared.half.Read.{Read}
+use Rattle.roff_scan.specs.declared.half.Read.TheVariants.{GoesOn, Unit as GivesUnit, Holds, Escape, Asks, Motion, Measures, Tells, Decides}
+use Rattle.roff_run.specs.declared.reading.Reading.{Reading}
+use Rattle.roff_run.specs.declared.reading.Reading.TheVariants.{LineStart, Arguments as InArguments, StringName, StringText, Telling, Calling, Defining}
+use Rattle.roff_run.specs.declared.reading.ShortName.{ShortName}
+use Rattle.roff_run.specs.declared.request.LineReading.{LineReading}
+use Rattle.roff_run.specs.declared.request.LineReading.TheVariants.{ByArguments, ByCondition, ByElse, ByLastLine, ByMessage, ByString, ByLines}
+use Rattle.roff_run.specs.declared.request.LinesFor.{LinesFor}
+use Rattle.roff_run.specs.declared.request.LinesFor.TheVariants.{Macro, Nobody}
+use Rattle.roff_run.specs.ShortNames.{name_at, name_bytes, name_or_none}
+use Rattle.roff_run.specs.declared.request.Request.{Request}
+use Rattle.roff_run.specs.Reading.{PageInput, settling, unit_found, no_unit_found, arguments_ended, arguments_found, message_found, message_unit, reading_behind, going_on, calling_all, ended_by, holding, holding_call, name_read, string_begun, string_emptied, string_entered, string_grown, string_line_ended, string_name_behind, string_name_found, string_name_or_text, string_name_unit, string_text_found, string_unit, lines_begun, definition_begun, definition_named, definition_dropped, definition_grown, call_unit, call_found}
+use Rattle.roff_scan.specs.Arguments.{no_arguments}
+use Rattle.roff_store.specs.TextCalls.{Call, DropOpen, PushOpen, Enter}
+use Rattle.roff_store.specs.Texts.{newest}
+use Rattle.roff_run.specs.Registers.{Known}
+use Rattle.roff_run.specs.Requests.{Effect, row_of, request_effect}
+use Rattle.roff_run.specs.TurnsToCome.{begun, endings_of, free_ahead}
+use Rattle.roff_run.proofs.KeepingText.{Keeps, KeepsBy, Keeps-if, free_ahead-called, Keeps-measuring, Keeps-holding_text, Keeps-asking}
+
+-- an input that differs from another in its arguments and texts alone
+pub record Alike (j i : PageInput) : Type 0 where
+  charge : j.charge ≡ i.charge
+  newlines : j.newlines ≡ i.newlines
+  line : j.line ≡ i.line
+  ahead : j.ahead ≡ i.ahead
+  half : j.half ≡ i.half
+
+pub Alike-same : (i : PageInput) → Alike i i
+Alike-same i = record { charge = refl; newlines = refl; line = refl; ahead = refl; half = refl }
+
+-- where no name is read it keeps what was kept
+pub Keeps-alike : (most : ℕ) (i j : PageInput) (old : Reading) (n : PageInput) (reading : Reading) → Keeps most i j old → Alike n j → begun reading ≡ 0 → Keeps most i n reading
+Keeps-alike most i j old n reading keeps alike unnamed = record {
+  charge = alike.charge ∙ keeps.charge;
+  newlines = alike.newlines ∙ keeps.newlines;
+  line = alike.line ∙ keeps.line;
+  free = ap free_ahead alike.ahead ∙ keeps.free;
+  half = let same : endings_of n.half ≡ endings_of j.half = ap endings_of alike.half in omega (arith, keeps.half, same, unnamed);
+}
+
+-- and where no more turns of its own are needed
+pub Keeps-no_more : (most : ℕ) (i j : PageInput) (old : Reading) (n : PageInput) (reading : Reading) → Keeps most i j old → Alike n j → begun reading ≤ begun old
+    → Keeps most i n reading
+Keeps-no_more most i j old n reading keeps alike few = record {
+  charge = alike.charge ∙ keeps.charge;
+  newlines = alike.newlines ∙ keeps.newlines;
+  line = alike.line ∙ keeps.line;
+  free = ap free_ahead alike.ahead ∙ keeps.free;
+  half = let same : endings_of n.half ≡ endings_of j.half = ap endings_of alike.half in omega (arith, keeps.half, same, few);
+}
+
+-- calls on what names stand for leave an input alike
+Alike-calling_all : (calls : List Call) (j i : PageInput) → Alike j i → Alike (calling_all calls j) i
+Alike-calling_all [] j i alike = alike
+Alike-calling_all (call ∷ calls) j i alike =
+    Alike-calling_all calls (calling call j) i (record { charge = alike.charge; newlines = alike.newlines; line = alike.line; ahead = alike.ahead; half = alike.half })
+
+-- so do calls on texts
+Alike-calling_on : (call : ℕ → Call) (id : Option ℕ) (i : PageInput) → Alike (calling_on call id i) i
+Alike-calling_on call None i = Alike-same i
+Alike-calling_on call (Some id) i = record { charge = refl; newlines = refl; line = refl; ahead = refl; half = refl }
+
+Alike-string_begun : (name : Option ShortName) (i : PageInput) → Alike (string_begun name i) i
+Alike-string_begun None i = record { charge = refl; newlines = refl; line = refl; ahead = refl; half = refl }
+Alike-string_begun (Some name) i = record { charge = refl; newlines = refl; line = refl; ahead = refl; half = refl }
+
+Alike-string_grown : (name : Option ShortName) (unit : CopyUnit) (i : PageInput) → Alike (string_grown name unit i) i
+Alike-string_grown None unit i = Alike-same i
+Alike-string_grown (Some name) unit i = Alike-calling_on (λ id. PushOpen id (unit_bytes unit)) (newest i.open_texts) i
+
+pub Alike-string_entered : (name : Option ShortName) (appends : Bool) (i : PageInput) → Alike (string_entered name appends i) i
+Alike-string_entered None appends i = Alike-same i
+Alike-string_entered (Some name) appends i = Alike-calling_on (λ id. Enter id (name_bytes name) appends) (newest i.open_texts) i
+
+Alike-if : (c : Bool) (i j n : PageInput) → Alike i n → Alike j n → Alike (if c then i else j) n
+Alike-if true i j n first second = first
+Alike-if false i j n first second = second
+
+Alike-string_emptied : (name : Option ShortName) (appends : Bool) (i : PageInput) → Alike (string_emptied name appends i) i
+Alike-string_emptied None appends i = Alike-same i
+Alike-string_emptied (Some name) appends i =
+    Alike-if _ i _ i (Alike-same i) (record { charge = refl; newlines = refl; line = refl; ahead = refl; half = refl })
+
+pub Alike-definition_grown : (name : Option ShortName) (bytes : List ℕ) (i : PageInput) → Alike (definition_grown name bytes i) i
+Alike-definition_grown None bytes i = Alike-same i
+Alike-definition_grown (Some name) bytes i = Alike-calling_on (λ id. PushOpen id bytes) (newest i.open_texts) i
+
+pub Alike-definition_dropped : (name : Option ShortName) (i : PageInput) → Alike (definition_dropped name i) i
+Alike-definition_dropped None i = Alike-same i
+Alike-definition_dropped (Some name) i = Alike-calling_on (λ id. DropOpen id) (newest i.open_texts) i
+
+-- and so does a unit of a call
+Alike-holding_call : (unit : CopyUnit) (i : PageInput) → Alike (holding_call unit i) i
+Alike-holding_call unit i =
+    Alike-if (nat_le 9 (length i.arguments.whole)) i (holding unit i) i (Alike-same i)
+    (record { charge = refl; newlines = refl; line = refl; ahead = refl; half = refl })
+
+-- behind a request's line no name is read
+unnamed-reading_behind : (line : LineReading) → begun (reading_behind line) ≡ 0
+unnamed-reading_behind ByArguments = refl
+unnamed-reading_behind (ByCondition keeping) = refl
+unnamed-reading_behind ByElse = refl
+unnamed-reading_behind ByLastLine = refl
+unnamed-reading_behind (ByMessage aborts) = refl
+unnamed-reading_behind (ByString appends) = refl
+unnamed-reading_behind (ByLines lines) = refl
+
+-- the end of a request's line
+Keeps-ended_by : (most : ℕ) (i j : PageInput) (old : Reading) (request : Request) (effect : Effect) → Keeps most i j old → KeepsBy most i (ended_by j request effect)
+Keeps-ended_by most i j old request effect keeps =
+    let released : PageInput = record j { arguments = no_arguments } in
+    Keeps-alike most i j old (calling_all effect.calls released) (reading_behind (row_of request).line) keeps
+    (Alike-calling_all effect.calls released j (record { charge = refl; newlines = refl; line = refl; ahead = refl; half = refl }))
+    (unnamed-reading_behind (row_of request).line)
+
+-- a definition begins
+Keeps-definition_begun : (most : ℕ) (i j : PageInput) (old : Reading) (name : Option ShortName) (appends : Bool)
+    (end : Option ShortName) → Keeps most i j old → 3 ≤ begun old → KeepsBy most i (definition_begun j name appends end)
+Keeps-definition_begun most i j old name appends end keeps some =
+    Keeps-no_more most i j old (string_begun name j) (Defining name appends end (Some 0)) keeps (Alike-string_begun name j) some
+
+Keeps-definition_named : (most : ℕ) (i j : PageInput) (old : Reading) (appends : Bool) (name : Option (Option ShortName))
+    (end : Option ShortName) → Keeps most i j old → 3 ≤ begun old → KeepsBy most i (definition_named j appends name end)
+Keeps-definition_named most i j old appends None end keeps some =
+    Keeps-alike most i j old _ LineStart keeps (record { charge = refl; newlines = refl; line = refl; ahead = refl; half = refl }) refl
+Keeps-definition_named most i j old appends (Some None) end keeps some =
+    Keeps-alike most i j old _ LineStart keeps (record { charge = refl; newlines = refl; line = refl; ahead = refl; half = refl }) refl
+Keeps-definition_named most i j old appends (Some (Some name)) end keeps some =
+    Keeps-definition_begun most i j old (Some name) appends end keeps some
+
+Keeps-lines_begun : (most : ℕ) (i j : PageInput) (old : Reading) (lines : LinesFor) (as_given : List (List ℕ))
+    → Keeps most i j old → 3 ≤ begun old → KeepsBy most i (lines_begun j lines as_given)
+Keeps-lines_begun most i j old (Macro appends) as_given keeps some =
+    Keeps-definition_named most i j old appends (name_at 0 as_given) (name_or_none (name_at 1 as_given)) keeps some
+Keeps-lines_begun most i j old Nobody as_given keeps some =
+    Keeps-definition_begun most i j old None false (name_or_none (name_at 0 as_given)) keeps some
+
+-- the end of a line of arguments, behind which a definition may begin
+pub Keeps-arguments_ended : (most : ℕ) (k : Known) (i j : PageInput) (old : Reading) (breaks : Bool) (request : Request)
+    (line : LineReading) → Keeps most i j old → 3 ≤ begun old → KeepsBy most i (arguments_ended k j breaks request line)
+Keeps-arguments_ended most k i j old breaks request (ByLines lines) keeps some =
+    Keeps-lines_begun most i j old lines (arguments_given j) keeps some
+Keeps-arguments_ended most k i j old breaks request ByArguments keeps some =
+    Keeps-ended_by most i j old request (request_effect k breaks request (arguments_given j)) keeps
+Keeps-arguments_ended most k i j old breaks request (ByCondition keeping) keeps some =
+    Keeps-ended_by most i j old request (request_effect k breaks request (arguments_given j)) keeps
+Keeps-arguments_ended most k i j old breaks request ByElse keeps some =
+    Keeps-ended_by most i j old request (request_effect k breaks request (arguments_given j)) keeps
+Keeps-arguments_ended most k i j old breaks request ByLastLine keeps some =
+    Keeps-ended_by most i j old request (request_effect k breaks request (arguments_given j)) keeps
+Keeps-arguments_ended most k i j old breaks request (ByMessage aborts) keeps some =
+    Keeps-ended_by most i j old request (request_effect k breaks request (arguments_given j)) keeps
+Keeps-arguments_ended most k i j old breaks request (ByString appends) keeps some =
+    Keeps-ended_by most i j old request (request_effect k breaks request (arguments_given j)) keeps
+
+-- a unit of a line of arguments
+Keeps-unit_found : (most : ℕ) (k : Known) (i j : PageInput) (breaks : Bool) (request : Request) (unit : CopyUnit) → Keeps most i j (InArguments breaks request)
+    → KeepsBy most i (unit_found k j breaks request unit)
+Keeps-unit_found most k i j breaks request (Byte b) keeps =
+    Keeps-if most i (b == newline) _ _
+    (Keeps-arguments_ended most k i j (InArguments breaks request) breaks request (row_of request).line keeps (omega arith))
+    (record { charge = keeps.charge; newlines = keeps.newlines; line = keeps.line; free = keeps.free; half = keeps.half })
+Keeps-unit_found most k i j breaks request (Kept b) keeps =
+    record { charge = keeps.charge; newlines = keeps.newlines; line = keeps.line; free = keeps.free; half = keeps.half }
+
+-- what was found that is no unit
+pub Keeps-no_unit_found : (most : ℕ) (k : Known) (i j : PageInput) (reading : Reading) (found : Read) → Keeps most i j reading
+    → KeepsBy most i (no_unit_found k j reading found)
+Keeps-no_unit_found most k i j reading (Holds unit) keeps = Keeps-holding_text most i j reading unit keeps
+Keeps-no_unit_found most k i j reading (Asks purpose name) keeps = Keeps-asking most k i j reading purpose name keeps
+Keeps-no_unit_found most k i j reading (Measures width) keeps = Keeps-measuring most i j reading width keeps
+Keeps-no_unit_found most k i j reading (Tells remark) keeps = keeps
+Keeps-no_unit_found most k i j reading GoesOn keeps = keeps
+Keeps-no_unit_found most k i j reading (GivesUnit unit) keeps = keeps
+Keeps-no_unit_found most k i j reading (Escape b) keeps = keeps
+Keeps-no_unit_found most k i j reading (Motion columns remark) keeps = keeps
+Keeps-no_unit_found most k i j reading (Decides decision freed) keeps = keeps
+
+-- and behind which no quote follows
+Keeps-settled : (most : ℕ) (k : Known) (i j : PageInput) (reading : Reading) (found : Read) → Keeps most i j reading
+    → KeepsBy most i (no_unit_found k (settling j) reading found)
+Keeps-settled most k i j reading found keeps =
+    Keeps-no_unit_found most k i (settling j) reading found
+    (record { charge = keeps.charge; newlines = keeps.newlines; line = keeps.line; free = keeps.free; half = keeps.half })
+
+-- what was found of a line of arguments
+pub Keeps-arguments_found : (most : ℕ) (k : Known) (i j : PageInput) (breaks : Bool) (request : Request) (found : Read) → Keeps most i j (InArguments breaks request)
+    → KeepsBy most i (arguments_found k j breaks request found)
+Keeps-arguments_found most k i j breaks request (GivesUnit unit) keeps = Keeps-unit_found most k i j breaks request unit keeps
+Keeps-arguments_found most k i j breaks request (Escape b) keeps = Keeps-unit_found most k i j breaks request (Kept b) keeps
+Keeps-arguments_found most k i j breaks request GoesOn keeps = Keeps-settled most k i j (InArguments breaks request) GoesOn keeps
+Keeps-arguments_found most k i j breaks request (Asks purpose name) keeps = Keeps-settled most k i j (InArguments breaks request) (Asks purpose name) keeps
+Keeps-arguments_found most k i j breaks request (Holds unit) keeps = Keeps-settled most k i j (InArguments breaks request) (Holds unit) keeps
+Keeps-arguments_found most k i j breaks request (Motion columns remark) keeps = Keeps-settled most k i j (InArguments breaks request) (Motion columns remark) keeps
+Keeps-arguments_found most k i j breaks request (Measures width) keeps = Keeps-settled most k i j (InArguments breaks request) (Measures width) keeps
+Keeps-arguments_found most k i j breaks request (Tells remark) keeps = Keeps-settled most k i j (InArguments breaks request) (Tells remark) keeps
+Keeps-arguments_found most k i j breaks request (Decides decision freed) keeps = Keeps-settled most k i j (InArguments breaks request) (Decides decision freed) keeps
+
+-- a unit of a string's text
+Keeps-string_unit : (most : ℕ) (i j : PageInput) (old : Reading) (name : Option ShortName) (appends is_front : Bool) (unit : CopyUnit) → Keeps most i j old
+    → KeepsBy most i (string_unit j name appends is_front unit)
+Keeps-string_unit most i j old name appends is_front (Byte b) keeps =
+    Keeps-if most i (b == newline) _ _ (Keeps-alike most i j old _ LineStart keeps (Alike-string_entered name appends j) refl)
+    (Keeps-if most i (is_front && b == blank) _ _ (Keeps-alike most i j old j _ keeps (Alike-same j) refl)
+    (Keeps-if most i (is_front && b == quote) _ _ (Keeps-alike most i j old j _ keeps (Alike-same j) refl)
+    (Keeps-alike most i j old _ _ keeps (Alike-string_grown name (Byte b) j) refl)))
+Keeps-string_unit most i j old name appends is_front (Kept b) keeps =
+    Keeps-alike most i j old _ _ keeps (Alike-string_grown name (Kept b) j) refl
+
+-- what comes of its name
+pub Keeps-string_line_ended : (most : ℕ) (i j : PageInput) (old : Reading) (appends : Bool) (name : Option (Option ShortName)) → Keeps most i j old
+    → KeepsBy most i (string_line_ended j appends name)
+Keeps-string_line_ended most i j old appends None keeps =
+    Keeps-alike most i j old _ LineStart keeps (record { charge = refl; newlines = refl; line = refl; ahead = refl; half = refl }) refl
+Keeps-string_line_ended most i j old appends (Some name) keeps =
+    let released : PageInput = record j { arguments = no_arguments } in
+    Keeps-alike most i released old _ LineStart
+    (record { charge = keeps.charge; newlines = keeps.newlines; line = keeps.line; free = keeps.free; half = keeps.half })
+    (Alike-string_emptied name appends released) refl
+
+Keeps-string_name_behind : (most : ℕ) (i j : PageInput) (old : Reading) (appends : Bool) (name : Option (Option ShortName)) → Keeps most i j old
+    → KeepsBy most i (string_name_behind j appends name)
+Keeps-string_name_behind most i j old appends None keeps = Keeps-alike most i j old j _ keeps (Alike-same j) refl
+Keeps-string_name_behind most i j old appends (Some name) keeps = Keeps-alike most i j old _ _ keeps (Alike-string_begun name j) refl
+
+Keeps-string_name_or_text : (most : ℕ) (i j : PageInput) (old : Reading) (appends : Bool) (unit : CopyUnit) (name : Option (Option ShortName)) → Keeps most i j old
+    → KeepsBy most i (string_name_or_text j appends unit name)
+Keeps-string_name_or_text most i j old appends unit None keeps =
+    Keeps-string_name_behind most i (holding unit j) old appends (name_read (holding unit j))
+    (record { charge = keeps.charge; newlines = keeps.newlines; line = keeps.line; free = keeps.free; half = keeps.half })
+Keeps-string_name_or_text most i j old appends unit (Some name) keeps =
+    Keeps-string_unit most i (string_begun name j) LineStart name appends true unit (Keeps-alike most i j old _ LineStart keeps (Alike-string_begun name j) refl)
+
+Keeps-string_name_unit : (most : ℕ) (i j : PageInput) (old : Reading) (appends : Bool) (unit : CopyUnit) → Keeps most i j old
+    → KeepsBy most i (string_name_unit j appends unit)
+Keeps-string_name_unit most i j old appends (Byte b) keeps =
+    Keeps-if most i (b == newline) _ _ (Keeps-string_line_ended most i j old appends (name_at 0 (arguments_given j)) keeps)
+    (Keeps-if most i (b == quote) _ _ (Keeps-string_name_or_text most i j old appends (Byte b) (name_read j) keeps)
+    (Keeps-string_name_or_text most i (settling j) old appends (Byte b) (name_read (settling j))
+    (record { charge = keeps.charge; newlines = keeps.newlines; line = keeps.line; free = keeps.free; half = keeps.half })))
+Keeps-string_name_unit most i j old appends (Kept b) keeps =
+    Keeps-string_name_or_text most i (settling j) old appends (Kept b) (name_read (settling j))
+    (record { charge = keeps.charge; newlines = keeps.newlines; line = keeps.line; free = keeps.free; half = keeps.half })
+
+-- what was found of a string's name
+pub Keeps-string_name_found : (most : ℕ) (k : Known) (i j : PageInput) (appends : Bool) (found : Read) → Keeps most i j (StringName appends)
+    → KeepsBy most i (string_name_found k j appends found)
+Keeps-string_name_found most k i j appends (GivesUnit unit) keeps = Keeps-string_name_unit most i j _ appends unit keeps
+Keeps-string_name_found most k i j appends (Escape b) keeps = Keeps-string_name_unit most i j _ appends (Kept b) keeps
+Keeps-string_name_found most k i j appends GoesOn keeps = Keeps-settled most k i j (StringName appends) GoesOn keeps
+Keeps-string_name_found most k i j appends (Asks purpose text) keeps = Keeps-settled most k i j (StringName appends) (Asks purpose text) keeps
+Keeps-string_name_found most k i j appends (Holds unit) keeps = Keeps-settled most k i j (StringName appends) (Holds unit) keeps
+Keeps-string_name_found most k i j appends (Motion columns remark) keeps = Keeps-settled most k i j (StringName appends) (Motion columns remark) keeps
+Keeps-string_name_found most k i j appends (Measures width) keeps = Keeps-settled most k i j (StringName appends) (Measures width) keeps
+Keeps-string_name_found most k i j appends (Tells remark) keeps = Keeps-settled most k i j (StringName appends) (Tells remark) keeps
+Keeps-string_name_found most k i j appends (Decides decision freed) keeps = Keeps-settled most k i j (StringName appends) (Decides decision freed) keeps
+
+-- what was found of its text
+pub Keeps-string_text_found : (most : ℕ) (k : Known) (i j : PageInput) (name : Option ShortName) (appends is_front : Bool) (found : Read) → Keeps most i j (StringText name appends is_front)
+    → KeepsBy most i (string_text_found k j name appends is_front found)
+Keeps-string_text_found most k i j name appends is_front (GivesUnit unit) keeps = Keeps-string_unit most i j _ name appends is_front unit keeps
+Keeps-string_text_found most k i j name appends is_front (Escape b) keeps = Keeps-string_unit most i j _ name appends is_front (Kept b) keeps
+Keeps-string_text_found most k i j name appends is_front GoesOn keeps = Keeps-no_unit_found most k i j (StringText name appends is_front) GoesOn keeps
+Keeps-string_text_found most k i j name appends is_front (Asks purpose text) keeps = Keeps-no_unit_found most k i j (StringText name appends is_front) (Asks purpose text) keeps
+Keeps-string_text_found most k i j name appends is_front (Holds unit) keeps = Keeps-no_unit_found most k i j (StringText name appends is_front) (Holds unit) keeps
+Keeps-string_text_found most k i j name appends is_front (Motion columns remark) keeps = Keeps-no_unit_found most k i j (StringText name appends is_front) (Motion columns remark) keeps
+Keeps-string_text_found most k i j name appends is_front (Measures width) keeps = Keeps-no_unit_found most k i j (StringText name appends is_front) (Measures width) keeps
+Keeps-string_text_found most k i j name appends is_front (Tells remark) keeps = Keeps-no_unit_found most k i j (StringText name appends is_front) (Tells remark) keeps
+Keeps-string_text_found most k i j name appends is_front (Decides decision freed) keeps = Keeps-no_unit_found most k i j (StringText name appends is_front) (Decides decision freed) keeps
+
+-- a unit of a message's text
+Keeps-message_unit : (most : ℕ) (i j : PageInput) (aborts is_front : Bool) (unit : CopyUnit) → Keeps most i j (Telling aborts is_front)
+    → KeepsBy most i (message_unit j aborts is_front unit)
+Keeps-message_unit most i j aborts is_front (Byte b) keeps =
+    Keeps-if most i (b == newline) _ _
+    (record { charge = keeps.charge; newlines = keeps.newlines; line = keeps.line; free = keeps.free; half = omega (arith, keeps.half) })
+    (Keeps-if most i (is_front && b == blank) _ _
+    (record { charge = keeps.charge; newlines = keeps.newlines; line = keeps.line; free = keeps.free; half = keeps.half })
+    (record { charge = keeps.charge; newlines = keeps.newlines; line = keeps.line; free = keeps.free; half = keeps.half }))
+Keeps-message_unit most i j aborts is_front (Kept b) keeps =
+    record { charge = keeps.charge; newlines = keeps.newlines; line = keeps.line; free = keeps.free; half = keeps.half }
+
+-- what was found of it
+pub Keeps-message_found : (most : ℕ) (k : Known) (i j : PageInput) (aborts is_front : Bool) (found : Read) → Keeps most i j (Telling aborts is_front)
+    → KeepsBy most i (message_found k j aborts is_front found)
+Keeps-message_found most k i j aborts is_front (GivesUnit unit) keeps = Keeps-message_unit most i j aborts is_front unit keeps
+Keeps-message_found most k i j aborts is_front (Escape b) keeps = Keeps-message_unit most i j aborts is_front (Kept b) keeps
+Keeps-message_found most k i j aborts is_front GoesOn keeps = Keeps-no_unit_found most k i j (Telling aborts is_front) GoesOn keeps
+Keeps-message_found most k i j aborts is_front (Asks purpose text) keeps = Keeps-no_unit_found most k i j (Telling aborts is_front) (Asks purpose text) keeps
+Keeps-message_found most k i j aborts is_front (Holds unit) keeps = Keeps-no_unit_found most k i j (Telling aborts is_front) (Holds unit) keeps
+Keeps-message_found most k i j aborts is_front (Motion columns remark) keeps = Keeps-no_unit_found most k i j (Telling aborts is_front) (Motion columns remark) keeps
+Keeps-message_found most k i j aborts is_front (Measures width) keeps = Keeps-no_unit_found most k i j (Telling aborts is_front) (Measures width) keeps
+Keeps-message_found most k i j aborts is_front (Tells remark) keeps = Keeps-no_unit_found most k i j (Telling aborts is_front) (Tells remark) keeps
+Keeps-message_found most k i j aborts is_front (Decides decision freed) keeps = Keeps-no_unit_found most k i j (Telling aborts is_front) (Decides decision freed) keeps
+
+-- a body that a line calls is in front
+pub Keeps-called : (most : ℕ) (i j : PageInput) (old : Reading) (name : ShortName) → Keeps most i j old
+    → KeepsBy most i (going_on (calling_body (body_named (name_bytes name) j) j) LineStart)
+Keeps-called most i j old name keeps = record {
+  charge = keeps.charge;
+  newlines = keeps.newlines;
+  line = keeps.line;
+  free = free_ahead-called (called_text (body_named (name_bytes name) j)) j.ahead ∙ keeps.free;
+  half = omega (arith, keeps.half);
+}
+
+-- a unit behind the name of a body that a line calls
+Keeps-call_unit : (most : ℕ) (i j : PageInput) (name : ShortName) (unit : CopyUnit) → Keeps most i j (Calling name) → KeepsBy most i (call_unit j name unit)
+Keeps-call_unit most i j name (Byte b) keeps =
+    Keeps-if most i (b == newline) _ _ (Keeps-called most i j (Calling name) name keeps)
+    (Keeps-if most i (b == quote) _ _
+    (Keeps-no_more most i j (Calling name) _ (Calling name) keeps (Alike-holding_call (Byte b) j) (omega arith))
+    (Keeps-no_more most i (settling j) (Calling name) _ (Calling name)
+    (record { charge = keeps.charge; newlines = keeps.newlines; line = keeps.line; free = keeps.free; half = keeps.half })
+    (Alike-holding_call (Byte b) (settling j)) (omega arith)))
+Keeps-call_unit most i j name (Kept b) keeps =
+    Keeps-no_more most i (settling j) (Calling name) _ (Calling name)
+    (record { charge = keeps.charge; newlines = keeps.newlines; line = keeps.line; free = keeps.free; half = keeps.half })
+    (Alike-holding_call (Kept b) (settling j)) (omega arith)
+
+-- what was found there
+pub Keeps-call_found : (most : ℕ) (k : Known) (i j : PageInput) (name : ShortName) (found : Read) → Keeps most i j (Calling name)
+    → KeepsBy most i (call_found k j name found)
+Keeps-call_found most k i j name (GivesUnit unit) keeps = Keeps-call_unit most i j name unit keeps
+Keeps-call_found most k i j name (Escape b) keeps = Keeps-call_unit most i j name (Kept b) keeps
+Keeps-call_found most k i j name GoesOn keeps = Keeps-settled most k i j (Calling name) GoesOn keeps
+Keeps-call_found most k i j name (Asks purpose text) keeps = Keeps-settled most k i j (Calling name) (Asks purpose text) keeps
+Keeps-call_found most k i j name (Holds unit) keeps = Keeps-settled most k i j (Calling name) (Holds unit) keeps
+Keeps-call_found most k i j name (Motion columns remark) keeps = Keeps-settled most k i j (Calling name) (Motion columns remark) keeps
+Keeps-call_found most k i j name (Measures width) keeps = Keeps-settled most k i j (Calling name) (Measures width) keeps
+Keeps-call_found most k i j name (Tells remark) keeps = Keeps-settled most k i j (Calling name) (Tells remark) keeps
+Keeps-call_found most k i j name (Decides decision freed) keeps = Keeps-settled most k i j (Calling name) (Decides decision freed) keeps
