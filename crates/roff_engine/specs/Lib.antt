@@ -1,3 +1,4 @@
+pub mod Blocks
 pub mod Sinks
 pub mod Formatter
 pub mod Engine

@@ -3,6 +3,7 @@
 ghost use Rattle.std.specs.Prelude.{◌≡◌, ◌≤◌, [], ◌∷◌, ◌++◌, length, replicate, vec_capacity, OnOk};
 ghost use Rattle.std.specs.Prelude.{OnErr};
 ghost use Rattle.roff_lines.specs.Columns.{finished_of, line_bytes};
+ghost use Rattle.roff_engine.specs.Blocks.{Moves};
 ghost use Rattle.roff_engine.specs.Sinks.{Fails, HoldsBack, Puts};
 
 use crate::sink::{ByteSink, SinkFault};
@@ -41,12 +42,13 @@ impl Block {
     {
         let bytes = &mut self.bytes;
         let mut to_come = LineBytes::of(line);
-        while let Some(byte) = to_come.next() {
+        loop {
+            add_pieces(bytes, &mut to_come);
+            let Some(byte) = to_come.next() else {
+                return put(bytes, out);
+            };
             push(bytes, byte, out)?;
-            let glyphs = to_come.take_glyphs(BLOCK - bytes.len());
-            bytes.extend_from_slice(glyphs).unwrap();
         }
-        put(bytes, out)
     }
 
     /// Writes so many blank lines.
@@ -62,6 +64,26 @@ impl Block {
             push(bytes, b'\n', out)?;
         }
         put(bytes, out)
+    }
+}
+
+/// Adds to the bytes of a block the pieces of a line that come next and that it has room for.
+#[inline(always)]
+fn add_pieces(bytes: &mut Vec<u8>, to_come: &mut LineBytes<'_>)
+    requires capacity { 8192 ≤ vec_capacity bytes.old }
+    requires few { length bytes.old.items ≤ 8192 }
+    ensures capacity { vec_capacity bytes.old ≤ vec_capacity bytes.new }
+    ensures few { length bytes.new.items ≤ 8192 }
+    ensures moves { Moves bytes.old.items bytes.new.items to_come.old to_come.new }
+{
+    loop {
+        let piece = to_come.take_piece(BLOCK - bytes.len());
+        if piece.blanks + piece.glyphs.len() == 0 {
+            return;
+        }
+        let end = bytes.len() + piece.blanks;
+        bytes.resize(end, b' ').unwrap();
+        bytes.extend_from_slice(piece.glyphs).unwrap();
     }
 }
 

@@ -1,5 +1,7 @@
 pub mod Blanks
 pub mod GlyphsInFront
+pub mod BlanksInFront
+pub mod SharedColumns
 pub mod Widths
 pub mod PendingLine
 pub mod LastLine

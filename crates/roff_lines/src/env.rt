@@ -310,7 +310,8 @@ impl Env {
         shape
     }
 
-    /// Finishes the pending line where words aren't measured, and else sets the gap of a line's end.
+    /// Finishes the pending line where words aren't measured, and else sets the gap of a line's
+    /// end.
     fn finish_input_line(&mut self) -> Option<Shape>
         ensures kept { self.new ≡ with_input_line_ended self.old }
         ensures line { option_map (λ s. shaped s self.new.finished) result

@@ -5,8 +5,8 @@ use crate::settings::Param;
 
 /// What happens to one environment: a text is told to it as a list of these.
 ///
-/// A word end stands before each gap, line end and break; where a word is open all the same, it stays
-/// open.
+/// A word end stands before each gap, line end and break; where a word is open all the same, it
+/// stays open.
 #[derive(Clone, Copy, Debug, PartialEq, Eq)]
 pub enum Event {
     /// A glyph joins the word that is open, or opens one.

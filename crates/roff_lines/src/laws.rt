@@ -1,7 +1,22 @@
 //! Facts about the definitions alone, as contracts of functions that do nothing.
 
-ghost use Rattle.std.specs.Prelude.{◌≡◌, ◌↔◌, ℕ, ◌<◌, List, [], ◌∷◌, ◌++◌, length, map, All, Some, None, IfSome, true, false, codes};
-ghost use Rattle.roff_lines.specs.Clauses.{Printed, Glyph, LeaveTheSame, uninterrupted, LeadsToNearest, IsStop, TabStops, stops_after, way_to_stop, tab_width, StandsInColumns, written_by_break, lines_written, text_line, line_bytes, input_place, is_interrupted, Tab, Count, Interrupt, Resume, TemporaryIndent, Centring, Spacing, NoStops, Stop, FillsLines, TakesFirstLine, MeasuredWord, first_line_count, Settings, lines_of, Finished, Word, is_empty, has_open_word, words, Event, Print, WordEnd, LineEnd, Break, Set, Filling, Adjusting, Mode, Right, Centre, LineLength, Indent, last_width, EndsAtWidth, finished, bytes_told, History, settings_after, fills, temporary_indent, glyphs_told, words_told, IsOfText, IsWordUnder, IsClear, finished_lines, until_break, full_lines, broken_lines, paragraph_lines};
+ghost use Rattle.std.specs.Prelude.{◌≡◌, ◌↔◌, ℕ, ◌<◌, List, [], ◌∷◌, ◌++◌, length, map, All, Some};
+ghost use Rattle.std.specs.Prelude.{None, IfSome, true, false, codes};
+ghost use Rattle.roff_lines.specs.Clauses.{Printed, Glyph, LeaveTheSame, uninterrupted};
+ghost use Rattle.roff_lines.specs.Clauses.{LeadsToNearest, IsStop, TabStops, stops_after};
+ghost use Rattle.roff_lines.specs.Clauses.{way_to_stop, tab_width, StandsInColumns};
+ghost use Rattle.roff_lines.specs.Clauses.{written_by_break, lines_written, text_line, line_bytes};
+ghost use Rattle.roff_lines.specs.Clauses.{input_place, is_interrupted, Tab, Count, Interrupt};
+ghost use Rattle.roff_lines.specs.Clauses.{Resume, TemporaryIndent, Centring, Spacing, NoStops};
+ghost use Rattle.roff_lines.specs.Clauses.{Stop, FillsLines, TakesFirstLine, MeasuredWord};
+ghost use Rattle.roff_lines.specs.Clauses.{first_line_count, Settings, lines_of, Finished, Word};
+ghost use Rattle.roff_lines.specs.Clauses.{is_empty, has_open_word, words, Event, Print, WordEnd};
+ghost use Rattle.roff_lines.specs.Clauses.{LineEnd, Break, Set, Filling, Adjusting, Mode, Right};
+ghost use Rattle.roff_lines.specs.Clauses.{Centre, LineLength, Indent, last_width, EndsAtWidth};
+ghost use Rattle.roff_lines.specs.Clauses.{finished, bytes_told, History, settings_after, fills};
+ghost use Rattle.roff_lines.specs.Clauses.{temporary_indent, glyphs_told, words_told, IsOfText};
+ghost use Rattle.roff_lines.specs.Clauses.{IsWordUnder, IsClear, finished_lines, until_break};
+ghost use Rattle.roff_lines.specs.Clauses.{full_lines, broken_lines, paragraph_lines};
 
 /// Filling takes the longest fronts: the lines of a paragraph have its words in order; each word of
 /// a line but the first fits behind those before it; and the word that begins the next line didn't.
@@ -13,7 +28,8 @@ pub fn longest_fronts()
 /// counts, told their gaps and widths and the measure that the line's indent leaves. Words behind
 /// one that doesn't fit change nothing of that.
 pub fn first_lines()
-    ensures words { (s : Settings) (indent : ℕ) (words : List Word) → TakesFirstLine s indent words }
+    ensures words { (s : Settings) (indent : ℕ) (words : List Word)
+        → TakesFirstLine s indent words }
     ensures front { (measure : ℕ) (words more : List MeasuredWord)
         → first_line_count measure words < length words
         → first_line_count measure (words ++ more) ≡ first_line_count measure words }
@@ -30,8 +46,8 @@ pub fn widths()
     ensures { (h : History) (e : Event) → IfSome (finished h e) EndsAtWidth }
 {}
 
-/// How wide the last finished line is on worked rows. Of the five words the first three are the last
-/// finished line: eight columns, or twelve where its gaps are widened.
+/// How wide the last finished line is on worked rows. Of the five words the first three are the
+/// last finished line: eight columns, or twelve where its gaps are widened.
 pub fn last_width_rows()
     ensures nothing { last_width [] ≡ 0 }
     ensures pending { last_width (WordEnd ∷ bytes_told (codes "a bb ccc") []) ≡ 0 }
@@ -54,8 +70,8 @@ pub fn last_width_rows()
 {}
 
 /// What an environment writes on worked rows: an indent for one line alone, lines that are centred,
-/// blank lines behind lines, tabs, and a line of the input that is interrupted. The newest line comes
-/// first.
+/// blank lines behind lines, tabs, and a line of the input that is interrupted. The newest line
+/// comes first.
 pub fn line_rows()
     // `.ll 8n`, `.ti 2n`: the first line alone is indented
     ensures temporary { lines_written (Break ∷ WordEnd ∷ bytes_told (codes "aa bb cc dd")

@@ -22,5 +22,5 @@ pub use event::Event;
 pub use fill::{Word, fill_words};
 pub use glyph::Glyph;
 pub use line::{FURTHER_BLANK, GAP, Line, UNPADDABLE};
-pub use line_bytes::LineBytes;
+pub use line_bytes::{LineBytes, Piece};
 pub use settings::{AdjustMode, Param, Settings};

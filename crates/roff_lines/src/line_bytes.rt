@@ -1,8 +1,12 @@
 //! What a finished line writes.
 
-ghost use Rattle.std.specs.Prelude.{◌≡◌, ◌+◌, ◌-◌, ◌<◌, ◌≤◌, ◌^◌, ◌++◌, length, take};
-ghost use Rattle.roff_lines.specs.Clauses.{finished_of, line_bytes, added_columns};
-ghost use Rattle.roff_lines.specs.LineBytes.Fronts.{glyphs_in_front, is_blank_mark, without_blanks};
+ghost use Rattle.std.specs.Prelude.{◌≡◌, ◌+◌, ◌*◌, ◌<◌, ◌≤◌, ◌^◌, ◌++◌, ◌∷◌, [], length, take};
+ghost use Rattle.std.specs.Prelude.{false, if◌then◌else◌};
+ghost use Rattle.roff_lines.specs.Clauses.{finished_of, line_bytes};
+ghost use Rattle.roff_lines.specs.Columns.{spaces};
+ghost use Rattle.roff_lines.specs.LineBytes.Fronts.{TakesPiece, blanks_in_front, glyphs_in_front};
+ghost use Rattle.roff_lines.specs.LineBytes.Fronts.{is_blank_mark, without_blanks};
+ghost use Rattle.roff_lines.specs.LineBytes.Shares.{shared_out};
 
 use crate::line::{FURTHER_BLANK, GAP, Line, UNPADDABLE};
 use std::marker::Model;
@@ -14,49 +18,132 @@ pub struct LineBytes<'a> {
     /// What is left of the text.
     text: &'a [u8],
     /// The blanks before it.
-    blanks: u128,
+    blanks: u64,
     /// How many gaps were passed.
     passed: u64,
-    spare: u64,
+    /// The columns that adjusting adds to each gap.
+    each: u64,
+    /// Those that are left over, one for some of the gaps.
+    rest: u64,
+    /// How many gaps there are; one where there is none.
     gaps: u64,
+    /// What is over of the rest: where it reaches the gaps, one gets a column more.
+    over: u64,
     /// The newlines behind it.
     newlines: u128,
 }
 
+/// What is taken of a line's bytes at once.
+#[derive(Clone, Copy)]
+pub struct Piece<'a> {
+    /// How many blanks.
+    pub blanks: usize,
+    /// The bytes of the glyphs behind them, as they are written.
+    pub glyphs: &'a [u8],
+}
+
 impl<'a> Model for LineBytes<'a> {
-    ghost use Rattle.std.specs.Prelude.{ℕ, ◌+◌, ◌<◌, ◌^◌, List, length};
-    ghost use Rattle.roff_lines.specs.LineBytes.Left.{bytes_left};
+    ghost use Rattle.std.specs.Prelude.{ℕ, List};
+    ghost use Rattle.roff_lines.specs.LineBytes.Left.{IsShared, bytes_left};
 
     ghost Value = { List ℕ };
 
     ghost view = { bytes_left };
 
-    ghost invariant = { λ a. a.passed + length a.text.now < 2 ^ 64 };
+    ghost invariant = { IsShared };
 }
 
 impl<'a> LineBytes<'a> {
     /// The bytes of a line.
-    #[tactic(auto, using(crate::proofs::Blanks::line_bytes_of_front))]
     pub fn of(line: Line<'a>) -> Self
         ensures { result ≡ line_bytes (finished_of line.entry) }
     {
         let text = without_trailing_blanks(line.text);
+        let (each, rest, gaps) = shares(line.spare, line.gaps);
         LineBytes {
             text,
-            blanks: if text.is_empty() {
-                0
-            } else {
-                u128::from(line.lead)
-            },
+            blanks: if text.is_empty() { 0 } else { line.lead },
             passed: 0,
-            spare: line.spare,
-            gaps: line.gaps,
+            each,
+            rest,
+            gaps,
+            over: 0,
             newlines: u128::from(line.after) + 1,
         }
     }
 
+    /// Takes the blanks in front and then the glyphs behind them, those above the blank: at most
+    /// so many bytes.
+    pub fn take_piece(&mut self, most: usize) -> Piece<'a>
+        ensures { TakesPiece most result.blanks result.glyphs.now self.old self.new }
+    {
+        let blanks = self.take_blanks(most);
+        let glyphs = self.take_glyphs(most - blanks);
+        Piece { blanks, glyphs }
+    }
+
+    /// Takes the blanks in front, at most so many, and tells how many.
+    #[inline(always)]
+    fn take_blanks(&mut self, most: usize) -> usize
+        ensures most { result ≤ most }
+        ensures taken { spaces result ++ self.new ≡ self.old }
+        ensures blanks { spaces result ≡ take most (blanks_in_front self.old) }
+    {
+        let mut count = 0;
+        loop {
+            if count >= most {
+                return count;
+            }
+            if !self.take_blank() {
+                return count;
+            }
+            let owed = self.take_owed(most - count - 1);
+            count += 1 + owed;
+        }
+    }
+
+    /// Takes one of the blanks in front, and tells whether there was one.
+    #[inline(always)]
+    fn take_blank(&mut self) -> bool
+        ensures taken { (if result then 32 ∷ self.new else self.new) ≡ self.old }
+        ensures none { result ≡ false → blanks_in_front self.old ≡ [] }
+    {
+        if self.blanks > 0 {
+            self.blanks -= 1;
+            return true;
+        }
+        let Some((&byte, behind)) = self.text.split_first() else {
+            return false;
+        };
+        if byte == GAP {
+            let (added, over) = added_to_gap(self.each, self.rest, self.gaps, self.over);
+            self.text = behind;
+            self.blanks = added;
+            self.passed += 1;
+            self.over = over;
+            return true;
+        }
+        if byte != FURTHER_BLANK && byte != UNPADDABLE {
+            return false;
+        }
+        self.text = behind;
+        true
+    }
+
+    /// Takes the blanks that are owed, at most so many, and tells how many.
+    #[inline(always)]
+    fn take_owed(&mut self, most: usize) -> usize
+        ensures most { result ≤ most }
+        ensures taken { spaces result ++ self.new ≡ self.old }
+    {
+        let owed = self.blanks.min(most as u64);
+        self.blanks -= owed;
+        owed as usize
+    }
+
     /// Takes the bytes of glyphs in front, those above the blank, at most so many.
-    pub fn take_glyphs(&mut self, most: usize) -> &'a [u8]
+    #[inline(always)]
+    fn take_glyphs(&mut self, most: usize) -> &'a [u8]
         ensures glyphs { result.now ≡ take most (glyphs_in_front self.old) }
         ensures taken { result.now ++ self.new ≡ self.old }
     {
@@ -79,8 +166,7 @@ impl Iterator for LineBytes<'_> {
     ghost remaining = { item_count (λ s. s) };
 
     fn next(&mut self) -> Option<u8> {
-        if self.blanks > 0 {
-            self.blanks -= 1;
+        if self.take_blank() {
             return Some(b' ');
         }
         let Some((&byte, rest)) = self.text.split_first() else {
@@ -91,47 +177,49 @@ impl Iterator for LineBytes<'_> {
             return Some(b'\n');
         };
         self.text = rest;
-        match byte {
-            GAP => {
-                self.blanks = added_to_gap(self.passed, self.spare, self.gaps);
-                self.passed += 1;
-                Some(b' ')
-            }
-            FURTHER_BLANK | UNPADDABLE => Some(b' '),
-            _ => Some(byte),
-        }
+        Some(byte)
     }
 }
 
-/// The columns that adjusting adds to the next gap, behind so many others.
-fn added_to_gap(passed: u64, spare: u64, gaps: u64) -> u128
-    requires { passed + 1 < 2 ^ 64 }
-    ensures { result ≡ added_columns spare gaps (passed + 1) - added_columns spare gaps passed }
+/// What each of the gaps gets of the spare columns, what is left over, and the number of the gaps:
+/// nothing, and one gap, where there is none.
+fn shares(spare: u64, gaps: u64) -> (u64, u64, u64)
+    ensures { result ≡ shared_out spare gaps }
 {
     if gaps == 0 {
-        return 0;
+        return (0, 0, 1);
     }
-    if let Some(product) = (passed + 1).checked_mul(spare) {
-        let before = product.saturating_sub(spare) / gaps;
-        return u128::from((product / gaps).saturating_sub(before));
+    (spare / gaps, spare % gaps, gaps)
+}
+
+/// The columns that adjusting adds to the next gap: one more than each gap gets, where what is
+/// over reaches the gaps. Tells also what is over behind it.
+#[inline(always)]
+fn added_to_gap(each: u64, rest: u64, gaps: u64, over: u64) -> (u64, u64)
+    requires spare { each * gaps + rest < 2 ^ 64 }
+    requires rest { rest < gaps }
+    requires over { over < gaps }
+    ensures added { result.0 * gaps + result.1 ≡ each * gaps + rest + over }
+    ensures over { result.1 < gaps }
+{
+    // No sum is wider than 64 bits.
+    let missing = gaps - rest;
+    if over < missing {
+        return (each, over + rest);
     }
-    // The product may be wider than 64 bits.
-    let before = u128::from(passed) * u128::from(spare) / u128::from(gaps);
-    let behind = (u128::from(passed) + 1) * u128::from(spare) / u128::from(gaps);
-    behind.saturating_sub(before)
+    (each + 1, over - missing)
 }
 
 /// How many bytes of glyphs stand in front of a text, at most so many.
+#[inline(always)]
 fn count_of_glyphs(text: &[u8], most: usize) -> usize
     ensures text { result ≤ length text.now }
     ensures glyphs { take result text.now ≡ take most (glyphs_in_front text.now) }
 {
+    let end = most.min(text.len());
     let mut count = 0;
-    while count < most {
-        match text.get(count) {
-            Some(byte) if *byte > b' ' => count += 1,
-            _ => break,
-        }
+    while count < end && text[count] > b' ' {
+        count += 1;
     }
     count
 }

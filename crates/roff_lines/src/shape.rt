@@ -36,7 +36,8 @@ impl Shape {
     /// That of a line as it is finished, by a word that doesn't fit or by a break.
     pub(crate) fn of(settings: Settings, by_word: bool, indent: u32, line: &Stretch) -> Shape
         requires { line.now.room < 2 ^ 32 }
-        ensures line { shaped result line.now.text ≡ laid_out settings by_word indent line.now.text }
+        ensures line { shaped result line.now.text
+            ≡ laid_out settings by_word indent line.now.text }
         ensures width { result.width ≡ line_width (laid_out settings by_word indent line.now.text) }
     {
         let wide = u64::from(indent) + line.width();

@@ -1,8 +1,9 @@
 -- What of a line's text, and of its bytes, stands in front.
-use Rattle.std.specs.Prelude.{ℕ, Bool, ◌&&◌, ◌||◌, List, [], ◌∷◌, nat_lt, if◌then◌else◌, ◌==◌}
+use Rattle.std.specs.Prelude.{◌≡◌, ℕ, ◌+◌, ◌-◌, ◌≤◌, Bool, ◌&&◌, ◌||◌, List, [], ◌∷◌, ◌++◌, length, take, drop, nat_lt, if◌then◌else◌, ◌==◌}
 use Rattle.std.specs.List.{take_while}
 use Rattle.roff_lines.specs.Glyphs.{gap_blank, further_blank, glyph_blank}
 use Rattle.roff_lines.specs.Words.{is_empty}
+use Rattle.roff_lines.specs.Columns.{spaces}
 
 -- whether a byte of a text stands for a blank
 abbrev pub is_blank_mark : ℕ → Bool
@@ -17,3 +18,15 @@ without_blanks (b ∷ text) =
 -- the bytes of glyphs in front: those up to the first that isn't above the blank
 abbrev pub glyphs_in_front : List ℕ → List ℕ
 glyphs_in_front bytes = take_while (λ b. nat_lt 32 b) bytes
+
+-- the blanks in front
+abbrev pub blanks_in_front : List ℕ → List ℕ
+blanks_in_front bytes = take_while (λ b. b == 32) bytes
+
+-- a piece was taken of a line's bytes, of so many at most: the blanks in front, as many as may be, and
+-- then the glyphs behind them, as many as may be
+pub record TakesPiece (most blanks : ℕ) (glyphs old new : List ℕ) : Type 0 where
+  pub whole : spaces blanks ++ (glyphs ++ new) ≡ old
+  pub within : blanks + length glyphs ≤ most
+  pub in_front : spaces blanks ≡ take most (blanks_in_front old)
+  pub behind : glyphs ≡ take (most - blanks) (glyphs_in_front (drop blanks old))

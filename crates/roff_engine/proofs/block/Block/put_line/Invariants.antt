@@ -12,6 +12,7 @@ pub record Begun (line to_come held : List ℕ) (old new : Sunk) : Type 0 where
 abbrev pub invariant-loop-byte : goal.invariant-loop-byte
 invariant-loop-byte g l = record {
   room : 8192 ≤ vec_capacity l.bytes;
+  few : length l.bytes.items ≤ 8192;
   begun : Begun (line_bytes (finished_of l.fn.line)) l.to_come l.bytes.items (g.O.ByteSink.sunk l.initial.out) (g.O.ByteSink.sunk l.out);
 }
 

@@ -1,4 +1,5 @@
 use Rattle.std.proofs.Common.{◌≡◌, replicate, arith}
+use Rattle.roff_lines.specs.LineBytes.Left.{spare_columns}
 use Rattle.roff_lines.proofs.GlyphsInFront.{glyphs_in_front-spread, take-append-spread}
 use Rattle.roff_lines.proofs.line_bytes.LineBytes.take_glyphs.Goals as goal
 
@@ -12,4 +13,4 @@ returns-clause-taken c =
     let left = c.self.inside in
     let none : left.blanks ≡ 0 = omega arith in
     rw (← c.self.view_is, none, c.split_at.ensures.front, c.split_at.ensures.back)
-    (take-append-spread left.spare left.gaps left.passed _ _ left.text.now (replicate left.newlines 10) c.count_of_glyphs.ensures.glyphs)
+    (take-append-spread (spare_columns left) left.gaps left.passed _ _ left.text.now (replicate left.newlines 10) c.count_of_glyphs.ensures.glyphs)
