@@ -1,6 +1,7 @@
 pub mod Appending
 pub mod Performed
 pub mod DoesTakings
+pub mod TakenAtOnce
 pub mod Halting
 pub mod Acting
 pub mod Calls

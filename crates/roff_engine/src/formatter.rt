@@ -2,7 +2,11 @@
 
 ghost use Rattle.std.specs.Prelude.{◌≡◌, ℕ, true, [], ◌∷◌, IfOk, IfSome, IsOkUnless, option_map};
 ghost use Rattle.roff_scan.specs.Bytes.{is_passed};
-ghost use Rattle.roff_run.specs.Reading.{Passes};
+ghost use Rattle.roff_run.specs.Reading.{Passes, Taking};
+ghost use Rattle.roff_run.specs.Reader.AtOnce.{IsReadAbove};
+ghost use Rattle.roff_run.specs.Reader.Taken.{PageUnread};
+ghost use Rattle.roff_run.specs.Registers.{Known as KnownOf};
+ghost use Rattle.roff_run.specs.declared.reader.AtOnce.TheVariants.{Found};
 ghost use Rattle.roff_engine.specs.Clauses.{option_to_list, finished_of, fresh_reader, Gap, Print};
 ghost use Rattle.roff_engine.specs.Clauses.{WordEnd, LineEnd, Break, message_lines, finished_bytes};
 ghost use Rattle.roff_engine.specs.Clauses.{DoesMeaning, DoesTaking, PerformsOnly, closing_events};
@@ -16,14 +20,23 @@ use crate::report::report;
 use crate::sink::ByteSink;
 use roff_lines::{Event, Glyph, Line};
 use roff_num::Limits;
-use roff_run::{Due, EnvironmentNumber, Environments, Events, Meaning, Message, PageEvent, Reader};
-use roff_scan::Unread;
+use roff_run::{
+    AtOnce, Due, EnvironmentNumber, Environments, Events, Meaning, Message, PageEvent, Reader,
+};
+use roff_scan::{Read, Unread};
 use std::alloc::{AllocError, Global};
 
 /// What finishes the last line.
 const CLOSING: [PageEvent; 2] = [
     PageEvent::Text(Event::WordEnd),
     PageEvent::Text(Event::Break),
+];
+
+/// What the end of a text line means on which a glyph stands.
+const ENDED_LINE: [PageEvent; 3] = [
+    PageEvent::Text(Event::WordEnd),
+    PageEvent::Text(Event::LineEnd),
+    PageEvent::Text(Event::Count),
 ];
 
 /// What is read, the environments, and the block through which lines are written.
@@ -97,7 +110,79 @@ impl Formatter {
         if self.reader.goes_on_with_gap(byte, unread) {
             return self.gap_behind_word(out);
         }
-        self.take_as_read(byte, unread, out, err)
+        self.take_at_once(byte, unread, out, err)
+    }
+
+    /// Takes another byte: most mean nothing, or end a text line.
+    #[inline(never)]
+    fn take_at_once<O: ByteSink, E: ByteSink>(
+        &mut self,
+        byte: u8,
+        unread: &mut Unread<PageEvent>,
+        out: &mut O,
+        err: &mut E,
+    ) -> Result<(), Halt>
+        ensures { DoesTaking (λ k. taking k self.old.reader.reading unread.old.input byte) []
+            self.old self.new unread.old unread.new
+            (sinks (O.sunk out.old) (E.sunk err.old))
+            (sinks (O.sunk out.new) (E.sunk err.new)) result }
+    {
+        if self.reader.reads_on(byte, unread) {
+            return Ok(());
+        }
+        if self.reader.ends_text_line(byte, unread) {
+            return self.perform_each(&ENDED_LINE, out);
+        }
+        if self
+            .reader
+            .begins_text_line(byte, &self.environments, unread)
+        {
+            return self.glyph(Glyph::Printed(byte));
+        }
+        self.take_above(byte, unread, out, err)
+    }
+
+    /// Takes a byte, whatever is half read: most mean nothing there.
+    #[inline(never)]
+    fn take_above<O: ByteSink, E: ByteSink>(
+        &mut self,
+        byte: u8,
+        unread: &mut Unread<PageEvent>,
+        out: &mut O,
+        err: &mut E,
+    ) -> Result<(), Halt>
+        ensures { DoesTaking (λ k. taking k self.old.reader.reading unread.old.input byte) []
+            self.old self.new unread.old unread.new
+            (sinks (O.sunk out.old) (E.sunk err.old))
+            (sinks (O.sunk out.new) (E.sunk err.new)) result }
+    {
+        match self.reader.read_above(byte, &self.environments, unread) {
+            AtOnce::Done => Ok(()),
+            AtOnce::Found(found) => self.take_found(found, unread, out, err),
+            AtOnce::Not => self.take_as_read(byte, unread, out, err),
+        }
+    }
+
+    /// Takes what was found of a byte.
+    #[inline(never)]
+    fn take_found<O: ByteSink, E: ByteSink>(
+        &mut self,
+        found: Read,
+        unread: &mut Unread<PageEvent>,
+        out: &mut O,
+        err: &mut E,
+    ) -> Result<(), Halt>
+        ensures { (t : KnownOf → Taking) (before : PageUnread)
+            → IsReadAbove t self.old.environments self.old.reader before unread.old (Found found)
+            → DoesTaking t [] self.old self.new before unread.new
+            (sinks (O.sunk out.old) (E.sunk err.old))
+            (sinks (O.sunk out.new) (E.sunk err.new)) result }
+    {
+        let read = self.reader.read_found(found, &self.environments, unread);
+        match &read {
+            Ok(meaning) => self.act(meaning, unread.line(), out, err),
+            Err(limit) => Err(Halt::Refused(*limit)),
+        }
     }
 
     /// Takes a byte by what the reader makes of it.
@@ -230,8 +315,17 @@ impl Formatter {
     {
         match events.without_stops() {
             Some(events) => self.perform_each(events, out),
-            None => self.perform_each(&events.all(), out),
+            None => self.perform_with_stops(events, out),
         }
+    }
+
+    /// The same where they set stops.
+    #[inline(never)]
+    fn perform_with_stops<O: ByteSink>(&mut self, events: &Events, out: &mut O) -> Result<(), Halt>
+        ensures { PerformsOnly events.now.items self.old self.new
+            (O.sunk out.old) (O.sunk out.new) result }
+    {
+        self.perform_each(&events.all(), out)
     }
 
     /// Performs events, one after another.

@@ -30,6 +30,8 @@ pub mod Numbering
 pub mod InputCounts
 pub mod TurnsToCome
 pub mod TakesAs
+pub mod FoundIn
+pub mod ReadAtOnce
 pub mod Obeying
 pub mod Deciding
 pub mod RemovedRegisters

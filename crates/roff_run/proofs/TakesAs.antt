@@ -1,7 +1,7 @@
 -- What the code of the reader takes, piece by piece, as the definition takes it.
 use Rattle.std.proofs.Common.{◌≡◌, ℕ, ◌≤◌, Bool, true, false, cond, List, [], ◌∷◌, ◌++◌, length, Option, Some, None, Result, Ok, Err, refl, sym, subst, ap, ◌∙◌, arith}
 use Rattle.std.specs.Option.{option_to_list}
-use Rattle.std.specs.Prelude.{nat_lt, ◌&&◌, drop, is_some, if◌then◌else◌, ◌==◌, pos}
+use Rattle.std.specs.Prelude.{nat_lt, ◌&&◌, drop, is_some, if◌then◌else◌, ◌==◌}
 use Rattle.roff_num.specs.declared.limits.Limits.{Limits}
 use Rattle.roff_run.specs.Environments.{interrupted_line}
 use Rattle.roff_run.specs.Environments.Standing.{StandFor}
@@ -18,7 +18,6 @@ use Rattle.roff_scan.specs.declared.half.CopyUnit.{CopyUnit}
 use Rattle.roff_scan.specs.declared.half.Read.{Read}
 use Rattle.roff_scan.specs.declared.half.Read.TheVariants.{GoesOn, Unit as OneUnit, Holds, Escape, Asks, Motion, Measures, Tells, Decides}
 use Rattle.roff_scan.specs.declared.half.Surroundings.{Surroundings}
-use Rattle.roff_scan.specs.declared.half.Surroundings.TheVariants.{Text as AboveText}
 use Rattle.roff_scan.proofs.TextsHeld.{texts_held-byte_read, texts_held-reading_ended}
 use Rattle.roff_store.proofs.Entries.{length-with_entry}
 use Rattle.roff_store.specs.Named.{with_entry, entry_of}
@@ -28,7 +27,7 @@ use Rattle.roff_store.specs.declared.register.Register.{Register}
 use Rattle.roff_run.specs.Output.{PageHistory}
 use Rattle.roff_run.specs.Reader.State.{ReaderState}
 use Rattle.roff_run.specs.Reader.Taken.{IsReady, PageUnread, Takes, TakesAs, Took}
-use Rattle.roff_run.specs.Reading.{PageInput, Taking, arguments_found, beginning_text, behind_events, end_taking, escape_begun, first_escape, first_taking, going_on, going_on_told, half_ended, interpolating, interrupted, kept_taking, last_line_ended, line_begun, line_begun_as, line_taking, meaning_events, message_found, no_unit_found, settling, string_line_ended, taking}
+use Rattle.roff_run.specs.Reading.{PageInput, Taking, arguments_found, beginning_text, behind_events, end_taking, escape_begun, first_escape, first_taking, going_on, going_on_told, interpolating, interrupted, kept_taking, last_line_ended, line_begun, line_begun_as, line_taking, meaning_events, message_found, no_unit_found, settling, string_line_ended, taking}
 use Rattle.roff_run.specs.Registers.{AllRegisters, Known, changed_by_all, is_page, is_read_only, known_behind, step_changes, step_messages, stepped_page, text_of_register}
 use Rattle.roff_run.specs.Registers.Capped.{Capped}
 use Rattle.roff_run.specs.Registers.Coded.{known_of}
@@ -572,28 +571,3 @@ message_found-no_unit k i aborts is_front (Motion columns remark) no_unit no_esc
 message_found-no_unit k i aborts is_front (Measures width) no_unit no_escape = refl
 message_found-no_unit k i aborts is_front (Tells remark) no_unit no_escape = refl
 message_found-no_unit k i aborts is_front (Decides decision freed) no_unit no_escape = refl
-
--- where nothing of what is half read is kept when it ends
-pub half_ended-dropped : (k : Known) (r : Reading) (i : PageInput) → (r ≡ LineStart → ⊥) → (r ≡ Branch → ⊥) → (r ≡ Braced → ⊥) → ((line : TextLine) → r ≡ InText line → ⊥)
-    → ((breaks : Bool) (request : Request) → r ≡ InArguments breaks request → ⊥) → ((keeps : Bool) → r ≡ Deciding keeps → ⊥)
-    → ((appends : Bool) → r ≡ StringName appends → ⊥) → ((name : Option ShortName) (appends is_front : Bool) → r ≡ StringText name appends is_front → ⊥)
-    → ((aborts is_front : Bool) → r ≡ Telling aborts is_front → ⊥) → ((name : ShortName) → r ≡ Calling name → ⊥)
-    → ((name : Option ShortName) (appends : Bool) (end : Option ShortName) (matched : Option ℕ) → r ≡ Defining name appends end matched → ⊥)
-    → going_on (with_half (reading_ended (AboveText (pos 0)) i.half).1 i) r ≡ half_ended k r i
-half_ended-dropped k LineStart i begun no_branch no_brace no_text no_arguments no_condition no_name no_string no_message no_call no_definition = absurd (begun refl)
-half_ended-dropped k Branch i begun no_branch no_brace no_text no_arguments no_condition no_name no_string no_message no_call no_definition = absurd (no_branch refl)
-half_ended-dropped k Braced i begun no_branch no_brace no_text no_arguments no_condition no_name no_string no_message no_call no_definition = absurd (no_brace refl)
-half_ended-dropped k (InText line) i begun no_branch no_brace no_text no_arguments no_condition no_name no_string no_message no_call no_definition = absurd (no_text line refl)
-half_ended-dropped k (Control breaks) i begun no_branch no_brace no_text no_arguments no_condition no_name no_string no_message no_call no_definition = refl
-half_ended-dropped k (Name breaks first) i begun no_branch no_brace no_text no_arguments no_condition no_name no_string no_message no_call no_definition = refl
-half_ended-dropped k (InArguments breaks request) i begun no_branch no_brace no_text no_arguments no_condition no_name no_string no_message no_call no_definition = absurd (no_arguments breaks request refl)
-half_ended-dropped k (Deciding keeps) i begun no_branch no_brace no_text no_arguments no_condition no_name no_string no_message no_call no_definition = absurd (no_condition keeps refl)
-half_ended-dropped k (Skipping opened closed behind) i begun no_branch no_brace no_text no_arguments no_condition no_name no_string no_message no_call no_definition = refl
-half_ended-dropped k (StringName appends) i begun no_branch no_brace no_text no_arguments no_condition no_name no_string no_message no_call no_definition = absurd (no_name appends refl)
-half_ended-dropped k (StringText name appends is_front) i begun no_branch no_brace no_text no_arguments no_condition no_name no_string no_message no_call no_definition = absurd (no_string name appends is_front refl)
-half_ended-dropped k (Calling name) i begun no_branch no_brace no_text no_arguments no_condition no_name no_string no_message no_call no_definition = absurd (no_call name refl)
-half_ended-dropped k (Defining name appends end matched) i begun no_branch no_brace no_text no_arguments no_condition no_name no_string no_message no_call no_definition = absurd (no_definition name appends end matched refl)
-half_ended-dropped k (Telling aborts is_front) i begun no_branch no_brace no_text no_arguments no_condition no_name no_string no_message no_call no_definition = absurd (no_message aborts is_front refl)
-half_ended-dropped k (Told aborts) i begun no_branch no_brace no_text no_arguments no_condition no_name no_string no_message no_call no_definition = refl
-half_ended-dropped k Exiting i begun no_branch no_brace no_text no_arguments no_condition no_name no_string no_message no_call no_definition = refl
-half_ended-dropped k Dropped i begun no_branch no_brace no_text no_arguments no_condition no_name no_string no_message no_call no_definition = refl

@@ -1,3 +1,6 @@
 -- What the code reads, as the definition reads it.
 pub mod State
 pub mod Taken
+pub mod Above
+pub mod Found
+pub mod AtOnce

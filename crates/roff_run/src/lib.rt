@@ -23,6 +23,6 @@ mod status;
 pub use environments::{Environment, EnvironmentNumber, Environments, Left};
 pub use event::{AllEvents, Events, PageEvent};
 pub use message::{CharacterName, Message, MessageLine};
-pub use reader::{Meaning, Reader, first_unread};
+pub use reader::{AtOnce, Meaning, Reader, first_unread};
 pub use reading::Due;
 pub use status::Status;

@@ -6,6 +6,7 @@ ghost use Rattle.roff_run.specs.Clauses.{interrupted, first_unread, taking, due,
 ghost use Rattle.roff_run.specs.Clauses.{behind_return};
 
 mod arguments;
+mod at_once;
 mod bytes;
 mod calls;
 mod conditions;
@@ -13,6 +14,7 @@ mod control_lines;
 mod definitions;
 mod ends;
 mod escapes;
+mod found;
 mod messages;
 mod obeying;
 mod places;
@@ -28,7 +30,7 @@ use crate::reading::{Due, Reading};
 use crate::registers::RunRegisters;
 use crate::request::Request;
 use roff_num::{Limit, Limits, Name};
-use roff_scan::{Unread, is_dropped};
+use roff_scan::{Read, Unread, is_dropped};
 use roff_store::Entry;
 use std::alloc::{AllocError, Global};
 use std::marker::Model;
@@ -49,6 +51,17 @@ pub struct Meaning {
     pub message: Option<Message>,
     /// The events, in order.
     pub events: Events,
+}
+
+/// How far a byte was read at once.
+#[derive(Drop)]
+pub enum AtOnce {
+    /// It wasn't.
+    Not,
+    /// It was, and means nothing.
+    Done,
+    /// It was read as this, of which [`Reader::read_found`] is the rest.
+    Found(Read),
 }
 
 impl Model for Reader {

@@ -1,7 +1,8 @@
 //! What is being read of a line, and what stands on it.
 
-ghost use Rattle.std.specs.Prelude.{◌≡◌, ℕ, ◌≤◌, ◌+◌, ◌++◌, ◌∷◌, [], length, map, true, min};
-ghost use Rattle.roff_lines.specs.declared.event.Event.TheVariants.{Gap, Print, Tab, WordEnd};
+ghost use Rattle.std.specs.Prelude.{◌≡◌, ℕ, ◌≤◌, ◌+◌, ◌++◌, ◌∷◌, [], length, map, true, min, None};
+ghost use Rattle.roff_lines.specs.declared.event.Event.TheVariants.{Count, Gap, LineEnd, Print, Tab};
+ghost use Rattle.roff_lines.specs.declared.event.Event.TheVariants.{WordEnd};
 ghost use Rattle.roff_lines.specs.declared.glyph.Glyph.TheVariants.{Printed};
 ghost use Rattle.roff_run.specs.Reading.{PageInput, due, line_ends_first, name_bytes};
 ghost use Rattle.roff_run.specs.Reading.{reading_behind, short_name, branch_of, counted_if};
@@ -18,7 +19,9 @@ ghost use Rattle.roff_run.specs.Messages.{remark_messages};
 ghost use Rattle.roff_run.specs.Requests.{Text};
 ghost use Rattle.roff_run.specs.TextLine.Stepping.{step_at};
 ghost use Rattle.roff_run.specs.Registers.{Known};
-ghost use Rattle.roff_run.specs.declared.reading.Reading.TheVariants.{Control as BehindControl, Text as InText};
+ghost use Rattle.roff_run.specs.Reader.Above.{reads_above};
+ghost use Rattle.roff_run.specs.declared.reading.Reading.TheVariants.{Control as BehindControl};
+ghost use Rattle.roff_run.specs.declared.reading.Reading.TheVariants.{LineStart, Text as InText};
 
 use crate::event::{LineEvents, PageEvent};
 use crate::message::{CharacterName, Message};
@@ -252,6 +255,19 @@ impl Reading {
         }
     }
 
+    /// Whether what is found above it means nothing where nothing is found, or a unit of a text that
+    /// is being read: where a line begins, on a text line and in a condition.
+    pub(crate) fn reads_above(self) -> bool
+        ensures { result ≡ reads_above self }
+    {
+        match self {
+            Reading::LineStart => true,
+            Reading::Text(_) => true,
+            Reading::Deciding { .. } => true,
+            _ => false,
+        }
+    }
+
     /// What is read behind a byte of a line that is dropped.
     pub(crate) fn behind_dropped(byte: u8) -> Reading
         ensures { (i : PageInput) → dropped_taking i byte ≡ going_on i result }
@@ -299,6 +315,19 @@ impl TextLine {
         }
     }
 
+    /// One glyph.
+    #[inline(always)]
+    pub(crate) fn of_glyph() -> Self
+        ensures { result ≡ record fresh_line { has_glyph = true } }
+    {
+        TextLine {
+            has_glyph: true,
+            has_other: false,
+            has_brace: false,
+            leading: 0,
+        }
+    }
+
     /// The line that begins: the interrupted one, if one is to go on.
     pub(crate) fn begun_as(interrupted: Option<TextLine>) -> Self
         ensures { result ≡ line_begun_as interrupted }
@@ -325,6 +354,16 @@ impl TextLine {
             ≡ meaning_events i (InText self) (Text WordEnd ∷ Text (Gap 1) ∷ []) }
     {
         self.has_glyph && byte == b' '
+    }
+
+    /// Whether a byte ends the line, on which a glyph stands.
+    #[inline(always)]
+    pub(crate) fn ends_with(self, byte: u8) -> bool
+        ensures { result ≡ true → (k : Known) (i : PageInput) → i.half ≡ []
+            → taking k (InText self) i byte ≡ meaning_events i LineStart
+            (Text WordEnd ∷ Text LineEnd ∷ Text Count ∷ []) }
+    {
+        self.has_glyph && byte == b'\n'
     }
 
     /// The events of the line's end: a line of blanks alone is a break and a blank line, and one of
@@ -534,6 +573,17 @@ impl TextLine {
             events: leading_blank(self.leading),
         }
     }
+}
+
+/// Whether a byte where a line begins is the first glyph of a text line, unless an interrupted line
+/// goes on.
+#[inline(always)]
+pub(crate) fn begins_with_glyph(byte: u8) -> bool
+    ensures { result ≡ true → (k : Known) (i : PageInput) → i.half ≡ [] → k.interrupted ≡ None
+        → taking k LineStart i byte ≡ meaning_events i (InText (record fresh_line { has_glyph = true }))
+        (Text (Print (Printed byte)) ∷ []) }
+{
+    byte > b' ' && byte != 127 && byte != b'\\' && byte != b'.' && byte != b'\''
 }
 
 /// The events of a glyph behind so many leading blanks.

@@ -7,14 +7,14 @@ ghost use Rattle.roff_run.specs.Requests.{Text};
 ghost use Rattle.roff_run.specs.Registers.{Known as KnownOf};
 ghost use Rattle.roff_run.specs.Clauses.{Passes, TakesAs, meaning_events, is_passed, kept_taking};
 ghost use Rattle.roff_run.specs.Clauses.{taking, due};
+ghost use Rattle.roff_run.specs.Reader.Found.{has_place};
 
-use super::places::{at_start, on_line};
 use super::{Meaning, Reader};
 use crate::environments::Environments;
 use crate::event::PageEvent;
 use crate::reading::Reading;
 use roff_num::Limit;
-use roff_scan::{Surroundings, Unread};
+use roff_scan::Unread;
 
 impl Reader {
     /// Whether a byte is a glyph behind another on a text line, and does nothing else. Most are.
@@ -73,22 +73,6 @@ impl Reader {
             environments.now self.old self.new unread.old unread.new result }
     {
         match self.reading {
-            Reading::LineStart => {
-                let found = unread.read_byte(at_start(environments), byte);
-                self.begin_line(Reading::LineStart, found, environments, unread)
-            }
-            Reading::Branch => {
-                let found = unread.read_byte(at_start(environments), byte);
-                self.begin_line(Reading::Branch, found, environments, unread)
-            }
-            Reading::Braced => {
-                let found = unread.read_byte(at_start(environments), byte);
-                self.begin_line(Reading::Braced, found, environments, unread)
-            }
-            Reading::Text(line) => {
-                let found = unread.read_byte(on_line(environments, line), byte);
-                self.read_text(line, found, environments, unread)
-            }
             Reading::Control { breaks } => Ok(self.read_on(Reading::behind_control(breaks, byte))),
             Reading::Name { breaks, first } => self.end_name(
                 breaks,
@@ -97,51 +81,31 @@ impl Reader {
                 environments,
                 unread,
             ),
-            Reading::Arguments { breaks, request } => {
-                let found = unread.read_byte(Surroundings::Arguments, byte);
-                self.read_arguments(breaks, request, found, environments, unread)
-            }
-            Reading::Deciding { keeps } => {
-                let found = unread.read_byte(Surroundings::Arguments, byte);
-                self.read_condition(keeps, found, environments, unread)
-            }
-            Reading::StringName { appends } => {
-                let found = unread.read_byte(Surroundings::Arguments, byte);
-                self.read_string_name(appends, found, environments, unread)
-            }
-            Reading::StringText {
-                name,
-                appends,
-                is_front,
-            } => {
-                let found = unread.read_byte(Surroundings::Copy, byte);
-                self.read_string(name, appends, is_front, found, environments, unread)
-            }
-            Reading::Calling { name } => {
-                let found = unread.read_byte(Surroundings::Arguments, byte);
-                self.read_call(name, found, environments, unread)
-            }
-            Reading::Defining {
-                name,
-                appends,
-                end,
-                matched,
-            } => {
-                let found = unread.read_byte(Surroundings::Copy, byte);
-                self.read_definition(name, appends, end, matched, found, environments, unread)
-            }
             Reading::Skipping {
                 opened,
                 closed,
                 behind,
             } => Ok(self.read_on(Reading::behind_skipped(opened, closed, behind, byte))),
             Reading::Dropped => Ok(self.read_on(Reading::behind_dropped(byte))),
-            Reading::Telling { aborts, is_front } => {
-                let read = unread.read_byte(Surroundings::Copy, byte);
-                self.read_message(aborts, is_front, read, environments, unread)
-            }
             Reading::Told { aborts } => Ok(self.read_on(Reading::Told { aborts })),
             Reading::Exiting => Ok(self.read_on(Reading::Exiting)),
+            _ => self.read_placed(byte, environments, unread),
         }
+    }
+
+    /// The same where something may be half read.
+    fn read_placed(
+        &mut self,
+        byte: u8,
+        environments: &Environments,
+        unread: &mut Unread<PageEvent>,
+    ) -> Result<Meaning, Limit>
+        requires { has_place self.old.reading ≡ true }
+        ensures { TakesAs (λ k. kept_taking k self.old.reading unread.old.input byte)
+            environments.now self.old self.new unread.old unread.new result }
+    {
+        let place = self.place(environments);
+        let found = unread.read_byte(place, byte);
+        self.read_found(found, environments, unread)
     }
 }

@@ -1,6 +1,7 @@
 //! The names of control lines, and how what is behind one is read.
 
-ghost use Rattle.std.specs.Prelude.{◌≡◌, Ok};
+ghost use Rattle.std.specs.Prelude.{◌≡◌, [], Ok};
+ghost use Rattle.roff_run.specs.Reader.AtOnce.{only_events};
 ghost use Rattle.roff_run.specs.Clauses.{EnvironmentsOf, NameOf, TakesAs, behind_name, kept_taking};
 ghost use Rattle.roff_run.specs.Clauses.{line_taking, row_of, name_ended_taking, called_by};
 
@@ -38,7 +39,10 @@ impl Reader {
             second: Some(byte),
         };
         match called_by(name, unread) {
-            Called::Request(request) => Ok(self.begin_request(breaks, request, unread)),
+            Called::Request(request) => {
+                self.begin_request(breaks, request, unread);
+                Ok(Meaning::nothing())
+            }
             Called::Body(name) => Ok(self.read_on(Reading::Calling { name })),
             Called::Nothing => Ok(self.read_on(Reading::Dropped)),
         }
@@ -119,16 +123,16 @@ impl Reader {
         }
     }
 
-    /// What is read behind a request's name.
-    fn begin_request(
+    /// What is read behind a request's name; nothing is meant.
+    pub(super) fn begin_request(
         &mut self,
         breaks: bool,
         request: Request,
         unread: &mut Unread<PageEvent>,
-    ) -> Meaning
+    )
         ensures { (es : EnvironmentsOf)
             → TakesAs (λ k. behind_name unread.old.input breaks request (row_of request).line)
-            es self.old self.new unread.old unread.new (Ok result) }
+            es self.old self.new unread.old unread.new (Ok (only_events [])) }
     {
         let reading = match request.row().line {
             LineReading::ByArguments => Reading::Arguments { breaks, request },
@@ -145,12 +149,12 @@ impl Reader {
             },
             LineReading::ByElse => Reading::branch(unread.take_kept() == Some(false)),
         };
-        self.read_on(reading)
+        self.go_on(reading);
     }
 }
 
 /// What a line does that begins with a name.
-fn called_by(name: ShortName, unread: &Unread<PageEvent>) -> Called
+pub(super) fn called_by(name: ShortName, unread: &Unread<PageEvent>) -> Called
     ensures { result ≡ called_by name unread.now.input.names }
 {
     match unread.get(&name.name()) {

@@ -4,14 +4,13 @@ ghost use Rattle.std.specs.Prelude.{Ok};
 ghost use Rattle.roff_run.specs.Clauses.{EnvironmentsOf, PageUnread, TakesAs, definition_cut};
 ghost use Rattle.roff_run.specs.Clauses.{end_taking, half_ended, interrupted_end, meaning_events};
 
-use super::places::{at_start, on_line};
 use super::{Meaning, Reader};
 use crate::environments::Environments;
 use crate::event::{Events, PageEvent};
 use crate::message::Message;
 use crate::reading::{Reading, ShortName, TextStep};
 use roff_num::Limit;
-use roff_scan::{CopyUnit, Surroundings, Unread};
+use roff_scan::{CopyUnit, Unread};
 
 impl Reader {
     /// What is half read ends, before what stays or at the end of the input.
@@ -27,65 +26,9 @@ impl Reader {
         ensures { TakesAs (λ k. half_ended k self.old.reading unread.old.input)
             environments.now self.old self.new unread.old unread.new result }
     {
-        match self.reading {
-            Reading::LineStart => {
-                let found = unread.end_reading(at_start(environments));
-                self.begin_line(Reading::LineStart, found, environments, unread)
-            }
-            Reading::Branch => {
-                let found = unread.end_reading(at_start(environments));
-                self.begin_line(Reading::Branch, found, environments, unread)
-            }
-            Reading::Braced => {
-                let found = unread.end_reading(at_start(environments));
-                self.begin_line(Reading::Braced, found, environments, unread)
-            }
-            Reading::Text(line) => {
-                let found = unread.end_reading(on_line(environments, line));
-                self.read_text(line, found, environments, unread)
-            }
-            Reading::Arguments { breaks, request } => {
-                let found = unread.end_reading(Surroundings::Arguments);
-                self.read_arguments(breaks, request, found, environments, unread)
-            }
-            Reading::Deciding { keeps } => {
-                let found = unread.end_reading(Surroundings::Arguments);
-                self.read_condition(keeps, found, environments, unread)
-            }
-            Reading::StringName { appends } => {
-                let found = unread.end_reading(Surroundings::Arguments);
-                self.read_string_name(appends, found, environments, unread)
-            }
-            Reading::StringText {
-                name,
-                appends,
-                is_front,
-            } => {
-                let found = unread.end_reading(Surroundings::Copy);
-                self.read_string(name, appends, is_front, found, environments, unread)
-            }
-            Reading::Telling { aborts, is_front } => {
-                let found = unread.end_reading(Surroundings::Copy);
-                self.read_message(aborts, is_front, found, environments, unread)
-            }
-            Reading::Calling { name } => {
-                let found = unread.end_reading(Surroundings::Arguments);
-                self.read_call(name, found, environments, unread)
-            }
-            Reading::Defining {
-                name,
-                appends,
-                end,
-                matched,
-            } => {
-                let found = unread.end_reading(Surroundings::Copy);
-                self.read_definition(name, appends, end, matched, found, environments, unread)
-            }
-            _ => {
-                let _ = unread.end_reading(Surroundings::Text(0));
-                Ok(Meaning::nothing())
-            }
-        }
+        let place = self.place(environments);
+        let found = unread.end_reading(place);
+        self.read_found(found, environments, unread)
     }
 
     /// The end of the input: an unfinished line ends.

@@ -1,8 +1,10 @@
 use Rattle.std.proofs.Common.{◌≡◌, true, false, rules, refl, [], sym, ap, None, Ok}
-use Rattle.roff_run.specs.Reading.{behind_called, behind_name, ends_name, kept_taking, name_ended_taking}
+use Rattle.roff_run.specs.Registers.{Known}
+use Rattle.roff_run.specs.Reading.{Taking, behind_called, behind_name, ends_name, kept_taking, name_ended_taking}
 use Rattle.roff_run.specs.Requests.{row_of}
 use Rattle.roff_run.specs.declared.reading.Reading.TheVariants.{Calling, Dropped, Name}
 use Rattle.roff_run.specs.declared.reading.ShortName.{ShortName}
+use Rattle.roff_run.proofs.ReadAtOnce.{TakesAs-nothing}
 use Rattle.roff_run.proofs.TakesAs.{TakesAs-as, TakesAs-meant}
 use Rattle.roff_run.proofs.reader.Reader.end_name.Goals as goal
 
@@ -18,14 +20,17 @@ returns-then-ends_name c =
 
 pub returns-in-Request : goal.returns-in-Request
 returns-in-Request c =
-    let i = c.args.unread.now.input in
-    let b = c.args.byte in
+    let es = c.args.environments.now in
+    let old = c.args.self.now in
+    let u = c.args.unread.now in
     let breaks = c.args.breaks in
     let request = c.in-Request.request in
     let begun = c.begin_request in
-    let goes_on : ends_name b ≡ false = search rules in
-    TakesAs-as (λ k. behind_name i breaks request (row_of request).line) (λ k. kept_taking k (Name breaks c.args.first) i b) c.args.environments.now c.args.self.now begun.new.self
-    c.args.unread.now begun.new.unread (Ok begun.result) (λ k. rw goes_on (ap (behind_called i breaks) c.in-Request.ensures)) (begun.ensures c.args.environments.now)
+    let behind : Known → Taking = λ k. behind_name u.input breaks request (row_of request).line in
+    let goes_on : ends_name c.args.byte ≡ false = search rules in
+    TakesAs-as behind (λ k. kept_taking k (Name breaks c.args.first) u.input c.args.byte) es old begun.new.self u begun.new.unread (Ok c.nothing.result)
+    (λ k. rw goes_on (ap (behind_called u.input breaks) c.in-Request.ensures))
+    (TakesAs-nothing behind es old begun.new.self u begun.new.unread c.nothing.result c.nothing.ensures.message c.nothing.ensures.events (begun.ensures es))
 
 pub returns-in-Body : goal.returns-in-Body
 returns-in-Body c =

@@ -1,0 +1,25 @@
+use Rattle.std.proofs.Common.{[], Ok, refl}
+use Rattle.roff_run.specs.Reading.{Taking, taking}
+use Rattle.roff_run.specs.Registers.{Known}
+use Rattle.roff_engine.proofs.TakenAtOnce.{at_once_done, performs_nothing, taken_behind_nothing}
+use Rattle.roff_engine.proofs.formatter.Formatter.take_above.Goals as goal
+
+pub returns-in-Done : goal.returns-in-Done
+returns-in-Done g c =
+    let old = c.args.self.now in
+    let u = c.args.unread.now in
+    let t : Known → Taking = λ k. taking k old.reader.reading u.input c.args.byte in
+    at_once_done t [] old old old u c.read_above.new.unread _ _ _ (Ok tt) c.in-Done.ensures refl (performs_nothing old _)
+
+pub returns-in-Found : goal.returns-in-Found
+returns-in-Found g c =
+    let old = c.args.self.now in
+    let u = c.args.unread.now in
+    c.take_found.ensures (λ k. taking k old.reader.reading u.input c.args.byte) u c.in-Found.ensures
+
+pub returns-in-Not : goal.returns-in-Not
+returns-in-Not g c =
+    let old = c.args.self.now in
+    let b = c.args.byte in
+    taken_behind_nothing (λ f v k. taking k f.reader.reading v.input b) old old c.take_as_read.new.self c.args.unread.now c.read_above.new.unread c.take_as_read.new.unread _ _
+    c.take_as_read.result refl c.in-Not.ensures c.take_as_read.ensures

@@ -1,0 +1,135 @@
+-- What a byte, or the end of what is half read, gives what is read, in two steps.
+use Rattle.std.proofs.Common.{◌≡◌, ℕ, Bool, true, Option, refl}
+use Rattle.roff_scan.specs.Halves.{byte_read, reading_ended}
+use Rattle.roff_scan.specs.Input.{with_half}
+use Rattle.roff_scan.specs.declared.half.Read.{Read}
+use Rattle.roff_run.specs.Reader.Above.{reads_above}
+use Rattle.roff_run.specs.Reader.Found.{found_in, has_place, place_in}
+use Rattle.roff_run.specs.Reading.{PageInput, going_on, half_ended, kept_taking}
+use Rattle.roff_run.specs.Registers.{Known}
+use Rattle.roff_run.specs.declared.reading.Reading.{Reading}
+use Rattle.roff_run.specs.declared.reading.Reading.TheVariants.{StringName, StringText, LineStart, Branch, Braced, Text as InText, Control, Name, Arguments as InArguments, Deciding, Skipping, Dropped, Telling, Told, Exiting, Calling, Defining}
+use Rattle.roff_run.specs.declared.reading.ShortName.{ShortName}
+use Rattle.roff_run.specs.declared.reading.TextLine.{TextLine}
+use Rattle.roff_run.specs.declared.request.Request.{Request}
+
+-- a byte is read by what is half read, and does what was found
+pub kept-placed : (k : Known) (i : PageInput) (r : Reading) (b : ℕ) → has_place r ≡ true
+    → found_in k (with_half (byte_read (place_in k r) i.half b).1 i) r (byte_read (place_in k r) i.half b).0 ≡ kept_taking k r i b
+kept-placed k i LineStart b is = refl
+kept-placed k i Branch b is = refl
+kept-placed k i Braced b is = refl
+kept-placed k i (InText line) b is = refl
+kept-placed k i (Control breaks) b is = cc
+kept-placed k i (Name breaks first) b is = cc
+kept-placed k i (InArguments breaks request) b is = refl
+kept-placed k i (Deciding keeps) b is = refl
+kept-placed k i (StringName appends) b is = refl
+kept-placed k i (StringText name appends is_front) b is = refl
+kept-placed k i (Calling name) b is = refl
+kept-placed k i (Defining name appends end matched) b is = refl
+kept-placed k i (Skipping opened closed behind) b is = cc
+kept-placed k i Dropped b is = cc
+kept-placed k i (Telling aborts is_front) b is = refl
+kept-placed k i (Told aborts) b is = cc
+kept-placed k i Exiting b is = cc
+
+-- so does the end of what is half read
+pub half_ended-placed : (k : Known) (i : PageInput) (r : Reading)
+    → found_in k (with_half (reading_ended (place_in k r) i.half).1 i) r (reading_ended (place_in k r) i.half).0 ≡ half_ended k r i
+half_ended-placed k i LineStart = refl
+half_ended-placed k i Branch = refl
+half_ended-placed k i Braced = refl
+half_ended-placed k i (InText line) = refl
+half_ended-placed k i (Control breaks) = refl
+half_ended-placed k i (Name breaks first) = refl
+half_ended-placed k i (InArguments breaks request) = refl
+half_ended-placed k i (Deciding keeps) = refl
+half_ended-placed k i (StringName appends) = refl
+half_ended-placed k i (StringText name appends is_front) = refl
+half_ended-placed k i (Calling name) = refl
+half_ended-placed k i (Defining name appends end matched) = refl
+half_ended-placed k i (Skipping opened closed behind) = refl
+half_ended-placed k i Dropped = refl
+half_ended-placed k i (Telling aborts is_front) = refl
+half_ended-placed k i (Told aborts) = refl
+half_ended-placed k i Exiting = refl
+
+-- where nothing is half read, whatever was found changes nothing
+pub found-elsewhere : (k : Known) (i : PageInput) (r : Reading) (found : Read)
+    → (r ≡ LineStart → ⊥)
+    → (r ≡ Branch → ⊥)
+    → (r ≡ Braced → ⊥)
+    → ((line : TextLine) → r ≡ InText line → ⊥)
+    → ((breaks : Bool) (request : Request) → r ≡ InArguments breaks request → ⊥)
+    → ((keeps : Bool) → r ≡ Deciding keeps → ⊥)
+    → ((appends : Bool) → r ≡ StringName appends → ⊥)
+    → ((name : Option ShortName) (appends : Bool) (is_front : Bool) → r ≡ StringText name appends is_front → ⊥)
+    → ((name : ShortName) → r ≡ Calling name → ⊥)
+    → ((name : Option ShortName) (appends : Bool) (end : Option ShortName) (matched : Option ℕ) → r ≡ Defining name appends end matched → ⊥)
+    → ((aborts : Bool) (is_front : Bool) → r ≡ Telling aborts is_front → ⊥)
+    → found_in k i r found ≡ going_on i r
+found-elsewhere k i LineStart found begun branch braced text arguments decides names strings calls defines tells = absurd (begun refl)
+found-elsewhere k i Branch found begun branch braced text arguments decides names strings calls defines tells = absurd (branch refl)
+found-elsewhere k i Braced found begun branch braced text arguments decides names strings calls defines tells = absurd (braced refl)
+found-elsewhere k i (InText line) found begun branch braced text arguments decides names strings calls defines tells = absurd (text line refl)
+found-elsewhere k i (Control breaks) found begun branch braced text arguments decides names strings calls defines tells = refl
+found-elsewhere k i (Name breaks first) found begun branch braced text arguments decides names strings calls defines tells = refl
+found-elsewhere k i (InArguments breaks request) found begun branch braced text arguments decides names strings calls defines tells = absurd (arguments breaks request refl)
+found-elsewhere k i (Deciding keeps) found begun branch braced text arguments decides names strings calls defines tells = absurd (decides keeps refl)
+found-elsewhere k i (StringName appends) found begun branch braced text arguments decides names strings calls defines tells = absurd (names appends refl)
+found-elsewhere k i (StringText name appends is_front) found begun branch braced text arguments decides names strings calls defines tells = absurd (strings name appends is_front refl)
+found-elsewhere k i (Calling name) found begun branch braced text arguments decides names strings calls defines tells = absurd (calls name refl)
+found-elsewhere k i (Defining name appends end matched) found begun branch braced text arguments decides names strings calls defines tells = absurd (defines name appends end matched refl)
+found-elsewhere k i (Skipping opened closed behind) found begun branch braced text arguments decides names strings calls defines tells = refl
+found-elsewhere k i Dropped found begun branch braced text arguments decides names strings calls defines tells = refl
+found-elsewhere k i (Telling aborts is_front) found begun branch braced text arguments decides names strings calls defines tells = absurd (tells aborts is_front refl)
+found-elsewhere k i (Told aborts) found begun branch braced text arguments decides names strings calls defines tells = refl
+found-elsewhere k i Exiting found begun branch braced text arguments decides names strings calls defines tells = refl
+
+-- all else that is read may have something half read above it
+pub placed : (r : Reading)
+    → ((breaks : Bool) → r ≡ Control breaks → ⊥)
+    → ((breaks : Bool) (first : ℕ) → r ≡ Name breaks first → ⊥)
+    → ((opened : ℕ) (closed : ℕ) (behind : Bool) → r ≡ Skipping opened closed behind → ⊥)
+    → (r ≡ Dropped → ⊥)
+    → ((aborts : Bool) → r ≡ Told aborts → ⊥)
+    → (r ≡ Exiting → ⊥)
+    → has_place r ≡ true
+placed LineStart control named skips dropped told left = refl
+placed Branch control named skips dropped told left = refl
+placed Braced control named skips dropped told left = refl
+placed (InText line) control named skips dropped told left = refl
+placed (Control breaks) control named skips dropped told left = absurd (control breaks refl)
+placed (Name breaks first) control named skips dropped told left = absurd (named breaks first refl)
+placed (InArguments breaks request) control named skips dropped told left = refl
+placed (Deciding keeps) control named skips dropped told left = refl
+placed (StringName appends) control named skips dropped told left = refl
+placed (StringText name appends is_front) control named skips dropped told left = refl
+placed (Calling name) control named skips dropped told left = refl
+placed (Defining name appends end matched) control named skips dropped told left = refl
+placed (Skipping opened closed behind) control named skips dropped told left = absurd (skips opened closed behind refl)
+placed Dropped control named skips dropped told left = absurd (dropped refl)
+placed (Telling aborts is_front) control named skips dropped told left = refl
+placed (Told aborts) control named skips dropped told left = absurd (told aborts refl)
+placed Exiting control named skips dropped told left = absurd (left refl)
+
+-- what is read where most that is found means nothing may
+pub above-placed : (r : Reading) → reads_above r ≡ true → has_place r ≡ true
+above-placed LineStart is = refl
+above-placed Branch is = cc
+above-placed Braced is = cc
+above-placed (InText line) is = refl
+above-placed (Control breaks) is = cc
+above-placed (Name breaks first) is = cc
+above-placed (InArguments breaks request) is = cc
+above-placed (Deciding keeps) is = refl
+above-placed (StringName appends) is = cc
+above-placed (StringText name appends is_front) is = cc
+above-placed (Calling name) is = cc
+above-placed (Defining name appends end matched) is = cc
+above-placed (Skipping opened closed behind) is = cc
+above-placed Dropped is = cc
+above-placed (Telling aborts is_front) is = cc
+above-placed (Told aborts) is = cc
+above-placed Exiting is = cc

@@ -1,0 +1,246 @@
+-- What the code takes at once, as the definition takes it.
+use Rattle.std.proofs.Common.{◌≡◌, ℕ, Bool, true, false, List, [], ◌∷◌, Option, Some, None, Result, Ok, Err, refl, subst, sym, ap, ◌∙◌}
+use Rattle.std.specs.Option.{option_to_list}
+use Rattle.std.specs.Prelude.{if◌then◌else◌, ◌==◌, length, not}
+use Rattle.std.proofs.lemmas.Bool.{eqb-true, not-false}
+use Rattle.std.proofs.lemmas.List.{nil_from_length}
+use Rattle.roff_num.specs.declared.limit.Limit.{Limit}
+use Rattle.roff_num.specs.declared.limits.Limits.{Limits}
+use Rattle.roff_scan.specs.Bytes.{backslash, is_dropped, newline}
+use Rattle.roff_scan.specs.Half.{Half, Backslash}
+use Rattle.roff_scan.specs.Halves.{byte_read}
+use Rattle.roff_scan.specs.Input.{body_named, calling_body, holding_text, with_half}
+use Rattle.roff_scan.specs.Unread.{changing, input_refusal, reading, unless_passed}
+use Rattle.roff_scan.specs.declared.half.CopyUnit.{CopyUnit}
+use Rattle.roff_scan.specs.declared.half.CopyUnit.TheVariants.{Byte}
+use Rattle.roff_scan.specs.declared.half.Read.{Read}
+use Rattle.roff_scan.specs.declared.half.Read.TheVariants.{GoesOn, Unit as GivesUnit, Holds, Escape, Asks, Motion, Measures, Tells, Decides}
+use Rattle.roff_scan.specs.declared.half.Surroundings.{Surroundings}
+use Rattle.roff_scan.specs.declared.half.Surroundings.TheVariants.{Arguments as AboveArguments}
+use Rattle.roff_run.specs.Environments.{PageHistory, interrupted_line}
+use Rattle.roff_run.specs.Environments.Standing.{StandFor}
+use Rattle.roff_run.specs.Reader.Above.{reads_above}
+use Rattle.roff_run.specs.Reader.AtOnce.{GoesOnAbove, IsReadAbove, MeansNothing, TakesAtOnce, only_events}
+use Rattle.roff_run.specs.Reader.Found.{found_in, place_in}
+use Rattle.roff_run.specs.Reader.State.{ReaderState}
+use Rattle.roff_run.specs.Reader.Taken.{PageUnread, TakesAs, Took}
+use Rattle.roff_run.specs.Reading.{PageInput, Taking, arguments_ended, arguments_read_on, at_start, beginning_read, call_read, going_on, holding, kept_taking, meaning_events, taking}
+use Rattle.roff_run.specs.Registers.{AllRegisters, Known}
+use Rattle.roff_run.specs.Requests.{PageEvent, row_of}
+use Rattle.roff_run.specs.Run.{known_at}
+use Rattle.roff_run.specs.ShortNames.{name_bytes}
+use Rattle.roff_run.specs.declared.environments.Environments.{Environments as EnvironmentsOf}
+use Rattle.roff_run.specs.declared.message.Message.{Message}
+use Rattle.roff_run.specs.declared.reader.AtOnce.{AtOnce}
+use Rattle.roff_run.specs.declared.reader.AtOnce.TheVariants.{Done, Found, Not}
+use Rattle.roff_run.specs.declared.reader.Meaning.{Meaning}
+use Rattle.roff_run.specs.declared.reading.Reading.{Reading}
+use Rattle.roff_run.specs.declared.reading.Reading.TheVariants.{StringName, StringText, LineStart, Branch, Braced, Text as InText, Control, Name, Arguments as InArguments, Deciding, Skipping, Dropped, Telling, Told, Exiting, Calling, Defining}
+use Rattle.roff_run.specs.declared.reading.ShortName.{ShortName}
+use Rattle.roff_run.specs.declared.request.Request.{Request}
+use Rattle.roff_run.proofs.FoundIn.{above-placed, kept-placed}
+use Rattle.roff_run.proofs.TakesAs.{TakesAs-as, TakesAs-changed, TakesAs-meant, TakesAs-read_at, taking-of}
+
+-- what is taken as one of two that are equal is taken as the other
+pub at_once-as : (s t : Known → Taking) (events : List PageEvent) (old new : ReaderState) (before behind : PageUnread) (on : Bool)
+    → ((k : Known) → s k ≡ t k) → TakesAtOnce s events old new before behind on → TakesAtOnce t events old new before behind on
+at_once-as s t events old new before behind true same takes =
+    λ es. TakesAs-as s t es old new before behind (Ok (only_events events)) same (takes es)
+at_once-as s t events old new before behind false same kept = kept
+
+-- of a byte that isn't dropped
+pub at_once-kept : (b : ℕ) (events : List PageEvent) (old new : ReaderState) (before behind : PageUnread) (on : Bool) → false ≡ is_dropped b
+    → TakesAtOnce (λ k. kept_taking k old.reading before.input b) events old new before behind on
+    → TakesAtOnce (λ k. taking k old.reading before.input b) events old new before behind on
+at_once-kept b events old new before behind on is takes =
+    at_once-as (λ k. kept_taking k old.reading before.input b) (λ k. taking k old.reading before.input b) events old new before behind on
+    (λ k. taking-of k old.reading before.input b false is) takes
+
+-- what is taken where this is being read
+pub at_once-where : (b : ℕ) (place : Reading) (old new : ReaderState) (before behind : PageUnread) (on : Bool) → old.reading ≡ place
+    → TakesAtOnce (λ k. kept_taking k place before.input b) [] old new before behind on
+    → TakesAtOnce (λ k. kept_taking k old.reading before.input b) [] old new before behind on
+at_once-where b place old new before behind on is takes =
+    at_once-as (λ k. kept_taking k place before.input b) (λ k. kept_taking k old.reading before.input b) [] old new before behind on
+    (λ k. ap (λ (r : Reading). kept_taking k r before.input b) (sym is)) takes
+
+-- something else is read on, and these events are meant
+pub at_once-meant : (t : Known → Taking) (place : Reading) (events : List PageEvent) (old new : ReaderState) (u : PageUnread)
+    → ((k : Known) → t k ≡ meaning_events u.input place events) → new ≡ record old { reading = place }
+    → TakesAtOnce t events old new u u true
+at_once-meant t place events old new u as_defined came = λ es.
+    TakesAs-meant t place events es old new u (only_events events) as_defined came refl refl
+
+-- the same where no interrupted line goes on
+pub meant-uninterrupted : (t : Known → Taking) (place : Reading) (events : List PageEvent) (es : EnvironmentsOf) (old new : ReaderState) (u : PageUnread)
+    → ((k : Known) → k.interrupted ≡ None → t k ≡ meaning_events u.input place events)
+    → ((l : Limits) (h : PageHistory) → StandFor l h es → None ≡ interrupted_line h) → new ≡ record old { reading = place }
+    → TakesAs t es old new u u (Ok (only_events events))
+meant-uninterrupted t place events es old new u as_defined none came = record {
+  takes = λ l h stands ready.
+      subst (λ (taking : Taking). Took taking old.registers new u u (only_events events))
+      (sym (as_defined (known_at h old.registers.all u.input) (sym (none l h stands))))
+      (record {
+        became = record {
+          input = refl;
+          reading = ap (λ (s : ReaderState). s.reading) came;
+          registers = ap (λ (s : ReaderState). s.registers) came;
+          within = ready.within;
+        };
+        messages = refl;
+        events = refl;
+      });
+}
+
+-- what means nothing means it whatever meaning says so
+pub TakesAs-nothing : (t : Known → Taking) (es : EnvironmentsOf) (old new : ReaderState) (before behind : PageUnread) (m : Meaning)
+    → m.message ≡ None → m.events.items ≡ [] → TakesAs t es old new before behind (Ok (only_events []))
+    → TakesAs t es old new before behind (Ok m)
+TakesAs-nothing t es old new before behind m silent none takes = record {
+  takes = λ l h stands ready.
+      let took : Took (t (known_at h old.registers.all before.input)) old.registers new before behind (only_events []) = takes.takes l h stands ready in
+      record {
+        became = took.became;
+        messages = ap (λ (message : Option Message). option_to_list message) silent ∙ took.messages;
+        events = none ∙ took.events;
+      };
+}
+
+-- the input changes, and this is read on
+pub at_once-changed : (t : Known → Taking) (i : PageInput) (place : Reading) (old new : ReaderState) (before behind : PageUnread) (done : Unit {0})
+    → ((k : Known) → going_on i place ≡ t k) → (Ok done, behind) ≡ changing i before → new ≡ record old { reading = place }
+    → TakesAtOnce t [] old new before behind true
+at_once-changed t i place old new before behind done as_defined changes came = λ es.
+    TakesAs-as (λ k. going_on i place) t es old new before behind (Ok (only_events [])) as_defined
+    (TakesAs-changed i place es old new before behind (only_events []) done changes came refl refl)
+
+-- where a limit refuses the change the input stays
+stays_if : (refusal : Option Limit) (i : PageInput) (u behind : PageUnread) (limit : Limit) → (Err limit, behind) ≡ unless_passed refusal i u → behind ≡ u
+stays_if None i u behind limit is =
+    let differs = ap (λ (answer : Result (Unit {0}) Limit × PageUnread). answer.0) is in cc
+stays_if (Some other) i u behind limit is = ap (λ (answer : Result (Unit {0}) Limit × PageUnread). answer.1) is
+
+pub refused-stays : (i : PageInput) (u behind : PageUnread) (limit : Limit) → (Err limit, behind) ≡ changing i u → behind ≡ u
+refused-stays i u behind limit is = stays_if (input_refusal u.limits i) i u behind limit is
+
+-- where it isn't so that something is half read, nothing is
+pub none_half : (half : List Half) → not (length half == 0) ≡ false → half ≡ []
+none_half half is = nil_from_length half (eqb-true (length half) 0 (not-false (length half == 0) is))
+
+-- where nothing is half read, a dot begins a control line
+pub begins-dot : (k : Known) (i : PageInput) → i.half ≡ [] → kept_taking k LineStart i 46 ≡ going_on i (Control true)
+begins-dot k i none =
+    ap (λ (half : List Half). beginning_read k i LineStart (byte_read (at_start k) half 46)) none
+    ∙ ap (λ (half : List Half). going_on (record i { half = half }) (Control true)) (sym none)
+
+-- and an apostrophe one whose requests don't break
+pub begins-apostrophe : (k : Known) (i : PageInput) → i.half ≡ [] → kept_taking k LineStart i 39 ≡ going_on i (Control false)
+begins-apostrophe k i none =
+    ap (λ (half : List Half). beginning_read k i LineStart (byte_read (at_start k) half 39)) none
+    ∙ ap (λ (half : List Half). going_on (record i { half = half }) (Control false)) (sym none)
+
+-- a newline ends a line that calls a body
+pub ends-call : (k : Known) (i : PageInput) (name : ShortName) → i.half ≡ []
+    → going_on (calling_body (body_named (name_bytes name) i) i) LineStart ≡ kept_taking k (Calling name) i 10
+ends-call k i name none =
+    ap (λ (half : List Half). going_on (calling_body (body_named (name_bytes name) (record i { half = half })) (record i { half = half })) LineStart) none
+    ∙ ap (λ (half : List Half). call_read k i name (byte_read AboveArguments half 10)) (sym none)
+
+-- another byte behind a request's name is held, but for a backslash
+pub holds-byte : (k : Known) (breaks : Bool) (request : Request) (i : PageInput) (b : ℕ) → i.half ≡ []
+    → (b == backslash) ≡ false → (b == newline) ≡ false
+    → going_on (holding (Byte b) i) (InArguments breaks request) ≡ kept_taking k (InArguments breaks request) i b
+holds-byte k breaks request i b none no_escape no_newline =
+    let reading : Reading = InArguments breaks request in
+    let bare : PageInput = record i { half = [] } in
+    let unit : byte_read AboveArguments [] b ≡ (GivesUnit (Byte b), []) =
+    ap (λ (c : Bool). if c then (GoesOn, Backslash ∷ []) else (GivesUnit (Byte b), [])) no_escape in
+    sym
+    (ap (λ (half : List Half). arguments_read_on k i breaks request (byte_read AboveArguments half b)) none
+    ∙ ap (arguments_read_on k i breaks request) unit
+    ∙ ap (λ (c : Bool). if c then arguments_ended k bare breaks request (row_of request).line else going_on (holding (Byte b) bare) reading) no_newline
+    ∙ ap (λ (half : List Half). going_on (holding (Byte b) (record i { half = half })) reading) (sym none))
+
+-- where nothing is found yet, this is read on
+goes_on-above : (k : Known) (i : PageInput) (r : Reading) → reads_above r ≡ true → found_in k i r GoesOn ≡ going_on i r
+goes_on-above k i LineStart is = refl
+goes_on-above k i (InText line) is = refl
+goes_on-above k i (Deciding keeps) is = refl
+goes_on-above k i Branch is = cc
+goes_on-above k i Braced is = cc
+goes_on-above k i (Control breaks) is = cc
+goes_on-above k i (Name breaks first) is = cc
+goes_on-above k i (InArguments breaks request) is = cc
+goes_on-above k i (StringName appends) is = cc
+goes_on-above k i (StringText name appends is_front) is = cc
+goes_on-above k i (Calling name) is = cc
+goes_on-above k i (Defining name appends end matched) is = cc
+goes_on-above k i (Skipping opened closed behind) is = cc
+goes_on-above k i Dropped is = cc
+goes_on-above k i (Telling aborts is_front) is = cc
+goes_on-above k i (Told aborts) is = cc
+goes_on-above k i Exiting is = cc
+
+-- a unit of a text that is read is held
+holds-above : (k : Known) (i : PageInput) (r : Reading) (unit : CopyUnit) → reads_above r ≡ true
+    → going_on (holding_text unit i) r ≡ found_in k i r (Holds unit)
+holds-above k i LineStart unit is = refl
+holds-above k i (InText line) unit is = refl
+holds-above k i (Deciding keeps) unit is = refl
+holds-above k i Branch unit is = cc
+holds-above k i Braced unit is = cc
+holds-above k i (Control breaks) unit is = cc
+holds-above k i (Name breaks first) unit is = cc
+holds-above k i (InArguments breaks request) unit is = cc
+holds-above k i (StringName appends) unit is = cc
+holds-above k i (StringText name appends is_front) unit is = cc
+holds-above k i (Calling name) unit is = cc
+holds-above k i (Defining name appends end matched) unit is = cc
+holds-above k i (Skipping opened closed behind) unit is = cc
+holds-above k i Dropped unit is = cc
+holds-above k i (Telling aborts is_front) unit is = cc
+holds-above k i (Told aborts) unit is = cc
+holds-above k i Exiting unit is = cc
+
+-- what was found that means nothing was taken
+nothing-above : (es : EnvironmentsOf) (old : ReaderState) (mid behind : PageUnread) (found : Read) → reads_above old.reading ≡ true → MeansNothing found mid behind
+    → TakesAs (λ k. found_in k mid.input old.reading found) es old old mid behind (Ok (only_events []))
+nothing-above es old mid behind GoesOn above stays =
+    subst (λ (u : PageUnread). TakesAs (λ k. found_in k mid.input old.reading GoesOn) es old old mid u (Ok (only_events []))) (sym stays)
+    (TakesAs-meant (λ k. found_in k mid.input old.reading GoesOn) old.reading [] es old old mid (only_events [])
+    (λ k. goes_on-above k mid.input old.reading above) refl refl refl)
+nothing-above es old mid behind (Holds unit) above changes =
+    TakesAs-as (λ k. going_on (holding_text unit mid.input) old.reading) (λ k. found_in k mid.input old.reading (Holds unit)) es old old mid behind (Ok (only_events []))
+    (λ k. holds-above k mid.input old.reading unit above)
+    (TakesAs-changed (holding_text unit mid.input) old.reading es old old mid behind (only_events []) tt changes refl refl refl)
+nothing-above es old mid behind (GivesUnit unit) above none = absurd none
+nothing-above es old mid behind (Escape b) above none = absurd none
+nothing-above es old mid behind (Asks purpose name) above none = absurd none
+nothing-above es old mid behind (Motion columns remark) above none = absurd none
+nothing-above es old mid behind (Measures width) above none = absurd none
+nothing-above es old mid behind (Tells remark) above none = absurd none
+nothing-above es old mid behind (Decides decision freed) above none = absurd none
+
+-- a byte there
+module _ (b : ℕ) (place : Surroundings) (es : EnvironmentsOf) (old : ReaderState) (before mid : PageUnread) (found : Read) (kept : false ≡ is_dropped b)
+    (above : reads_above old.reading ≡ true)
+    (is_place : (l : Limits) (h : PageHistory) (rs : AllRegisters) (i : PageInput) → StandFor l h es → place ≡ place_in (known_at h rs i) old.reading)
+    (reads : (found, mid) ≡ reading (byte_read place before.input.half b) before) where
+  -- what was found of it was taken, and so the byte was
+  found-taken : (new : ReaderState) (end : PageUnread) (result : Result Meaning Limit) → TakesAs (λ k. found_in k mid.input old.reading found) es old new mid end result
+      → TakesAs (λ k. taking k old.reading before.input b) es old new before end result
+  found-taken new end result takes =
+      TakesAs-as (λ k. found_in k (with_half (byte_read (place_in k old.reading) before.input.half b).1 before.input) old.reading (byte_read (place_in k old.reading) before.input.half b).0)
+      (λ k. taking k old.reading before.input b) es old new before end result
+      (λ k. kept-placed k before.input old.reading b (above-placed old.reading above) ∙ taking-of k old.reading before.input b false kept)
+      (TakesAs-read_at (λ k i found. found_in k i old.reading found) (λ k. place_in k old.reading) place es is_place old new before mid end found result b reads takes)
+
+  -- by how far it was read at once
+  pub read-above : (behind : PageUnread) (answer : AtOnce) → GoesOnAbove found mid behind answer
+      → IsReadAbove (λ k. taking k old.reading before.input b) es old before behind answer
+  read-above behind Not none = absurd none
+  read-above behind Done nothing = found-taken old behind (Ok (only_events [])) (nothing-above es old mid behind found above nothing)
+  read-above behind (Found other) same = λ new end result takes.
+      found-taken new end result
+      (subst (λ (f : Read). TakesAs (λ k. found_in k mid.input old.reading f) es old new mid end result) same.0
+      (subst (λ (u : PageUnread). TakesAs (λ k. found_in k u.input old.reading other) es old new u end result) same.1 takes))

@@ -1,0 +1,13 @@
+use Rattle.std.proofs.Common.{◌≡◌, false, rules, true}
+use Rattle.roff_scan.specs.Bytes.{is_dropped}
+use Rattle.roff_run.specs.Reader.Above.{reads_above}
+use Rattle.roff_run.proofs.ReadAtOnce.{read-above}
+use Rattle.roff_run.proofs.reader.Reader.read_above.Goals as goal
+
+pub returns : goal.returns
+returns c =
+    let read = c.read_byte-found in
+    let kept : false ≡ is_dropped c.args.byte = search rules in
+    let above : reads_above c.args.self.now.reading ≡ true = search rules in
+    read-above c.args.byte c.place-place.result c.args.environments.now c.args.self.now c.args.unread.now read.new.self read.result kept above c.place-place.ensures
+    read.ensures.reading c.goes_on_above.new.unread c.goes_on_above.result c.goes_on_above.ensures

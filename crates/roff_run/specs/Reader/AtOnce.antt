@@ -1,0 +1,56 @@
+-- What the code takes at once, and what that means.
+use Rattle.std.specs.Prelude.{◌≡◌, ℕ, Bool, true, false, List, [], ◌∷◌, None, Result, Ok}
+use Rattle.roff_num.specs.declared.limit.Limit.{Limit}
+use Rattle.roff_scan.specs.Input.{holding_text}
+use Rattle.roff_scan.specs.Unread.{changing}
+use Rattle.roff_scan.specs.declared.half.Read.{Read}
+use Rattle.roff_scan.specs.declared.half.Read.TheVariants.{GoesOn, Holds}
+use Rattle.roff_lines.specs.declared.event.Event.TheVariants.{Count, LineEnd, Print, WordEnd}
+use Rattle.roff_lines.specs.declared.glyph.Glyph.TheVariants.{Printed}
+use Rattle.roff_run.specs.Reader.Found.{found_in}
+use Rattle.roff_run.specs.Reader.State.{ReaderState}
+use Rattle.roff_run.specs.Reader.Taken.{PageUnread, TakesAs}
+use Rattle.roff_run.specs.Reading.{Taking}
+use Rattle.roff_run.specs.Registers.{Known}
+use Rattle.roff_run.specs.Requests.{PageEvent, Text}
+use Rattle.roff_run.specs.declared.environments.Environments.{Environments as EnvironmentsOf}
+use Rattle.roff_run.specs.declared.reader.AtOnce.{AtOnce}
+use Rattle.roff_run.specs.declared.reader.AtOnce.TheVariants.{Done, Found, Not}
+use Rattle.roff_run.specs.declared.reader.Meaning.{Meaning}
+
+-- events alone
+abbrev pub only_events : List PageEvent → Meaning
+only_events events = record { message = None; events = record { items = events } }
+
+-- the end of a text line on which a glyph stands
+abbrev pub ended_line : List PageEvent
+ended_line = Text WordEnd ∷ Text LineEnd ∷ Text Count ∷ []
+
+-- a glyph that a byte prints
+abbrev pub first_glyph : ℕ → List PageEvent
+first_glyph b = Text (Print (Printed b)) ∷ []
+
+-- The code took what the definition takes, which means these events alone; or nothing happened.
+abbrev pub TakesAtOnce : (Known → Taking) → List PageEvent → ReaderState → ReaderState → PageUnread → PageUnread → Bool → Type 0
+TakesAtOnce t events old new before behind true = (es : EnvironmentsOf) → TakesAs t es old new before behind (Ok (only_events events))
+TakesAtOnce t events old new before behind false = (new ≡ old) × (behind ≡ before)
+
+-- what was found means nothing, and was held if it is a unit of a text that is being read
+abbrev pub MeansNothing : Read → PageUnread → PageUnread → Type 0
+MeansNothing GoesOn before behind = behind ≡ before
+MeansNothing (Holds unit) before behind = (Ok tt, behind) ≡ changing (holding_text unit before.input) before
+MeansNothing (_) before behind = ⊥
+
+-- what was found means nothing, or is given back
+abbrev pub GoesOnAbove : Read → PageUnread → PageUnread → AtOnce → Type 0
+GoesOnAbove found before behind Not = ⊥
+GoesOnAbove found before behind Done = MeansNothing found before behind
+GoesOnAbove found before behind (Found other) = (other ≡ found) × (behind ≡ before)
+
+-- Nothing happened; or the code took what the definition takes, which means nothing; or it does once it has taken what was found.
+abbrev pub IsReadAbove : (Known → Taking) → EnvironmentsOf → ReaderState → PageUnread → PageUnread → AtOnce → Type 0
+IsReadAbove t es old before behind Not = behind ≡ before
+IsReadAbove t es old before behind Done = TakesAs t es old old before behind (Ok (only_events []))
+IsReadAbove t es old before behind (Found found) =
+    (new : ReaderState) (end : PageUnread) (result : Result Meaning Limit)
+    → TakesAs (λ k. found_in k behind.input old.reading found) es old new behind end result → TakesAs t es old new before end result

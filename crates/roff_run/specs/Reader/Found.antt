@@ -1,0 +1,49 @@
+-- What a byte, or the end of what is half read, gives what is read: the cases of `kept_taking` and `half_ended`, in two steps.
+use Rattle.std.specs.Prelude.{Bool, true, false, pos}
+use Rattle.roff_scan.specs.declared.half.Read.{Read}
+use Rattle.roff_scan.specs.declared.half.Surroundings.{Surroundings}
+use Rattle.roff_scan.specs.declared.half.Surroundings.TheVariants.{Text as AboveText, Arguments as AboveArguments, Copy as AboveCopy}
+use Rattle.roff_run.specs.Reading.{PageInput, Taking, arguments_found, at_start, beginning_found, call_found, condition_found, definition_found, going_on, message_found, on_line, string_name_found, string_text_found, text_found}
+use Rattle.roff_run.specs.Registers.{Known}
+use Rattle.roff_run.specs.declared.reading.Reading.{Reading}
+use Rattle.roff_run.specs.declared.reading.Reading.TheVariants.{StringName, StringText, LineStart, Branch, Braced, Text as InText, Control, Name, Arguments as InArguments, Deciding, Skipping, Dropped, Telling, Told, Exiting, Calling, Defining}
+
+-- whether a byte may be read by what is half read
+abbrev pub has_place : Reading → Bool
+has_place (Control breaks) = false
+has_place (Name breaks first) = false
+has_place (Skipping opened closed behind) = false
+has_place Dropped = false
+has_place (Told aborts) = false
+has_place Exiting = false
+has_place (_) = true
+
+-- how a byte is read above what is read
+abbrev pub place_in : Known → Reading → Surroundings
+place_in k LineStart = at_start k
+place_in k Branch = at_start k
+place_in k Braced = at_start k
+place_in k (InText line) = on_line k line
+place_in k (InArguments breaks request) = AboveArguments
+place_in k (Deciding keeps) = AboveArguments
+place_in k (StringName appends) = AboveArguments
+place_in k (Calling name) = AboveArguments
+place_in k (StringText name appends is_front) = AboveCopy
+place_in k (Telling aborts is_front) = AboveCopy
+place_in k (Defining name appends end matched) = AboveCopy
+place_in k (_) = AboveText (pos 0)
+
+-- what does that which was found there
+abbrev pub found_in : Known → PageInput → Reading → Read → Taking
+found_in k i LineStart found = beginning_found k i LineStart found
+found_in k i Branch found = beginning_found k i Branch found
+found_in k i Braced found = beginning_found k i Braced found
+found_in k i (InText line) found = text_found k i line found
+found_in k i (InArguments breaks request) found = arguments_found k i breaks request found
+found_in k i (Deciding keeps) found = condition_found k i keeps found
+found_in k i (StringName appends) found = string_name_found k i appends found
+found_in k i (StringText name appends is_front) found = string_text_found k i name appends is_front found
+found_in k i (Telling aborts is_front) found = message_found k i aborts is_front found
+found_in k i (Calling name) found = call_found k i name found
+found_in k i (Defining name appends end matched) found = definition_found k i name appends end matched found
+found_in k i reading found = going_on i reading
