@@ -4,8 +4,8 @@
 //!
 //! The folder, the current one at first, is this crate's `data`. Its `rows` and `examples` have for
 //! each row a document `NAME.roff`, and what the program makes of it: the output in `NAME.txt`, the
-//! messages in `NAME.messages` and the exit status in `NAME.status`. The command and its options are
-//! in `NAME.args`, a word on a line. A file that isn't there says what is usual: no output, no
+//! messages in `NAME.messages` and the exit status in `NAME.status`. The command and its options
+//! are in `NAME.args`, a word on a line. A file that isn't there says what is usual: no output, no
 //! messages, status 0, and the command `nroff` without options. The document is standard input.
 #![tactic(auto)]
 
