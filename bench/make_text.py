@@ -4,14 +4,16 @@
     bench/make_text.py text MEGABYTES       running text: sentences in lines of 50 to 75 bytes, now and then a blank line
     bench/make_text.py requests MEGABYTES   the same with a request after every 2 to 5 lines
     bench/make_text.py registers MEGABYTES  the same with a register set after every 2 to 5 lines, and one read in each line
+    bench/make_text.py code MEGABYTES       filling off: lines of source code of 0 to 90 bytes, set in by blanks or by tabs
     bench/make_text.py skipped MEGABYTES    running text as the branch of a condition that is false
     bench/make_text.py macros MEGABYTES     running text with macros, strings and registers of its own
     bench/make_text.py loop MEGABYTES       macros that call each other until so many bytes of them were read; writes nothing
 """
+import functools
 import random
 import sys
 
-KINDS = ("text", "requests", "registers", "skipped", "macros", "loop")
+KINDS = ("text", "requests", "registers", "code", "skipped", "macros", "loop")
 
 MEGABYTE = 1_000_000
 
@@ -77,6 +79,16 @@ SETTINGS = [
 
 READINGS = ["\\na", "\\nb", "\\nc", "\\n(xy", "\\n+a", "\\n-(xy", "\\n(.l"]
 
+# What stands between the words of a line of source code, and at its end, and how long such a line may be.
+SIGNS = [" ", " ", "_", ".", ", ", " = ", " + ", " == ", "(", ") * (", "[i]->", " && !"]
+
+ENDS = [";", ";", ";", ");", " {", "}", ",", ""]
+
+LONGEST_CODE = 90
+
+# What stands before lines of source code.
+UNFILLED = b".nf\n"
+
 # What stands before and behind text that is skipped.
 SKIPPED = (b".if 0 \\{\\\n", b".\\}\n")
 
@@ -133,16 +145,17 @@ CALLS = [
     ".ds ch part",
 ]
 
-# The body of the innermost macro of a loop, and the names of those that call it, each ten times as often as the one before.
+# The body of the innermost macro of a loop, and the names of those that call it, each ten times as often as the one
+# before. A line of the document calls it a hundred times at most: mandoc gives up behind a thousand.
 LOOPED = '.\\\\" counted in a register\n.nr a +1\n.if \\\\na<0 .tm below\n'
 
-CALLERS = "bcdefg"
+CALLERS = "bc"
 
 
 class Writer:
-    def __init__(self):
+    def __init__(self, number):
         # random() alone gives the same numbers in every version of Python.
-        self.random = random.Random(1978).random
+        self.random = random.Random(1978 + number).random
 
     def between(self, low, high):
         return low + int(self.random() * (high - low + 1))
@@ -175,11 +188,22 @@ class Writer:
                     line, goal = "", self.between(50, 62)
         return [*lines, line] if line else lines
 
+    def code(self):
+        """Returns lines of source code, each at most one step further in or out than the line before."""
+        lines, depth = [], self.between(0, 3)
+        for _ in range(self.between(3, 12)):
+            line = self.one_of(["\t", "    "]) * depth + self.one_of(WORDS)
+            for _ in range(self.between(0, 11)):
+                line += self.one_of(SIGNS) + self.one_of(WORDS)
+            lines.append(line[: LONGEST_CODE - 2] + self.one_of(ENDS))
+            depth = min(max(depth + self.between(-1, 1), 0), 6)
+        return lines
+
     def document(self, kind, size):
         """Returns so many bytes of text, cut at a line's end."""
         parts, length = [], 0
         while length < size:
-            lines = self.paragraph()
+            lines = self.code() if kind == "code" else self.paragraph()
             if kind == "requests":
                 lines = self.with_requests(lines, REQUESTS)
             elif kind == "registers":
@@ -217,13 +241,20 @@ def loop(size):
     return "".join(parts).encode()
 
 
-def write_document(kind, size, file):
+@functools.cache
+def new_text(kind, size, number):
+    return Writer(number).document(kind, size)
+
+
+def write_document(kind, size, file, number=0):
+    """Writes a document of so many bytes; of several documents alike, the one of this number."""
     if kind == "loop":
         file.write(loop(size))
         return
-    front, behind = {"skipped": SKIPPED, "macros": (MACROS.encode(), b"")}.get(kind, (b"", b""))
+    around = {"skipped": SKIPPED, "macros": (MACROS.encode(), b""), "code": (UNFILLED, b"")}
+    front, behind = around.get(kind, (b"", b""))
     size -= len(front + behind)
-    text = Writer().document(kind, min(size, NEW_TEXT))
+    text = new_text(kind, min(size, NEW_TEXT), number)
     whole = size // len(text) if text else 0
     file.write(front)
     for _ in range(whole):
