@@ -31,12 +31,34 @@ impl Block {
     }
 
     /// Writes a line.
-    #[inline(never)]
+    #[inline(always)]
     pub(crate) fn put_line<O: ByteSink>(
         &mut self,
         line: Line<'_>,
         out: &mut O,
     ) -> Result<(), SinkFault>
+        ensures { Puts (O.sunk out.old) (O.sunk out.new)
+            (line_bytes (finished_of line.entry)) result }
+    {
+        if line.after < BLOCK as u64 {
+            return self.put_pieces(line, out);
+        }
+        let alone = Line {
+            text: line.text,
+            lead: line.lead,
+            spare: line.spare,
+            gaps: line.gaps,
+            after: 0,
+        };
+        match self.put_pieces(alone, out) {
+            Ok(()) => self.put_newlines(line.after, out),
+            Err(fault) => Err(fault),
+        }
+    }
+
+    /// Writes a line piece by piece, its blank lines a byte at a time.
+    #[inline(never)]
+    fn put_pieces<O: ByteSink>(&mut self, line: Line<'_>, out: &mut O) -> Result<(), SinkFault>
         ensures { Puts (O.sunk out.old) (O.sunk out.new)
             (line_bytes (finished_of line.entry)) result }
     {
@@ -59,10 +81,22 @@ impl Block {
     ) -> Result<(), SinkFault>
         ensures { Puts (O.sunk out.old) (O.sunk out.new) (replicate lines 10) result }
     {
+        self.put_newlines(u64::from(lines), out)
+    }
+
+    /// Writes so many newlines, a block of them at a time.
+    #[inline(never)]
+    fn put_newlines<O: ByteSink>(&mut self, count: u64, out: &mut O) -> Result<(), SinkFault>
+        ensures { Puts (O.sunk out.old) (O.sunk out.new) (replicate count 10) result }
+    {
         let bytes = &mut self.bytes;
-        for _ in 0..lines {
-            push(bytes, b'\n', out)?;
+        for _ in 0..count / BLOCK as u64 {
+            bytes.resize(BLOCK, b'\n').unwrap();
+            put(bytes, out)?;
         }
+        bytes
+            .resize((count % BLOCK as u64) as usize, b'\n')
+            .unwrap();
         put(bytes, out)
     }
 }
