@@ -1,5 +1,5 @@
 -- Columns of a line's text.
-use Rattle.std.proofs.Common.{◌≡◌, ℕ, zero, suc, ◌+◌, ◌-◌, ◌*◌, ◌/◌, ◌≤◌, Bool, true, false, List, [], ◌∷◌, ◌++◌, take, zero-add, add-zero, arith, refl, sym, ap, ◌∙◌, cond}
+use Rattle.std.proofs.Common.{◌≡◌, ℕ, zero, suc, ◌+◌, ◌-◌, ◌*◌, ◌/◌, ◌≤◌, Bool, true, false, List, [], ◌∷◌, ◌++◌, take, zero-add, add-zero, arith, refl, sym, ap, ◌∙◌}
 use Rattle.std.specs.Prelude.{if◌then◌else◌, ◌==◌, ◌||◌}
 use Rattle.std.proofs.lemmas.Bool.{eqb-true}
 use Rattle.std.proofs.lemmas.List.Folds.{sum_by-replicate}
@@ -9,6 +9,7 @@ use Rattle.std.proofs.Math.Nat.{div-le_self, div-mul-le_self}
 use Rattle.roff_lines.specs.Glyphs.{gap_blank, further_blank, glyph_blank, byte_width, text_width, gaps_in}
 use Rattle.roff_lines.specs.Lines.{Finished}
 use Rattle.roff_lines.specs.Columns.{added_columns, spaces, spread, StandsInColumns}
+use Rattle.roff_lines.proofs.Widths.{gaps_in-cons}
 
 -- blanks are as wide as they are many
 text_width-spaces : (n : ℕ) → text_width (spaces n) ≡ n
@@ -34,10 +35,6 @@ written-width : (mark : Bool) (b : ℕ) (rest : List ℕ) → (b == further_blan
     → text_width (if mark then 32 ∷ rest else b ∷ rest) ≡ byte_width b + text_width rest
 written-width false b rest other = sum_by-cons byte_width b rest
 written-width true b rest is_mark = rw (mark_width (b == further_blank) b refl is_mark) (sum_by-cons byte_width 32 rest)
-
--- the gaps of a text with a byte more
-gaps_in-cons : (b : ℕ) (text : List ℕ) → gaps_in (b ∷ text) ≡ cond (b == gap_blank) 1 0 + gaps_in text
-gaps_in-cons b text = sum_by-cons (λ x. cond (x == gap_blank) 1 0) b text
 
 -- what is written of a gap: its blank, and what is added
 gap-width : (spare gaps i b : ℕ) (text : List ℕ) → (b == gap_blank) ≡ true

@@ -20,11 +20,11 @@ spread-glyph spare gaps i b text above =
     rw (mark gap_blank (omega arith) above, mark further_blank (omega arith) above, mark glyph_blank (omega arith) above) refl
 
 -- it is one of the glyphs in front
-front-glyph : (b : ℕ) (bytes : List ℕ) → nat_lt 32 b ≡ true → glyphs_in_front (b ∷ bytes) ≡ b ∷ glyphs_in_front bytes
+pub front-glyph : (b : ℕ) (bytes : List ℕ) → nat_lt 32 b ≡ true → glyphs_in_front (b ∷ bytes) ≡ b ∷ glyphs_in_front bytes
 front-glyph b bytes e = take_while-cons (nat_lt 32) b bytes ∙ rw e refl
 
 -- another byte ends them
-front-blank : (b : ℕ) (bytes : List ℕ) → nat_lt 32 b ≡ false → glyphs_in_front (b ∷ bytes) ≡ []
+pub front-blank : (b : ℕ) (bytes : List ℕ) → nat_lt 32 b ≡ false → glyphs_in_front (b ∷ bytes) ≡ []
 front-blank b bytes e = rw e refl
 
 -- it is written as none above the blank

@@ -3,12 +3,16 @@ pub mod GlyphsInFront
 pub mod BlanksInFront
 pub mod SharedColumns
 pub mod Widths
+pub mod Sentences
 pub mod PendingLine
 pub mod LastLine
 pub mod Stands
 pub mod WordEnd
 pub mod LineEnd
 pub mod Tabs
+pub mod ToldGlyphs
+pub mod Tells
+pub mod TextRuns
 pub mod NearestStop
 pub mod Interruptions
 pub mod Telling

@@ -21,7 +21,7 @@ others_above : (b : ℕ) (bytes : List ℕ) → All (λ c. 32 < c) (b ∷ bytes)
 others_above b bytes above = All-tail (λ c. 32 < c) b bytes above
 
 -- a byte above the blank is its own text
-text_byte-above : (b : ℕ) → 32 < b → text_byte b ≡ b
+pub text_byte-above : (b : ℕ) → 32 < b → text_byte b ≡ b
 text_byte-above b above = grind (arith, nat_tests)
 
 -- so are several

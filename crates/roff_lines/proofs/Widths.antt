@@ -1,11 +1,13 @@
 -- Widths of texts.
-use Rattle.std.proofs.Common.{ℕ, ◌≤◌, Bool, true, false, ◌&&◌, List, [], ◌∷◌, length, nat_le, nat_lt, arith}
-use Rattle.std.specs.Prelude.{if◌then◌else◌}
-use Rattle.std.proofs.lemmas.List.Sums.{sum_by-cons}
-use Rattle.roff_lines.specs.Glyphs.{byte_width, text_width}
+use Rattle.std.proofs.Common.{◌≡◌, ℕ, ◌+◌, ◌<◌, ◌≤◌, Bool, true, false, ◌&&◌, List, [], ◌∷◌, ◌++◌, length, nat_le, nat_lt, cond, zero-add, refl, ◌∙◌, arith}
+use Rattle.std.specs.Prelude.{if◌then◌else◌, ◌==◌}
+use Rattle.std.specs.List.{AllByRecursion}
+use Rattle.std.proofs.lemmas.List.Sums.{sum_by-cons, sum_by-append}
+use Rattle.roff_lines.specs.Glyphs.{gap_blank, byte_width, text_width, gaps_in}
+use Rattle.roff_lines.proofs.GlyphsInFront.{eqb-above}
 
 -- a byte is at most one column wide
-byte_width_le : (b : ℕ) → byte_width b ≤ 1
+pub byte_width_le : (b : ℕ) → byte_width b ≤ 1
 byte_width_le b =
     let P : Bool → Type 0 = λ v. (if v then 0 else 1) ≤ 1 in
     let cases : (v : Bool) → P v = elim [ true ↦ omega arith | false ↦ omega arith ] in
@@ -15,3 +17,19 @@ byte_width_le b =
 pub text_width_le : (text : List ℕ) → text_width text ≤ length text
 text_width_le [] = omega arith
 text_width_le (b ∷ text) = omega (arith, sum_by-cons byte_width b text, byte_width_le b, text_width_le text)
+
+-- the gaps of a text with a byte more
+pub gaps_in-cons : (b : ℕ) (text : List ℕ) → gaps_in (b ∷ text) ≡ cond (b == gap_blank) 1 0 + gaps_in text
+gaps_in-cons b text = sum_by-cons (λ x. cond (x == gap_blank) 1 0) b text
+
+-- bytes above the blank have no gap
+gaps_in-above : (bytes : List ℕ) → AllByRecursion (λ b. 32 < b) bytes → gaps_in bytes ≡ 0
+gaps_in-above [] above = refl
+gaps_in-above (b ∷ bytes) above =
+    let here : (b == gap_blank) ≡ false = eqb-above b gap_blank (omega arith) above.0 in
+    gaps_in-cons b bytes ∙ rw here (zero-add (gaps_in bytes)) ∙ gaps_in-above bytes above.1
+
+-- so they add none to a text
+pub gaps_in-append_above : (text bytes : List ℕ) → AllByRecursion (λ b. 32 < b) bytes → gaps_in (text ++ bytes) ≡ gaps_in text
+gaps_in-append_above text bytes above =
+    omega (arith, sum_by-append (λ x. cond (x == gap_blank) 1 0) text bytes, gaps_in-above bytes above)

@@ -2,3 +2,4 @@
 pub mod Kept
 pub mod Stands
 pub mod Rests
+pub mod Tells

@@ -6,8 +6,8 @@ pub mod Events
 pub mod Places
 pub mod Fitting
 pub mod Words
-pub mod Telling
 pub mod Lines
+pub mod Telling
 pub mod Columns
 pub mod Stretch
 pub mod StopTable

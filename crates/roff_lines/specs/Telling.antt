@@ -1,11 +1,12 @@
 -- Text as it is told to an environment (manual, section 4.1).
-use Rattle.std.specs.Prelude.{◌≡◌, ℕ, false, List, [], ◌∷◌, ◌++◌, map, reverse, if◌then◌else◌, ◌==◌}
+use Rattle.std.specs.Prelude.{◌≡◌, ℕ, ◌≤◌, false, List, [], ◌∷◌, ◌++◌, map, reverse, Option, None, if◌then◌else◌, ◌==◌}
 use Rattle.roff_lines.specs.declared.glyph.Glyph.{Glyph}
 use Rattle.roff_lines.specs.declared.glyph.Glyph.TheVariants.{Printed}
 use Rattle.roff_lines.specs.declared.settings.Settings.{Settings}
 use Rattle.roff_lines.specs.Events.{Event, Print, WordEnd, Gap, LineEnd, Count, Break, Set, History}
 use Rattle.roff_lines.specs.Fitting.{Word}
 use Rattle.roff_lines.specs.Words.{is_empty, has_open_word, blanks, words}
+use Rattle.roff_lines.specs.Lines.{Finished, pending_length, finished}
 
 -- a history, and these glyphs behind it
 abbrev pub glyphs_told : List Glyph → History → History
@@ -42,3 +43,15 @@ bytes_told (b ∷ bytes) h = bytes_told bytes (if b == 32 then Gap 1 ∷ WordEnd
 -- a history, and behind it a text line of the input with these bytes
 abbrev pub text_line : List ℕ → History → History
 text_line bytes h = Count ∷ LineEnd ∷ WordEnd ∷ bytes_told bytes h
+
+-- the line that this byte of a text line finishes: a blank ends a word
+abbrev pub finished_by_byte : ℕ → History → Option Finished
+finished_by_byte b h = if b == 32 then finished h WordEnd else None
+
+-- these bytes can be told behind the history, one after another: none finishes a line, and the pending line stays within the limit
+abbrev pub QuietlyTold : ℕ → List ℕ → History → Type 0
+QuietlyTold line_cap [] h = Unit {0}
+QuietlyTold line_cap (b ∷ bytes) h =
+    (finished_by_byte b h ≡ None)
+    × (pending_length (bytes_told (b ∷ []) h) ≤ line_cap)
+    × QuietlyTold line_cap bytes (bytes_told (b ∷ []) h)

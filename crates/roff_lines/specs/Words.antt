@@ -49,6 +49,12 @@ abbrev pub ends_sentence : List Glyph → Bool
 ends_sentence [] = false
 ends_sentence (g ∷ gs) = if is_closer g then ends_sentence gs else is_sentence_mark g
 
+-- the same behind these printed bytes, the oldest first: closers leave that as it was before them
+abbrev pub ends_sentence_behind : List ℕ → Bool → Bool
+ends_sentence_behind [] before = before
+ends_sentence_behind (b ∷ bytes) before =
+    ends_sentence_behind bytes (if is_closer (Printed b) then before else is_sentence_mark (Printed b))
+
 -- the blanks of a filled line's end: two behind a sentence, else one
 abbrev pub line_end_gap : List Glyph → ℕ
 line_end_gap glyphs = if ends_sentence glyphs then 2 else 1

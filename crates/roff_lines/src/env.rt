@@ -1,16 +1,21 @@
 //! The environment: the pending line, the open word, and what is in force.
 
 ghost use Rattle.std.specs.Prelude.{◌≡◌, ℕ, ◌+◌, ◌<◌, ◌≤◌, ◌^◌, ◌↔◌, not, [], ◌∷◌, ◌++◌, length};
-ghost use Rattle.std.specs.Prelude.{IfOk, OnOk, OnErr, IsErr, IsOkUnless, option_map};
+ghost use Rattle.std.specs.Prelude.{take, true, if◌then◌else◌};
+ghost use Rattle.std.specs.Prelude.{IfOk, OnOk, OnErr, IsErr, IsOkUnless, MatchOption, option_map};
+ghost use Rattle.std.specs.Bool.{MatchBool};
+ghost use Rattle.std.specs.List.{AllByRecursion};
 ghost use Rattle.std.specs.Borrow.{sem};
 ghost use Rattle.roff_lines.specs.Clauses.{Print, Tab, WordEnd, Gap, LineEnd, Count, Break};
 ghost use Rattle.roff_lines.specs.Clauses.{Interrupt, Resume, Set, History, settings_after};
 ghost use Rattle.roff_lines.specs.Clauses.{last_width, input_place, is_interrupted, line_glyphs};
 ghost use Rattle.roff_lines.specs.Clauses.{is_empty, indent_by, moved, pending_length, finished_of};
+ghost use Rattle.roff_lines.specs.Clauses.{bytes_told, QuietlyTold};
 ghost use Rattle.roff_lines.specs.Clauses.{finished, shaped, text_width, gap_text, may_be_wide};
 
-use crate::glyph::{Glyph, kept_byte};
+use crate::glyph::{Glyph, ends_sentence_behind, kept_byte};
 use crate::line::{FURTHER_BLANK, GAP, Line, UNPADDABLE};
+use crate::line_bytes::count_of_glyphs;
 use crate::settings::{Param, Settings};
 use crate::shape::Shape;
 use crate::stops::StopTable;
@@ -66,11 +71,13 @@ impl Model for Env {
 }
 
 impl Env {
-    ghost use Rattle.roff_lines.specs.Env.Kept.{with_word_ended, finished_by_word};
+    ghost use Rattle.roff_lines.specs.Env.Kept.{with_glyphs, glyph_room};
+    ghost use Rattle.roff_lines.specs.Env.Kept.{with_word_ended, finished_by_word, word_finishes};
     ghost use Rattle.roff_lines.specs.Env.Kept.{with_line_finished, finished_by_break};
     ghost use Rattle.roff_lines.specs.Env.Kept.{with_input_line_ended, finished_by_line_end};
     ghost use Rattle.roff_lines.specs.Env.Stands.{Stands, StandsBehind, Finishes};
     ghost use Rattle.roff_lines.specs.Env.Rests.{RestsBehind};
+    ghost use Rattle.roff_lines.specs.Env.Tells.{Tells, TellsFront, EndsGlyphs, EndsBlanks};
 
     /// An environment in which nothing has happened, whose pending line may have `line_cap` bytes.
     pub fn new(alloc: Global, line_cap: u32) -> Result<Self, AllocError>
@@ -172,6 +179,27 @@ impl Env {
         self.ends_sentence = glyph.ends_sentence_behind(self.ends_sentence);
         self.place = moved(self.place, glyph.width());
         Ok(())
+    }
+
+    /// Adds bytes of a text line, which are blanks and bytes above the blank: as many of those in
+    /// front as finish no line and keep the pending line within its limit. Says how many that are.
+    /// A blank ends the open word, and a gap of one blank follows; each other byte is a glyph.
+    pub fn text(&mut self, bytes: &[u8]) -> usize
+        requires { AllByRecursion (λ b. 31 < b) bytes.now }
+        ensures within { result ≤ length bytes.now }
+        ensures quiet { (line_cap : ℕ) (h : History) → Stands line_cap h self.old
+            → QuietlyTold line_cap (take result bytes.now) h }
+        ensures stands { (line_cap : ℕ) (h : History) → Stands line_cap h self.old
+            → Stands line_cap (bytes_told (take result bytes.now) h) self.new }
+        ensures most { (line_cap : ℕ) (h : History) → Stands line_cap h self.old
+            → result < length bytes.now
+            → QuietlyTold line_cap (take (result + 1) bytes.now) h → ⊥ }
+    {
+        let mut rest = self.glyphs_in_front(bytes);
+        while let Some(behind) = self.blank_in_front(rest) {
+            rest = self.glyphs_in_front(behind);
+        }
+        bytes.len() - rest.len()
     }
 
     /// Adds a tab, a glyph of as many blanks as there are to the next tab stop.
@@ -276,10 +304,30 @@ impl Env {
         ensures line { option_map (λ s. shaped s self.new.finished) result
             ≡ finished_by_word self.old }
     {
-        if !self.is_open {
+        if self.join_word() {
             return None;
         }
-        let mut shape = None;
+        let full = Shape::of(self.settings, true, self.indent, &self.line);
+        self.last_width = full.width();
+        self.finished.clear();
+        mem::swap(&mut self.finished, &mut self.line);
+        mem::swap(&mut self.line, &mut self.word);
+        self.indent = indent_of_line(self.temporary_indent, self.settings);
+        self.temporary_indent = None;
+        self.is_open = false;
+        self.blanks = 0;
+        Some(full)
+    }
+
+    /// Puts the open word into the pending line, where that finishes none. Says whether it does; else
+    /// the environment is as it was.
+    fn join_word(&mut self) -> bool
+        ensures joins { result ≡ not (word_finishes self.old) }
+        ensures kept { self.new ≡ (if result then with_word_ended self.old else self.old) }
+    {
+        if !self.is_open {
+            return true;
+        }
         if !self.has_line {
             mem::swap(&mut self.line, &mut self.word);
             self.indent = indent_of_line(self.temporary_indent, self.settings);
@@ -296,18 +344,80 @@ impl Env {
             self.line.append(&self.word);
             self.word.clear();
         } else {
-            let full = Shape::of(self.settings, true, self.indent, &self.line);
-            self.last_width = full.width();
-            shape = Some(full);
-            self.finished.clear();
-            mem::swap(&mut self.finished, &mut self.line);
-            mem::swap(&mut self.line, &mut self.word);
-            self.indent = indent_of_line(self.temporary_indent, self.settings);
-            self.temporary_indent = None;
+            return false;
         }
         self.is_open = false;
         self.blanks = 0;
-        shape
+        true
+    }
+
+    /// Adds the glyphs in front, as many as the limit on the pending line lets through. Gives back
+    /// what is left.
+    fn glyphs_in_front<'a>(&mut self, bytes: &'a [u8]) -> &'a [u8]
+        ensures told { TellsFront bytes.now result.now self.old self.new }
+        ensures ends { EndsGlyphs result.now self.new }
+    {
+        let count = count_of_glyphs(bytes, self.glyph_room());
+        if count == 0 {
+            return bytes;
+        }
+        let (front, rest) = bytes.split_at(count);
+        self.glyphs(front);
+        rest
+    }
+
+    /// How many bytes of glyphs the limit on the pending line lets through.
+    fn glyph_room(&self) -> usize
+        ensures { result ≡ glyph_room self.now }
+    {
+        let blanks = if self.has_line { self.blanks } else { 0 };
+        let bytes = (self.line.len() + self.word.len()) as u64 + blanks;
+        (self.cap as u64).saturating_sub(bytes) as usize
+    }
+
+    /// Adds glyphs of these bytes to the open word, or opens one with them.
+    fn glyphs(&mut self, bytes: &[u8])
+        requires some { 0 < length bytes.now }
+        requires room { length bytes.now ≤ glyph_room self.old }
+        requires above { AllByRecursion (λ b. 32 < b) bytes.now }
+        ensures { self.new ≡ with_glyphs bytes.now self.old }
+    {
+        let width = self.word.extend(bytes);
+        self.is_open = true;
+        self.has_glyph = true;
+        self.ends_sentence = ends_sentence_behind(bytes, self.ends_sentence);
+        self.place = moved(self.place, width);
+    }
+
+    /// Adds the blank in front, where it finishes no line. Gives back what is behind it; else the
+    /// environment is as it was.
+    fn blank_in_front<'a>(&mut self, bytes: &'a [u8]) -> Option<&'a [u8]>
+        ensures { MatchOption result ((self.new ≡ self.old) × EndsBlanks bytes.now self.old)
+            (λ behind. (32 ∷ behind.now ≡ bytes.now) × Tells (32 ∷ []) self.old self.new) }
+    {
+        let Some((&byte, behind)) = bytes.split_first() else {
+            return None;
+        };
+        if byte != b' ' {
+            return None;
+        }
+        if !self.blank() {
+            return None;
+        }
+        Some(behind)
+    }
+
+    /// Ends the open word, with a gap of one blank behind it, where that finishes no line. Says
+    /// whether it does; else the environment is as it was.
+    fn blank(&mut self) -> bool
+        ensures { MatchBool result (Tells (32 ∷ []) self.old self.new)
+            ((self.new ≡ self.old) × (word_finishes self.old ≡ true)) }
+    {
+        if !self.join_word() {
+            return false;
+        }
+        self.gap(1);
+        true
     }
 
     /// Finishes the pending line where words aren't measured, and else sets the gap of a line's

@@ -2,6 +2,7 @@
 
 ghost use Rattle.std.specs.Prelude.{◌≡◌, length, if◌then◌else◌};
 ghost use Rattle.roff_lines.specs.Clauses.{glyph_text, glyph_width, text_byte, is_closer, is_sentence_mark};
+ghost use Rattle.roff_lines.specs.Clauses.{ends_sentence_behind};
 
 use crate::line::UNPADDABLE;
 use roff_num::width_of_byte;
@@ -37,6 +38,13 @@ impl Glyph {
         }
     }
 
+    /// Whether the glyph may stand behind the end of a sentence.
+    pub(crate) fn is_closer(self) -> bool
+        ensures { result ≡ is_closer self }
+    {
+        matches!(self, Glyph::Printed(b'"' | b'\'' | b')' | b']' | b'*'))
+    }
+
     /// Whether a sentence ends behind the glyph: a closer leaves that as it was before it.
     pub(crate) fn ends_sentence_behind(self, before: bool) -> bool
         ensures { result ≡ (if is_closer self then before else is_sentence_mark self) }
@@ -54,4 +62,20 @@ pub(crate) fn kept_byte(byte: u8) -> u8
     ensures { result ≡ text_byte byte }
 {
     if byte <= b' ' { UNPADDABLE } else { byte }
+}
+
+/// Whether a sentence ends behind these printed bytes: closers leave that as it was before them.
+#[tactic(auto, using(crate::proofs::Sentences::ends_sentence_behind_push))]
+pub(crate) fn ends_sentence_behind(bytes: &[u8], before: bool) -> bool
+    ensures { result ≡ ends_sentence_behind bytes.now before }
+{
+    let mut front = bytes;
+    while let Some((last, others)) = front.split_last() {
+        let glyph = Glyph::Printed(*last);
+        if !glyph.is_closer() {
+            return glyph.ends_sentence_behind(before);
+        }
+        front = others;
+    }
+    before
 }

@@ -212,7 +212,7 @@ fn added_to_gap(each: u64, rest: u64, gaps: u64, over: u64) -> (u64, u64)
 
 /// How many bytes of glyphs stand in front of a text, at most so many.
 #[inline(always)]
-fn count_of_glyphs(text: &[u8], most: usize) -> usize
+pub(crate) fn count_of_glyphs(text: &[u8], most: usize) -> usize
     ensures text { result ≤ length text.now }
     ensures glyphs { take result text.now ≡ take most (glyphs_in_front text.now) }
 {

@@ -1,6 +1,7 @@
 //! A part of a line's text, in a buffer reserved from the start.
 
 ghost use Rattle.std.specs.Prelude.{◌≡◌, ℕ, ◌+◌, ◌<◌, ◌≤◌, [], ◌∷◌, ◌++◌, length, replicate, IfOk};
+ghost use Rattle.std.specs.List.{AllByRecursion};
 ghost use Rattle.roff_lines.specs.Clauses.{text_width, gaps_in};
 
 use crate::line::GAP;
@@ -96,6 +97,20 @@ impl Stretch {
         }
     }
 
+    /// Adds bytes above the blank, and says how wide they are, in columns.
+    #[tactic(auto, using(crate::proofs::Widths::text_width_le))]
+    pub(crate) fn extend(&mut self, bytes: &[u8]) -> u64
+        requires room { length self.old.text + length bytes.now ≤ self.old.room }
+        requires above { AllByRecursion (λ b. 32 < b) bytes.now }
+        ensures text { self.new ≡ record self.old { text = self.old.text ++ bytes.now } }
+        ensures width { result ≡ text_width bytes.now }
+    {
+        let width = width_of_bytes(bytes);
+        self.width += width;
+        self.bytes.extend_from_slice(bytes).unwrap();
+        width
+    }
+
     /// Adds another text.
     #[tactic(auto, using(crate::proofs::Widths::text_width_le))]
     pub(crate) fn append(&mut self, other: &Stretch)
@@ -117,4 +132,16 @@ impl Stretch {
         self.width = 0;
         self.gaps = 0;
     }
+}
+
+/// How wide bytes are, in columns.
+#[tactic(auto, using(crate::proofs::Widths::byte_width_le))]
+fn width_of_bytes(bytes: &[u8]) -> u64
+    ensures { result ≡ text_width bytes.now }
+{
+    let mut width = 0;
+    for byte in bytes {
+        width += width_of_byte(*byte);
+    }
+    width
 }

@@ -1,13 +1,13 @@
 -- What an environment keeps of its history.
-use Rattle.std.specs.Prelude.{◌≡◌, ℕ, ◌+◌, ◌<◌, ◌≤◌, ◌^◌, Bool, true, false, ◌&&◌, ◌||◌, not, List, [], ◌++◌, length, Option, Some, None, if◌then◌else◌}
+use Rattle.std.specs.Prelude.{◌≡◌, ℕ, ◌+◌, ◌-◌, ◌<◌, ◌≤◌, ◌^◌, Bool, true, false, ◌&&◌, ◌||◌, not, List, [], ◌++◌, length, Option, Some, None, if◌then◌else◌}
 use Rattle.roff_lines.specs.declared.env.Env.TheInside.{Inside}
 use Rattle.roff_lines.specs.declared.settings.Settings.{Settings}
 use Rattle.roff_lines.specs.Glyphs.{text_width}
 use Rattle.roff_lines.specs.Settings.{fills}
 use Rattle.roff_lines.specs.Stops.{TabStops}
-use Rattle.roff_lines.specs.Places.{most_place}
+use Rattle.roff_lines.specs.Places.{most_place, moved}
 use Rattle.roff_lines.specs.Fitting.{gap_text, may_be_wide}
-use Rattle.roff_lines.specs.Words.{indent_by}
+use Rattle.roff_lines.specs.Words.{ends_sentence_behind, indent_by}
 use Rattle.roff_lines.specs.Lines.{Finished, laid_out, empty_line}
 use Rattle.roff_lines.specs.LastLine.{line_width}
 
@@ -70,6 +70,20 @@ pub record IsSound (a : Inside) : Type 0 where
   pub no_word : a.is_open ≡ false → a.word.text ≡ []
   pub within : kept_length (kept_by a) ≤ a.cap
 
+-- how many bytes of glyphs the limit on the pending line lets through
+abbrev pub glyph_room : Kept → ℕ
+glyph_room k = k.cap - (length k.line + length k.word + (if k.has_line then k.blanks else 0))
+
+-- behind the glyphs of these bytes
+abbrev pub with_glyphs : List ℕ → Kept → Kept
+with_glyphs bytes k = record k {
+  word = k.word ++ bytes;
+  is_open = true;
+  has_glyph = true;
+  ends_sentence = ends_sentence_behind bytes k.ends_sentence;
+  place = moved (text_width bytes) k.place;
+}
+
 -- what is in force and what stands before the next glyph has gone into a line
 abbrev pub without_word : Kept → Kept
 without_word k = record k { word = []; is_open = false; blanks = 0 }
@@ -99,10 +113,13 @@ with_word_ended k =
     else if word_fits k then without_word (record k { line = k.line ++ (gap_text k.blanks ++ k.word) })
     else without_word (word_as_line (record k { finished = k.line; last_width = pending_width true k }))
 
--- the line that a word end finishes
+-- whether a word end finishes a line
+abbrev pub word_finishes : Kept → Bool
+word_finishes k = k.is_open && k.has_line && not (word_fits k)
+
+-- the line that it finishes
 abbrev pub finished_by_word : Kept → Option Finished
-finished_by_word k =
-    if k.is_open && k.has_line && not (word_fits k) then Some (laid_out k.settings true k.indent k.line) else None
+finished_by_word k = if word_finishes k then Some (laid_out k.settings true k.indent k.line) else None
 
 -- behind a break
 abbrev pub with_line_finished : Kept → Kept

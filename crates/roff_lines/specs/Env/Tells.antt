@@ -1,0 +1,28 @@
+-- Bytes of a text line that an environment is told at once.
+use Rattle.std.specs.Prelude.{◌≡◌, ℕ, ◌<◌, true, List, [], ◌∷◌, ◌++◌}
+use Rattle.roff_lines.specs.Events.{History}
+use Rattle.roff_lines.specs.Telling.{bytes_told, QuietlyTold}
+use Rattle.roff_lines.specs.Env.Kept.{Kept, glyph_room, word_finishes}
+use Rattle.roff_lines.specs.Env.Stands.{Stands}
+
+-- these bytes are told: whatever history the old environment stands for, they can be told behind it, and the new one stands
+-- for it with them
+pub record Tells (bytes : List ℕ) (old new : Kept) : Type 0 where
+  pub quiet : (line_cap : ℕ) (h : History) → Stands line_cap h old → QuietlyTold line_cap bytes h
+  pub stands : (line_cap : ℕ) (h : History) → Stands line_cap h old → Stands line_cap (bytes_told bytes h) new
+
+-- some of these bytes in front are told, and the rest is left
+pub record TellsFront (bytes rest : List ℕ) (old new : Kept) : Type 0 where
+  pub front : List ℕ
+  pub joined : front ++ rest ≡ bytes
+  pub told : Tells front old new
+
+-- no glyph stands in front of these bytes that the limit on the pending line lets through
+abbrev pub EndsGlyphs : List ℕ → Kept → Type 0
+EndsGlyphs [] k = Unit {0}
+EndsGlyphs (b ∷ rest) k = 32 < b → glyph_room k ≡ 0
+
+-- no blank stands in front of these bytes that finishes no line
+abbrev pub EndsBlanks : List ℕ → Kept → Type 0
+EndsBlanks [] k = Unit {0}
+EndsBlanks (b ∷ rest) k = b ≡ 32 → word_finishes k ≡ true
