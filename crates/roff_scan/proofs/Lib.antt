@@ -36,3 +36,6 @@ pub mod BodyTaken
 pub mod Pushed
 pub mod Seeing
 pub mod NamedTexts
+pub mod Fronts
+pub mod HeldFronts
+pub mod HalfFronts

@@ -13,7 +13,7 @@ module _ {E : Type 0} where
   behind_bytes count behind i = record i { ahead = behind; charge = i.charge + count }
 
   -- bytes are taken one after another as so many are
-  bytes_taken-is : (bytes : List ℕ) (behind : List (Ahead E)) (i : Input E) → i.ahead ≡ map ByteAhead bytes ++ behind
+  pub bytes_taken-is : (bytes : List ℕ) (behind : List (Ahead E)) (i : Input E) → i.ahead ≡ map ByteAhead bytes ++ behind
       → bytes_taken bytes behind i ≡ behind_bytes (length bytes) behind i
   bytes_taken-is [] behind i front =
       let same : i.charge ≡ i.charge + 0 = omega arith in

@@ -1,6 +1,6 @@
 -- The arguments of a control line (manual, section 7.3).
-use Rattle.std.specs.Prelude.{◌≡◌, ℕ, ◌+◌, ◌<◌, Bool, true, false, List, [], ◌∷◌, ◌++◌, length, reverse, take, drop, filter, slice_get, if◌then◌else◌, ◌==◌}
-use Rattle.roff_scan.specs.Bytes.{blank, quote, backslash}
+use Rattle.std.specs.Prelude.{◌≡◌, ℕ, ◌+◌, ◌<◌, Bool, true, false, not, ◌||◌, List, [], ◌∷◌, ◌++◌, length, reverse, take, drop, filter, slice_get, if◌then◌else◌, ◌==◌}
+use Rattle.roff_scan.specs.Bytes.{blank, quote, backslash, newline, is_dropped}
 use Rattle.roff_scan.specs.declared.arguments.Place.{Place}
 use Rattle.roff_scan.specs.declared.arguments.Place.TheVariants.{Between, InPlain, InQuotes, BehindQuote}
 use Rattle.roff_scan.specs.declared.half.CopyUnit.{CopyUnit}
@@ -122,6 +122,15 @@ kept texts = kept_behind kept_by_place texts
 -- of the arguments that are whole only those that are kept
 abbrev pub only_kept : Arguments → Arguments
 only_kept a = record a { whole = reverse (kept (reverse a.whole)) }
+
+-- a byte of a line that is held as it is read: neither a backslash, a newline nor one that is dropped
+abbrev pub is_argument_byte : ℕ → Bool
+is_argument_byte b = not (b == backslash || (is_dropped b || b == newline))
+
+-- what is kept of the arguments behind such bytes of the line
+abbrev pub bytes_held : List ℕ → Arguments → Arguments
+bytes_held [] a = a
+bytes_held (b ∷ bytes) a = bytes_held bytes (only_kept (with_argument_byte a b))
 
 -- those that are kept by place are at their places
 abbrev pub FirstArgumentsAreKept : Type 0

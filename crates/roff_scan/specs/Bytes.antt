@@ -41,3 +41,7 @@ is_dropped b = (nat_lt b 32 || b == 127) && not (b == newline || b == tab || is_
 -- passed over where bytes mean nothing: neither a backslash nor, unless within a block, a newline
 abbrev pub is_passed : Bool → ℕ → Bool
 is_passed within_block b = not (b == backslash || (not within_block && b == newline))
+
+-- a byte of plain text: neither a control byte, DEL nor a backslash
+abbrev pub is_text_byte : ℕ → Bool
+is_text_byte b = not (nat_lt b 32 || (b == 127 || b == backslash))

@@ -82,6 +82,15 @@ bytes_ahead (EndAhead ∷ items) = bytes_ahead items
 bytes_ahead (ReturnAhead ∷ items) = bytes_ahead items
 bytes_ahead (DoAhead event ∷ items) = bytes_ahead items
 
+-- the bytes of pushed texts that stand in front, up to the first other item
+abbrev pub leading : {E : Type 0} → List (Ahead E) → List ℕ
+leading [] = []
+leading (ByteAhead b ∷ items) = b ∷ leading items
+leading (FreeAhead b ∷ items) = []
+leading (EndAhead ∷ items) = []
+leading (ReturnAhead ∷ items) = []
+leading (DoAhead event ∷ items) = []
+
 -- the pushed texts, and the bodies that lines called, that haven't ended
 abbrev pub ends_ahead : {E : Type 0} → List (Ahead E) → ℕ
 ends_ahead [] = 0

@@ -12,6 +12,7 @@ pub mod HalfTexts
 pub mod HalfLaws
 pub mod Arguments
 pub mod ArgumentTexts
+pub mod HalfFronts
 pub mod ArgumentList
 pub mod Quoting
 pub mod Input

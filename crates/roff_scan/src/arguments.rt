@@ -9,6 +9,7 @@ ghost use Rattle.roff_scan.specs.Arguments.{finished, held, kept, in_argument, t
 ghost use Rattle.roff_scan.specs.ArgumentTexts.Ends.{is_kept, last_end, EndWithin, EndWithin-prop};
 ghost use Rattle.roff_scan.specs.ArgumentTexts.Ends.{texts_ending};
 
+use crate::bytes::is_argument_byte;
 use crate::half::CopyUnit;
 use std::alloc::{AllocError, Global};
 use std::marker::Model;
@@ -86,7 +87,7 @@ impl Place {
 }
 
 impl ArgumentTexts {
-    ghost use Rattle.roff_scan.specs.ArgumentTexts.Kept.{KeptArguments, keeping, Keeps};
+    ghost use Rattle.roff_scan.specs.ArgumentTexts.Kept.{KeptArguments, keeping, Keeps, TakesFront};
     ghost use Rattle.roff_scan.specs.ArgumentList.{listed};
 
     /// No argument, with room for so many bytes.
@@ -144,6 +145,24 @@ impl ArgumentTexts {
             CopyUnit::Byte(byte) => self.take_byte(byte),
             CopyUnit::Kept(byte) => self.take_kept(byte),
         }
+    }
+
+    /// Takes bytes of the line one after another, up to the first that isn't held as it is read.
+    /// Returns how many.
+    pub(crate) fn take_front(&mut self, bytes: &[u8]) -> usize
+        requires { held self.old.arguments + length bytes.now ≤ self.old.room }
+        ensures { TakesFront bytes.now result self.old self.new }
+    {
+        let mut count = 0;
+        while count < bytes.len() {
+            let byte = bytes[count];
+            if !is_argument_byte(byte) {
+                return count;
+            }
+            self.take_byte(byte);
+            count += 1;
+        }
+        count
     }
 
     /// One unit more of a text in which nothing separates or quotes.

@@ -1,7 +1,8 @@
 //! Kinds of bytes, and runs of them.
 
-ghost use Rattle.std.specs.Prelude.{◌≡◌, ◌==◌, ◌<◌, ◌^◌, length, take_while, count_by};
-ghost use Rattle.roff_scan.specs.Bytes.{is_dropped, is_passed, is_silent, newline};
+ghost use Rattle.std.specs.Prelude.{◌≡◌, ◌==◌, ◌<◌, ◌^◌, length, take, take_while, count_by};
+ghost use Rattle.roff_scan.specs.Arguments.{is_argument_byte};
+ghost use Rattle.roff_scan.specs.Bytes.{is_dropped, is_passed, is_silent, is_text_byte, newline};
 
 use memchr::{memchr, memchr2};
 
@@ -29,6 +30,46 @@ pub(crate) fn passed_len(bytes: &[u8], within_block: bool) -> usize
     } else {
         memchr2(b'\\', b'\n', bytes).unwrap_or(bytes.len())
     }
+}
+
+/// Whether a byte of a line is held as it is read, behind a request's name: neither a backslash, a
+/// newline nor one that is dropped.
+#[inline(always)]
+pub(crate) fn is_argument_byte(byte: u8) -> bool
+    ensures { result ≡ is_argument_byte byte }
+{
+    !(byte == b'\\' || (is_dropped(byte) || byte == b'\n'))
+}
+
+/// Whether a byte is one of plain text: neither a control byte, DEL nor a backslash.
+#[inline(always)]
+fn is_text_byte(byte: u8) -> bool
+    ensures { result ≡ is_text_byte byte }
+{
+    byte >= 32 && byte != 127 && byte != b'\\'
+}
+
+/// How many of these bytes are plain text, up to the first that is a control byte, DEL or a
+/// backslash.
+pub fn text_in_front(bytes: &[u8]) -> usize
+    ensures { result ≡ length (take_while is_text_byte bytes.now) }
+{
+    let mut count = 0;
+    while count < bytes.len() {
+        if !is_text_byte(bytes[count]) {
+            return count;
+        }
+        count += 1;
+    }
+    count
+}
+
+/// The first of these bytes, so many at most.
+#[inline(always)]
+pub(crate) fn at_most(bytes: &[u8], most: usize) -> &[u8]
+    ensures { result.now ≡ take most bytes.now }
+{
+    bytes.split_at(most.min(bytes.len())).0
 }
 
 /// How many newlines are among these bytes.

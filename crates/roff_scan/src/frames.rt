@@ -1,16 +1,18 @@
 //! Frames: what stands ahead of the source. Bodies of strings and macros are read where they lie.
 
 ghost use Rattle.std.specs.Prelude.{IsTrue, false, true, ◌≡◌, ◌↔◌, ◌+◌, ◌<◌, ◌≤◌, ◌^◌, [], ◌∷◌};
-ghost use Rattle.std.specs.Prelude.{◌++◌, map, length, option_map, IfOk, IfSome, None, take};
-ghost use Rattle.std.specs.Prelude.{take_while};
-ghost use Rattle.roff_scan.specs.Input.{is_none_ahead, front_cost, called_text, lacks_newline};
+ghost use Rattle.std.specs.Prelude.{◌++◌, drop, map, length, option_map, IfOk, IfSome, None, take};
+ghost use Rattle.std.specs.Prelude.{take_while, Some};
+ghost use Rattle.roff_scan.specs.Input.{is_none_ahead, first, front_cost, called_text};
+ghost use Rattle.roff_scan.specs.Input.{lacks_newline};
 ghost use Rattle.roff_scan.specs.Input.{ByteAhead, FreeAhead, EndAhead, ReturnAhead, DoAhead};
 ghost use Rattle.roff_scan.specs.Input.{bytes_ahead, ends_ahead, events_ahead, frees_ahead};
-ghost use Rattle.roff_scan.specs.Input.{most_events, most_frees};
+ghost use Rattle.roff_scan.specs.Input.{leading, most_events, most_frees};
 ghost use Rattle.roff_scan.specs.Frames.Bodies.{with_bodies};
 ghost use Rattle.roff_scan.specs.Frames.Calls.{PutsBytes};
 ghost use Rattle.roff_scan.specs.Bytes.{is_passed};
 ghost use Rattle.roff_scan.specs.Frames.Kept.{is_end_next, IsSound};
+ghost use Rattle.roff_scan.specs.declared.frames.Frame.TheVariants.{Body};
 ghost use Rattle.roff_store.specs.Named.{entry_of};
 ghost use Rattle.roff_store.specs.Texts.{body_of, entry_given, kind_given, kind_of, newest};
 
@@ -295,6 +297,48 @@ impl<E: Copy> Frames<E> {
         }
     }
 
+    /// Bytes of a body in front, as they lie together; none where anything else is in front.
+    pub(crate) fn front(&self) -> &[u8]
+        ensures { result.now ≡ take (length result.now) (leading self.now.ahead) }
+    {
+        match body_in_front(&self.slots) {
+            Some(lease) => self.texts.lease_front(lease),
+            None => &[],
+        }
+    }
+
+    /// Takes so many bytes in front at once.
+    pub(crate) fn pass(&mut self, count: usize)
+        requires { count ≤ length (leading self.old.ahead) }
+        ensures { self.new ≡ record self.old { ahead = drop count self.old.ahead } }
+    {
+        let mut left = count;
+        while left > 0 {
+            left -= self.pass_some(left);
+        }
+    }
+
+    /// Takes some of so many bytes in front: those of a body but for its last one, or else one.
+    /// Returns how many.
+    fn pass_some(&mut self, most: usize) -> usize
+        requires some { 1 ≤ most }
+        requires among { most ≤ length (leading self.old.ahead) }
+        ensures some { 1 ≤ result }
+        ensures few { result ≤ most }
+        ensures taken { self.new ≡ record self.old { ahead = drop result self.old.ahead } }
+    {
+        if let Some(lease) = body_in_front(&self.slots) {
+            let rest = self.texts.lease_rest(lease);
+            if rest > 1 {
+                let count = most.min(rest - 1);
+                self.texts.lease_pass(lease, count);
+                return count;
+            }
+        }
+        let _ = self.take();
+        1
+    }
+
     /// Drops all that stands ahead.
     pub(crate) fn clear(&mut self)
         ensures { self.new ≡ record self.old { ahead = [] } }
@@ -426,6 +470,21 @@ impl<E: Copy> Frames<E> {
         ensures { self.new ≡ record self.old { texts = after (DropOpen id.0) self.old.texts } }
     {
         self.texts.drop_open(id);
+    }
+}
+
+/// The lease on the body in front, if one is.
+fn body_in_front<E: Copy>(slots: &Slots<Frame<E>>) -> Option<LeaseId>
+    ensures { IfSome result (λ id. Some (DoAhead (Body id)) ≡ first slots.now.ahead) }
+{
+    match slots.front() {
+        Some(Front::Do(Frame::Body(lease))) => Some(lease),
+        Some(Front::Do(Frame::Event(_))) => None,
+        Some(Front::Byte(_)) => None,
+        Some(Front::Free(_)) => None,
+        Some(Front::End) => None,
+        Some(Front::Return) => None,
+        None => None,
     }
 }
 

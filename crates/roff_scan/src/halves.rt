@@ -7,6 +7,8 @@ ghost use Rattle.roff_scan.specs.Half.{Half, Backslash as BackslashHalf};
 ghost use Rattle.roff_scan.specs.Half.{Delimited as DelimitedHalf, Name as NameHalf};
 ghost use Rattle.roff_scan.specs.Half.{Size as SizeHalf, Condition as ConditionHalf, names_in};
 ghost use Rattle.roff_scan.specs.Half.{text_held, texts_held, widths_in};
+ghost use Rattle.roff_scan.specs.HalfFronts.{ReadsFront, begins_name, is_in_front, is_none_half};
+ghost use Rattle.roff_scan.specs.HalfFronts.{may_open, reads_on};
 ghost use Rattle.roff_scan.specs.HalfTexts.{BeginsBehind, IsOnTop, begun, holds_text, leaving};
 ghost use Rattle.roff_scan.specs.HalfTexts.{names_among, text_on_top, widths_among, IsSound};
 ghost use Rattle.roff_scan.specs.HalfTexts.{KeptHalves, kept_by};
@@ -26,7 +28,7 @@ ghost use Rattle.roff_scan.specs.declared.escapes.NameUse.{NameUse as UseOf};
 ghost use Rattle.roff_scan.specs.declared.escapes.TextUse.{TextUse as PurposeOf};
 ghost use Rattle.roff_scan.specs.declared.half.ConditionPart.{ConditionPart as PartOf};
 
-use crate::bytes::is_dropped;
+use crate::bytes::{is_argument_byte, is_dropped};
 use crate::conditions::{
     begins_expression, ends_at_backslash, ends_condition, is_read_in_arguments, is_text_same,
     so_unless,
@@ -176,6 +178,45 @@ impl Halves {
             },
             _ => {}
         }
+    }
+
+    /// Whether a byte is in the front of an escape that reads a name, behind what is half read.
+    fn reads_on(&self, byte: u8) -> bool
+        ensures { result ≡ reads_on self.now.half byte }
+    {
+        match self.top() {
+            None => byte == b'\\',
+            Some(HalfRead::Backslash) => self.is_alone() && begins_name(byte),
+            Some(HalfRead::Name(purpose, part)) => is_in_front(purpose, part, byte),
+            Some(_) => false,
+        }
+    }
+
+    /// Whether nothing is half read below the top.
+    fn is_alone(&self) -> bool
+        ensures { result ≡ is_none_half (drop 1 self.now.half) }
+    {
+        match self.below() {
+            None => true,
+            Some(_) => false,
+        }
+    }
+
+    /// Reads bytes one after another, as long as they are in the front of an escape that reads a
+    /// name. Returns how many.
+    pub(crate) fn read_front(&mut self, bytes: &[u8]) -> usize
+        ensures { ReadsFront bytes.now result self.old self.new }
+    {
+        let mut count = 0;
+        while count < bytes.len() {
+            let byte = bytes[count];
+            if !self.reads_on(byte) {
+                return count;
+            }
+            let _ = self.read_byte(Surroundings::Arguments, byte);
+            count += 1;
+        }
+        count
     }
 
     /// Reads a byte that isn't dropped; above a text line, above arguments, or in copy mode.
@@ -982,5 +1023,35 @@ fn part_at_first(purpose: NameUse) -> NamePart
     match purpose {
         NameUse::Character => NamePart::Opened,
         _ => NamePart::Nothing,
+    }
+}
+
+/// Whether a byte behind a backslash begins a name that is read everywhere: of a register, a string
+/// or an argument.
+fn begins_name(byte: u8) -> bool
+    ensures { result ≡ begins_name byte }
+{
+    byte == b'n' || (byte == b'*' || byte == b'$')
+}
+
+/// Whether a parenthesis opens a name of two bytes: that of a register or a string.
+fn may_open(purpose: NameUse) -> bool
+    ensures { result ≡ may_open purpose }
+{
+    match purpose {
+        NameUse::Register(_) => true,
+        NameUse::Text => true,
+        _ => false,
+    }
+}
+
+/// Whether a byte belongs to the front of a name of which so much is read.
+fn is_in_front(purpose: NameUse, part: NamePart, byte: u8) -> bool
+    ensures { result ≡ is_in_front purpose part byte }
+{
+    match part {
+        NamePart::Nothing => may_open(purpose) && byte == b'(',
+        NamePart::Opened => is_argument_byte(byte),
+        NamePart::First(_) => false,
     }
 }

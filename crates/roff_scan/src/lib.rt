@@ -19,7 +19,7 @@ mod source;
 mod unread;
 
 pub use arguments::{ArgumentList, Place};
-pub use bytes::{is_dropped, is_silent};
+pub use bytes::{is_dropped, is_silent, text_in_front};
 pub use characters::character;
 pub use escapes::{Escape, NameUse, TextUse, escape_of};
 pub use half::{ConditionPart, CopyUnit, Decision, NamePart, Read, Remark, SizePart, Surroundings};

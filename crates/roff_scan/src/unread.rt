@@ -8,7 +8,8 @@ ghost use Rattle.roff_scan.specs.Halves.{byte_read, decides_now, reading_ended, 
 ghost use Rattle.roff_scan.specs.Halves.{seen_stays};
 ghost use Rattle.std.specs.Prelude.{vec_capacity, reverse, true, false, not, ◌≡◌, ◌==◌, ◌+◌, ◌<◌};
 ghost use Rattle.std.specs.Prelude.{◌≤◌, ◌^◌, [], drop, get_or, length, None, option_map, IfOk};
-ghost use Rattle.std.specs.Prelude.{IfSome};
+ghost use Rattle.std.specs.Prelude.{IfSome, take};
+ghost use Rattle.roff_scan.specs.Unread.Calls.{next_bytes};
 ghost use Rattle.roff_scan.specs.Tape.{Answer, OneByte, OneNote, Gives, Failed, Rises};
 ghost use Rattle.roff_scan.specs.Input.{is_none_ahead, counting, choosing, keeping, kept_last};
 ghost use Rattle.roff_scan.specs.Input.{leaving, without_last, events_ahead, frees_ahead};
@@ -19,7 +20,7 @@ ghost use Rattle.roff_scan.specs.Input.{calling, dropping, entering, kept_below,
 ghost use Rattle.roff_scan.specs.Input.{argument_live, beginning_line, calling_body};
 
 use crate::arguments::{ArgumentList, ArgumentTexts, bytes_of};
-use crate::bytes::{newlines_among, passed_len};
+use crate::bytes::{at_most, newlines_among, passed_len};
 use crate::calls::Calls;
 use crate::frames::Frames;
 use crate::half::{CopyUnit, Read, Surroundings};
@@ -109,6 +110,8 @@ impl<E: Copy> Unread<E> {
     ghost use Rattle.roff_scan.specs.Unread.{ShowsByte, ShowsNote, ShowsEnding, sighted, SeesNote};
     ghost use Rattle.roff_scan.specs.Unread.{SeesEnding, taking, taking_answer, changing, reading};
     ghost use Rattle.roff_scan.specs.Unread.Calls.{Takes, Looks, PassesAhead, PassesOver};
+    ghost use Rattle.roff_scan.specs.Unread.Calls.{front_bytes, IsFront, NoNewline, PassesFront};
+    ghost use Rattle.roff_scan.specs.Unread.Calls.{HoldsFront, PassesSource, ReadsNames};
     ghost use Rattle.roff_store.specs.TextCalls.{Open, Remove, Rename, Set};
 
     /// The input before anything is read. So many names stand for something then: they are to be
@@ -219,9 +222,9 @@ impl<E: Copy> Unread<E> {
         }
     }
 
-    /// Takes a byte that stands ready, ahead or in the source behind nothing that was looked at, if
-    /// the limit on bytes allows it. Otherwise nothing happens, and [`take`](Unread::take) tells
-    /// what is in front. Most bytes are taken so.
+    /// Takes a byte that stands ready, ahead, looked at or in the source, if the limit on bytes
+    /// allows it. Otherwise nothing happens, and [`take`](Unread::take) tells what is in front.
+    /// Most bytes are taken so.
     #[inline(always)]
     pub fn take_ready<S: ByteSource>(&mut self, source: &mut S) -> Option<u8>
         ensures takes { IfSome result (λ b.
@@ -234,8 +237,12 @@ impl<E: Copy> Unread<E> {
         if !self.frames.is_empty() {
             return self.take_ready_ahead();
         }
-        if self.looked.is_some() || self.charge >= self.limits.bytes {
+        if self.limits.bytes == self.charge {
             return None;
+        }
+        if let Some(byte) = self.looked {
+            self.count(byte);
+            return Some(byte);
         }
         match source.ready_byte() {
             None => None,
@@ -349,6 +356,59 @@ impl<E: Copy> Unread<E> {
             let passed = self.frames.pass_over(within_block, most);
             self.charge += passed as u32;
         }
+    }
+
+    /// Bytes that stand in front, as they lie together: of a body ahead, or where nothing is ahead
+    /// and no byte was looked at, those of the source that stand ready; no more than the limit on
+    /// bytes allows. Whether anything is half read isn't looked at.
+    #[inline]
+    pub fn front<'a, S: ByteSource>(&'a self, source: &'a S) -> &'a [u8]
+        ensures bytes { result.now
+            ≡ front_bytes (length result.now) (S.ready source.now) self.now }
+        ensures front { IsFront (length result.now) (S.ready source.now) self.now }
+    {
+        let most = (self.limits.bytes - self.charge) as usize;
+        front_of(&self.frames, self.looked, source, most)
+    }
+
+    /// Takes at once so many of the bytes that stand in front, each at its cost.
+    #[inline]
+    pub fn pass<S: ByteSource>(&mut self, source: &mut S, count: usize)
+        requires front { IsFront count (S.ready source.old) self.old }
+        requires plain { NoNewline (front_bytes count (S.ready source.old) self.old) }
+        ensures passes { PassesFront (S.gives source.old) (S.gives source.new)
+            (front_bytes count (S.ready source.old) self.old) self.old self.new }
+        ensures notes { S.notes source.new ≡ S.notes source.old }
+        ensures failures { S.failures source.new ≡ S.failures source.old }
+        ensures within { IsWithin self.new }
+    {
+        if !self.frames.is_empty() {
+            self.frames.pass(count);
+            self.charge += count as u32;
+            return;
+        }
+        if count > 0 {
+            self.pass_source(source, count);
+        }
+    }
+
+    /// The same where nothing is ahead, of one byte at least.
+    #[inline]
+    fn pass_source<S: ByteSource>(&mut self, source: &mut S, count: usize)
+        requires some { 1 ≤ count }
+        requires none_ahead { is_none_ahead self.old.input.ahead ≡ true }
+        requires front { IsFront count (S.ready source.old) self.old }
+        requires plain { NoNewline (front_bytes count (S.ready source.old) self.old) }
+        ensures passes { PassesSource (S.gives source.old) (S.gives source.new)
+            (front_bytes count (S.ready source.old) self.old) self.old self.new }
+        ensures notes { S.notes source.new ≡ S.notes source.old }
+        ensures failures { S.failures source.new ≡ S.failures source.old }
+        ensures within { IsWithin self.new }
+    {
+        let line = self.newlines + 1;
+        self.line = line;
+        self.charge += count as u32;
+        source.pass(count);
     }
 
     /// Takes the front item ahead.
@@ -604,6 +664,21 @@ impl<E: Copy> Unread<E> {
         Ok(())
     }
 
+    /// Takes at once bytes that stand in front, as they lie together, as long as they are in the
+    /// front of an escape that reads a name, and no more than the limit on bytes allows.
+    #[inline(never)]
+    pub fn read_front<S: ByteSource>(&mut self, source: &mut S)
+        ensures reads { ReadsNames (S.gives source.old) (S.gives source.new) self.old self.new }
+        ensures notes { S.notes source.new ≡ S.notes source.old }
+        ensures failures { S.failures source.new ≡ S.failures source.old }
+        ensures within { IsWithin self.new }
+    {
+        let most = (self.limits.bytes - self.charge) as usize;
+        let front = front_of(&self.frames, self.looked, source, most);
+        let count = self.half.read_front(front);
+        self.pass(source, count);
+    }
+
     /// Begins to read a condition; nothing else is half read then.
     pub fn begin_condition(&mut self)
         ensures change { self.new ≡ record self.old { input = choosing self.old.input } }
@@ -734,6 +809,23 @@ impl<E: Copy> Unread<E> {
         self.frames.get(name)
     }
 
+    /// Takes at once bytes that stand in front, as they lie together, and holds them in the line's
+    /// arguments: up to the first that isn't held as it is read, and no more than the limits have
+    /// room for. Whether anything is half read isn't looked at.
+    #[inline(never)]
+    pub fn hold_front<S: ByteSource>(&mut self, source: &mut S)
+        ensures holds { HoldsFront (S.gives source.old) (S.gives source.new) self.old self.new }
+        ensures notes { S.notes source.new ≡ S.notes source.old }
+        ensures failures { S.failures source.new ≡ S.failures source.old }
+        ensures within { IsWithin self.new }
+    {
+        let room = self.limits.stack as usize - self.pushed();
+        let most = room.min((self.limits.bytes - self.charge) as usize);
+        let front = front_of(&self.frames, self.looked, source, most);
+        let count = self.arguments.take_front(front);
+        self.pass(source, count);
+    }
+
     /// Lets a name stand for an entry from now on.
     ///
     /// # Errors
@@ -824,6 +916,30 @@ impl<E: Copy> Unread<E> {
             self.frames.drop_open(id);
         }
     }
+}
+
+/// Bytes that stand in front, as they lie together, so many at the most: of a body ahead, or where
+/// nothing is ahead and no byte was looked at, those of the source that stand ready.
+#[inline]
+fn front_of<'a, E: Copy, S: ByteSource>(
+    frames: &'a Frames<E>,
+    looked: Option<u8>,
+    source: &'a S,
+    most: usize,
+) -> &'a [u8]
+    ensures bytes { result.now
+        ≡ take (length result.now) (next_bytes frames.now.ahead looked (S.ready source.now)) }
+    ensures among { length result.now
+        ≤ length (next_bytes frames.now.ahead looked (S.ready source.now)) }
+    ensures few { length result.now ≤ most }
+{
+    if !frames.is_empty() {
+        return at_most(frames.front(), most);
+    }
+    if looked.is_some() {
+        return &[];
+    }
+    at_most(source.buffered(), most)
 }
 
 /// The argument at an index, from 0 on; one that isn't there is empty.

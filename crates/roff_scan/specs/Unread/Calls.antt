@@ -1,8 +1,10 @@
 -- What a call tells that is lent the source.
-use Rattle.std.specs.Prelude.{◌≡◌, ◌⊎◌, ℕ, ◌+◌, ◌≤◌, Bool, true, List, [], ◌++◌, length, map, None}
+use Rattle.std.specs.Prelude.{◌≡◌, ◌⊎◌, ℕ, ◌+◌, ◌≤◌, ◌==◌, Bool, true, false, List, [], ◌∷◌, ◌++◌, length, map, take, Option, Some, None}
 use Rattle.std.specs.List.{AllByRecursion}
-use Rattle.roff_scan.specs.Bytes.{is_passed}
-use Rattle.roff_scan.specs.Input.{Ahead, ByteAhead, bytes_taken, lines_taken}
+use Rattle.roff_scan.specs.Arguments.{bytes_held, is_argument_byte}
+use Rattle.roff_scan.specs.Bytes.{is_passed, newline}
+use Rattle.roff_scan.specs.HalfFronts.{HalvesRead}
+use Rattle.roff_scan.specs.Input.{Ahead, ByteAhead, bytes_taken, leading, lines_taken}
 use Rattle.roff_scan.specs.Tape.{Tape, Answer, OneByte, items_then}
 use Rattle.roff_scan.specs.Unread.{Unread, Asked, Stays, Shown, Sighted, asks_to_take, asks_to_look, passed_over, taking, looking}
 
@@ -47,3 +49,63 @@ pub record PassesAhead {E : Type 0} (before after : Unread E) (within_block : Bo
   pub none_half : (bytes ≡ []) ⊎ (before.input.half ≡ [])
   pub input : after ≡ record before { input = bytes_taken bytes behind before.input }
   pub within : before.input.charge + length bytes ≤ before.limits.bytes
+
+-- the bytes of the source that come next: those that stand ready, where none was looked at
+abbrev pub ready_behind : Option ℕ → List ℕ → List ℕ
+ready_behind None ready = ready
+ready_behind (Some b) ready = []
+
+-- the bytes that come next: those ahead up to the first other item, or where nothing is ahead those of the source
+abbrev pub next_bytes : {E : Type 0} → List (Ahead E) → Option ℕ → List ℕ → List ℕ
+next_bytes [] looked ready = ready_behind looked ready
+next_bytes (item ∷ items) looked ready = leading (item ∷ items)
+
+-- so many of them
+abbrev pub front_bytes : {E : Type 0} → ℕ → List ℕ → Unread E → List ℕ
+front_bytes count ready u = take count (next_bytes u.input.ahead u.looked ready)
+
+-- there are so many, and the limit on bytes allows them
+pub record IsFront {E : Type 0} (count : ℕ) (ready : List ℕ) (u : Unread E) : Type 0 where
+  pub among : count ≤ length (next_bytes u.input.ahead u.looked ready)
+  pub within : u.input.charge + count ≤ u.limits.bytes
+
+-- no newline is among these bytes
+abbrev pub NoNewline : List ℕ → Type 0
+NoNewline bytes = AllByRecursion (λ b. (b == newline) ≡ false) bytes
+
+-- These bytes of the source were taken at once. What it may give behind them, it might have given with them in front, and
+-- there is such a tape.
+pub record PassesSource {E : Type 0} (old new : Tape → Type 0) (bytes : List ℕ) (before after : Unread E) : Type 0 where
+  pub ahead : before.input.ahead ≡ []
+  pub looked : before.looked ≡ None
+  pub in_front : (t : Tape) → new t → old (items_then (map OneByte bytes) t)
+  pub some : (t : Tape) × new t
+  pub input : after ≡ record before { input = lines_taken bytes before.input }
+  pub within : before.input.charge + length bytes ≤ before.limits.bytes
+
+-- these bytes that stand ahead were taken at once, each at its cost, and the source wasn't asked
+pub record PassesTexts {E : Type 0} (old new : Tape → Type 0) (bytes : List ℕ) (before after : Unread E) : Type 0 where
+  pub behind : List (Ahead E)
+  pub in_front : before.input.ahead ≡ map ByteAhead bytes ++ behind
+  pub stays : Stays old new
+  pub input : after ≡ record before { input = bytes_taken bytes behind before.input }
+  pub within : before.input.charge + length bytes ≤ before.limits.bytes
+
+-- these bytes were taken at once, wherever they stood; no bytes stand anywhere, and nothing changed then
+pub data PassesFront {E : Type 0} (old new : Tape → Type 0) (bytes : List ℕ) (before after : Unread E) : Type 0 where
+  OfSource : PassesSource old new bytes before after → PassesFront old new bytes before after
+  OfTexts : PassesTexts old new bytes before after → PassesFront old new bytes before after
+
+-- Bytes that came next were taken at once and held in the arguments of the line, each as it is read; nothing else changed but
+-- what is counted.
+pub record HoldsFront {E : Type 0} (old new : Tape → Type 0) (before after : Unread E) : Type 0 where
+  pub bytes : List ℕ
+  pub plain : AllByRecursion (λ b. is_argument_byte b ≡ true) bytes
+  pub passes : PassesFront old new bytes before (record after { input = record after.input { arguments = before.input.arguments } })
+  pub arguments : after.input.arguments ≡ bytes_held bytes before.input.arguments
+
+-- Bytes that came next were taken at once, and changed only what is half read; nothing else changed but what is counted.
+pub record ReadsNames {E : Type 0} (old new : Tape → Type 0) (before after : Unread E) : Type 0 where
+  pub bytes : List ℕ
+  pub read : HalvesRead before.input.half bytes after.input.half
+  pub passes : PassesFront old new bytes before (record after { input = record after.input { half = before.input.half } })
