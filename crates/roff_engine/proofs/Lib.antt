@@ -13,4 +13,6 @@ pub mod Outcomes
 pub mod TwoRuns
 pub mod Passing
 pub mod PassingAhead
+pub mod Turned
+pub mod Telling
 pub mod Settling

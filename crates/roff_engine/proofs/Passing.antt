@@ -1,6 +1,7 @@
 -- Bytes of the source that stand ready and change nothing: the run has come behind them.
 use Rattle.std.proofs.Common.{◌≡◌, ℕ, ◌+◌, ◌≤◌, Bool, true, false, List, [], ◌∷◌, ◌++◌, length, Option, None, inl, inr, refl, sym, ap, subst, ◌∙◌, arith}
 use Rattle.std.specs.Prelude.{map}
+use Rattle.std.specs.Io.KnownBytes.{Appends}
 use Rattle.std.specs.List.{AllByRecursion}
 use Rattle.roff_num.specs.declared.limits.Limits.{Limits}
 use Rattle.roff_scan.specs.Bytes.{is_passed}
@@ -8,11 +9,14 @@ use Rattle.roff_scan.specs.Input.{lines_taken}
 use Rattle.roff_scan.specs.Tape.{Tape, OneByte, items_then}
 use Rattle.roff_scan.specs.Unread.{Stays, looked_then}
 use Rattle.roff_scan.specs.Unread.Calls.{IsBare, PassesOver}
+use Rattle.roff_run.specs.Environments.Standing.{StandFor}
+use Rattle.roff_run.specs.Output.{PageHistory, written}
 use Rattle.roff_run.specs.Reader.Taken.{IsReady, PageUnread}
 use Rattle.roff_run.specs.Reading.{PageInput, Passes, due}
 use Rattle.roff_run.specs.Run.{State, Leads, initial}
 use Rattle.roff_run.specs.TurnsToCome.{turns_to_come}
 use Rattle.roff_run.specs.declared.reading.Reading.{Reading}
+use Rattle.roff_engine.specs.declared.formatter.Formatter.{Formatter}
 use Rattle.roff_engine.specs.declared.running.Running.{Running as Coded}
 use Rattle.roff_engine.specs.Engine.Outcome.{Seen, seen}
 use Rattle.roff_engine.specs.Formatter.Performing.{going}
@@ -22,47 +26,54 @@ use Rattle.roff_engine.proofs.Waiting.{items_then-append}
 use Rattle.roff_run.proofs.Leads.{Leads-trans}
 use Rattle.roff_run.proofs.PassingRuns.{IsPlain, IsPlain-lines_taken, after-passed, turns_within-lines_taken}
 
+-- what is so of each of these bytes, where something else is
+pub all_by : (P Q : ℕ → Type 0) → ((b : ℕ) → P b → Q b) → (bytes : List ℕ) → AllByRecursion P bytes → AllByRecursion Q bytes
+all_by P Q makes [] are = tt
+all_by P Q makes (b ∷ bytes) are = (makes b are.0, all_by P Q makes bytes are.1)
+
 -- each byte of these changes nothing
 pub all_pass : (reading : Reading) (within_block : Bool) (bytes : List ℕ) → ((b : ℕ) → is_passed within_block b ≡ true → Passes reading b)
     → AllByRecursion (λ b. is_passed within_block b ≡ true) bytes → AllByRecursion (λ b. Passes reading b) bytes
-all_pass reading within_block [] passes plain = tt
-all_pass reading within_block (b ∷ bytes) passes plain = (passes b plain.0, all_pass reading within_block bytes passes plain.1)
+all_pass reading within_block bytes passes plain = all_by (λ b. is_passed within_block b ≡ true) (λ b. Passes reading b) passes bytes plain
 
--- the code behind them
-abbrev behind : Coded → Limits → List ℕ → PageInput → Coded
-behind old limits bytes input = record old { unread = record old.unread { input = lines_taken bytes input; looked = None; limits = limits } }
+-- the code is at its place where the run of the definition leads on, and nothing is written or reported
+pub IsAt-leads : (whole before behind : Tape) (start now : Seen) (old : Coded) (f : Formatter) (u : PageUnread) (h : PageHistory) (at : IsAt whole before start now old)
+    → Leads old.limits (state_at before old at.history at.messages) (state_at behind (record old { formatter = f; unread = u }) h at.messages)
+    → written h ≡ written at.history → StandFor old.limits h f.environments → IsReady f.reader.registers u → u.limits ≡ old.limits
+    → IsAt whole behind start now (record old { formatter = f; unread = u })
+IsAt-leads whole before behind start now old f u h at leads nothing stands ready limits = record {
+  history = h;
+  messages = at.messages;
+  reaches = record {
+    comes = Leads-trans old.limits (initial whole) (state_at before old at.history at.messages)
+        (state_at behind (record old { formatter = f; unread = u }) h at.messages) at.reaches.comes leads;
+    text = subst (λ (bytes : List ℕ). Appends start.out.contents now.out.contents bytes) (sym nothing) at.reaches.text;
+    messages = at.reaches.messages;
+    faults = at.reaches.faults;
+  };
+  stands = stands;
+  ready = ready;
+  limits = limits;
+}
 
--- the run is at its place behind them
-IsAt-passed : (whole t : Tape) (start now : Seen) (old : Coded) (limits : Limits) (bytes : List ℕ) (input : PageInput)
-    → old.unread ≡ record old.unread { input = input; looked = None; limits = limits } → input.ahead ≡ [] → input.half ≡ []
-    → input.charge + length bytes ≤ limits.bytes → due old.formatter.reader.reading ≡ None → AllByRecursion (λ b. Passes old.formatter.reader.reading b) bytes
-    → IsAt whole (items_then (map OneByte bytes) t) start now old → IsAt whole t start now (behind old limits bytes input)
-IsAt-passed whole t start now old limits bytes input is none_ahead none_half within none_due pass at =
-    let l : Limits = old.limits in
-    let u : PageUnread = record old.unread { input = input; looked = None; limits = limits } in
-    let same : limits ≡ l = ap (λ (v : PageUnread). v.limits) (sym is) ∙ at.limits in
-    let from : State = state_at (items_then (map OneByte bytes) t) old at.history at.messages in
-    let here : PageUnread → Tape → State = λ v tape. going (looked_then v.looked tape) v.input old.formatter.reader.reading old.formatter.reader.registers.all at.history at.messages false [] in
-    let there : State = state_at t (behind old limits bytes input) at.history at.messages in
-    let ready : IsReady old.formatter.reader.registers u = subst (λ (v : PageUnread). IsReady old.formatter.reader.registers v) is at.ready in
-    let plain : IsPlain limits there input = record { none_ahead = none_ahead; none_half = none_half; within = ready.within } in
-    let plain_behind : IsPlain limits there (lines_taken bytes input) = IsPlain-lines_taken limits there bytes input plain in
-    let leads : Leads limits (here u (items_then (map OneByte bytes) t)) there =
-    record { steps = length bytes; there = after-passed limits there t bytes input (record { going = refl; not_closing = refl; idle = refl; none_due = none_due }) plain within pass } in
-    let leads_from : Leads l from there = subst (λ (k : Limits). Leads k from there) same (subst (λ (v : PageUnread). Leads limits (here v (items_then (map OneByte bytes) t)) there) (sym is) leads) in
-    record {
-      history = at.history;
-      messages = at.messages;
-      reaches = record {
-        comes = Leads-trans l (initial whole) from there at.reaches.comes leads_from;
-        text = at.reaches.text;
-        messages = at.reaches.messages;
-        faults = at.reaches.faults;
-      };
-      stands = at.stands;
-      ready = record { cap = ready.cap; within = plain_behind.within };
-      limits = same;
-    }
+-- the run is at its place behind bytes of the source
+IsAt-passed : (whole t : Tape) (start now : Seen) (old : Coded) (bytes : List ℕ) → IsBare old.unread
+    → old.unread.input.charge + length bytes ≤ old.unread.limits.bytes → due old.formatter.reader.reading ≡ None → AllByRecursion (λ b. Passes old.formatter.reader.reading b) bytes
+    → IsAt whole (items_then (map OneByte bytes) t) start now old → IsAt whole t start now (record old { unread = record old.unread { input = lines_taken bytes old.unread.input } })
+IsAt-passed whole t start now old bytes bare few none_due pass at =
+    let u : PageUnread = old.unread in
+    let behind : PageUnread = record u { input = lines_taken bytes u.input } in
+    let tape : Tape = items_then (map OneByte bytes) t in
+    let here : Option ℕ → Tape → PageInput → State = λ looked tape input.
+    going (looked_then looked tape) input old.formatter.reader.reading old.formatter.reader.registers.all at.history at.messages false [] in
+    let plain : IsPlain u.limits (here None t u.input) u.input = record { none_ahead = bare.ahead; none_half = bare.half; within = at.ready.within } in
+    let leads : Leads u.limits (here None tape u.input) (here None t behind.input) =
+    record { steps = length bytes; there = after-passed u.limits (here None t u.input) t bytes u.input (record { going = refl; not_closing = refl; idle = refl; none_due = none_due }) plain few pass } in
+    let leads_on : Leads u.limits (here u.looked tape u.input) (here u.looked t behind.input) =
+    subst (λ (looked : Option ℕ). Leads u.limits (here looked tape u.input) (here looked t behind.input)) (sym bare.looked) leads in
+    IsAt-leads whole tape t start now old old.formatter behind at.history at
+    (subst (λ (l : Limits). Leads l (here u.looked tape u.input) (here u.looked t behind.input)) at.limits leads_on) refl at.stands
+    (record { cap = at.ready.cap; within = (IsPlain-lines_taken u.limits (here None t u.input) bytes u.input plain).within }) at.limits
 
 -- no more turns are to come behind them
 turns-passed : (gave gives : Tape → Type 0) (ready : List ℕ) (before after : PageUnread) (within_block : Bool) → PassesOver gave gives ready before after within_block
@@ -76,22 +87,15 @@ past-some : (gave gives : Tape → Type 0) (ready : List ℕ) (notes : ℕ) (now
     → due old.formatter.reader.reading ≡ None → ((b : ℕ) → is_passed within_block b ≡ true → Passes old.formatter.reader.reading b)
     → GoesPast gave gives notes notes old (record old { unread = after }) now now
 past-some gave gives ready notes now old after within_block passes bare some none_due pass =
-    let bytes : List ℕ = passes.bytes in
-    let input : PageInput = old.unread.input in
-    let limits : Limits = old.unread.limits in
-    let is : old.unread ≡ record old.unread { input = input; looked = None; limits = limits } =
-    ap (λ (looked : Option ℕ). record old.unread { input = input; looked = looked; limits = limits }) bare.looked in
-    let left : after ≡ record old.unread { input = lines_taken bytes input; looked = None; limits = limits } =
-    passes.input ∙ ap (λ (looked : Option ℕ). record old.unread { input = lines_taken bytes input; looked = looked; limits = limits }) bare.looked in
     let few : turns_to_come after ≤ turns_to_come old.unread = turns-passed gave gives ready old.unread after within_block passes in
     record {
       limits = refl;
-      taken = map OneByte bytes;
+      taken = map OneByte passes.bytes;
       before = passes.in_front;
       some = λ known. inr some;
       past = λ t tape start may at.
-          subst (λ (u : PageUnread). IsAt t tape start now (record old { unread = u })) (sym left)
-          (IsAt-passed t tape start now old limits bytes input is bare.ahead bare.half passes.within none_due (all_pass _ within_block bytes pass passes.plain) at);
+          subst (λ (u : PageUnread). IsAt t tape start now (record old { unread = u })) (sym passes.input)
+          (IsAt-passed t tape start now old passes.bytes bare passes.within none_due (all_pass _ within_block passes.bytes pass passes.plain) at);
       turns = omega (arith, few);
     }
 

@@ -8,21 +8,20 @@ use Rattle.roff_scan.specs.Input.{Ahead, ByteAhead, bytes_taken, is_none_ahead}
 use Rattle.roff_scan.specs.Tape.{Tape}
 use Rattle.roff_scan.specs.Unread.{Stays}
 use Rattle.roff_scan.specs.Unread.Calls.{PassesAhead}
-use Rattle.roff_run.specs.Reader.Taken.{IsReady, PageUnread}
+use Rattle.roff_run.specs.Reader.Taken.{PageUnread}
 use Rattle.roff_run.specs.Reading.{PageInput, Passes, due}
 use Rattle.roff_run.specs.declared.event.PageEvent.{PageEvent}
-use Rattle.roff_run.specs.Run.{State, Leads, initial}
+use Rattle.roff_run.specs.Run.{State, Leads}
 use Rattle.roff_run.specs.TurnsToCome.{turns_to_come}
-use Rattle.roff_run.proofs.Leads.{Leads-trans}
 use Rattle.roff_run.proofs.PassingBodies.{after-bytes_taken, turns_within-bytes_taken, within-bytes_taken}
 use Rattle.roff_engine.specs.declared.running.Running.{Running as Coded}
 use Rattle.roff_engine.specs.Engine.Outcome.{Seen}
 use Rattle.roff_engine.specs.Running.Turning.{GoesPast, HasTape, IsAt, state_at}
-use Rattle.roff_engine.proofs.Passing.{all_pass, past-none}
+use Rattle.roff_engine.proofs.Passing.{IsAt-leads, all_pass, past-none}
 
 module _ (old : Coded) (bytes : List ℕ) (items : List (Ahead PageEvent)) (front : old.unread.input.ahead ≡ map ByteAhead bytes ++ items) where
   -- the code behind these bytes
-  abbrev behind : Coded
+  abbrev pub behind : Coded
   behind = record old { unread = record old.unread { input = bytes_taken bytes items old.unread.input } }
 
   -- the run is at its place behind them
@@ -31,41 +30,25 @@ module _ (old : Coded) (bytes : List ℕ) (items : List (Ahead PageEvent)) (fron
       → IsAt whole t start now old → IsAt whole t start now behind
   IsAt-behind whole t start now none_half allowed none_due pass at =
       let u : PageUnread = old.unread in
-      let ready : IsReady old.formatter.reader.registers u = at.ready in
       let from : State = state_at t old at.history at.messages in
       let there : State = state_at t behind at.history at.messages in
       let leads : Leads u.limits from there = record {
         steps = length bytes;
         there = after-bytes_taken u.limits from bytes items u.input (record { going = refl; not_closing = refl; idle = refl; none_due = none_due }) front none_half
-            ready.within allowed pass;
+            at.ready.within allowed pass;
       } in
-      let leads_on : Leads old.limits from there = subst (λ (l : Limits). Leads l from there) at.limits leads in
-      record {
-        history = at.history;
-        messages = at.messages;
-        reaches = record {
-          comes = Leads-trans old.limits (initial whole) from there at.reaches.comes leads_on;
-          text = at.reaches.text;
-          messages = at.reaches.messages;
-          faults = at.reaches.faults;
-        };
-        stands = at.stands;
-        ready = record {
-          cap = ready.cap;
-          within = within-bytes_taken u.limits old.formatter.reader.registers.all bytes items u.input front ready.within;
-        };
-        limits = at.limits;
-      }
+      IsAt-leads whole t t start now old old.formatter behind.unread at.history at (subst (λ (l : Limits). Leads l from there) at.limits leads) refl at.stands
+      (record { cap = at.ready.cap; within = within-bytes_taken u.limits old.formatter.reader.registers.all bytes items u.input front at.ready.within }) at.limits
 
 -- where bytes are ahead, the source isn't asked
-not_asked : (bytes : List ℕ) (b : ℕ) (items ahead : List (Ahead PageEvent)) (none : Bool) → ahead ≡ map ByteAhead (b ∷ bytes) ++ items
+pub not_asked : (bytes : List ℕ) (b : ℕ) (items ahead : List (Ahead PageEvent)) (none : Bool) → ahead ≡ map ByteAhead (b ∷ bytes) ++ items
     → (is_none_ahead ahead && none) ≡ true → ⊥
 not_asked bytes b items ahead none front asks =
     let asks_not : (is_none_ahead ahead && none) ≡ false = ap (λ (xs : List (Ahead PageEvent)). is_none_ahead xs && none) front in
     cc
 
 -- so there is a tape of it, if there was one
-has_tape : (gives : Tape → Type 0) (old : Coded) (bytes : List ℕ) (items : List (Ahead PageEvent)) (front : old.unread.input.ahead ≡ map ByteAhead bytes ++ items)
+pub has_tape : (gives : Tape → Type 0) (old : Coded) (bytes : List ℕ) (items : List (Ahead PageEvent)) (front : old.unread.input.ahead ≡ map ByteAhead bytes ++ items)
     → HasTape old gives → HasTape (behind old bytes items front) gives
 has_tape gives old [] items front known = known
 has_tape gives old (b ∷ bytes) items front known = elim known [

@@ -1,2 +1,3 @@
 -- What the code of the formatter does, as the definition has it.
 pub mod Performing
+pub mod Telling

@@ -1,12 +1,17 @@
 //! The formatter: what each item of the input does.
 
-ghost use Rattle.std.specs.Prelude.{◌≡◌, ℕ, true, [], ◌∷◌, IfOk, IfSome, IsOkUnless, option_map};
-ghost use Rattle.roff_scan.specs.Bytes.{is_passed};
+ghost use Rattle.std.specs.Prelude.{◌≡◌, ℕ, true, None, [], ◌∷◌, IfOk, IfSome, IsOkUnless, option_map};
+ghost use Rattle.std.specs.Prelude.{take};
+ghost use Rattle.roff_scan.specs.Arguments.{is_argument_byte};
+ghost use Rattle.roff_scan.specs.Bytes.{is_passed, is_text_byte};
+ghost use Rattle.roff_run.specs.Stages.{Holds, ReadsHalves};
 ghost use Rattle.roff_run.specs.Reading.{Passes, Taking};
 ghost use Rattle.roff_run.specs.Reader.AtOnce.{IsReadAbove};
 ghost use Rattle.roff_run.specs.Reader.Taken.{PageUnread};
 ghost use Rattle.roff_run.specs.Registers.{Known as KnownOf};
 ghost use Rattle.roff_run.specs.declared.reader.AtOnce.TheVariants.{Found};
+ghost use Rattle.roff_run.specs.Telling.{Prints};
+ghost use Rattle.roff_engine.specs.Formatter.Telling.{TellsFront};
 ghost use Rattle.roff_engine.specs.Clauses.{option_to_list, finished_of, fresh_reader, Gap, Print};
 ghost use Rattle.roff_engine.specs.Clauses.{WordEnd, LineEnd, Break, message_lines, finished_bytes};
 ghost use Rattle.roff_engine.specs.Clauses.{DoesMeaning, DoesTaking, PerformsOnly, closing_events};
@@ -23,8 +28,12 @@ use roff_num::Limits;
 use roff_run::{
     AtOnce, Due, EnvironmentNumber, Environments, Events, Meaning, Message, PageEvent, Reader,
 };
-use roff_scan::{Read, Unread};
+use roff_scan::{Read, Unread, text_in_front};
 use std::alloc::{AllocError, Global};
+
+/// So many bytes of a text line are told at once at the most: more than most lines have, so that few
+/// are looked at that aren't told.
+const MOST_AT_ONCE: usize = 128;
 
 /// What finishes the last line.
 const CLOSING: [PageEvent; 2] = [
@@ -69,6 +78,47 @@ impl Formatter {
         ensures none_due { IfSome result (λ within_block. due self.now.reader.reading ≡ None) }
     {
         self.reader.passes_over()
+    }
+
+    /// Whether bytes of plain text are told, each as a glyph or a gap, where nothing is half read,
+    /// and what is read stays.
+    #[inline(always)]
+    pub(crate) fn prints(&self) -> bool
+        ensures prints { result ≡ true → (b : ℕ) → is_text_byte b ≡ true
+            → Prints self.now.reader.reading b }
+        ensures none_due { result ≡ true → due self.now.reader.reading ≡ None }
+    {
+        self.reader.prints()
+    }
+
+    /// Whether bytes of the line are held in its arguments where nothing is half read, and what is
+    /// read stays.
+    #[inline(always)]
+    pub(crate) fn holds_arguments(&self) -> bool
+        ensures holds { result ≡ true → (b : ℕ) → is_argument_byte b ≡ true
+            → Holds self.now.reader.reading b }
+        ensures none_due { result ≡ true → due self.now.reader.reading ≡ None }
+    {
+        self.reader.holds_arguments()
+    }
+
+    /// Whether bytes may change only what is half read, and what is read stays.
+    #[inline(always)]
+    pub(crate) fn reads_names(&self) -> bool
+        ensures reads { result ≡ true → ReadsHalves self.now.reader.reading }
+        ensures none_due { result ≡ true → due self.now.reader.reading ≡ None }
+    {
+        self.reader.reads_names()
+    }
+
+    /// Tells bytes of plain text, of those that stand in front: as many as no limit refuses, and
+    /// none that finishes a line. How many they are.
+    pub(crate) fn text_front(&mut self, front: &[u8]) -> usize
+        ensures { TellsFront front.now result self.old self.new }
+    {
+        let near = told_at_once(front);
+        let (text, _) = near.split_at(text_in_front(near));
+        self.environments.in_force.lines.text(text)
     }
 
     /// Something that isn't a byte of the line stands in front.
@@ -484,6 +534,14 @@ impl Formatter {
             Err(_) => Err(Halt::Output),
         }
     }
+}
+
+/// The first of these bytes, as many as are told at once at the most.
+#[inline(always)]
+fn told_at_once(bytes: &[u8]) -> &[u8]
+    ensures { result.now ≡ take 128 bytes.now }
+{
+    bytes.split_at(MOST_AT_ONCE.min(bytes.len())).0
 }
 
 /// Writes the line that an event finished, if it finished one.

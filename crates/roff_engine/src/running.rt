@@ -1,9 +1,13 @@
 //! A run under way: what each item of the input does.
 
-ghost use Rattle.std.specs.Prelude.{◌≡◌, ◌≤◌, ℕ, length, true, None, Some, Result, Err, IsOkUnless};
+ghost use Rattle.std.specs.Prelude.{◌≡◌, ◌≤◌, ℕ, [], length, true, None, Some, Result, Err, IsOkUnless};
 ghost use Rattle.std.specs.Prelude.{OnOk};
 ghost use Rattle.roff_run.specs.Run.{ahead_taken, awaited, byte_taken, end_met, half_ends};
 ghost use Rattle.roff_run.specs.Run.{in_front_taken, input_ended, step, waiting};
+ghost use Rattle.roff_run.specs.Stages.{Holds, ReadsHalves};
+ghost use Rattle.roff_run.specs.Telling.{Prints};
+ghost use Rattle.roff_scan.specs.Arguments.{is_argument_byte};
+ghost use Rattle.roff_scan.specs.Bytes.{is_text_byte};
 ghost use Rattle.roff_scan.specs.Halves.{newline_stays};
 ghost use Rattle.roff_scan.specs.Input.{DoAhead};
 ghost use Rattle.roff_scan.specs.Unread.{seen_ahead};
@@ -31,7 +35,7 @@ impl Running {
     ghost use Rattle.roff_engine.specs.Running.Turning.{Settles, TurnsBy, input_ends, line_told};
 
     /// Passes over bytes of the source that stand ready, or of a body ahead, and change nothing, if
-    /// there are some.
+    /// there are some, or tells those of a text line, or holds those of arguments.
     #[inline(always)]
     pub(crate) fn pass_over<S: ByteSource>(&mut self, source: &mut S)
         ensures { (out err : Sunk) → GoesPast
@@ -45,7 +49,61 @@ impl Running {
             } else {
                 self.unread.pass_over_ahead(within_block);
             }
+        } else if self.formatter.prints() && !self.unread.is_half_read() {
+            self.tell_front(source);
+        } else if self.formatter.holds_arguments() && !self.unread.is_half_read() {
+            self.hold_arguments(source);
+        } else if self.formatter.reads_names() && self.unread.is_half_read() {
+            self.read_name(source);
         }
+    }
+
+    /// Takes bytes of plain text at once that stand in front, and tells them: as many as no limit
+    /// refuses, and none that finishes a line.
+    #[inline(never)]
+    fn tell_front<S: ByteSource>(&mut self, source: &mut S)
+        requires prints { (b : ℕ) → is_text_byte b ≡ true
+            → Prints self.old.formatter.reader.reading b }
+        requires none_due { due self.old.formatter.reader.reading ≡ None }
+        requires none_half { self.old.unread.input.half ≡ [] }
+        ensures { (out err : Sunk) → GoesPast
+            (S.gives source.old) (S.gives source.new) (S.notes source.old) (S.notes source.new)
+            self.old self.new
+            (seen (S.failures source.old) out err) (seen (S.failures source.new) out err) }
+    {
+        let front = self.unread.front(source);
+        let count = self.formatter.text_front(front);
+        self.unread.pass(source, count);
+    }
+
+    /// Takes bytes of a line at once that stand in front, and holds them in its arguments: up to the
+    /// first that isn't held as it is read, and no more than the limits have room for.
+    #[inline(always)]
+    fn hold_arguments<S: ByteSource>(&mut self, source: &mut S)
+        requires holds { (b : ℕ) → is_argument_byte b ≡ true
+            → Holds self.old.formatter.reader.reading b }
+        requires none_due { due self.old.formatter.reader.reading ≡ None }
+        requires none_half { self.old.unread.input.half ≡ [] }
+        ensures { (out err : Sunk) → GoesPast
+            (S.gives source.old) (S.gives source.new) (S.notes source.old) (S.notes source.new)
+            self.old self.new
+            (seen (S.failures source.old) out err) (seen (S.failures source.new) out err) }
+    {
+        self.unread.hold_front(source);
+    }
+
+    /// Takes bytes at once that stand in front and change only what is half read, as long as they are
+    /// in the front of an escape that reads a name.
+    #[inline(always)]
+    fn read_name<S: ByteSource>(&mut self, source: &mut S)
+        requires reads { ReadsHalves self.old.formatter.reader.reading }
+        requires none_due { due self.old.formatter.reader.reading ≡ None }
+        ensures { (out err : Sunk) → GoesPast
+            (S.gives source.old) (S.gives source.new) (S.notes source.old) (S.notes source.new)
+            self.old self.new
+            (seen (S.failures source.old) out err) (seen (S.failures source.new) out err) }
+    {
+        self.unread.read_front(source);
     }
 
     /// Does what is due before anything more is taken. An `Err` is the status of a run that ended.

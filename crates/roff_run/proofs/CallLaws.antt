@@ -23,7 +23,7 @@ use Rattle.roff_scan.specs.declared.half.Surroundings.TheVariants.{Arguments as 
 use Rattle.roff_store.specs.Named.{Named, entry_of}
 use Rattle.roff_store.specs.Texts.{Entry, Body, body_if_any}
 use Rattle.roff_run.proofs.Interpolation.{FromAhead, FromSource, IsRead, IsRead-itself, Origin, ahead_at, not-first, not-second, tape_at, taken_as-going_on}
-use Rattle.roff_run.proofs.PlainRuns.{bytes_ahead-behind, ends_ahead-behind_all, HasRoom, HasRoom-start, Here, Most, Onward, Path, Path-append, Stage, Turns, after-last, behind_byte, behind_bytes, behind_bytes-charge, counted, counted-ahead, counted-last, counted-source, input_at, is-run_at, run_at}
+use Rattle.roff_run.proofs.PlainRuns.{bytes_ahead-behind, ends_ahead-behind_all, HasRoom, HasRoom-start, Here, Most, Onward, Path, Path-append, after-last, behind_byte, behind_bytes, behind_bytes-charge, counted, counted-ahead, counted-last, counted-source, is-run_at, run_at}
 use Rattle.roff_run.proofs.QuotedArguments.{itself-quoted_line}
 use Rattle.roff_run.specs.CallLaws.{BeginsLine, BelongsToName, BodiesAreCalled, BodiesAreCalledFromTheSource, BlankBehind, IsApostrophe, IsBehindName, IsCall, IsControl, IsDot, IsUnknown, NothingBehind, UnknownNamesDoNothing, UnknownNamesOfTheSourceDoNothing, behind_call, call_line, named_line, with_call}
 use Rattle.roff_run.specs.InterpolationLaws.{StandsForItself}
@@ -33,6 +33,7 @@ use Rattle.roff_run.specs.Registers.{Known}
 use Rattle.roff_run.specs.Requests.{called_as, called_by}
 use Rattle.roff_run.specs.Run.{State, after, byte_taken, known, taken_as}
 use Rattle.roff_run.specs.ShortNames.{name_bytes}
+use Rattle.roff_run.specs.Stages.{Stage, Turns, input_at}
 use Rattle.roff_run.specs.declared.reading.Reading.{Reading}
 use Rattle.roff_run.specs.declared.reading.Reading.TheVariants.{Calling, Control, Dropped, LineStart, Name}
 use Rattle.roff_run.specs.declared.reading.ShortName.{ShortName}

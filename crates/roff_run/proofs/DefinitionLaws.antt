@@ -23,7 +23,7 @@ use Rattle.roff_store.specs.Named.{Named, with_entry}
 use Rattle.roff_store.specs.TextCalls.{Enter, PushOpen}
 use Rattle.roff_store.specs.Texts.{Body, Entry, newest}
 use Rattle.roff_run.proofs.Interpolation.{FromAhead, FromSource, IsRead-itself, Origin, ahead_at, not-first, not-second, tape_at}
-use Rattle.roff_run.proofs.PlainRuns.{HasRoom, HasRoom-start, Here, Most, Onward, Path, Stage, after-last, behind_byte, behind_bytes, counted, counted-ahead, counted-last, counted-source, input_at, is-run_at, run_at}
+use Rattle.roff_run.proofs.PlainRuns.{HasRoom, HasRoom-start, Here, Most, Onward, Path, after-last, behind_byte, behind_bytes, counted, counted-ahead, counted-last, counted-source, is-run_at, run_at}
 use Rattle.roff_run.specs.ConditionLaws.{is_whole}
 use Rattle.roff_run.specs.DefinitionLaws.{AreItsLines, BeginsDefinition, DefinitionsEnterTheirLines, DefinitionsOfTheSourceEnterTheirLines, IgnoredLinesEnterNothing, IgnoredLinesOfTheSourceEnterNothing, IsTextLine, LinesBeginBehindTwoDots, behind_end, IsOfLine, bytes_of_lines, definition_bytes, is_end, text_of_lines, with_definition}
 use Rattle.roff_run.specs.Definitions.{end_mark, front_of, line_from, line_with, matched_behind}
@@ -34,6 +34,7 @@ use Rattle.roff_run.specs.Reading.{PageInput, Taking, behind_definition, definit
 use Rattle.roff_run.specs.Registers.{AllRegisters, Known}
 use Rattle.roff_run.specs.Run.{State, after, byte_taken, known, known_at, taken_as}
 use Rattle.roff_run.specs.ShortNames.{name_bytes}
+use Rattle.roff_run.specs.Stages.{Stage, input_at}
 use Rattle.roff_run.specs.declared.definition.DefinitionLine.TheVariants.{IsLast, IsText, MayBeLast}
 use Rattle.roff_run.specs.declared.reading.Reading.{Reading}
 use Rattle.roff_run.specs.declared.reading.Reading.TheVariants.{Defining}

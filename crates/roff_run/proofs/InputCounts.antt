@@ -9,7 +9,7 @@ use Rattle.roff_scan.specs.Arguments.{held, settled, no_arguments}
 use Rattle.roff_scan.specs.Half.{texts_held}
 use Rattle.roff_scan.specs.Input.{Ahead, ByteAhead, FreeAhead, EndAhead, ReturnAhead, DoAhead, counting, item_taken, leaving, names_added, pushed, depth, results, stored, bytes_ahead, ends_ahead, calls_behind, kept_behind, kept_below, live_bytes}
 use Rattle.roff_scan.specs.Tape.{Answer, Gives, Ends, OneByte, OneNote}
-use Rattle.roff_scan.specs.Unread.{Unread, Shown, taking, taking_answer, answer_behind, input_refusal}
+use Rattle.roff_scan.specs.Unread.{Unread, IsWithin, Shown, taking, taking_answer, answer_behind, input_refusal}
 use Rattle.roff_store.specs.Named.{Named}
 use Rattle.roff_store.specs.Texts.{Entry, bytes_in}
 use Rattle.roff_scan.proofs.KeptArguments.{held-only_kept, held-settled}
@@ -194,6 +194,16 @@ input_refusal-no_more l now before less none =
     (first_not Stack _ _ (not_above l.stack (pushed before) (pushed now) less.bytes bytes.0)
     (first_not Depth _ _ (not_above l.depth (depth before) (depth now) less.texts texts.0)
     (first_not Conditions None _ (not_above l.conditions (results before) (results now) less.results kept.0) refl)))))
+
+-- where no count is above its limit, no limit refuses the input
+pub IsWithin-allowed : (u : Unread PageEvent) → IsWithin u → input_refusal u.limits u.input ≡ None
+IsWithin-allowed u within =
+    first_not Diversions _ _ (le-ltb u.limits.diversions (length u.input.open_texts - 1) (omega (arith, within.making)))
+    (first_not Store _ _ (le-ltb u.limits.store (stored u.input) within.stored)
+    (first_not Names _ _ (le-ltb u.limits.names (names_added u.input) within.names)
+    (first_not Stack _ _ (le-ltb u.limits.stack (pushed u.input) within.pushed)
+    (first_not Depth _ _ (le-ltb u.limits.depth (depth u.input) within.depth)
+    (first_not Conditions None _ (le-ltb u.limits.conditions (results u.input) within.results) refl)))))
 
 -- where the names are within their limit, the others decide
 pub first_passed-few_names : (l : Limits) (rs : AllRegisters) (i : PageInput) → nat_lt l.names (length rs.named) ≡ false

@@ -50,8 +50,13 @@ pub mod Skipping
 pub mod SkippingRuns
 pub mod PassingRuns
 pub mod PassingBodies
+pub mod PrintedRuns
+pub mod TextBytes
 pub mod CalledBodies
 pub mod BegunDefinitions
 pub mod PlainRuns
+pub mod TurnedRuns
+pub mod HeldRuns
+pub mod NameFronts
 pub mod CallLaws
 pub mod DefinitionLaws

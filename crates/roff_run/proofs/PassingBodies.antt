@@ -17,11 +17,11 @@ use Rattle.roff_run.specs.Run.{State, after, counts_in, first_passed, known_at, 
 use Rattle.roff_run.specs.TurnsToCome.{free_ahead, turns_within}
 
 -- the input behind a byte that stands in front of these items
-abbrev behind_byte : ℕ → List (Ahead PageEvent) → PageInput → PageInput
+abbrev pub behind_byte : ℕ → List (Ahead PageEvent) → PageInput → PageInput
 behind_byte b items input = item_taken (ByteAhead b) items input
 
 -- no count is above its limit behind a byte, or behind several
-within-byte : (l : Limits) (rs : AllRegisters) (b : ℕ) (items : List (Ahead PageEvent)) (input : PageInput) → input.ahead ≡ ByteAhead b ∷ items
+pub within-byte : (l : Limits) (rs : AllRegisters) (b : ℕ) (items : List (Ahead PageEvent)) (input : PageInput) → input.ahead ≡ ByteAhead b ∷ items
     → first_passed l (counts_in rs input) ≡ None → first_passed l (counts_in rs (behind_byte b items input)) ≡ None
 within-byte l rs b items input front within = first_passed-no_more l rs (behind_byte b items input) input (NoMore-item_taken (ByteAhead b) items input front) within
 

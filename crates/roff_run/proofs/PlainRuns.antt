@@ -16,26 +16,11 @@ use Rattle.roff_run.proofs.Leads.{after-add}
 use Rattle.roff_run.specs.InterpolationLaws.{TakesItems}
 use Rattle.roff_run.specs.Laws.{EnvironmentsWithin, IsWithin}
 use Rattle.roff_run.specs.Environments.{environments}
-use Rattle.roff_run.specs.Reading.{PageInput, Taking, due, going_on, taking}
-use Rattle.roff_run.specs.Registers.{Known}
+use Rattle.roff_run.specs.Reading.{PageInput, Taking, due}
 use Rattle.roff_run.specs.Requests.{PageEvent}
 use Rattle.roff_run.specs.Run.{State, after, byte_taken, known, made, step, taken_as}
+use Rattle.roff_run.specs.Stages.{Stage, Turns, input_at}
 use Rattle.roff_run.specs.declared.reading.Reading.{Reading}
-
--- what bytes change: what is read, what is half read, the arguments of the line, and the texts in the making
-pub record Stage : Type 0 where
-  pub reading : Reading
-  pub half : List Half
-  pub arguments : Arguments
-  pub texts : List (List ℕ)
-
--- the input at a stage, where names stand for these
-abbrev pub input_at : Named Entry → Stage → PageInput → PageInput
-input_at names p i = record i { half = p.half; arguments = p.arguments; names = names; open_texts = p.texts }
-
--- a byte leads from one stage to another
-abbrev pub Turns : Named Entry → Stage → ℕ → Stage → Type 0
-Turns names p b q = (k : Known) (i : PageInput) → taking k p.reading (input_at names p i) b ≡ going_on (input_at names q i) q.reading
 
 -- what is counted of a byte, by where it comes from
 abbrev pub newlines_behind : Origin → ℕ → ℕ → ℕ
@@ -206,7 +191,7 @@ behind_bytes-source tape [] i = refl
 behind_bytes-source tape (b ∷ bytes) i = behind_bytes-source tape bytes (behind_byte (FromSource tape) b i)
 
 -- nothing but what is counted changes
-behind_bytes-counts : (from : Origin) (bytes : List ℕ) (i : PageInput)
+pub behind_bytes-counts : (from : Origin) (bytes : List ℕ) (i : PageInput)
     → let j : PageInput = behind_bytes from bytes i in j ≡ record i { charge = j.charge; newlines = j.newlines; line = j.line }
 behind_bytes-counts from [] i = refl
 behind_bytes-counts from (b ∷ bytes) i = behind_bytes-counts from bytes (behind_byte from b i)

@@ -13,6 +13,7 @@ pub mod Request
 pub mod ShortNames
 pub mod Definitions
 pub mod Reading
+pub mod Telling
 pub mod TextLine
 pub mod Output
 pub mod Run
@@ -32,3 +33,4 @@ pub mod Statuses
 pub mod Reader
 pub mod Clauses
 pub mod TurnsToCome
+pub mod Stages

@@ -18,6 +18,8 @@ ghost use Rattle.std.specs.Option.{option_to_list};
 ghost use Rattle.roff_run.specs.Messages.{remark_messages};
 ghost use Rattle.roff_run.specs.Requests.{Text};
 ghost use Rattle.roff_run.specs.TextLine.Stepping.{step_at};
+ghost use Rattle.roff_run.specs.Telling.{Prints};
+ghost use Rattle.roff_scan.specs.Bytes.{is_text_byte};
 ghost use Rattle.roff_run.specs.Registers.{Known};
 ghost use Rattle.roff_run.specs.Reader.Above.{reads_above};
 ghost use Rattle.roff_run.specs.declared.reading.Reading.TheVariants.{Control as BehindControl};
@@ -364,6 +366,14 @@ impl TextLine {
             (Text WordEnd ∷ Text LineEnd ∷ Text Count ∷ []) }
     {
         self.has_glyph && byte == b'\n'
+    }
+
+    /// Whether bytes of plain text are told, each as a glyph or a gap, and the line stays as it is.
+    #[tactic(auto, using(crate::proofs::TextBytes::prints_text))]
+    pub(crate) fn prints(self) -> bool
+        ensures { result ≡ true → (b : ℕ) → is_text_byte b ≡ true → Prints (InText self) b }
+    {
+        self.leading == 0 && self.has_glyph
     }
 
     /// The events of the line's end: a line of blanks alone is a break and a blank line, and one of

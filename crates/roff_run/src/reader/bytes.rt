@@ -8,6 +8,10 @@ ghost use Rattle.roff_run.specs.Registers.{Known as KnownOf};
 ghost use Rattle.roff_run.specs.Clauses.{Passes, TakesAs, meaning_events, is_passed, kept_taking};
 ghost use Rattle.roff_run.specs.Clauses.{taking, due};
 ghost use Rattle.roff_run.specs.Reader.Found.{has_place};
+ghost use Rattle.roff_run.specs.Telling.{Prints};
+ghost use Rattle.roff_run.specs.Stages.{Holds, ReadsHalves};
+ghost use Rattle.roff_scan.specs.Arguments.{is_argument_byte};
+ghost use Rattle.roff_scan.specs.Bytes.{is_text_byte};
 
 use super::{Meaning, Reader};
 use crate::environments::Environments;
@@ -59,6 +63,51 @@ impl Reader {
                 behind: false,
             } => Some(opened > closed),
             _ => None,
+        }
+    }
+
+    /// Whether bytes of plain text are told, each as a glyph or a gap, where nothing is half read,
+    /// and what is read stays: behind a glyph on a text line.
+    #[inline(always)]
+    pub fn prints(&self) -> bool
+        ensures prints { result ≡ true → (b : ℕ) → is_text_byte b ≡ true
+            → Prints self.now.reading b }
+        ensures none_due { result ≡ true → due self.now.reading ≡ None }
+    {
+        match self.reading {
+            Reading::Text(line) => line.prints(),
+            _ => false,
+        }
+    }
+
+    /// Whether bytes of the line are held in its arguments where nothing is half read, and what is
+    /// read stays: behind a request's name.
+    #[inline(always)]
+    #[tactic(auto, using(crate::proofs::HeldRuns::holds_where))]
+    pub fn holds_arguments(&self) -> bool
+        ensures holds { result ≡ true → (b : ℕ) → is_argument_byte b ≡ true
+            → Holds self.now.reading b }
+        ensures none_due { result ≡ true → due self.now.reading ≡ None }
+    {
+        match self.reading {
+            Reading::Arguments { .. } => true,
+            _ => false,
+        }
+    }
+
+    /// Whether bytes may change only what is half read, and what is read stays: where a line or a
+    /// branch begins, and on a text line.
+    #[inline(always)]
+    #[tactic(auto, using(crate::proofs::NameFronts::reads_at_branch, crate::proofs::NameFronts::reads_at_start, crate::proofs::NameFronts::reads_on_line))]
+    pub fn reads_names(&self) -> bool
+        ensures reads { result ≡ true → ReadsHalves self.now.reading }
+        ensures none_due { result ≡ true → due self.now.reading ≡ None }
+    {
+        match self.reading {
+            Reading::LineStart => true,
+            Reading::Branch => true,
+            Reading::Text(_) => true,
+            _ => false,
         }
     }
 

@@ -10,3 +10,6 @@ returns-then-is_none_ahead g c = λ out err.
 pub returns-else-is_none_ahead : goal.returns-else-is_none_ahead
 returns-else-is_none_ahead g c = λ out err.
     goes_past_ahead _ _ _ c.args.self.now _ c.in-Some.within_block c.pass_over_ahead.ensures.passes c.in-Some.ensures.none_due c.in-Some.ensures.passes
+
+pub read_name-requires-clause-reads : goal.read_name-requires-clause-reads
+read_name-requires-clause-reads g c = c.reads_names.ensures.reads c.if-reads_names.true

@@ -1,0 +1,222 @@
+-- Bytes that were read at once and changed only what is read: the run has come behind them.
+use Rattle.std.proofs.Common.{◌≡◌, ℕ, ◌+◌, ◌≤◌, List, [], ◌∷◌, ◌++◌, ◌&&◌, length, Option, None, inl, inr, refl, sym, ap, subst, ◌∙◌, arith}
+use Rattle.std.specs.Prelude.{is_none, map}
+use Rattle.roff_num.specs.declared.limits.Limits.{Limits}
+use Rattle.roff_scan.specs.Input.{Ahead, ByteAhead, is_none_ahead}
+use Rattle.roff_scan.specs.Tape.{Tape, OneByte, items_then}
+use Rattle.roff_scan.specs.Unread.{Stays, input_refusal, looked_then}
+use Rattle.roff_scan.specs.Unread.Calls.{OfSource, OfTexts, PassesFront, PassesSource, PassesTexts}
+use Rattle.roff_run.specs.Reader.State.{ReaderState}
+use Rattle.roff_run.specs.Reader.Taken.{IsReady, PageUnread}
+use Rattle.roff_run.specs.Reading.{PageInput, due}
+use Rattle.roff_run.specs.Registers.{AllRegisters, Known}
+use Rattle.roff_run.specs.Registers.Capped.{Capped}
+use Rattle.roff_run.specs.declared.event.PageEvent.{PageEvent}
+use Rattle.roff_run.specs.Run.{State, Leads, after, counts_in, first_passed, known_at}
+use Rattle.roff_run.specs.Stages.{ReadsPast, Stage, Turned, stage_of, with_stage_of}
+use Rattle.roff_run.specs.TurnsToCome.{begun, turns_within}
+use Rattle.roff_run.specs.declared.reading.Reading.{Reading}
+use Rattle.roff_run.proofs.InputCounts.{IsWithin-allowed, first_passed-few_names}
+use Rattle.roff_run.proofs.Interpolation.{FromAhead, FromSource, Origin, ahead_at, tape_at}
+use Rattle.roff_run.proofs.PlainRuns.{behind_bytes, counted, counted-source, is-run_at, run_at}
+use Rattle.roff_run.proofs.TakesAs.{few_names}
+use Rattle.roff_run.proofs.TurnedRuns.{FitsAt, Turned-none, after-Turned, counted-bytes_taken, input-passed, stage_input, stage_input-counted, turns_left-turned}
+use Rattle.roff_engine.specs.declared.running.Running.{Running as Coded}
+use Rattle.roff_engine.specs.Engine.Outcome.{Seen, seen}
+use Rattle.roff_engine.specs.Running.Turning.{GoesPast, HasTape, IsAt, state_at, turns_left}
+use Rattle.roff_engine.specs.Sinks.{Sunk}
+use Rattle.roff_engine.proofs.Passing.{IsAt-leads}
+use Rattle.roff_engine.proofs.PassingAhead.{not_asked}
+
+-- the code where this is read
+abbrev reads : Coded → Reading → PageInput → Coded
+reads old reading input = record old {
+  unread = record old.unread { input = input };
+  formatter = record old.formatter { reader = record old.formatter.reader { reading = reading } };
+}
+
+-- bytes from there lead to it
+pub record ReadFrom (from : Origin) (bytes : List ℕ) (old : Coded) (reading : Reading) (input : PageInput) : Type 0 where
+  pub turned : Turned old.unread.input.names (stage_of old.formatter.reader.reading old.unread.input) bytes (stage_of reading input)
+  pub ahead : old.unread.input.ahead ≡ ahead_at from bytes
+  pub leads : stage_input old.unread.input.names (stage_of reading input) from [] (behind_bytes from bytes old.unread.input) ≡ input
+  pub charged : old.unread.input.charge + length bytes ≤ old.unread.limits.bytes
+  pub within : input_refusal old.unread.limits input ≡ None
+
+-- so the run is at its place behind them, over what is left of the tape
+IsAt-turned : (whole t taken : Tape) (start now : Seen) (old : Coded) (reading : Reading) (input : PageInput) (from : Origin) (bytes : List ℕ)
+    → ReadFrom from bytes old reading input → looked_then old.unread.looked taken ≡ tape_at from bytes (looked_then old.unread.looked taken)
+    → tape_at from [] (looked_then old.unread.looked taken) ≡ looked_then old.unread.looked t
+    → IsAt whole taken start now old → IsAt whole t start now (reads old reading input)
+IsAt-turned whole t taken start now old reading input from bytes read asked left at =
+    let i : PageInput = old.unread.input in
+    let l : Limits = old.unread.limits in
+    let rs : AllRegisters = old.formatter.reader.registers.all in
+    let p : Stage = stage_of old.formatter.reader.reading i in
+    let q : Stage = stage_of reading input in
+    let s : State = state_at taken old at.history at.messages in
+    let there : State = state_at t (reads old reading input) at.history at.messages in
+    let ready : IsReady old.formatter.reader.registers old.unread = at.ready in
+    let fits : first_passed l (counts_in rs input) ≡ None =
+    first_passed-few_names l rs input (few_names old.formatter.reader.registers old.unread ready) ∙ read.within in
+    let before : FitsAt l rs i.names p from bytes i =
+    subst (λ (items : List (Ahead PageEvent)). first_passed l (counts_in rs (record i { ahead = items })) ≡ None) read.ahead ready.within in
+    let behind : FitsAt l rs i.names q from [] (behind_bytes from bytes i) =
+    subst (λ (j : PageInput). first_passed l (counts_in rs j) ≡ None) (sym read.leads) fits in
+    let stands : run_at s i.names p from bytes i ≡ s = is-run_at s from bytes p refl refl refl refl read.ahead asked in
+    let comes : after l (length bytes) (run_at s i.names p from bytes i) ≡ run_at s i.names q from [] (behind_bytes from bytes i) =
+    after-Turned l s i.names from p q bytes i (record { going = refl; not_closing = refl; idle = refl }) read.turned read.charged before behind in
+    let is : run_at s i.names q from [] (behind_bytes from bytes i) ≡ there =
+    ap (λ (j : PageInput). record s { tape = tape_at from [] s.tape; input = j; reading = reading }) read.leads
+    ∙ ap (λ (tape : Tape). record s { tape = tape; input = input; reading = reading }) left in
+    let leads : Leads l s there = record { steps = length bytes; there = ap (after l (length bytes)) (sym stands) ∙ comes ∙ is } in
+    IsAt-leads whole taken t start now old (record old.formatter { reader = record old.formatter.reader { reading = reading } }) (record old.unread { input = input }) at.history at
+    (subst (λ (k : Limits). Leads k s there) at.limits leads) refl at.stands (record { cap = ready.cap; within = fits }) at.limits
+
+-- no more turns are to come
+turns-read : (old : Coded) (reading : Reading) (input : PageInput) (from : Origin) (bytes : List ℕ) → ReadFrom from bytes old reading input
+    → turns_left (reads old reading input) ≤ turns_left old
+turns-read old reading input from bytes read =
+    let i : PageInput = old.unread.input in
+    let most : ℕ = old.unread.limits.bytes in
+    let p : Stage = stage_of old.formatter.reader.reading i in
+    let q : Stage = stage_of reading input in
+    let k : Known = known_at [] old.formatter.reader.registers.all i in
+    let few : turns_within most (stage_input i.names q from [] (behind_bytes from bytes i)) + begun reading
+    ≤ turns_within most (stage_input i.names p from bytes i) + begun p.reading = turns_left-turned most k i.names from p q bytes i read.turned read.charged in
+    let fewer : turns_within most (stage_input i.names q from [] (behind_bytes from bytes i)) + begun reading ≤ turns_left old =
+    subst
+    (λ (items : List (Ahead PageEvent)). turns_within most (stage_input i.names q from [] (behind_bytes from bytes i)) + begun reading ≤ turns_within most (record i { ahead = items }) + begun p.reading)
+    (sym read.ahead) few in
+    subst (λ (j : PageInput). turns_within most j + begun reading ≤ turns_left old) read.leads fewer
+
+-- the run goes past bytes of the source
+past-source : (gave gives : Tape → Type 0) (notes : ℕ) (now : Seen) (old : Coded) (reading : Reading) (input : PageInput) (bytes : List ℕ)
+    → ((tape : Tape) → ReadFrom (FromSource tape) bytes old reading input) → old.unread.looked ≡ None
+    → ((t : Tape) → gives t → gave (items_then (map OneByte bytes) t)) → (t : Tape) × gives t
+    → GoesPast gave gives notes notes old (reads old reading input) now now
+past-source gave gives notes now old reading input bytes read none in_front some =
+    let few : turns_left (reads old reading input) ≤ turns_left old = turns-read old reading input (FromSource some.0) bytes (read some.0) in
+    record {
+      limits = refl;
+      taken = map OneByte bytes;
+      before = in_front;
+      some = λ known. inr some;
+      past = λ t tape start may at.
+          IsAt-turned t tape (items_then (map OneByte bytes) tape) start now old reading input (FromSource tape) bytes (read tape)
+          (ap (λ (looked : Option ℕ). looked_then looked (items_then (map OneByte bytes) tape)) none)
+          (sym (ap (λ (looked : Option ℕ). looked_then looked tape) none)) at;
+      turns = omega (arith, few);
+    }
+
+-- where bytes ahead were read there is a tape, if there was one
+has_tape : (gave gives : Tape → Type 0) (old : Coded) (reading : Reading) (input : PageInput) (rest : List (Ahead PageEvent)) (bytes : List ℕ)
+    → Stays gave gives → old.unread.input.ahead ≡ map ByteAhead bytes ++ rest → input.ahead ≡ rest
+    → Turned old.unread.input.names (stage_of old.formatter.reader.reading old.unread.input) bytes (stage_of reading input)
+    → HasTape old gave → HasTape (reads old reading input) gives
+has_tape gave gives old reading input rest [] stays front left turned known =
+    let same : stage_of old.formatter.reader.reading old.unread.input ≡ stage_of reading input = Turned-none _ _ _ [] refl turned in
+    let half : old.unread.input.half ≡ input.half = ap (λ (p : Stage). p.half) same in
+    let read : old.formatter.reader.reading ≡ reading = ap (λ (p : Stage). p.reading) same in
+    elim known [
+      | inl asks ↦ inl (
+        (
+          sym half ∙ asks.0.0,
+          ap (λ (items : List (Ahead PageEvent)). is_none_ahead items && is_none old.unread.looked) (left ∙ sym front) ∙ asks.0.1,
+        ),
+        subst (λ (r : Reading). due r ≡ None) read asks.1,
+      )
+      | inr given ↦ inr (given.0, stays.after given.0 given.1)
+    ]
+has_tape gave gives old reading input rest (b ∷ bytes) stays front left turned known = elim known [
+  | inl asks ↦ absurd (not_asked bytes b rest old.unread.input.ahead (is_none old.unread.looked) front asks.0.1)
+  | inr given ↦ inr (given.0, stays.after given.0 given.1)
+]
+
+-- the run goes past bytes ahead
+past-texts : (gave gives : Tape → Type 0) (notes : ℕ) (now : Seen) (old : Coded) (reading : Reading) (input : PageInput) (rest : List (Ahead PageEvent)) (bytes : List ℕ)
+    → ReadFrom (FromAhead rest) bytes old reading input → Stays gave gives
+    → GoesPast gave gives notes notes old (reads old reading input) now now
+past-texts gave gives notes now old reading input rest bytes read stays =
+    let few : turns_left (reads old reading input) ≤ turns_left old = turns-read old reading input (FromAhead rest) bytes read in
+    let left : input.ahead ≡ rest = sym (ap (λ (j : PageInput). j.ahead) read.leads) in
+    record {
+      limits = refl;
+      taken = [];
+      before = stays.before;
+      some = has_tape gave gives old reading input rest bytes stays read.ahead left read.turned;
+      past = λ t tape start may at. IsAt-turned t tape tape start now old reading input (FromAhead rest) bytes read refl refl at;
+      turns = omega (arith, few);
+    }
+
+-- what was read past, by where the bytes came from
+read-source : (gave gives : Tape → Type 0) (old : Coded) (after : PageUnread) (new : ReaderState) (past : ReadsPast gave gives old.formatter.reader new old.unread after)
+    → PassesSource gave gives past.bytes old.unread (record after { input = with_stage_of old.unread.input after.input }) → input_refusal old.unread.limits after.input ≡ None
+    → (tape : Tape) → ReadFrom (FromSource tape) past.bytes old new.reading after.input
+read-source gave gives old after new past passes within tape =
+    let i : PageInput = old.unread.input in
+    let is : with_stage_of i after.input ≡ counted (FromSource tape) past.bytes i =
+    ap (λ (u : PageUnread). u.input) passes.input ∙ sym (counted-source tape past.bytes i passes.ahead) in
+    record {
+      turned = past.turned;
+      ahead = passes.ahead;
+      leads = stage_input-counted i.names (stage_of new.reading after.input) (FromSource tape) past.bytes i
+          ∙ sym (input-passed new.reading i after.input (FromSource tape) past.bytes is);
+      charged = passes.within;
+      within = within;
+    }
+
+read-texts : (gave gives : Tape → Type 0) (old : Coded) (after : PageUnread) (new : ReaderState) (past : ReadsPast gave gives old.formatter.reader new old.unread after)
+    → (passes : PassesTexts gave gives past.bytes old.unread (record after { input = with_stage_of old.unread.input after.input }))
+    → input_refusal old.unread.limits after.input ≡ None → ReadFrom (FromAhead passes.behind) past.bytes old new.reading after.input
+read-texts gave gives old after new past passes within =
+    let i : PageInput = old.unread.input in
+    let is : with_stage_of i after.input ≡ counted (FromAhead passes.behind) past.bytes i =
+    ap (λ (u : PageUnread). u.input) passes.input ∙ sym (counted-bytes_taken passes.behind past.bytes i passes.in_front) in
+    record {
+      turned = past.turned;
+      ahead = passes.in_front;
+      leads = stage_input-counted i.names (stage_of new.reading after.input) (FromAhead passes.behind) past.bytes i
+          ∙ sym (input-passed new.reading i after.input (FromAhead passes.behind) past.bytes is);
+      charged = passes.within;
+      within = within;
+    }
+
+-- the unread input behind it, and the reader
+unread-past : (before after : PageUnread) (input passed : PageInput) → record after { input = passed } ≡ record before { input = input }
+    → after ≡ record before { input = after.input }
+unread-past before after input passed same = ap (λ (u : PageUnread). record u { input = after.input }) same
+
+reader-past : (old new : ReaderState) → new.registers ≡ old.registers → new ≡ record old { reading = new.reading }
+reader-past old new same = ap (λ (registers : Capped). record new { registers = registers }) same
+
+past-read : (gave gives : Tape → Type 0) (notes : ℕ) (now : Seen) (old : Coded) (after : PageUnread) (new : ReaderState)
+    → (past : ReadsPast gave gives old.formatter.reader new old.unread after)
+    → PassesFront gave gives past.bytes old.unread (record after { input = with_stage_of old.unread.input after.input })
+    → GoesPast gave gives notes notes old (record old { unread = after; formatter = record old.formatter { reader = new } }) now now
+past-read gave gives notes now old after new past (OfSource passes) =
+    let left : after ≡ record old.unread { input = after.input } = unread-past old.unread after _ _ passes.input in
+    let limits : after.limits ≡ old.unread.limits = ap (λ (u : PageUnread). u.limits) passes.input in
+    let within : input_refusal old.unread.limits after.input ≡ None = subst (λ (l : Limits). input_refusal l after.input ≡ None) limits (IsWithin-allowed after past.within) in
+    subst (λ (u : PageUnread). GoesPast gave gives notes notes old (record old { unread = u; formatter = record old.formatter { reader = new } }) now now) (sym left)
+    (subst (λ (r : ReaderState). GoesPast gave gives notes notes old (record old { unread = record old.unread { input = after.input }; formatter = record old.formatter { reader = r } }) now now)
+    (sym (reader-past old.formatter.reader new past.registers))
+    (past-source gave gives notes now old new.reading after.input past.bytes (read-source gave gives old after new past passes within) passes.looked passes.in_front passes.some))
+past-read gave gives notes now old after new past (OfTexts passes) =
+    let left : after ≡ record old.unread { input = after.input } = unread-past old.unread after _ _ passes.input in
+    let limits : after.limits ≡ old.unread.limits = ap (λ (u : PageUnread). u.limits) passes.input in
+    let within : input_refusal old.unread.limits after.input ≡ None = subst (λ (l : Limits). input_refusal l after.input ≡ None) limits (IsWithin-allowed after past.within) in
+    subst (λ (u : PageUnread). GoesPast gave gives notes notes old (record old { unread = u; formatter = record old.formatter { reader = new } }) now now) (sym left)
+    (subst (λ (r : ReaderState). GoesPast gave gives notes notes old (record old { unread = record old.unread { input = after.input }; formatter = record old.formatter { reader = r } }) now now)
+    (sym (reader-past old.formatter.reader new past.registers))
+    (past-texts gave gives notes now old new.reading after.input passes.behind past.bytes (read-texts gave gives old after new past passes within) passes.stays))
+
+-- the run goes past the bytes that were read, as the source counts
+pub goes_past_turned : (gave gives : Tape → Type 0) (noted notes failed failures : ℕ) (out err : Sunk) (old : Coded) (after : PageUnread) (new : ReaderState)
+    → ReadsPast gave gives old.formatter.reader new old.unread after → notes ≡ noted → failures ≡ failed
+    → GoesPast gave gives noted notes old (record old { unread = after; formatter = record old.formatter { reader = new } }) (seen failed out err) (seen failures out err)
+goes_past_turned gave gives noted notes failed failures out err old after new past same_notes same_failures =
+    let there : Coded = record old { unread = after; formatter = record old.formatter { reader = new } } in
+    subst (λ (n : ℕ). GoesPast gave gives noted n old there (seen failed out err) (seen failures out err)) (sym same_notes)
+    (subst (λ (f : ℕ). GoesPast gave gives noted noted old there (seen failed out err) (seen f out err)) (sym same_failures)
+    (past-read gave gives noted (seen failed out err) old after new past past.passes))

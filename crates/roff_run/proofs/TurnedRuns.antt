@@ -1,0 +1,186 @@
+-- Runs over bytes that change only what is read, the arguments of the line and what is half read: one step for each, wherever
+-- they come from.
+use Rattle.std.proofs.Common.{◌≡◌, ℕ, ◌+◌, ◌≤◌, false, List, [], ◌∷◌, ◌++◌, length, Option, Some, None, refl, ap, sym, subst, ◌∙◌, arith}
+use Rattle.std.specs.Prelude.{map, sum_by}
+use Rattle.roff_num.specs.declared.limit.Limit.{Limit}
+use Rattle.roff_num.specs.declared.limits.Limits.{Limits}
+use Rattle.roff_scan.proofs.PassingAhead.{bytes_taken-is}
+use Rattle.roff_scan.specs.Halves.{seen_stays}
+use Rattle.roff_scan.specs.Input.{Ahead, ByteAhead, bytes_taken}
+use Rattle.roff_scan.specs.Tape.{Tape}
+use Rattle.roff_store.specs.Named.{Named}
+use Rattle.roff_store.specs.Texts.{Entry}
+use Rattle.roff_run.proofs.InputCounts.{NoMore, first_passed-no_more}
+use Rattle.roff_run.proofs.Interpolation.{FromAhead, FromSource, Origin, ahead_at, bytes_ahead_are_taken, bytes_of_the_source_are_taken, taken_as-going_on}
+use Rattle.roff_run.proofs.PlainRuns.{behind_byte, behind_bytes, behind_bytes-counts, counted, counted-ahead, run_at}
+use Rattle.roff_run.proofs.TurnsToCome.{turns_within-byte}
+use Rattle.roff_run.specs.Reading.{PageInput, Taking, due, taking}
+use Rattle.roff_run.specs.Registers.{AllRegisters, Known}
+use Rattle.roff_run.specs.Requests.{PageEvent}
+use Rattle.roff_run.specs.Run.{State, after, counts_in, first_passed, known, made, step, taken_as, unless_refused}
+use Rattle.roff_run.specs.Stages.{Here, Onward, Stage, Turned, Turns, held_at, input_at, stage_of, with_stage_of}
+use Rattle.roff_run.specs.TurnsToCome.{begun, free_ahead, turns_within}
+use Rattle.roff_run.specs.declared.reading.Reading.{Reading}
+
+-- the input at a stage, where these bytes come next
+abbrev pub stage_input : Named Entry → Stage → Origin → List ℕ → PageInput → PageInput
+stage_input names p from bytes i = record (input_at names p i) { ahead = ahead_at from bytes }
+
+-- no count is above its limit there
+abbrev pub FitsAt : Limits → AllRegisters → Named Entry → Stage → Origin → List ℕ → PageInput → Type 0
+FitsAt l rs names p from bytes i = first_passed l (counts_in rs (stage_input names p from bytes i)) ≡ None
+
+-- a run that goes on: it hasn't ended and isn't about to, and there is nothing to do first
+pub record IsGoing (s : State) : Type 0 where
+  pub going : s.ended ≡ None
+  pub not_closing : s.is_closing ≡ false
+  pub idle : s.to_do ≡ []
+
+-- behind a byte that stood ahead no more is counted than in front of it
+NoMore-ahead : (names : Named Entry) (p q : Stage) (rest : List (Ahead PageEvent)) (b : ℕ) (bytes : List ℕ) (i : PageInput)
+    → q.texts ≡ p.texts → held_at q ≤ held_at p + 1
+    → NoMore (stage_input names q (FromAhead rest) bytes (behind_byte (FromAhead rest) b i)) (stage_input names p (FromAhead rest) (b ∷ bytes) i)
+NoMore-ahead names p q rest b bytes i same grows =
+    let stored : sum_by length q.texts ≡ sum_by length p.texts = ap (λ (texts : List (List ℕ)). sum_by length texts) same in
+    let making : length q.texts ≡ length p.texts = ap (λ (texts : List (List ℕ)). length texts) same in
+    record {
+      bytes = omega (arith, grows);
+      texts = omega arith;
+      results = omega arith;
+      stored = omega (arith, stored);
+      names = omega arith;
+      open_texts = omega (arith, making);
+    }
+
+-- what is held only grows on the way, and the texts in the making stay
+Turned-grows : (names : Named Entry) (p q : Stage) (bytes : List ℕ) → Turned names p bytes q → (held_at p ≤ held_at q) × (p.texts ≡ q.texts)
+Turned-grows names _ q _ (Here p) = (omega arith, refl)
+Turned-grows names p _ _ (Onward _ next q b bytes none_due stays turns same least most others) =
+    let there = Turned-grows names next q bytes others in (omega (arith, least, there.0), sym same ∙ there.1)
+
+-- so of bytes of the source no more is counted in front of them than behind them
+NoMore-source : (names : Named Entry) (p q : Stage) (tape : Tape) (bytes : List ℕ) (i : PageInput) (charge newlines line : ℕ)
+    → held_at p ≤ held_at q → p.texts ≡ q.texts
+    → NoMore (stage_input names p (FromSource tape) bytes i) (stage_input names q (FromSource tape) [] (record i { charge = charge; newlines = newlines; line = line }))
+NoMore-source names p q tape bytes i charge newlines line grows same =
+    let stored : sum_by length p.texts ≡ sum_by length q.texts = ap (λ (texts : List (List ℕ)). sum_by length texts) same in
+    let making : length p.texts ≡ length q.texts = ap (λ (texts : List (List ℕ)). length texts) same in
+    record {
+      bytes = omega (arith, grows);
+      texts = omega arith;
+      results = omega arith;
+      stored = omega (arith, stored);
+      names = omega arith;
+      open_texts = omega (arith, making);
+    }
+
+fits-source : (l : Limits) (rs : AllRegisters) (names : Named Entry) (p q : Stage) (tape : Tape) (bytes : List ℕ) (i : PageInput) → Turned names p bytes q
+    → FitsAt l rs names q (FromSource tape) [] (behind_bytes (FromSource tape) bytes i) → FitsAt l rs names p (FromSource tape) bytes i
+fits-source l rs names p q tape bytes i turned behind =
+    let j : PageInput = behind_bytes (FromSource tape) bytes i in
+    let there : PageInput = record i { charge = j.charge; newlines = j.newlines; line = j.line } in
+    let grows = Turned-grows names p q bytes turned in
+    first_passed-no_more l rs (stage_input names p (FromSource tape) bytes i) (stage_input names q (FromSource tape) [] there)
+    (NoMore-source names p q tape bytes i j.charge j.newlines j.line grows.0 grows.1)
+    (subst (λ (k : PageInput). FitsAt l rs names q (FromSource tape) [] k) (behind_bytes-counts (FromSource tape) bytes i) behind)
+
+-- where no count is above its limit in front of bytes and behind them, none is behind the first of them
+fits-next : (l : Limits) (rs : AllRegisters) (names : Named Entry) (from : Origin) (p next q : Stage) (b : ℕ) (bytes : List ℕ) (i : PageInput)
+    → next.texts ≡ p.texts → held_at next ≤ held_at p + 1 → Turned names next bytes q → FitsAt l rs names p from (b ∷ bytes) i
+    → FitsAt l rs names q from [] (behind_bytes from (b ∷ bytes) i) → FitsAt l rs names next from bytes (behind_byte from b i)
+fits-next l rs names (FromAhead rest) p next q b bytes i same grows others before behind =
+    first_passed-no_more l rs (stage_input names next (FromAhead rest) bytes (behind_byte (FromAhead rest) b i)) (stage_input names p (FromAhead rest) (b ∷ bytes) i)
+    (NoMore-ahead names p next rest b bytes i same grows) before
+fits-next l rs names (FromSource tape) p next q b bytes i same grows others before behind =
+    fits-source l rs names next q tape bytes (behind_byte (FromSource tape) b i) others behind
+
+-- a step at a byte, where no count is above its limit behind it
+step-turned : (l : Limits) (s : State) (names : Named Entry) (from : Origin) (p q : Stage) (b : ℕ) (bytes : List ℕ) (i : PageInput)
+    → IsGoing s → due p.reading ≡ None → seen_stays p.half (Some b) ≡ false → i.charge + 1 ≤ l.bytes → Turns names p b q
+    → FitsAt l s.registers names q from bytes (behind_byte from b i)
+    → step l (run_at s names p from (b ∷ bytes) i) ≡ run_at s names q from bytes (behind_byte from b i)
+step-turned l s names (FromAhead rest) p q b bytes i on none_due stays few turns fits =
+    let from : Origin = FromAhead rest in
+    let before : State = run_at s names p from (b ∷ bytes) i in
+    let taken : State = run_at s names p from bytes (behind_byte from b i) in
+    let there : PageInput = record (behind_byte from b i) { ahead = ahead_at from bytes } in
+    let done : State = run_at s names q from bytes (behind_byte from b i) in
+    bytes_ahead_are_taken l before b (map ByteAhead bytes ++ rest) (record { going = on.going; not_closing = on.not_closing; idle = on.idle; none_due = none_due })
+    refl stays (omega (arith, few))
+    ∙ ap (λ (t : Taking). made l before (taken_as t taken)) (turns (known taken) there)
+    ∙ ap (made l before) (taken_as-going_on (input_at names q there) q.reading taken)
+    ∙ ap (λ (r : Option Limit). unless_refused l r before done) fits
+step-turned l s names (FromSource tape) p q b bytes i on none_due stays few turns fits =
+    let from : Origin = FromSource tape in
+    let before : State = run_at s names p from (b ∷ bytes) i in
+    let taken : State = run_at s names p from bytes (behind_byte from b i) in
+    let there : PageInput = record (behind_byte from b i) { ahead = ahead_at from bytes } in
+    let done : State = run_at s names q from bytes (behind_byte from b i) in
+    bytes_of_the_source_are_taken l before b (record { going = on.going; not_closing = on.not_closing; idle = on.idle; none_due = none_due })
+    refl refl stays (omega (arith, few))
+    ∙ ap (λ (t : Taking). made l before (taken_as t taken)) (turns (known taken) there)
+    ∙ ap (made l before) (taken_as-going_on (input_at names q there) q.reading taken)
+    ∙ ap (λ (r : Option Limit). unless_refused l r before done) fits
+
+-- a run takes one step for each of such bytes, where no count is above its limit in front of them and behind them
+pub after-Turned : (l : Limits) (s : State) (names : Named Entry) (from : Origin) (p q : Stage) (bytes : List ℕ) (i : PageInput)
+    → IsGoing s → Turned names p bytes q → i.charge + length bytes ≤ l.bytes
+    → FitsAt l s.registers names p from bytes i → FitsAt l s.registers names q from [] (behind_bytes from bytes i)
+    → after l (length bytes) (run_at s names p from bytes i) ≡ run_at s names q from [] (behind_bytes from bytes i)
+after-Turned l s names from _ q _ i on (Here p) within before behind = refl
+after-Turned l s names from p _ _ i on (Onward _ next q b bytes none_due stays turns same least most others) within before behind =
+    let there : FitsAt l s.registers names next from bytes (behind_byte from b i) =
+    fits-next l s.registers names from p next q b bytes i same most others before behind in
+    ap (after l (length bytes)) (step-turned l s names from p next b bytes i on none_due stays (omega (arith, within)) turns there)
+    ∙ after-Turned l s names from next q bytes (behind_byte from b i) on others (omega (arith, within)) there behind
+
+-- what stands ahead and costs nothing stays
+free_ahead-behind : (from : Origin) (b : ℕ) (bytes : List ℕ) → free_ahead (ahead_at from (b ∷ bytes)) ≡ free_ahead (ahead_at from bytes)
+free_ahead-behind (FromAhead rest) b bytes = refl
+free_ahead-behind (FromSource tape) b bytes = refl
+
+-- no more turns are to come behind a byte
+turns-turned : (most : ℕ) (k : Known) (names : Named Entry) (from : Origin) (p q : Stage) (b : ℕ) (bytes : List ℕ) (i : PageInput)
+    → Turns names p b q → i.charge + 1 ≤ most
+    → turns_within most (stage_input names q from bytes (behind_byte from b i)) + begun q.reading
+    ≤ turns_within most (stage_input names p from (b ∷ bytes) i) + begun p.reading
+turns-turned most k names from p q b bytes i turns few =
+    let there : PageInput = record (behind_byte from b i) { ahead = ahead_at from bytes } in
+    let bound : turns_within most (taking k p.reading (input_at names p there) b).input + begun (taking k p.reading (input_at names p there) b).reading
+    ≤ turns_within most (input_at names p there) + begun p.reading + 4 = turns_within-byte most k p.reading (input_at names p there) b in
+    let read : turns_within most (input_at names q there) + begun q.reading ≤ turns_within most (input_at names p there) + begun p.reading + 4 =
+    subst (λ (t : Taking). turns_within most t.input + begun t.reading ≤ turns_within most (input_at names p there) + begun p.reading + 4) (turns k there) bound in
+    omega (arith, few, read, free_ahead-behind from b bytes)
+
+-- nor behind several
+pub turns_left-turned : (most : ℕ) (k : Known) (names : Named Entry) (from : Origin) (p q : Stage) (bytes : List ℕ) (i : PageInput)
+    → Turned names p bytes q → i.charge + length bytes ≤ most
+    → turns_within most (stage_input names q from [] (behind_bytes from bytes i)) + begun q.reading
+    ≤ turns_within most (stage_input names p from bytes i) + begun p.reading
+turns_left-turned most k names from _ q _ i (Here p) within = omega arith
+turns_left-turned most k names from p _ _ i (Onward _ next q b bytes none_due stays turns same least most_held others) within =
+    let first = turns-turned most k names from p next b bytes i turns (omega (arith, within)) in
+    let behind = turns_left-turned most k names from next q bytes (behind_byte from b i) others (omega (arith, within)) in
+    omega (arith, first, behind)
+
+-- no bytes lead nowhere
+pub Turned-none : (names : Named Entry) (p q : Stage) (bytes : List ℕ) → bytes ≡ [] → Turned names p bytes q → p ≡ q
+Turned-none names _ q _ none (Here p) = refl
+Turned-none names p _ _ none (Onward _ next q b bytes none_due stays turns same least most others) = absurd (omega (arith, ap (λ (xs : List ℕ). length xs) none))
+
+-- the input behind bytes, with nothing of them left
+pub stage_input-counted : (names : Named Entry) (q : Stage) (from : Origin) (bytes : List ℕ) (i : PageInput)
+    → stage_input names q from [] (behind_bytes from bytes i) ≡ input_at names q (counted from bytes i)
+stage_input-counted names q from bytes i = ap (λ (j : PageInput). stage_input names q from [] j) (behind_bytes-counts from bytes i)
+
+-- bytes ahead that are taken are counted
+pub counted-bytes_taken : (rest : List (Ahead PageEvent)) (bytes : List ℕ) (i : PageInput) → i.ahead ≡ map ByteAhead bytes ++ rest
+    → counted (FromAhead rest) bytes i ≡ bytes_taken bytes rest i
+counted-bytes_taken rest bytes i front = counted-ahead rest bytes i ∙ sym (bytes_taken-is bytes rest i front)
+
+-- the input behind bytes that changed only what is read, and were taken as bytes that change nothing
+pub input-passed : (reading : Reading) (before after : PageInput) (from : Origin) (bytes : List ℕ) → with_stage_of before after ≡ counted from bytes before
+    → after ≡ input_at before.names (stage_of reading after) (counted from bytes before)
+input-passed reading before after from bytes is =
+    ap (λ (names : Named Entry). record after { names = names }) (ap (λ (i : PageInput). i.names) is)
+    ∙ ap (λ (i : PageInput). input_at before.names (stage_of reading after) i) is

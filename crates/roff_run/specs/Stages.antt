@@ -1,0 +1,72 @@
+-- Stages of the reading: what bytes change that change only what is read.
+use Rattle.std.specs.Prelude.{◌≡◌, ℕ, ◌+◌, ◌≤◌, false, List, [], ◌∷◌, None, Some}
+use Rattle.roff_scan.specs.Arguments.{Arguments, held}
+use Rattle.roff_scan.specs.Bytes.{is_dropped}
+use Rattle.roff_scan.specs.Half.{Half, texts_held}
+use Rattle.roff_scan.specs.Halves.{byte_read, seen_stays}
+use Rattle.roff_scan.specs.Tape.{Tape}
+use Rattle.roff_scan.specs.Unread.{IsWithin}
+use Rattle.roff_scan.specs.Unread.Calls.{PassesFront}
+use Rattle.roff_scan.specs.declared.half.CopyUnit.TheVariants.{Byte}
+use Rattle.roff_scan.specs.declared.half.Read.TheVariants.{GoesOn}
+use Rattle.roff_scan.specs.declared.half.Surroundings.{Surroundings}
+use Rattle.roff_store.specs.Named.{Named}
+use Rattle.roff_store.specs.Texts.{Entry}
+use Rattle.roff_run.specs.Reader.State.{ReaderState}
+use Rattle.roff_run.specs.Reader.Taken.{PageUnread}
+use Rattle.roff_run.specs.Reading.{PageInput, due, going_on, holding, taking}
+use Rattle.roff_run.specs.Registers.{Known}
+use Rattle.roff_run.specs.declared.reading.Reading.{Reading}
+
+-- what bytes change: what is read, what is half read, the arguments of the line, and the texts in the making
+pub record Stage : Type 0 where
+  pub reading : Reading
+  pub half : List Half
+  pub arguments : Arguments
+  pub texts : List (List ℕ)
+
+-- the input at a stage, where names stand for these
+abbrev pub input_at : Named Entry → Stage → PageInput → PageInput
+input_at names p i = record i { half = p.half; arguments = p.arguments; names = names; open_texts = p.texts }
+
+-- the stage of an input where this is read
+abbrev pub stage_of : Reading → PageInput → Stage
+stage_of reading i = record { reading = reading; half = i.half; arguments = i.arguments; texts = i.open_texts }
+
+-- a byte leads from one stage to another, whatever else is known
+abbrev pub Turns : Named Entry → Stage → ℕ → Stage → Type 0
+Turns names p b q = (k : Known) (i : PageInput) → taking k p.reading (input_at names p i) b ≡ going_on (input_at names q i) q.reading
+
+-- a byte is held in the arguments of the line where nothing is half read, and this is read on
+abbrev pub Holds : Reading → ℕ → Type 0
+Holds reading b = (k : Known) (i : PageInput) → i.half ≡ [] → taking k reading i b ≡ going_on (holding (Byte b) i) reading
+
+-- where this is read, bytes may change only what is half read: what gives nothing yet changes nothing else
+abbrev pub ReadsHalves : Reading → Type 0
+ReadsHalves reading =
+    (k : Known) (i : PageInput) (b : ℕ) (next : List Half) → is_dropped b ≡ false → ((base : Surroundings) → byte_read base i.half b ≡ (GoesOn, next))
+    → taking k reading i b ≡ going_on (record i { half = next }) reading
+
+-- the bytes that are held at a stage, of arguments and of texts that are half read
+abbrev pub held_at : Stage → ℕ
+held_at p = held p.arguments + texts_held p.half
+
+-- Bytes lead from one stage to another, one after another: nothing is due before one, none ends what is half read, and none
+-- changes the texts in the making. Of each one byte more is held at the most, and what is held stays.
+pub data Turned (names : Named Entry) : Stage → List ℕ → Stage → Type 0 where
+  Here : (p : Stage) → Turned names p [] p
+  Onward : (p q r : Stage) (b : ℕ) (bytes : List ℕ) → due p.reading ≡ None → seen_stays p.half (Some b) ≡ false → Turns names p b q
+      → q.texts ≡ p.texts → held_at p ≤ held_at q → held_at q ≤ held_at p + 1 → Turned names q bytes r → Turned names p (b ∷ bytes) r
+
+-- an input with the stage of another one
+abbrev pub with_stage_of : PageInput → PageInput → PageInput
+with_stage_of before i = record i { half = before.half; arguments = before.arguments; open_texts = before.open_texts }
+
+-- Bytes that came next were read at once, and changed only what is read: they lead from the stage before to the one behind
+-- them, and are taken as bytes are that change nothing. No count is above its limit behind them.
+pub record ReadsPast (gave gives : Tape → Type 0) (old new : ReaderState) (before after : PageUnread) : Type 0 where
+  pub bytes : List ℕ
+  pub turned : Turned before.input.names (stage_of old.reading before.input) bytes (stage_of new.reading after.input)
+  pub passes : PassesFront gave gives bytes before (record after { input = with_stage_of before.input after.input })
+  pub registers : new.registers ≡ old.registers
+  pub within : IsWithin after

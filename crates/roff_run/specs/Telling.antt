@@ -1,0 +1,26 @@
+-- Bytes of a text line that stand behind a glyph: they are told, and what is read stays (manual, section 4.1).
+use Rattle.std.specs.Prelude.{◌≡◌, ℕ, List, [], ◌∷◌, if◌then◌else◌, ◌==◌}
+use Rattle.roff_lines.specs.declared.event.Event.TheVariants.{Print, WordEnd, Gap}
+use Rattle.roff_lines.specs.declared.glyph.Glyph.TheVariants.{Printed}
+use Rattle.roff_run.specs.Environments.{PageHistory}
+use Rattle.roff_run.specs.Reading.{PageInput, meaning_events, taking}
+use Rattle.roff_run.specs.Registers.{Known}
+use Rattle.roff_run.specs.Requests.{PageEvent, Text}
+use Rattle.roff_run.specs.declared.reading.Reading.{Reading}
+
+-- the events of such a byte: a blank ends a word, and a gap of it follows
+abbrev pub byte_events : ℕ → List PageEvent
+byte_events b = if b == 32 then Text WordEnd ∷ Text (Gap 1) ∷ [] else Text (Print (Printed b)) ∷ []
+
+-- a byte means these where this is read and nothing is half read, and what is read stays
+abbrev pub Prints : Reading → ℕ → Type 0
+Prints reading b = (k : Known) (i : PageInput) → i.half ≡ [] → taking k reading i b ≡ meaning_events i reading (byte_events b)
+
+-- a page's history, and such a byte behind it
+abbrev pub byte_told : ℕ → PageHistory → PageHistory
+byte_told b h = if b == 32 then Text (Gap 1) ∷ Text WordEnd ∷ h else Text (Print (Printed b)) ∷ h
+
+-- and such bytes, one after another
+abbrev pub page_told : List ℕ → PageHistory → PageHistory
+page_told [] h = h
+page_told (b ∷ bytes) h = page_told bytes (byte_told b h)
