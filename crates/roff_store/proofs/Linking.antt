@@ -4,7 +4,7 @@ use Rattle.std.proofs.lemmas.List.{length-set, take_all, take_more, take_more_se
 use Rattle.std.proofs.lemmas.Option.{slice_get_within}
 use Rattle.std.specs.List.{slice_get}
 use Rattle.roff_store.specs.declared.name_table.Slot.{Slot}
-use Rattle.roff_store.specs.Buckets.{bucket_of}
+use Rattle.roff_store.specs.Buckets.{bucket_of, bucket_count}
 use Rattle.roff_store.specs.Named.{Named}
 use Rattle.roff_store.specs.NameTable.Slots.{entries_in, slot_bucket, buckets_of, links_of, AreLinked, IsIndexed}
 use Rattle.roff_store.proofs.Slots.{all_used, get_or-map_at, map-set_same, slot_bucket-used, entries_in-set_older}
@@ -25,12 +25,12 @@ pub record Linked {E : Type 0} (entries : Named E) (slots : List (Slot E)) (head
 
 -- none are linked as it begins
 pub Linked-start : {E : Type 0} (slots : List (Slot E)) (heads : List ℕ) → length (entries_in slots) ≡ length slots
-    → length heads ≡ 65536 → ((bucket : ℕ) → bucket < 65536 → get_or heads bucket 0 ≡ 0) → Linked (entries_in slots) slots heads 0
+    → length heads ≡ bucket_count → ((bucket : ℕ) → bucket < bucket_count → get_or heads bucket 0 ≡ 0) → Linked (entries_in slots) slots heads 0
 Linked-start slots heads full long clear = record { same = refl; full = full; index = AreLinked-none heads long clear }
 
 -- one more is linked, in front of its bucket
 pub Linked-step : {E : Type 0} (entries : Named E) (slots : List (Slot E)) (heads : List ℕ) (place : ℕ) (slot : Slot E)
-    → slice_get slots place ≡ Some slot → bucket_of slot.name < 65536 → Linked entries slots heads place
+    → slice_get slots place ≡ Some slot → bucket_of slot.name < bucket_count → Linked entries slots heads place
     → Linked entries (set slots place (record slot { older = get_or heads (bucket_of slot.name) 0 }))
     (set heads (bucket_of slot.name) (place + 1)) (place + 1)
 Linked-step {E} entries slots heads place slot here below linked =
@@ -69,7 +69,7 @@ Linked-all entries slots heads place end linked =
 
 -- a slot added behind the others is indexed too
 pub IsIndexed-push : {E : Type 0} (slots : List (Slot E)) (heads : List ℕ) (slot : Slot E) → IsIndexed slots heads
-    → bucket_of slot.name < 65536 → slot.is_used ≡ true → slot.older ≡ get_or heads (bucket_of slot.name) 0
+    → bucket_of slot.name < bucket_count → slot.is_used ≡ true → slot.older ≡ get_or heads (bucket_of slot.name) 0
     → IsIndexed (slots ++ slot ∷ []) (set heads (bucket_of slot.name) (length slots + 1))
 IsIndexed-push slots heads slot index below used older =
     let long : length (buckets_of slots) ≡ length slots = length-map slots slot_bucket in
@@ -95,7 +95,7 @@ slice_get-set_other (x ∷ xs) (suc i) zero y apart = refl
 slice_get-set_other (x ∷ xs) (suc i) (suc j) y apart = slice_get-set_other xs i j y (λ e. apart (ap suc e))
 
 module _ {E : Type 0} (slots : List (Slot E)) (heads : List ℕ) (place : ℕ) (slot : Slot E) (index : IsIndexed slots heads)
-    (here : slice_get slots place ≡ Some slot) (used : slot.is_used ≡ true) (small : bucket_of slot.name < 65536) where
+    (here : slice_get slots place ≡ Some slot) (used : slot.is_used ≡ true) (small : bucket_of slot.name < bucket_count) where
   -- the slot that is taken out lies in its bucket
   bucket_here : get_or (buckets_of slots) place 0 ≡ bucket_of slot.name
   bucket_here = get_or-map_at slot_bucket slots place slot here ∙ slot_bucket-used slot used

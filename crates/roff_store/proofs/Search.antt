@@ -5,7 +5,7 @@ use Rattle.std.proofs.lemmas.Option.{slice_get_within, get_or_from_slice_get}
 use Rattle.std.specs.List.{slice_get}
 use Rattle.std.specs.Prelude.{MatchOption}
 use Rattle.roff_store.specs.declared.name_table.Slot.{Slot}
-use Rattle.roff_store.specs.Buckets.{bucket_of}
+use Rattle.roff_store.specs.Buckets.{bucket_of, bucket_count}
 use Rattle.roff_store.specs.Named.{entry_of}
 use Rattle.roff_store.specs.NameTable.Slots.{entries_in, slot_bucket, buckets_of, links_of, IsLast, IsIndexed, LeadsTo}
 use Rattle.roff_store.proofs.Entries.{bytes_eq_tells}
@@ -13,7 +13,7 @@ use Rattle.roff_store.proofs.Slots.{entry_of-pass, get_or-map_at}
 
 -- a slot leads to an older one, which lies in its bucket with none between them
 pub link_at : {E : Type 0} (slots : List (Slot E)) (heads : List ℕ) (place bucket : ℕ) (slot : Slot E)
-    → IsIndexed slots heads → bucket < 65536 → get_or (buckets_of slots) place 0 ≡ bucket → slice_get slots place ≡ Some slot
+    → IsIndexed slots heads → bucket < bucket_count → get_or (buckets_of slots) place 0 ≡ bucket → slice_get slots place ≡ Some slot
     → IsLast (buckets_of slots) place bucket slot.older
 link_at slots heads place bucket slot index small lies here =
     let inside = slice_get_within slots place slot here in
@@ -29,7 +29,7 @@ pub record Searched {E : Type 0} (slots : List (Slot E)) (name : List ℕ) (last
 
 -- the search begins at the last slot of the bucket
 pub Searched-start : {E : Type 0} (slots : List (Slot E)) (heads name : List ℕ) → IsIndexed slots heads
-    → bucket_of name < 65536 → Searched slots name (get_or heads (bucket_of name) 0)
+    → bucket_of name < bucket_count → Searched slots name (get_or heads (bucket_of name) 0)
 Searched-start slots heads name index below =
     let first = index.head (bucket_of name) below in
     let long : length (buckets_of slots) ≡ length slots = length-map slots slot_bucket in
@@ -44,7 +44,7 @@ Searched-start slots heads name index below =
 
 -- a slot that isn't that of the name leads on
 pub Searched-step : {E : Type 0} (slots : List (Slot E)) (heads name : List ℕ) (last place : ℕ) (slot : Slot E)
-    → IsIndexed slots heads → bucket_of name < 65536 → Searched slots name last → last ≡ place + 1
+    → IsIndexed slots heads → bucket_of name < bucket_count → Searched slots name last → last ≡ place + 1
     → slice_get slots place ≡ Some slot → slot.name ≢ name → Searched slots name slot.older
 Searched-step slots heads name last place slot index small searched at here other =
     let inside = slice_get_within slots place slot here in
@@ -68,7 +68,7 @@ pub record Reached {E : Type 0} (slots : List (Slot E)) (heads : List ℕ) (buck
 
 -- it begins at the last slot of the bucket
 pub Reached-start : {E : Type 0} (slots : List (Slot E)) (heads : List ℕ) (bucket place : ℕ) → IsIndexed slots heads
-    → bucket < 65536 → place < length slots → get_or (buckets_of slots) place 0 ≡ bucket
+    → bucket < bucket_count → place < length slots → get_or (buckets_of slots) place 0 ≡ bucket
     → Reached slots heads bucket place None (get_or heads bucket 0)
 Reached-start slots heads bucket place index small inside lies =
     let first = index.head bucket small in
@@ -84,7 +84,7 @@ Reached-start slots heads bucket place index small inside lies =
 
 -- and goes on where that is another slot
 pub Reached-step : {E : Type 0} (slots : List (Slot E)) (heads : List ℕ) (bucket place : ℕ) (newer : Option ℕ) (last at : ℕ) (slot : Slot E)
-    → IsIndexed slots heads → bucket < 65536 → get_or (buckets_of slots) place 0 ≡ bucket → Reached slots heads bucket place newer last
+    → IsIndexed slots heads → bucket < bucket_count → get_or (buckets_of slots) place 0 ≡ bucket → Reached slots heads bucket place newer last
     → last ≡ at + 1 → last ≢ place + 1 → slice_get slots at ≡ Some slot → Reached slots heads bucket place (Some at) slot.older
 Reached-step slots heads bucket place newer last at slot index small lies reached is other here =
     let inside = slice_get_within slots at slot here in

@@ -3,7 +3,7 @@ use Rattle.std.proofs.Common.{◌≡◌, ◌≢◌, ℕ, zero, suc, ◌<◌, ◌
 use Rattle.std.specs.List.{filter, slice_get}
 use Rattle.std.specs.Prelude.{if◌then◌else◌}
 use Rattle.roff_store.specs.declared.name_table.Slot.{Slot}
-use Rattle.roff_store.specs.Buckets.{bucket_of}
+use Rattle.roff_store.specs.Buckets.{bucket_of, bucket_count}
 use Rattle.roff_store.specs.Named.{EachOnce, entry_of, with_entry, without_entry}
 use Rattle.roff_store.specs.NameTable.Slots.{entries_in, buckets_of, slot_bucket}
 use Rattle.roff_store.proofs.Entries.{bytes_eq_tells, without_entry-absent}
@@ -102,9 +102,9 @@ pub slot_bucket-used : {E : Type 0} (slot : Slot E) → slot.is_used ≡ true �
 slot_bucket-used slot used = rw used refl
 
 -- a slot that lies in a bucket is used
-pub used_in_bucket : {E : Type 0} (slot : Slot E) → slot_bucket slot < 65536 → slot.is_used ≡ true
+pub used_in_bucket : {E : Type 0} (slot : Slot E) → slot_bucket slot < bucket_count → slot.is_used ≡ true
 used_in_bucket slot small =
-    elim slot.is_used as (λ b. (if b then bucket_of slot.name else 65536) < 65536 → b ≡ true)
+    elim slot.is_used as (λ b. (if b then bucket_of slot.name else bucket_count) < bucket_count → b ≡ true)
     [ true ↦ (λ h. refl) | false ↦ (λ h. absurd (omega arith)) ] small
 
 -- where there are as many entries as slots, all slots are used

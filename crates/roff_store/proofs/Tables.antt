@@ -5,7 +5,7 @@ use Rattle.std.specs.Vec.{with_item}
 use Rattle.std.proofs.lemmas.Option.{get_or_from_slice_get}
 use Rattle.roff_store.specs.declared.name_table.Slot.{Slot}
 use Rattle.roff_store.specs.declared.name_table.NameTable.TheInside.{Inside}
-use Rattle.roff_store.specs.Buckets.{bucket_of}
+use Rattle.roff_store.specs.Buckets.{bucket_of, bucket_count}
 use Rattle.roff_store.specs.Named.{EachOnce, Named, Table, entry_of, with_entry, without_entry, admitted, put_into}
 use Rattle.roff_store.specs.NameTable.Slots.{entries_in, IsIndexed, LeadsTo, StandsAt}
 use Rattle.roff_store.specs.NameTable.Kept.{IsSound}
@@ -80,7 +80,7 @@ module _ {E : Type 0} where
 
   -- what `unlink` leaves there
   pub IsUnlinked-newer : {slots : List (Slot E)} {heads : List ℕ} {place : ℕ} {name : List ℕ} {slot : Slot E} {newer bucket : ℕ}
-      → IsIndexed slots heads → bucket_of name < 65536 → EachOnce (entries_in slots) → IsFound slots place name slot
+      → IsIndexed slots heads → bucket_of name < bucket_count → EachOnce (entries_in slots) → IsFound slots place name slot
       → bucket ≡ bucket_of name → (leads : LeadsTo slots newer bucket (place + 1))
       → IsUnlinked slots heads place name slot newer leads.slot
   IsUnlinked-newer {slots} {heads} {place} {name} {slot} {newer} {bucket} index small once found lies leads =

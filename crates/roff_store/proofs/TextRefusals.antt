@@ -1,15 +1,15 @@
 -- Which limit a call on names or texts in the making answers, by what it would make.
-use Rattle.std.proofs.Common.{◌≡◌, ℕ, ◌≤◌, true, false, List, ◌++◌, length, Some, None, refl, sym, ap, ◌∙◌, arith}
+use Rattle.std.proofs.Common.{◌≡◌, ℕ, ◌≤◌, true, false, List, ◌++◌, length, refl, sym, ap, ◌∙◌, arith}
 use Rattle.std.specs.Prelude.{Bool, Result, Ok, Err, is_some, nat_lt, not, if◌then◌else◌}
 use Rattle.std.proofs.lemmas.Bool.Decides.{nat_tests}
 use Rattle.std.proofs.lemmas.List.{length-append}
 use Rattle.roff_num.specs.declared.limit.Limit.{Limit}
 use Rattle.roff_num.specs.declared.limit.Limit.TheVariants.{Names, Store}
 use Rattle.roff_store.specs.Named.{Table, admitted, entry_of, has_room, with_entry}
-use Rattle.roff_store.specs.TextCalls.{Set, Append, Remove, Rename, PushOpen, Enter, DropOpen, answered, made, open_text, text_before, within_bytes}
+use Rattle.roff_store.specs.TextCalls.{Set, PushOpen, Enter, answered, made, open_text, text_before, within_bytes}
 use Rattle.roff_store.specs.TextLaws.{IsCounted}
-use Rattle.roff_store.specs.Texts.{Entry, Body, Texts, body_of, used}
-use Rattle.roff_store.proofs.CountedTexts.{IsCounted-after, before-few, bytes-with, sum-dropped}
+use Rattle.roff_store.specs.Texts.{Entry, Body, Texts, used}
+use Rattle.roff_store.proofs.CountedTexts.{before-few, bytes-with, sum-dropped}
 use Rattle.roff_store.proofs.Entries.{length-with_entry}
 
 -- the limit on names, if there are more than may be

@@ -1,4 +1,4 @@
-//! Entries by name, found through the first two bytes of the name.
+//! Entries by name, found through a number made of the name's bytes.
 
 ghost use Rattle.std.specs.Prelude.{◌≡◌, ℕ, ◌<◌, ◌≤◌, ◌^◌, ◌+◌, ◌==◌, [], length, slice_index};
 ghost use Rattle.std.specs.Prelude.{Option, IfOk, IfSome, IfNone, vec_len, vec_capacity};
@@ -11,8 +11,8 @@ use roff_num::{Limit, Name};
 use std::alloc::{AllocError, Global};
 use std::marker::Model;
 
-/// How many buckets there are.
-const BUCKETS: usize = 1 << 16;
+/// How many buckets there are. Each table clears 4 bytes for each of them as it is made.
+const BUCKETS: usize = 1 << 13;
 
 /// At least so many slots more than names, so that unused slots are seldom swept.
 const SPARE_SLOTS: u32 = 1024;
@@ -143,14 +143,15 @@ impl<E: Copy> NameTable<E> {
 }
 
 /// The bucket of a name: its bytes as the digits of a number, of which the remainder is taken.
-/// Names of two printed bytes are apart so.
+/// Names of one or two letters and digits are apart so, and of the names of one or two printed
+/// bytes no three share a bucket.
 fn bucket_of(name: &Name) -> usize
     ensures value { result ≡ bucket_of name.now }
     ensures within { result < BUCKETS }
 {
     let mut bucket = 0;
     for byte in name.as_bytes() {
-        bucket = (bucket * 691 + usize::from(*byte)) % BUCKETS;
+        bucket = (bucket * 1145 + usize::from(*byte)) % BUCKETS;
     }
     bucket
 }

@@ -1,7 +1,7 @@
 -- What stands in the slots of a table.
 use Rattle.std.specs.Prelude.{◌≡◌, ◌≢◌, ℕ, ◌+◌, ◌<◌, ◌≤◌, true, List, [], ◌∷◌, length, map, slice_get, slice_index, Some, if◌then◌else◌}
 use Rattle.roff_store.specs.declared.name_table.Slot.{Slot}
-use Rattle.roff_store.specs.Buckets.{bucket_of}
+use Rattle.roff_store.specs.Buckets.{bucket_of, bucket_count}
 use Rattle.roff_store.specs.Named.{Named}
 
 -- the entries in the slots that are used, in their order
@@ -9,9 +9,9 @@ abbrev pub entries_in : {E : Type 0} → List (Slot E) → Named E
 entries_in [] = []
 entries_in (slot ∷ slots) = if slot.is_used then (slot.name, slot.entry) ∷ entries_in slots else entries_in slots
 
--- the bucket that a slot lies in; one that isn't used lies in none, for which 65536 stands
+-- the bucket that a slot lies in; one that isn't used lies in none, for which bucket_count stands
 abbrev pub slot_bucket : {E : Type 0} → Slot E → ℕ
-slot_bucket slot = if slot.is_used then bucket_of slot.name else 65536
+slot_bucket slot = if slot.is_used then bucket_of slot.name else bucket_count
 
 -- the buckets of the slots
 abbrev pub buckets_of : {E : Type 0} → List (Slot E) → List ℕ
@@ -30,9 +30,9 @@ pub record IsLast (buckets : List ℕ) (n bucket last : ℕ) : Type 0 where
 -- each bucket's head leads to its last slot, and each slot to the one before it in its bucket
 pub record AreLinked (buckets links heads : List ℕ) : Type 0 where
   pub lengths : length links ≡ length buckets
-  pub head_count : length heads ≡ 65536
-  pub head : (bucket : ℕ) → bucket < 65536 → IsLast buckets (length buckets) bucket (slice_index heads bucket)
-  pub link : (place : ℕ) → place < length buckets → slice_index buckets place < 65536
+  pub head_count : length heads ≡ bucket_count
+  pub head : (bucket : ℕ) → bucket < bucket_count → IsLast buckets (length buckets) bucket (slice_index heads bucket)
+  pub link : (place : ℕ) → place < length buckets → slice_index buckets place < bucket_count
       → IsLast buckets place (slice_index buckets place) (slice_index links place)
 
 -- the slots can be found through the heads of their buckets
