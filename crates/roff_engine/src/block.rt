@@ -64,6 +64,7 @@ impl Block {
     {
         let bytes = &mut self.bytes;
         let mut to_come = LineBytes::of(line);
+        to_come.add_text(bytes, BLOCK);
         loop {
             add_pieces(bytes, &mut to_come);
             let Some(byte) = to_come.next() else {

@@ -18,7 +18,7 @@ use Rattle.roff_lines.proofs.FirstLine.{joining_by}
 use Rattle.roff_lines.proofs.PendingLine.{line_text-full, line_indent-full}
 
 -- a gap is as wide as it has blanks
-text_width-gap_text : (n : ℕ) → text_width (gap_text n) ≡ n
+pub text_width-gap_text : (n : ℕ) → text_width (gap_text n) ≡ n
 text_width-gap_text n =
     cond_both (eqb n 0) [] (gap_blank ∷ replicate (n - 1) further_blank) (λ text. text_width text ≡ n)
     (λ e. omega (arith, eqb-true n 0 e))

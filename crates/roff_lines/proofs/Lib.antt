@@ -2,6 +2,7 @@ pub mod Blanks
 pub mod GlyphsInFront
 pub mod BlanksInFront
 pub mod SharedColumns
+pub mod SpreadsOver
 pub mod Widths
 pub mod Sentences
 pub mod PendingLine
@@ -13,6 +14,7 @@ pub mod Tabs
 pub mod ToldGlyphs
 pub mod Tells
 pub mod TextRuns
+pub mod WholeWords
 pub mod NearestStop
 pub mod Interruptions
 pub mod Telling

@@ -50,7 +50,7 @@ is_empty-last_line [] = refl
 is_empty-last_line (w ∷ ws) = is_empty-placed (last_line ws) w
 
 -- a gap's text has a byte for each blank
-length-gap_text : (n : ℕ) → length (gap_text n) ≡ n
+pub length-gap_text : (n : ℕ) → length (gap_text n) ≡ n
 length-gap_text n =
     cond_both (eqb n 0) [] (gap_blank ∷ replicate (n - 1) further_blank) (λ text. length text ≡ n)
     (λ e. omega (arith, eqb-true n 0 e))

@@ -34,7 +34,7 @@ length_counted true line blanks word cap full within = omega arith
 length_counted false line blanks word cap full within = omega arith
 
 -- places move by some columns, and then by others
-moved-moved : (m n place : ℕ) → moved n (moved m place) ≡ moved (m + n) place
+pub moved-moved : (m n place : ℕ) → moved n (moved m place) ≡ moved (m + n) place
 moved-moved m n place = omega arith
 
 -- one byte is as wide as it is

@@ -23,7 +23,7 @@ pub gaps_in-cons : (b : ℕ) (text : List ℕ) → gaps_in (b ∷ text) ≡ cond
 gaps_in-cons b text = sum_by-cons (λ x. cond (x == gap_blank) 1 0) b text
 
 -- bytes above the blank have no gap
-gaps_in-above : (bytes : List ℕ) → AllByRecursion (λ b. 32 < b) bytes → gaps_in bytes ≡ 0
+pub gaps_in-above : (bytes : List ℕ) → AllByRecursion (λ b. 32 < b) bytes → gaps_in bytes ≡ 0
 gaps_in-above [] above = refl
 gaps_in-above (b ∷ bytes) above =
     let here : (b == gap_blank) ≡ false = eqb-above b gap_blank (omega arith) above.0 in

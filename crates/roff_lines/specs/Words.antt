@@ -55,6 +55,13 @@ ends_sentence_behind [] before = before
 ends_sentence_behind (b ∷ bytes) before =
     ends_sentence_behind bytes (if is_closer (Printed b) then before else is_sentence_mark (Printed b))
 
+-- the same behind words of printed bytes, with blanks between them, which leave that as it was too
+abbrev pub ends_sentence_behind_words : List ℕ → Bool → Bool
+ends_sentence_behind_words [] before = before
+ends_sentence_behind_words (b ∷ text) before =
+    ends_sentence_behind_words text
+    (if b == 32 then before else if is_closer (Printed b) then before else is_sentence_mark (Printed b))
+
 -- the blanks of a filled line's end: two behind a sentence, else one
 abbrev pub line_end_gap : List Glyph → ℕ
 line_end_gap glyphs = if ends_sentence glyphs then 2 else 1

@@ -1,7 +1,7 @@
 //! The environment: the pending line, the open word, and what is in force.
 
 ghost use Rattle.std.specs.Prelude.{◌≡◌, ℕ, ◌+◌, ◌<◌, ◌≤◌, ◌^◌, ◌↔◌, not, [], ◌∷◌, ◌++◌, length};
-ghost use Rattle.std.specs.Prelude.{take, true, if◌then◌else◌};
+ghost use Rattle.std.specs.Prelude.{◌-◌, take, true, false, if◌then◌else◌};
 ghost use Rattle.std.specs.Prelude.{IfOk, OnOk, OnErr, IsErr, IsOkUnless, MatchOption, option_map};
 ghost use Rattle.std.specs.Bool.{MatchBool};
 ghost use Rattle.std.specs.List.{AllByRecursion};
@@ -11,15 +11,16 @@ ghost use Rattle.roff_lines.specs.Clauses.{Interrupt, Resume, Set, History, sett
 ghost use Rattle.roff_lines.specs.Clauses.{last_width, input_place, is_interrupted, line_glyphs};
 ghost use Rattle.roff_lines.specs.Clauses.{is_empty, indent_by, moved, pending_length, finished_of};
 ghost use Rattle.roff_lines.specs.Clauses.{bytes_told, QuietlyTold};
-ghost use Rattle.roff_lines.specs.Clauses.{finished, shaped, text_width, gap_text, may_be_wide};
+ghost use Rattle.roff_lines.specs.Clauses.{finished, shaped, text_width, gaps_in, gap_text, may_be_wide};
 
-use crate::glyph::{Glyph, ends_sentence_behind, kept_byte};
+use crate::glyph::{Glyph, ends_sentence_behind, ends_sentence_behind_words, kept_byte};
 use crate::line::{FURTHER_BLANK, GAP, Line, UNPADDABLE};
 use crate::line_bytes::count_of_glyphs;
 use crate::settings::{Param, Settings};
 use crate::shape::Shape;
 use crate::stops::StopTable;
 use crate::stretch::Stretch;
+use crate::words::whole_words;
 use roff_num::Limit;
 use std::alloc::{AllocError, Global};
 use std::marker::Model;
@@ -27,6 +28,9 @@ use std::mem;
 
 /// More blanks than any line has room for: no more of a gap are counted.
 const MOST_BLANKS: u64 = 1 << 33;
+
+/// More columns than the pending line has, its indent among them.
+const MOST_COLUMNS: u64 = 1 << 35;
 
 /// The greatest place on a line of the input, in columns, that is told from those behind it.
 const MOST_PLACE: u64 = 2147483647;
@@ -71,13 +75,13 @@ impl Model for Env {
 }
 
 impl Env {
-    ghost use Rattle.roff_lines.specs.Env.Kept.{with_glyphs, glyph_room};
+    ghost use Rattle.roff_lines.specs.Env.Kept.{with_glyphs, with_words, glyph_room};
     ghost use Rattle.roff_lines.specs.Env.Kept.{with_word_ended, finished_by_word, word_finishes};
     ghost use Rattle.roff_lines.specs.Env.Kept.{with_line_finished, finished_by_break};
     ghost use Rattle.roff_lines.specs.Env.Kept.{with_input_line_ended, finished_by_line_end};
     ghost use Rattle.roff_lines.specs.Env.Stands.{Stands, StandsBehind, Finishes};
     ghost use Rattle.roff_lines.specs.Env.Rests.{RestsBehind};
-    ghost use Rattle.roff_lines.specs.Env.Tells.{Tells, TellsFront, EndsGlyphs, EndsBlanks};
+    ghost use Rattle.roff_lines.specs.Env.Tells.{Tells, TellsFront, HasRoom, EndsGlyphs, EndsBlanks};
 
     /// An environment in which nothing has happened, whose pending line may have `line_cap` bytes.
     pub fn new(alloc: Global, line_cap: u32) -> Result<Self, AllocError>
@@ -195,9 +199,9 @@ impl Env {
             → result < length bytes.now
             → QuietlyTold line_cap (take (result + 1) bytes.now) h → ⊥ }
     {
-        let mut rest = self.glyphs_in_front(bytes);
+        let mut rest = self.text_in_front(bytes);
         while let Some(behind) = self.blank_in_front(rest) {
-            rest = self.glyphs_in_front(behind);
+            rest = self.text_in_front(behind);
         }
         bytes.len() - rest.len()
     }
@@ -351,6 +355,68 @@ impl Env {
         true
     }
 
+    /// Adds whole words in front, and then glyphs, as many as the limit on the pending line lets
+    /// through. Gives back what is left.
+    fn text_in_front<'a>(&mut self, bytes: &'a [u8]) -> &'a [u8]
+        ensures told { TellsFront bytes.now result.now self.old self.new }
+        ensures ends { EndsGlyphs result.now self.new }
+    {
+        let rest = self.words_in_front(bytes);
+        self.glyphs_in_front(rest)
+    }
+
+    /// Adds whole words in front that fit into the pending line, behind its gap. Gives back what is
+    /// left.
+    #[inline(always)]
+    fn words_in_front<'a>(&mut self, bytes: &'a [u8]) -> &'a [u8]
+        ensures { TellsFront bytes.now result.now self.old self.new }
+    {
+        if self.is_open || !self.has_line {
+            return bytes;
+        }
+        let (told, words) = whole_words(bytes, self.word_room());
+        if told == 0 {
+            return bytes;
+        }
+        let (text, _) = bytes.split_at(told - 1);
+        let (_, rest) = bytes.split_at(told);
+        self.words(text, words - 1);
+        rest
+    }
+
+    /// How many bytes of words, which are a column wide each, the pending line has room for behind
+    /// its gap, with a blank behind them: 0 where it has none.
+    fn word_room(&self) -> usize
+        ensures { 0 < result → HasRoom (result - 1) self.now }
+    {
+        room_for_words(
+            self.settings,
+            self.indent,
+            &self.line,
+            self.blanks,
+            self.cap,
+        )
+    }
+
+    /// Puts words into the pending line, behind its gap, with a gap of one blank behind them. Each of
+    /// their bytes is a column wide.
+    #[inline(always)]
+    fn words(&mut self, text: &[u8], gaps: u64)
+        requires line { self.old.has_line ≡ true }
+        requires closed { self.old.is_open ≡ false }
+        requires room { HasRoom (length text.now) self.old }
+        requires gaps { gaps_in text.now ≡ gaps }
+        requires width { text_width text.now ≡ length text.now }
+        ensures { self.new ≡ with_words text.now self.old }
+    {
+        push_gap(&mut self.line, self.blanks as usize);
+        self.line.push_words(text, gaps);
+        self.blanks = 1;
+        self.has_glyph = true;
+        self.ends_sentence = ends_sentence_behind_words(text, self.ends_sentence);
+        self.place = moved(self.place, text.len() as u64 + 1);
+    }
+
     /// Adds the glyphs in front, as many as the limit on the pending line lets through. Gives back
     /// what is left.
     fn glyphs_in_front<'a>(&mut self, bytes: &'a [u8]) -> &'a [u8]
@@ -484,6 +550,29 @@ fn fits(settings: Settings, indent: u32, line: &Stretch, blanks: u64, word: &Str
 {
     let width = line.width() + blanks + word.width();
     !settings.fills() || u64::from(indent) + width <= u64::from(settings.line_length)
+}
+
+/// How many bytes of words, which are a column wide each, may stand behind a line and a gap, with a
+/// blank behind them: 0 where there is no room for the gap.
+fn room_for_words(settings: Settings, indent: u32, line: &Stretch, blanks: u64, cap: usize) -> usize
+    requires blanks { blanks ≤ 2 ^ 33 }
+    requires line { line.now.room < 2 ^ 32 }
+    requires cap { cap < 2 ^ 32 }
+    ensures limit { 0 < result → length line.now.text + blanks + (result - 1) ≤ cap }
+    ensures fits { let width = text_width line.now.text + blanks + (result - 1) in
+        0 < result → may_be_wide settings indent width ≡ true }
+{
+    let bytes = line.len() as u64 + blanks;
+    let columns = u64::from(indent) + line.width() + blanks;
+    let most = if settings.fills() {
+        u64::from(settings.line_length)
+    } else {
+        MOST_COLUMNS
+    };
+    if bytes > cap as u64 || columns > most {
+        return 0;
+    }
+    (cap as u64 - bytes).min(most - columns) as usize + 1
 }
 
 /// The indent of a line that begins: the one that is pending for it alone, else that in force.

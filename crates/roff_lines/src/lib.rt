@@ -16,6 +16,7 @@ mod settings;
 mod shape;
 mod stops;
 mod stretch;
+mod words;
 
 pub use env::Env;
 pub use event::Event;

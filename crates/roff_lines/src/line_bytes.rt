@@ -1,11 +1,12 @@
 //! What a finished line writes.
 
 ghost use Rattle.std.specs.Prelude.{◌≡◌, ◌+◌, ◌*◌, ◌<◌, ◌≤◌, ◌^◌, ◌++◌, ◌∷◌, [], length, take};
-ghost use Rattle.std.specs.Prelude.{false, if◌then◌else◌};
+ghost use Rattle.std.specs.Prelude.{◌-◌, ◌%◌, drop, vec_capacity, false, if◌then◌else◌};
 ghost use Rattle.roff_lines.specs.Clauses.{finished_of, line_bytes};
 ghost use Rattle.roff_lines.specs.Columns.{spaces};
 ghost use Rattle.roff_lines.specs.LineBytes.Fronts.{TakesPiece, blanks_in_front, glyphs_in_front};
 ghost use Rattle.roff_lines.specs.LineBytes.Fronts.{is_blank_mark, without_blanks};
+ghost use Rattle.roff_lines.specs.LineBytes.Fronts.{Moves, SpreadsOver, WritesOver};
 ghost use Rattle.roff_lines.specs.LineBytes.Shares.{shared_out};
 
 use crate::line::{FURTHER_BLANK, GAP, Line, UNPADDABLE};
@@ -31,6 +32,33 @@ pub struct LineBytes<'a> {
     over: u64,
     /// The newlines behind it.
     newlines: u128,
+}
+
+/// How the spare columns of a line are shared out, at a place of its text.
+#[derive(Clone, Copy)]
+struct Sharing {
+    /// The columns that each gap gets.
+    each: u64,
+    /// Those that are left over.
+    rest: u64,
+    gaps: u64,
+    /// How many gaps were passed.
+    passed: u64,
+    /// What is over of the rest.
+    over: u64,
+}
+
+/// How far a text was written.
+#[derive(Clone, Copy)]
+struct Written {
+    /// How many bytes of the text.
+    taken: usize,
+    /// Where what was written ends.
+    end: usize,
+    /// How many gaps were passed.
+    passed: u64,
+    /// What is over of the rest there.
+    over: u64,
 }
 
 /// What is taken of a line's bytes at once.
@@ -70,6 +98,59 @@ impl<'a> LineBytes<'a> {
             over: 0,
             newlines: u128::from(line.after) + 1,
         }
+    }
+
+    /// Adds the bytes in front, as far as the text goes, to a block of at most so many bytes. Adds
+    /// nothing where it hasn't room for all of them.
+    #[inline(always)]
+    pub fn add_text(&mut self, block: &mut Vec<u8>, most: usize)
+        requires capacity { most ≤ vec_capacity block.old }
+        requires few { length block.old.items ≤ most }
+        ensures capacity { vec_capacity block.old ≤ vec_capacity block.new }
+        ensures few { length block.new.items ≤ most }
+        ensures moves { Moves block.old.items block.new.items self.old self.new }
+    {
+        let start = block.len();
+        let spare = self
+            .each
+            .saturating_mul(self.gaps)
+            .saturating_add(self.rest);
+        let needed = (self.text.len() as u64)
+            .saturating_add(self.blanks)
+            .saturating_add(spare);
+        if needed > (most - start) as u64 {
+            return;
+        }
+        let needed = needed as usize;
+        block.resize(start + needed, b' ').unwrap();
+        let owed = self.take_owed(needed);
+        let end = self.write_text(block.as_mut_slice(), start + owed);
+        block.truncate(end);
+    }
+
+    /// Writes the text over blanks from a place on, as far as it goes. Tells where it ends.
+    #[inline(always)]
+    fn write_text(&mut self, out: &mut [u8], start: usize) -> usize
+        requires start { start ≤ length out.old }
+        requires blank { drop start out.old ≡ spaces (length out.old - start) }
+        ensures { WritesOver start result out.old out.new self.old self.new }
+    {
+        if self.blanks > 0 {
+            return start;
+        }
+        let shares = Sharing {
+            each: self.each,
+            rest: self.rest,
+            gaps: self.gaps,
+            passed: self.passed,
+            over: self.over,
+        };
+        let written = spread_over(self.text, shares, out, start);
+        let (_, behind) = self.text.split_at(written.taken);
+        self.text = behind;
+        self.passed = written.passed;
+        self.over = written.over;
+        written.end
     }
 
     /// Takes the blanks in front and then the glyphs behind them, those above the blank: at most
@@ -190,6 +271,72 @@ fn shares(spare: u64, gaps: u64) -> (u64, u64, u64)
         return (0, 0, 1);
     }
     (spare / gaps, spare % gaps, gaps)
+}
+
+/// Writes a text with its blanks spread over blanks, from a place on, as far as there is room for it.
+#[inline(always)]
+fn spread_over(text: &[u8], shares: Sharing, out: &mut [u8], start: usize) -> Written
+    requires start { start ≤ length out.old }
+    requires blank { drop start out.old ≡ spaces (length out.old - start) }
+    requires passed { shares.passed + length text.now < 2 ^ 64 }
+    requires spare { shares.each * shares.gaps + shares.rest < 2 ^ 64 }
+    requires rest { shares.rest < shares.gaps }
+    requires over { let spare = shares.each * shares.gaps + shares.rest in
+        shares.over ≡ shares.passed * spare % shares.gaps }
+    ensures text { result.taken ≤ length text.now }
+    ensures passed { result.passed ≤ shares.passed + result.taken }
+    ensures over { let spare = shares.each * shares.gaps + shares.rest in
+        result.over ≡ result.passed * spare % shares.gaps }
+    ensures written { let spare = shares.each * shares.gaps + shares.rest in
+        SpreadsOver spare shares.gaps shares.passed result.passed result.taken start result.end
+        text.now out.old out.new }
+{
+    let room = out.len() - start;
+    let mut taken = 0;
+    let mut end = start;
+    let mut passed = shares.passed;
+    let mut over = shares.over;
+    if room < text.len() {
+        return Written {
+            taken,
+            end,
+            passed,
+            over,
+        };
+    }
+    let mut left = (room - text.len()) as u64;
+    while taken < text.len() {
+        let byte = text[taken];
+        if byte > b' ' {
+            out[end] = byte;
+            taken += 1;
+            end += 1;
+            continue;
+        }
+        if byte == GAP {
+            let (added, behind) = added_to_gap(shares.each, shares.rest, shares.gaps, over);
+            if added > left {
+                break;
+            }
+            left -= added;
+            taken += 1;
+            end += 1 + added as usize;
+            passed += 1;
+            over = behind;
+            continue;
+        }
+        if byte > FURTHER_BLANK {
+            break;
+        }
+        taken += 1;
+        end += 1;
+    }
+    Written {
+        taken,
+        end,
+        passed,
+        over,
+    }
 }
 
 /// The columns that adjusting adds to the next gap: one more than each gap gets, where what is

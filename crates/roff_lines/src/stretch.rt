@@ -111,6 +111,19 @@ impl Stretch {
         width
     }
 
+    /// Adds words with so many gaps. Each of their bytes is a column wide.
+    #[tactic(auto, using(crate::proofs::Widths::text_width_le))]
+    pub(crate) fn push_words(&mut self, text: &[u8], gaps: u64)
+        requires room { length self.old.text + length text.now ≤ self.old.room }
+        requires gaps { gaps_in text.now ≡ gaps }
+        requires width { text_width text.now ≡ length text.now }
+        ensures { self.new ≡ record self.old { text = self.old.text ++ text.now } }
+    {
+        self.width += text.len() as u64;
+        self.gaps += gaps;
+        self.bytes.extend_from_slice(text).unwrap();
+    }
+
     /// Adds another text.
     #[tactic(auto, using(crate::proofs::Widths::text_width_le))]
     pub(crate) fn append(&mut self, other: &Stretch)

@@ -7,7 +7,7 @@ use Rattle.roff_lines.specs.Settings.{fills}
 use Rattle.roff_lines.specs.Stops.{TabStops}
 use Rattle.roff_lines.specs.Places.{most_place, moved}
 use Rattle.roff_lines.specs.Fitting.{gap_text, may_be_wide}
-use Rattle.roff_lines.specs.Words.{ends_sentence_behind, indent_by}
+use Rattle.roff_lines.specs.Words.{ends_sentence_behind, ends_sentence_behind_words, indent_by}
 use Rattle.roff_lines.specs.Lines.{Finished, laid_out, empty_line}
 use Rattle.roff_lines.specs.LastLine.{line_width}
 
@@ -82,6 +82,18 @@ with_glyphs bytes k = record k {
   has_glyph = true;
   ends_sentence = ends_sentence_behind bytes k.ends_sentence;
   place = moved (text_width bytes) k.place;
+}
+
+-- behind words that go into the pending line, with a blank between two of them and one behind the last
+abbrev pub with_words : List ℕ → Kept → Kept
+with_words text k = record k {
+  line = k.line ++ (gap_text k.blanks ++ text);
+  word = [];
+  is_open = false;
+  blanks = 1;
+  has_glyph = true;
+  ends_sentence = ends_sentence_behind_words text k.ends_sentence;
+  place = moved (text_width text + 1) k.place;
 }
 
 -- what is in force and what stands before the next glyph has gone into a line

@@ -1,6 +1,9 @@
 -- Bytes of a text line that an environment is told at once.
-use Rattle.std.specs.Prelude.{◌≡◌, ℕ, ◌<◌, true, List, [], ◌∷◌, ◌++◌}
+use Rattle.std.specs.Prelude.{◌≡◌, ℕ, ◌+◌, ◌<◌, ◌≤◌, true, List, [], ◌∷◌, ◌++◌, length}
+use Rattle.std.specs.List.{AllByRecursion}
+use Rattle.roff_lines.specs.Glyphs.{text_width}
 use Rattle.roff_lines.specs.Events.{History}
+use Rattle.roff_lines.specs.Fitting.{may_be_wide}
 use Rattle.roff_lines.specs.Telling.{bytes_told, QuietlyTold}
 use Rattle.roff_lines.specs.Env.Kept.{Kept, glyph_room, word_finishes}
 use Rattle.roff_lines.specs.Env.Stands.{Stands}
@@ -16,6 +19,21 @@ pub record TellsFront (bytes rest : List ℕ) (old new : Kept) : Type 0 where
   pub front : List ℕ
   pub joined : front ++ rest ≡ bytes
   pub told : Tells front old new
+
+-- a byte above the blank that is a character by itself
+abbrev pub IsOneCharacter : ℕ → Type 0
+IsOneCharacter b = (32 < b) × (b < 128)
+
+-- so many words of such bytes, with a blank behind each
+pub data WholeWords : ℕ → List ℕ → Type 0 where
+  NoWord : WholeWords 0 []
+  OneMore : (n : ℕ) (front word : List ℕ) → WholeWords n front → 0 < length word → AllByRecursion IsOneCharacter word
+      → WholeWords (n + 1) (front ++ (word ++ 32 ∷ []))
+
+-- behind a gap the pending line has room for text of so many columns and bytes
+pub record HasRoom (room : ℕ) (k : Kept) : Type 0 where
+  pub limit : length k.line + k.blanks + room ≤ k.cap
+  pub fits : may_be_wide k.settings k.indent (text_width k.line + k.blanks + room) ≡ true
 
 -- no glyph stands in front of these bytes that the limit on the pending line lets through
 abbrev pub EndsGlyphs : List ℕ → Kept → Type 0

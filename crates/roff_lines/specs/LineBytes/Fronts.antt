@@ -3,7 +3,7 @@ use Rattle.std.specs.Prelude.{◌≡◌, ℕ, ◌+◌, ◌-◌, ◌≤◌, Bool,
 use Rattle.std.specs.List.{take_while}
 use Rattle.roff_lines.specs.Glyphs.{gap_blank, further_blank, glyph_blank}
 use Rattle.roff_lines.specs.Words.{is_empty}
-use Rattle.roff_lines.specs.Columns.{spaces}
+use Rattle.roff_lines.specs.Columns.{spaces, spread}
 
 -- whether a byte of a text stands for a blank
 abbrev pub is_blank_mark : ℕ → Bool
@@ -30,3 +30,24 @@ pub record TakesPiece (most blanks : ℕ) (glyphs old new : List ℕ) : Type 0 w
   pub within : blanks + length glyphs ≤ most
   pub in_front : spaces blanks ≡ take most (blanks_in_front old)
   pub behind : glyphs ≡ take (most - blanks) (glyphs_in_front (drop blanks old))
+
+-- the first of the bytes to come were added to those that are held
+pub record Moves (held held_then to_come to_come_then : List ℕ) : Type 0 where
+  pub moved : List ℕ
+  pub added : held_then ≡ held ++ moved
+  pub taken : moved ++ to_come_then ≡ to_come
+
+-- the first of the bytes to come were written over blanks, from a place on to another one
+pub record WritesOver (start end : ℕ) (out out_then to_come to_come_then : List ℕ) : Type 0 where
+  pub moved : List ℕ
+  pub within : end ≤ length out_then
+  pub written : take end out_then ≡ take start out ++ moved
+  pub taken : moved ++ to_come_then ≡ to_come
+
+-- so many bytes of a text were written over blanks so, behind so many gaps, and so many gaps are behind them
+pub record SpreadsOver (spare gaps passed passed_then taken start end : ℕ) (text out out_then : List ℕ) : Type 0 where
+  pub moved : List ℕ
+  pub place : end ≡ start + length moved
+  pub within : end ≤ length out
+  pub written : out_then ≡ (take start out ++ moved) ++ spaces (length out - end)
+  pub rest : moved ++ spread spare gaps passed_then (drop taken text) ≡ spread spare gaps passed text

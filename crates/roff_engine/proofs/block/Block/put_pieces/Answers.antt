@@ -18,15 +18,18 @@ behind_pieces begun moves = record {
 }
 
 pub loop-byte-init : goal.loop-byte-init
-loop-byte-init g c = record {
-  room = c.args.self.now.reserved;
-  few = rw c.args.self.now.empty (omega arith);
-  begun = record {
-    front = [];
-    whole = c.of-to_come.ensures;
-    so_far = record { front = []; split = sym c.args.self.now.empty; writes = Writes-nothing _ };
-  };
-}
+loop-byte-init g c =
+    let bytes : List ℕ = c.args.self.now.bytes.items in
+    let begun : Begun (line_bytes (finished_of c.args.line)) c.of-to_come.result bytes (g.O.ByteSink.sunk c.args.out.now) (g.O.ByteSink.sunk c.args.out.now) = record {
+      front = [];
+      whole = c.of-to_come.ensures;
+      so_far = record { front = []; split = sym c.args.self.now.empty; writes = Writes-nothing _ };
+    } in
+    record {
+      room = omega (arith, c.args.self.now.reserved, c.add_text.ensures.capacity);
+      few = c.add_text.ensures.few;
+      begun = behind_pieces begun c.add_text.ensures.moves;
+    }
 
 pub returns-in_err-push : goal.returns-in_err-push
 returns-in_err-push g c =
