@@ -1,10 +1,12 @@
 -- Bytes that stand in front: those of a slice, and what is left of the input behind so many of them.
 use Rattle.std.proofs.Common.{◌≡◌, ℕ, zero, suc, ◌+◌, ◌-◌, ◌==◌, ◌≤◌, ◌<◌, Bool, true, false, if◌then◌else◌, List, [], ◌∷◌, ◌++◌, length, map, take, drop, min, get_or, take_while, Option, Some, None, refl, sym, ap, subst, ◌∙◌, arith, length-take}
-use Rattle.std.specs.List.{prefix_len}
+use Rattle.std.specs.List.{list_all, prefix_len}
 use Rattle.std.specs.Prelude.{is_some}
+use Rattle.std.proofs.Math.Bool.{cond}
+use Rattle.std.proofs.lemmas.Bool.{and_parts}
 use Rattle.std.proofs.lemmas.List.Folds.{length-prefix_len}
 use Rattle.std.proofs.lemmas.List.Sums.{prefix_len-drop_all, prefix_len-drop_no, prefix_len-drop_yes}
-use Rattle.std.proofs.lemmas.List.{length-map, length-take-le, take-append-le, take-take, take_min}
+use Rattle.std.proofs.lemmas.List.{drop-drop, length-drop, length-map, length-take-le, take-append-le, take-take, take_min}
 use Rattle.std.proofs.Math.Seq.{drop-append_seam}
 use Rattle.roff_scan.specs.Bytes.{is_text_byte, newline}
 use Rattle.roff_scan.specs.Frames.Bodies.{with_bodies}
@@ -259,6 +261,27 @@ pub text-more : (bytes : List ℕ) (count : ℕ) → count < length bytes → is
     → count + prefix_len is_text_byte (drop count bytes) ≡ prefix_len is_text_byte bytes
     → count + 1 + prefix_len is_text_byte (drop (count + 1) bytes) ≡ prefix_len is_text_byte bytes
 text-more bytes count inside is so_far = let more = prefix_len-drop_yes is_text_byte bytes count 0 inside is in omega (arith, more, so_far)
+
+-- bytes in front that all are text
+prefix_len-all : (xs : List ℕ) (n : ℕ) → n ≤ length xs → list_all is_text_byte (take n xs) ≡ true
+    → prefix_len is_text_byte xs ≡ n + prefix_len is_text_byte (drop n xs)
+prefix_len-all xs zero few all = omega arith
+prefix_len-all [] (suc n) few all = absurd (omega (arith, few))
+prefix_len-all (x ∷ xs) (suc n) few all =
+    let parts = and_parts (is_text_byte x) (list_all is_text_byte (take n xs)) all in
+    let rest = prefix_len-all xs n (omega (arith, few)) parts.1 in
+    ap (λ (c : Bool). cond c (1 + prefix_len is_text_byte xs) 0) parts.0 ∙ omega (arith, rest)
+
+-- so many more stand in front that all are text
+pub text-step : (bytes front : List ℕ) (count step : ℕ) → front ≡ take (count + step - count) (drop count bytes) → count + step ≤ length bytes → list_all is_text_byte front ≡ true
+    → count + prefix_len is_text_byte (drop count bytes) ≡ prefix_len is_text_byte bytes
+    → count + step + prefix_len is_text_byte (drop (count + step) bytes) ≡ prefix_len is_text_byte bytes
+text-step bytes front count step is inside all so_far =
+    let some : count + step - count ≡ step = omega arith in
+    let text = ap (λ (n : ℕ). list_all is_text_byte (take n (drop count bytes))) (sym some) ∙ ap (list_all is_text_byte) (sym is) ∙ all in
+    let more = prefix_len-all (drop count bytes) step (omega (arith, length-drop count bytes, inside)) text in
+    let behind = ap (prefix_len is_text_byte) (drop-drop step count bytes) in
+    omega (arith, more, behind, so_far)
 
 -- as many as stand in front, where none more does
 text-all : (bytes : List ℕ) (count more : ℕ) → more ≡ 0 → count + more ≡ prefix_len is_text_byte bytes → count ≡ length (take_while is_text_byte bytes)

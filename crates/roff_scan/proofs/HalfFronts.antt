@@ -23,11 +23,11 @@ use Rattle.roff_scan.specs.declared.half.Surroundings.TheVariants.{Arguments as 
 use Rattle.roff_scan.proofs.HeldFronts.{none_of_three}
 
 -- a byte that changes only what is half read, and what is half read behind it
-abbrev Reads : List Half → ℕ → Type 0
+abbrev pub Reads : List Half → ℕ → Type 0
 Reads half b = (next : List Half) × ReadsOn half b next
 
 -- one of three tests holds
-one_of_three : (first second third : Bool) → (first || (second || third)) ≡ true → (first ≡ true) ⊎ ((second ≡ true) ⊎ (third ≡ true))
+pub one_of_three : (first second third : Bool) → (first || (second || third)) ≡ true → (first ≡ true) ⊎ ((second ≡ true) ⊎ (third ≡ true))
 one_of_three true second third some = inl refl
 one_of_three false true third some = inr (inl refl)
 one_of_three false false third some = inr (inr some)
@@ -60,7 +60,7 @@ reads-opening : (purpose : NameUse) (rest : List Half) → byte_read AboveArgume
     → Reads (Name purpose Nothing ∷ rest) 40
 reads-opening purpose rest is = (Name purpose Opened ∷ rest, record { stands = refl; no_newline = refl; stays = refl; goes_on = λ base. is; held = refl })
 
-reads-in_front : (purpose : NameUse) (part : NamePart) (rest : List Half) (b : ℕ) → is_in_front purpose part b ≡ true → Reads (Name purpose part ∷ rest) b
+pub reads-in_front : (purpose : NameUse) (part : NamePart) (rest : List Half) (b : ℕ) → is_in_front purpose part b ≡ true → Reads (Name purpose part ∷ rest) b
 reads-in_front (Register None) Nothing rest b is = subst (λ (c : ℕ). Reads (Name (Register None) Nothing ∷ rest) c) (sym (eqb-true b 40 is)) (reads-opening (Register None) rest refl)
 reads-in_front (Register (Some step)) Nothing rest b is =
     subst (λ (c : ℕ). Reads (Name (Register (Some step)) Nothing ∷ rest) c) (sym (eqb-true b 40 is)) (reads-opening (Register (Some step)) rest refl)
@@ -150,7 +150,7 @@ module _ {E : Type 0} where
   with_read half u = record u { input = record u.input { half = half } }
 
   -- bytes that were taken behind a change of what is half read alone were taken without it
-  passes-half : (old new : Tape → Type 0) (bytes : List ℕ) (half : List Half) (before after : Unread E) → PassesFront old new bytes (with_read half before) after
+  pub passes-half : (old new : Tape → Type 0) (bytes : List ℕ) (half : List Half) (before after : Unread E) → PassesFront old new bytes (with_read half before) after
       → PassesFront old new bytes before (with_read before.input.half after)
   passes-half old new bytes half before after (OfSource passes) =
       let i : Input E = before.input in
@@ -179,7 +179,7 @@ module _ {E : Type 0} where
       })
 
   -- and this is half read behind them
-  half-behind : (old new : Tape → Type 0) (bytes : List ℕ) (half : List Half) (before after : Unread E) → PassesFront old new bytes (with_read half before) after
+  pub half-behind : (old new : Tape → Type 0) (bytes : List ℕ) (half : List Half) (before after : Unread E) → PassesFront old new bytes (with_read half before) after
       → after.input.half ≡ half
   half-behind old new bytes half before after (OfSource passes) =
       ap (λ (u : Unread E). u.input.half) passes.input ∙ ap (λ (j : Input E). j.half) (lines_taken-half bytes half before.input)

@@ -39,3 +39,5 @@ pub mod NamedTexts
 pub mod Fronts
 pub mod HeldFronts
 pub mod HalfFronts
+pub mod ConditionFronts
+pub mod PushedFronts

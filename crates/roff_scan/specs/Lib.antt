@@ -13,6 +13,7 @@ pub mod HalfLaws
 pub mod Arguments
 pub mod ArgumentTexts
 pub mod HalfFronts
+pub mod ConditionFronts
 pub mod ArgumentList
 pub mod Quoting
 pub mod Input

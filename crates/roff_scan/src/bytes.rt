@@ -1,6 +1,8 @@
 //! Kinds of bytes, and runs of them.
 
-ghost use Rattle.std.specs.Prelude.{◌≡◌, ◌==◌, ◌<◌, ◌^◌, length, take, take_while, count_by};
+ghost use Rattle.std.specs.Prelude.{◌≡◌, ◌==◌, ◌≤◌, ◌<◌, ◌+◌, ◌^◌, count_by, drop, length, take};
+ghost use Rattle.std.specs.Prelude.{take_while};
+ghost use Rattle.std.specs.List.{list_all, prefix_len};
 ghost use Rattle.roff_scan.specs.Arguments.{is_argument_byte};
 ghost use Rattle.roff_scan.specs.Bytes.{is_dropped, is_passed, is_silent, is_text_byte, newline};
 
@@ -54,7 +56,7 @@ fn is_text_byte(byte: u8) -> bool
 pub fn text_in_front(bytes: &[u8]) -> usize
     ensures { result ≡ length (take_while is_text_byte bytes.now) }
 {
-    let mut count = 0;
+    let mut count = steps_in_front(bytes);
     while count < bytes.len() {
         if !is_text_byte(bytes[count]) {
             return count;
@@ -62,6 +64,39 @@ pub fn text_in_front(bytes: &[u8]) -> usize
         count += 1;
     }
     count
+}
+
+/// How many bytes are looked at in one step.
+const STEP: usize = 16;
+
+/// How many of these bytes are plain text, by whole steps alone.
+#[inline(always)]
+fn steps_in_front(bytes: &[u8]) -> usize
+    ensures few { result ≤ length bytes.now }
+    ensures text { result + prefix_len is_text_byte (drop result bytes.now)
+        ≡ prefix_len is_text_byte bytes.now }
+{
+    let mut count = 0;
+    while bytes.len() - count >= STEP {
+        if !is_text(&bytes[count..count + STEP]) {
+            return count;
+        }
+        count += STEP;
+    }
+    count
+}
+
+/// Whether these bytes are all plain text. Each is looked at, so that the compiler takes many at
+/// once.
+#[inline(always)]
+fn is_text(bytes: &[u8]) -> bool
+    ensures { result ≡ list_all is_text_byte bytes.now }
+{
+    let mut is = true;
+    for byte in bytes {
+        is &= is_text_byte(*byte);
+    }
+    is
 }
 
 /// The first of these bytes, so many at most.

@@ -17,6 +17,7 @@ ghost use Rattle.roff_store.specs.Named.{entry_of};
 ghost use Rattle.roff_store.specs.Texts.{body_of, entry_given, kind_given, kind_of, newest};
 
 use crate::bytes::passed_len;
+use crate::halves::Halves;
 use crate::slots::{Front, Slots};
 use crate::unread::{Item, Sight};
 use roff_num::{Limit, Limits, Name};
@@ -55,7 +56,8 @@ impl<E> Model for Frames<E> {
 
 impl<E: Copy> Frames<E> {
     ghost use Rattle.roff_scan.specs.Unread.{shown, sighted, seen_ahead, no_texts};
-    ghost use Rattle.roff_scan.specs.Frames.Calls.{PassesFront, TakesFront};
+    ghost use Rattle.roff_scan.specs.Frames.Calls.{GivesByte, GivesFront, PassesFront, TakesFront};
+    ghost use Rattle.roff_scan.specs.Half.{texts_held};
     ghost use Rattle.roff_store.specs.TextCalls.{DropOpen, Enter, Open, PushOpen, Remove, Rename};
     ghost use Rattle.roff_store.specs.TextCalls.{Set, after, answered};
 
@@ -294,6 +296,45 @@ impl<E: Copy> Frames<E> {
             Some(Front::End) => 0,
             Some(Front::Return) => 0,
             None => 0,
+        }
+    }
+
+    /// Gives bytes of a pushed text in front to what is half read, one after another, as long as
+    /// it takes them where a condition is read, and so many at the most. Returns how many.
+    pub(crate) fn give_front(&mut self, half: &mut Halves, most: usize) -> usize
+        requires { bytes_ahead self.old.ahead + texts_held half.old.half ≤ half.old.room }
+        ensures gives { GivesFront self.old self.new half.old half.new result }
+        ensures few { result ≤ most }
+    {
+        let mut count = 0;
+        while count < most {
+            if !self.give_byte(half) {
+                return count;
+            }
+            count += 1;
+        }
+        count
+    }
+
+    /// The same of one byte. Returns whether it was given.
+    #[inline(always)]
+    fn give_byte(&mut self, half: &mut Halves) -> bool
+        requires { bytes_ahead self.old.ahead + texts_held half.old.half ≤ half.old.room }
+        ensures { GivesByte self.old self.new half.old half.new result }
+    {
+        match self.slots.front() {
+            Some(Front::Byte(byte)) => {
+                if !half.take_on(byte) {
+                    return false;
+                }
+                let _ = self.slots.take();
+                true
+            }
+            Some(Front::Do(_)) => false,
+            Some(Front::Free(_)) => false,
+            Some(Front::End) => false,
+            Some(Front::Return) => false,
+            None => false,
         }
     }
 

@@ -1,8 +1,11 @@
 //! What is half read: units of copy mode, comments, conditions, and the names, sizes and texts
 //! behind escapes.
 
-ghost use Rattle.std.specs.Prelude.{◌≡◌, ◌≤◌, ◌+◌, ◌==◌, ℕ, true, false, List, Option, Some, None};
-ghost use Rattle.std.specs.Prelude.{[], ◌∷◌, drop, length, IfOk, MatchOption, pos};
+ghost use Rattle.std.specs.Prelude.{◌≡◌, ◌≤◌, ◌<◌, ◌+◌, ◌==◌, ℕ, true, false, List, Option};
+ghost use Rattle.std.specs.Prelude.{Some, None, [], ◌∷◌, drop, length, IfOk, MatchOption, pos};
+ghost use Rattle.roff_scan.specs.ConditionFronts.{TakesByte, TakesFront, holds_first, holds_more};
+ghost use Rattle.roff_scan.specs.ConditionFronts.{is_condition, is_first_of, is_more_of};
+ghost use Rattle.roff_scan.specs.ConditionFronts.{is_of_expression, is_read_of, reads_next};
 ghost use Rattle.roff_scan.specs.Half.{Half, Backslash as BackslashHalf};
 ghost use Rattle.roff_scan.specs.Half.{Delimited as DelimitedHalf, Name as NameHalf};
 ghost use Rattle.roff_scan.specs.Half.{Size as SizeHalf, Condition as ConditionHalf, names_in};
@@ -217,6 +220,91 @@ impl Halves {
             count += 1;
         }
         count
+    }
+
+    /// Takes bytes one after another where a condition is half read: those that its expression
+    /// holds, and the fronts of names in it. Returns how many.
+    pub(crate) fn take_front(&mut self, bytes: &[u8]) -> usize
+        requires { texts_held self.old.half + length bytes.now ≤ self.old.room }
+        ensures { TakesFront bytes.now result self.old self.new }
+    {
+        let mut count = 0;
+        while count < bytes.len() {
+            if !self.take_on(bytes[count]) {
+                return count;
+            }
+            count += 1;
+        }
+        count
+    }
+
+    /// Takes a byte where it changes only what is half read. Returns whether it was taken.
+    #[inline(always)]
+    pub(crate) fn take_on(&mut self, byte: u8) -> bool
+        requires { texts_held self.old.half < self.old.room }
+        ensures { TakesByte byte result self.old self.new }
+    {
+        if self.holds_more(byte) {
+            self.hold(CopyUnit::Byte(byte));
+            return true;
+        }
+        if self.holds_first(byte) {
+            let _ = self.read_byte(Surroundings::Arguments, byte);
+            self.hold(CopyUnit::Byte(byte));
+            return true;
+        }
+        if self.reads_next(byte) {
+            let _ = self.read_byte(Surroundings::Arguments, byte);
+            return true;
+        }
+        false
+    }
+
+    /// Whether a byte is held in the expression on top.
+    #[inline(always)]
+    fn holds_more(&self, byte: u8) -> bool
+        ensures { result ≡ holds_more self.now.half byte }
+    {
+        match self.top() {
+            None => false,
+            Some(HalfRead::Condition(part, _)) => is_more_of(part, byte),
+            Some(_) => false,
+        }
+    }
+
+    /// Whether a byte is the first that is held in the condition on top.
+    fn holds_first(&self, byte: u8) -> bool
+        ensures { result ≡ holds_first self.now.half byte }
+    {
+        match self.top() {
+            None => false,
+            Some(HalfRead::Condition(part, _)) => is_first_of(part, byte),
+            Some(_) => false,
+        }
+    }
+
+    /// Whether a byte changes only what is half read, in a condition or in the front of a name.
+    fn reads_next(&self, byte: u8) -> bool
+        ensures { result ≡ reads_next self.now.half byte }
+    {
+        match self.top() {
+            None => false,
+            Some(HalfRead::Condition(part, _)) => is_read_of(part, byte),
+            Some(HalfRead::Backslash) => self.is_on_condition() && begins_name(byte),
+            Some(HalfRead::Name(purpose, part)) => is_in_front(purpose, part, byte),
+            Some(_) => false,
+        }
+    }
+
+    /// Whether a condition is below the top.
+    fn is_on_condition(&self) -> bool
+        ensures { result ≡ is_condition (drop 1 self.now.half) }
+    {
+        match self.below() {
+            None => false,
+            Some(HalfRead::Condition(..)) => true,
+            Some(_) => false,
+        }
     }
 
     /// Reads a byte that isn't dropped; above a text line, above arguments, or in copy mode.
@@ -1053,5 +1141,50 @@ fn is_in_front(purpose: NameUse, part: NamePart, byte: u8) -> bool
         NamePart::Nothing => may_open(purpose) && byte == b'(',
         NamePart::Opened => is_argument_byte(byte),
         NamePart::First(_) => false,
+    }
+}
+
+/// Whether a byte is one more of an expression, where so much of a condition is read.
+fn is_more_of(part: ConditionPart, byte: u8) -> bool
+    ensures { result ≡ is_more_of part byte }
+{
+    match part {
+        ConditionPart::Choice { .. } => false,
+        ConditionPart::Expression { .. } => is_of_expression(byte),
+        ConditionPart::Compared { .. } => false,
+        ConditionPart::Decided { .. } => false,
+    }
+}
+
+/// Whether a byte is held where an expression is read: neither a backslash nor one that ends it or
+/// is dropped.
+fn is_of_expression(byte: u8) -> bool
+    ensures { result ≡ is_of_expression byte }
+{
+    is_argument_byte(byte) && !(byte == b' ' || byte == b'\t')
+}
+
+/// Whether a byte begins an expression with a digit, where so much of a condition is read.
+fn is_first_of(part: ConditionPart, byte: u8) -> bool
+    ensures { result ≡ is_first_of part byte }
+{
+    match part {
+        ConditionPart::Choice { .. } => byte.is_ascii_digit(),
+        ConditionPart::Expression { .. } => false,
+        ConditionPart::Compared { .. } => false,
+        ConditionPart::Decided { .. } => false,
+    }
+}
+
+/// Whether a byte is a backslash, or a blank in front of what is asked, where so much of a
+/// condition is read.
+fn is_read_of(part: ConditionPart, byte: u8) -> bool
+    ensures { result ≡ is_read_of part byte }
+{
+    match part {
+        ConditionPart::Choice { negated } => byte == b'\\' || (byte == b' ' && !negated),
+        ConditionPart::Expression { .. } => byte == b'\\',
+        ConditionPart::Compared { .. } => false,
+        ConditionPart::Decided { .. } => false,
     }
 }

@@ -112,6 +112,7 @@ impl<E: Copy> Unread<E> {
     ghost use Rattle.roff_scan.specs.Unread.Calls.{Takes, Looks, PassesAhead, PassesOver};
     ghost use Rattle.roff_scan.specs.Unread.Calls.{front_bytes, IsFront, NoNewline, PassesFront};
     ghost use Rattle.roff_scan.specs.Unread.Calls.{HoldsFront, PassesSource, ReadsNames};
+    ghost use Rattle.roff_scan.specs.Unread.Calls.{TakesHalves, TakesPushed};
     ghost use Rattle.roff_store.specs.TextCalls.{Open, Remove, Rename, Set};
 
     /// The input before anything is read. So many names stand for something then: they are to be
@@ -676,6 +677,49 @@ impl<E: Copy> Unread<E> {
         let most = (self.limits.bytes - self.charge) as usize;
         let front = front_of(&self.frames, self.looked, source, most);
         let count = self.half.read_front(front);
+        self.pass(source, count);
+    }
+
+    /// Takes at once bytes that stand in front where a condition is half read: those that its
+    /// expression holds, and the fronts of names in it, and no more than the limits have room for.
+    /// They are of a pushed text, or lie together.
+    #[inline(never)]
+    pub fn take_front<S: ByteSource>(&mut self, source: &mut S)
+        ensures takes { TakesHalves (S.gives source.old) (S.gives source.new) self.old self.new }
+        ensures notes { S.notes source.new ≡ S.notes source.old }
+        ensures failures { S.failures source.new ≡ S.failures source.old }
+        ensures within { IsWithin self.new }
+    {
+        if !self.take_pushed() {
+            self.take_lying(source);
+        }
+    }
+
+    /// The same of bytes of a pushed text. Returns whether any were taken.
+    #[inline(always)]
+    fn take_pushed(&mut self) -> bool
+        ensures takes { TakesPushed self.old self.new }
+        ensures kept { result ≡ false → self.new ≡ self.old }
+        ensures within { IsWithin self.new }
+    {
+        let allowed = (self.limits.bytes - self.charge) as usize;
+        let given = self.frames.give_front(&mut self.half, allowed);
+        self.charge += given as u32;
+        given > 0
+    }
+
+    /// The same of bytes of a body or of the source, as they lie together.
+    #[inline(always)]
+    fn take_lying<S: ByteSource>(&mut self, source: &mut S)
+        ensures takes { TakesHalves (S.gives source.old) (S.gives source.new) self.old self.new }
+        ensures notes { S.notes source.new ≡ S.notes source.old }
+        ensures failures { S.failures source.new ≡ S.failures source.old }
+        ensures within { IsWithin self.new }
+    {
+        let allowed = (self.limits.bytes - self.charge) as usize;
+        let most = allowed.min(self.limits.stack as usize - self.pushed());
+        let front = front_of(&self.frames, self.looked, source, most);
+        let count = self.half.take_front(front);
         self.pass(source, count);
     }
 

@@ -1,8 +1,10 @@
 -- What calls on frames tell.
-use Rattle.std.specs.Prelude.{◌≡◌, ◌≤◌, ℕ, Bool, true, List, ◌∷◌, ◌++◌, length, map}
+use Rattle.std.specs.Prelude.{◌≡◌, ◌≤◌, ℕ, Bool, true, false, List, ◌∷◌, ◌++◌, length, map}
 use Rattle.std.specs.List.{AllByRecursion}
 use Rattle.roff_scan.specs.Bytes.{is_passed}
+use Rattle.roff_scan.specs.ConditionFronts.{HalvesTaken, TakesOn}
 use Rattle.roff_scan.specs.Frames.Kept.{Framed, IsSound, kept_by}
+use Rattle.roff_scan.specs.HalfTexts.{KeptHalves}
 use Rattle.roff_scan.specs.Input.{Ahead, ByteAhead}
 use Rattle.roff_scan.specs.Unread.{Shown, shown_ahead}
 use Rattle.roff_scan.specs.declared.frames.Frames.TheInside.{Inside}
@@ -25,3 +27,27 @@ pub record PassesFront {E : Type 0} (old new : Framed E) (within_block : Bool) (
 pub record PutsBytes {E : Type 0} (old new : Inside E) (bytes : List ℕ) : Type 0 where
   pub sound : IsSound new
   pub kept : kept_by new ≡ record (kept_by old) { ahead = map ByteAhead bytes ++ (kept_by old).ahead }
+
+-- a byte of a pushed text was in front, and was given to what is half read, which took it
+pub record GivesOne {E : Type 0} (old new : Framed E) (before after : KeptHalves) : Type 0 where
+  pub byte : ℕ
+  pub behind : List (Ahead E)
+  pub in_front : old.ahead ≡ ByteAhead byte ∷ behind
+  pub taken : new ≡ record old { ahead = behind }
+  pub takes : TakesOn before.half byte after.half
+
+-- the same, or none was given and nothing changed
+pub record GivesByte {E : Type 0} (old new : Framed E) (before after : KeptHalves) (is_given : Bool) : Type 0 where
+  pub given : is_given ≡ true → GivesOne old new before after
+  pub kept : is_given ≡ false → (new ≡ old) × (after ≡ before)
+  pub room : after.room ≡ before.room
+
+-- so many bytes in front were given so, one after another
+pub record GivesFront {E : Type 0} (old new : Framed E) (before after : KeptHalves) (count : ℕ) : Type 0 where
+  pub bytes : List ℕ
+  pub behind : List (Ahead E)
+  pub in_front : old.ahead ≡ map ByteAhead bytes ++ behind
+  pub length_is : length bytes ≡ count
+  pub taken : new ≡ record old { ahead = behind }
+  pub takes : HalvesTaken before.half bytes after.half
+  pub room : after.room ≡ before.room

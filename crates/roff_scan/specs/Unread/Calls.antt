@@ -3,6 +3,7 @@ use Rattle.std.specs.Prelude.{◌≡◌, ◌⊎◌, ℕ, ◌+◌, ◌≤◌, ◌
 use Rattle.std.specs.List.{AllByRecursion}
 use Rattle.roff_scan.specs.Arguments.{bytes_held, is_argument_byte}
 use Rattle.roff_scan.specs.Bytes.{is_passed, newline}
+use Rattle.roff_scan.specs.ConditionFronts.{HalvesTaken}
 use Rattle.roff_scan.specs.HalfFronts.{HalvesRead}
 use Rattle.roff_scan.specs.Input.{Ahead, ByteAhead, bytes_taken, leading, lines_taken}
 use Rattle.roff_scan.specs.Tape.{Tape, Answer, OneByte, items_then}
@@ -109,3 +110,20 @@ pub record ReadsNames {E : Type 0} (old new : Tape → Type 0) (before after : U
   pub bytes : List ℕ
   pub read : HalvesRead before.input.half bytes after.input.half
   pub passes : PassesFront old new bytes before (record after { input = record after.input { half = before.input.half } })
+
+-- Bytes that came next were taken at once where a condition is half read, and changed only what is half read, in which some
+-- are held; nothing else changed but what is counted.
+pub record TakesHalves {E : Type 0} (old new : Tape → Type 0) (before after : Unread E) : Type 0 where
+  pub bytes : List ℕ
+  pub taken : HalvesTaken before.input.half bytes after.input.half
+  pub passes : PassesFront old new bytes before (record after { input = record after.input { half = before.input.half } })
+
+-- Bytes of a pushed text were taken at once where a condition is half read, each at its cost, and changed only what is half
+-- read, in which some are held; the source wasn't asked.
+pub record TakesPushed {E : Type 0} (before after : Unread E) : Type 0 where
+  pub bytes : List ℕ
+  pub behind : List (Ahead E)
+  pub in_front : before.input.ahead ≡ map ByteAhead bytes ++ behind
+  pub taken : HalvesTaken before.input.half bytes after.input.half
+  pub input : after ≡ record before { input = record before.input { ahead = behind; charge = before.input.charge + length bytes; half = after.input.half } }
+  pub within : before.input.charge + length bytes ≤ before.limits.bytes
