@@ -13,6 +13,7 @@ use Rattle.roff_engine.specs.Sinks.{Sunk}
 use Rattle.roff_engine.proofs.Appending.{Writes-nothing}
 use Rattle.roff_engine.proofs.Performed.{does_events, does_halted, messages_told}
 use Rattle.roff_run.specs.Environments.Standing.{StandFor}
+use Rattle.roff_run.specs.Events.Meant.{events_meant}
 use Rattle.roff_run.specs.declared.environments.Environments.{Environments as EnvironmentsOf}
 use Rattle.roff_run.specs.Output.{PageHistory}
 use Rattle.roff_run.specs.Reader.Taken.{Became, IsReady, PageUnread, TakesAs}
@@ -90,7 +91,7 @@ module _ (t : Known → Taking) (old mid : Formatter) (before behind : PageUnrea
   became_taken new r kept l h stood ready = on_ok r (rw kept (takes.takes l h stood ready).became)
 
   -- what it means was done, as far as it was done
-  done_taken : (new : Formatter) (told_old told_new : Sinks) (r : Result (Unit {0}) Halt) → DoesMeaning line (option_to_list m.message) m.events.items mid new told_old told_new r
+  done_taken : (new : Formatter) (told_old told_new : Sinks) (r : Result (Unit {0}) Halt) → DoesMeaning line (option_to_list m.message) (events_meant mid.reader.requested m.events) mid new told_old told_new r
       → (t0 : Tape) (start : Seen) (failures : ℕ) (from : State) (tape : Tape) (h : PageHistory) (messages : List ℕ) (is_closing : Bool) (to_do : List PageEvent)
       → StandFor before.limits h old.environments → IsReady old.reader.registers before
       → Reaches before.limits t0 start (seen failures told_old.out told_old.err) from
@@ -104,7 +105,7 @@ module _ (t : Known → Taking) (old mid : Formatter) (before behind : PageUnrea
       line _ _ took.became.within (is_line ∙ ap (λ (u : PageUnread). u.input.line) took.became.input) took.messages took.events)
 
   -- it was done, and nothing more was to be done
-  pub taking_done : (new : Formatter) (told_old told_new : Sinks) (r : Result (Unit {0}) Halt) → DoesMeaning line (option_to_list m.message) m.events.items mid new told_old told_new r
+  pub taking_done : (new : Formatter) (told_old told_new : Sinks) (r : Result (Unit {0}) Halt) → DoesMeaning line (option_to_list m.message) (events_meant mid.reader.requested m.events) mid new told_old told_new r
       → DoesTaking t [] old new before behind told_old told_new r
   taking_done new told_old told_new r done = record {
     became = became_taken new r done.reader;
@@ -114,7 +115,7 @@ module _ (t : Known → Taking) (old mid : Formatter) (before behind : PageUnrea
   }
 
   -- doing it halted, and so nothing more was done
-  pub taking_halted : (more : List PageEvent) (new : Formatter) (told_old told_new : Sinks) (halt : Halt) → DoesMeaning line (option_to_list m.message) m.events.items mid new told_old told_new (Err halt)
+  pub taking_halted : (more : List PageEvent) (new : Formatter) (told_old told_new : Sinks) (halt : Halt) → DoesMeaning line (option_to_list m.message) (events_meant mid.reader.requested m.events) mid new told_old told_new (Err halt)
       → DoesTaking t more old new before behind told_old told_new (Err halt)
   taking_halted more new told_old told_new halt done = record {
     became = became_taken new (Err halt) done.reader;
@@ -126,7 +127,7 @@ module _ (t : Known → Taking) (old mid : Formatter) (before behind : PageUnrea
 
   -- it was done, and then events more were performed
   pub taking_done_and_more : (more : List PageEvent) (next new : Formatter) (told_old : Sinks) (out_next out_new err_new : Sunk) (r : Result (Unit {0}) Halt)
-      → DoesMeaning line (option_to_list m.message) m.events.items mid next told_old (record { out = out_next; err = err_new }) (Ok tt)
+      → DoesMeaning line (option_to_list m.message) (events_meant mid.reader.requested m.events) mid next told_old (record { out = out_next; err = err_new }) (Ok tt)
       → PerformsOnly more next new out_next out_new r → DoesTaking t more old new before behind told_old (record { out = out_new; err = err_new }) r
   taking_done_and_more more next new told_old out_next out_new err_new r done performed = record {
     became = became_taken new r (performed.reader ∙ done.reader);

@@ -14,5 +14,7 @@ pub mod TwoRuns
 pub mod Passing
 pub mod PassingAhead
 pub mod Turned
+pub mod PassingOn
 pub mod Telling
+pub mod Fronts
 pub mod Settling

@@ -248,27 +248,27 @@ does_halted l t before now from s rest left (Refused limit) es others p = p
 does_halted l t before now from s rest left Output es others p = p
 does_halted l t before now from s rest left Messages es others p = p
 
--- two events, of which the first was performed
-pub performs_both : (first second : PageEvent) (old mid new : Formatter) (told told_mid told_new : Sunk) (r : Result (Unit {0}) Halt)
-    → PerformsOnly (first ∷ []) old mid told told_mid (Ok tt) → PerformsOnly (second ∷ []) mid new told_mid told_new r
-    → PerformsOnly (first ∷ second ∷ []) old new told told_new r
-performs_both first second old mid new told told_mid told_new r one other = record {
+-- an event and others behind it, of which the first was performed
+pub performs_both : (first : PageEvent) (others : List PageEvent) (old mid new : Formatter) (told told_mid told_new : Sunk) (r : Result (Unit {0}) Halt)
+    → PerformsOnly (first ∷ []) old mid told told_mid (Ok tt) → PerformsOnly others mid new told_mid told_new r
+    → PerformsOnly (first ∷ others) old new told told_new r
+performs_both first others old mid new told told_mid told_new r one more = record {
   events_performed = record {
     performs = λ l t before failures err s h rest stood reached.
-        let now = one.events_performed.performs l t before failures err s h (second ∷ rest) stood reached in
-        other.events_performed.performs l t before failures err s now.history rest now.stands now.reaches;
+        let now = one.events_performed.performs l t before failures err s h (others ++ rest) stood reached in
+        more.events_performed.performs l t before failures err s now.history rest now.stands now.reaches;
   };
-  reader = other.reader ∙ one.reader;
+  reader = more.reader ∙ one.reader;
 }
 
 -- or in which the code halted
-pub performs_first_halted : (first second : PageEvent) (old new : Formatter) (told told_new : Sunk) (halt : Halt)
-    → PerformsOnly (first ∷ []) old new told told_new (Err halt) → PerformsOnly (first ∷ second ∷ []) old new told told_new (Err halt)
-performs_first_halted first second old new told told_new halt one = record {
+pub performs_first_halted : (first : PageEvent) (others : List PageEvent) (old new : Formatter) (told told_new : Sunk) (halt : Halt)
+    → PerformsOnly (first ∷ []) old new told told_new (Err halt) → PerformsOnly (first ∷ others) old new told told_new (Err halt)
+performs_first_halted first others old new told told_new halt one = record {
   events_performed = record {
     performs = λ l t before failures err s h rest stood reached.
-        performs_halted l t before _ s (second ∷ rest) rest halt _ _
-        (one.events_performed.performs l t before failures err s h (second ∷ rest) stood reached);
+        performs_halted l t before _ s (others ++ rest) rest halt _ _
+        (one.events_performed.performs l t before failures err s h (others ++ rest) stood reached);
   };
   reader = one.reader;
 }

@@ -113,7 +113,7 @@ tells_of_all front near most count old new is told =
     }
 
 -- of the bytes in front fewer are the first of them
-first_of_front : (front : List ℕ) (count : ℕ) (ready : List ℕ) (u : PageUnread) → front ≡ front_bytes (length front) ready u → count ≤ length front
+pub first_of_front : (front : List ℕ) (count : ℕ) (ready : List ℕ) (u : PageUnread) → front ≡ front_bytes (length front) ready u → count ≤ length front
     → take count front ≡ front_bytes count ready u
 first_of_front front count ready u is few =
     ap (take count) is ∙ take-take count (length front) (next_bytes u.input.ahead u.looked ready) few

@@ -1,12 +1,16 @@
 //! The formatter: what each item of the input does.
 
-ghost use Rattle.std.specs.Prelude.{◌≡◌, ℕ, true, None, [], ◌∷◌, IfOk, IfSome, IsOkUnless, option_map};
-ghost use Rattle.std.specs.Prelude.{take};
+ghost use Rattle.std.specs.Prelude.{◌≡◌, ℕ, true, None, [], ◌∷◌, ◌++◌, IfOk, IfSome, IsOkUnless, option_map};
+ghost use Rattle.std.specs.Prelude.{take, false};
 ghost use Rattle.roff_scan.specs.Arguments.{is_argument_byte};
 ghost use Rattle.roff_scan.specs.Bytes.{is_passed, is_text_byte};
-ghost use Rattle.roff_run.specs.Stages.{Holds, ReadsHalves};
-ghost use Rattle.roff_run.specs.Reading.{Passes, Taking};
-ghost use Rattle.roff_run.specs.Reader.AtOnce.{IsReadAbove};
+ghost use Rattle.roff_run.specs.Events.Meant.{events_meant};
+ghost use Rattle.roff_run.specs.ControlFronts.{BeginsControl};
+ghost use Rattle.roff_run.specs.Stages.{Holds, ReadsHalves, ReadsPast, TakesHalf, TurnsFront};
+ghost use Rattle.roff_run.specs.Stages.{counts_blanks};
+ghost use Rattle.roff_run.specs.Reading.{Passes, Taking, blank_line, leading_blank_events};
+ghost use Rattle.roff_run.specs.Reading.{leading_glyph};
+ghost use Rattle.roff_run.specs.Reader.AtOnce.{IsReadAbove, text_byte_events};
 ghost use Rattle.roff_run.specs.Reader.Taken.{PageUnread};
 ghost use Rattle.roff_run.specs.Registers.{Known as KnownOf};
 ghost use Rattle.roff_run.specs.declared.reader.AtOnce.TheVariants.{Found};
@@ -14,6 +18,7 @@ ghost use Rattle.roff_run.specs.Telling.{Prints};
 ghost use Rattle.roff_engine.specs.Formatter.Telling.{TellsFront};
 ghost use Rattle.roff_engine.specs.Clauses.{option_to_list, finished_of, fresh_reader, Gap, Print};
 ghost use Rattle.roff_engine.specs.Clauses.{WordEnd, LineEnd, Break, message_lines, finished_bytes};
+ghost use Rattle.roff_lines.specs.declared.event.Event.TheVariants.{Count};
 ghost use Rattle.roff_engine.specs.Clauses.{DoesMeaning, DoesTaking, PerformsOnly, closing_events};
 ghost use Rattle.roff_engine.specs.Clauses.{sinks, due, end_taking, half_ended, interrupted};
 ghost use Rattle.roff_engine.specs.Clauses.{line_ends_first, taking, LineStart, Text, Space, Puts};
@@ -27,8 +32,9 @@ use roff_lines::{Event, Glyph, Line};
 use roff_num::Limits;
 use roff_run::{
     AtOnce, Due, EnvironmentNumber, Environments, Events, Meaning, Message, PageEvent, Reader,
+    TextByte,
 };
-use roff_scan::{Read, Unread, text_in_front};
+use roff_scan::{ByteSource, Read, Unread, text_in_front};
 use std::alloc::{AllocError, Global};
 
 /// So many bytes of a text line are told at once at the most: more than most lines have, so that few
@@ -39,13 +45,6 @@ const MOST_AT_ONCE: usize = 128;
 const CLOSING: [PageEvent; 2] = [
     PageEvent::Text(Event::WordEnd),
     PageEvent::Text(Event::Break),
-];
-
-/// What the end of a text line means on which a glyph stands.
-const ENDED_LINE: [PageEvent; 3] = [
-    PageEvent::Text(Event::WordEnd),
-    PageEvent::Text(Event::LineEnd),
-    PageEvent::Text(Event::Count),
 ];
 
 /// What is read, the environments, and the block through which lines are written.
@@ -111,6 +110,64 @@ impl Formatter {
         self.reader.reads_names()
     }
 
+    /// Whether bytes may change only what is half read, in which some are held, and what is read
+    /// stays.
+    #[inline(always)]
+    pub(crate) fn reads_condition(&self) -> bool
+        ensures takes { result ≡ true → TakesHalf self.now.reader.reading }
+        ensures none_due { result ≡ true → due self.now.reader.reading ≡ None }
+    {
+        self.reader.reads_condition()
+    }
+
+    /// Whether blanks only count where nothing is half read: in front of the first glyph of a text
+    /// line, behind another blank.
+    #[inline(always)]
+    pub(crate) fn counts_blanks(&self) -> bool
+        ensures { result ≡ counts_blanks self.now.reader.reading }
+    {
+        self.reader.counts_blanks()
+    }
+
+    /// Counts the blanks with which these bytes begin, where they only count. How many they are.
+    pub(crate) fn count_blanks(&mut self, front: &[u8]) -> usize
+        requires { counts_blanks self.old.reader.reading ≡ true }
+        ensures turns { TurnsFront front.now result self.old.reader self.new.reader }
+        ensures others { self.new ≡ record self.old { reader = self.new.reader } }
+    {
+        self.reader.count_blanks(front)
+    }
+
+    /// Whether a control line may begin where nothing is half read.
+    #[inline(always)]
+    pub(crate) fn begins_control_line(&self) -> bool
+        ensures begins { result ≡ true → BeginsControl self.now.reader.reading }
+        ensures none_due { result ≡ true → due self.now.reader.reading ≡ None }
+    {
+        self.reader.begins_control_line()
+    }
+
+    /// Reads at once the front of a control line, if it stands in front. Whether it did.
+    #[inline(always)]
+    pub(crate) fn read_control_front<S: ByteSource>(
+        &mut self,
+        unread: &mut Unread<PageEvent>,
+        source: &mut S,
+    ) -> bool
+        requires begins { BeginsControl self.old.reader.reading }
+        requires none_due { due self.old.reader.reading ≡ None }
+        requires none_half { unread.old.input.half ≡ [] }
+        ensures past { result ≡ true → ReadsPast (S.gives source.old) (S.gives source.new)
+            self.old.reader self.new.reader unread.old unread.new }
+        ensures kept { result ≡ false
+            → (self.new ≡ self.old) × (unread.new ≡ unread.old) × (source.new ≡ source.old) }
+        ensures others { self.new ≡ record self.old { reader = self.new.reader } }
+        ensures notes { S.notes source.new ≡ S.notes source.old }
+        ensures failures { S.failures source.new ≡ S.failures source.old }
+    {
+        self.reader.read_control_front(unread, source)
+    }
+
     /// Tells bytes of plain text, of those that stand in front: as many as no limit refuses, and
     /// none that finishes a line. How many they are.
     pub(crate) fn text_front(&mut self, front: &[u8]) -> usize
@@ -163,7 +220,7 @@ impl Formatter {
         self.take_at_once(byte, unread, out, err)
     }
 
-    /// Takes another byte: most mean nothing, or end a text line.
+    /// Takes another byte: most mean nothing, or begin or end a text line.
     #[inline(never)]
     fn take_at_once<O: ByteSink, E: ByteSink>(
         &mut self,
@@ -180,21 +237,15 @@ impl Formatter {
         if self.reader.reads_on(byte, unread) {
             return Ok(());
         }
-        if self.reader.ends_text_line(byte, unread) {
-            return self.perform_each(&ENDED_LINE, out);
+        match self.reader.take_text(byte, &self.environments, unread) {
+            Some(means) => self.perform_text_byte(byte, means, out),
+            None => self.take_above(byte, unread, out, err),
         }
-        if self
-            .reader
-            .begins_text_line(byte, &self.environments, unread)
-        {
-            return self.glyph(Glyph::Printed(byte));
-        }
-        self.take_above(byte, unread, out, err)
     }
 
     /// Takes a byte, whatever is half read: most mean nothing there.
     #[inline(never)]
-    fn take_above<O: ByteSink, E: ByteSink>(
+    pub(crate) fn take_above<O: ByteSink, E: ByteSink>(
         &mut self,
         byte: u8,
         unread: &mut Unread<PageEvent>,
@@ -347,8 +398,8 @@ impl Formatter {
         out: &mut O,
         err: &mut E,
     ) -> Result<(), Halt>
-        ensures { DoesMeaning line (option_to_list meaning.now.message) meaning.now.events.items
-            self.old self.new
+        ensures { DoesMeaning line (option_to_list meaning.now.message)
+            (events_meant self.old.reader.requested meaning.now.events) self.old self.new
             (sinks (O.sunk out.old) (E.sunk err.old))
             (sinks (O.sunk out.new) (E.sunk err.new)) result }
     {
@@ -359,23 +410,37 @@ impl Formatter {
     }
 
     /// Performs the events of a byte or request.
+    #[inline(always)]
     fn perform_all<O: ByteSink>(&mut self, events: &Events, out: &mut O) -> Result<(), Halt>
-        ensures { PerformsOnly events.now.items self.old self.new
-            (O.sunk out.old) (O.sunk out.new) result }
+        ensures { PerformsOnly (events_meant self.old.reader.requested events.now)
+            self.old self.new (O.sunk out.old) (O.sunk out.new) result }
     {
-        match events.without_stops() {
-            Some(events) => self.perform_each(events, out),
-            None => self.perform_with_stops(events, out),
+        if events.are_none() {
+            return Ok(());
         }
+        self.perform_some(events, out)
     }
 
-    /// The same where they set stops.
+    /// The same where there may be some.
     #[inline(never)]
-    fn perform_with_stops<O: ByteSink>(&mut self, events: &Events, out: &mut O) -> Result<(), Halt>
-        ensures { PerformsOnly events.now.items self.old self.new
+    fn perform_some<O: ByteSink>(&mut self, events: &Events, out: &mut O) -> Result<(), Halt>
+        ensures { PerformsOnly (events_meant self.old.reader.requested events.now)
+            self.old self.new (O.sunk out.old) (O.sunk out.new) result }
+    {
+        if events.are_requested() {
+            return self.perform_requested(out);
+        }
+        self.perform_each(&events.few(), out)
+    }
+
+    /// Performs the events of the request that was obeyed last.
+    #[inline(never)]
+    fn perform_requested<O: ByteSink>(&mut self, out: &mut O) -> Result<(), Halt>
+        ensures { PerformsOnly self.old.reader.requested self.old self.new
             (O.sunk out.old) (O.sunk out.new) result }
     {
-        self.perform_each(&events.all(), out)
+        let events = self.reader.requested();
+        self.perform_each(&events, out)
     }
 
     /// Performs events, one after another.
@@ -445,6 +510,129 @@ impl Formatter {
                 self.environments.in_force.lines.set(param);
                 Ok(())
             }
+        }
+    }
+
+    /// Performs what a byte of a text line means.
+    #[inline(always)]
+    fn perform_text_byte<O: ByteSink>(
+        &mut self,
+        byte: u8,
+        means: TextByte,
+        out: &mut O,
+    ) -> Result<(), Halt>
+        ensures { PerformsOnly (text_byte_events byte means) self.old self.new
+            (O.sunk out.old) (O.sunk out.new) result }
+    {
+        match means {
+            TextByte::Glyph(leading) => self.glyph_behind(leading, Glyph::Printed(byte)),
+            TextByte::Tab(leading) => self.tab_behind(leading),
+            TextByte::LeadingBlank(before) => self.leading_blank(before, out),
+            TextByte::LineEnd => self.end_text_line(out),
+            TextByte::BlankLine => self.blank_line(out),
+        }
+    }
+
+    /// Prints a glyph behind so many leading blanks.
+    #[inline(always)]
+    fn glyph_behind(&mut self, leading: u32, glyph: Glyph) -> Result<(), Halt>
+        ensures { (told : Sunk) →
+            PerformsOnly (leading_glyph leading ++ Text (Print glyph) ∷ [])
+            self.old self.new told told result }
+    {
+        if leading == 0 {
+            return self.glyph(glyph);
+        }
+        match self.glyph(Glyph::Blanks(leading)) {
+            Ok(()) => self.glyph(glyph),
+            Err(halt) => Err(halt),
+        }
+    }
+
+    /// Moves to the next tab stop behind so many leading blanks.
+    fn tab_behind(&mut self, leading: u32) -> Result<(), Halt>
+        ensures { (told : Sunk) → PerformsOnly (leading_glyph leading ++ Text Tab ∷ [])
+            self.old self.new told told result }
+    {
+        if leading == 0 {
+            return self.tab();
+        }
+        match self.glyph(Glyph::Blanks(leading)) {
+            Ok(()) => self.tab(),
+            Err(halt) => Err(halt),
+        }
+    }
+
+    /// A leading blank behind so many others: the first is a break.
+    #[inline(always)]
+    fn leading_blank<O: ByteSink>(&mut self, before: u32, out: &mut O) -> Result<(), Halt>
+        ensures { PerformsOnly (leading_blank_events before) self.old self.new
+            (O.sunk out.old) (O.sunk out.new) result }
+    {
+        if before == 0 {
+            return self.break_behind_word(out);
+        }
+        Ok(())
+    }
+
+    /// Ends the open word, and breaks.
+    fn break_behind_word<O: ByteSink>(&mut self, out: &mut O) -> Result<(), Halt>
+        ensures { PerformsOnly (Text WordEnd ∷ Text Break ∷ []) self.old self.new
+            (O.sunk out.old) (O.sunk out.new) result }
+    {
+        match self.end_word(out) {
+            Ok(()) => self.brk(out),
+            Err(halt) => Err(halt),
+        }
+    }
+
+    /// The end of a text line that isn't blank: the open word ends, and the line counts.
+    #[inline(always)]
+    fn end_text_line<O: ByteSink>(&mut self, out: &mut O) -> Result<(), Halt>
+        ensures { PerformsOnly (Text WordEnd ∷ Text LineEnd ∷ Text Count ∷ []) self.old self.new
+            (O.sunk out.old) (O.sunk out.new) result }
+    {
+        match self.end_word(out) {
+            Ok(()) => self.end_counted_line(out),
+            Err(halt) => Err(halt),
+        }
+    }
+
+    /// Ends a line of the input, which counts.
+    #[inline(always)]
+    fn end_counted_line<O: ByteSink>(&mut self, out: &mut O) -> Result<(), Halt>
+        ensures { PerformsOnly (Text LineEnd ∷ Text Count ∷ []) self.old self.new
+            (O.sunk out.old) (O.sunk out.new) result }
+    {
+        match self.end_line(out) {
+            Ok(()) => {
+                self.environments.in_force.lines.count();
+                Ok(())
+            }
+            Err(halt) => Err(halt),
+        }
+    }
+
+    /// The end of a blank line: the open word ends, and a break and a blank line come.
+    fn blank_line<O: ByteSink>(&mut self, out: &mut O) -> Result<(), Halt>
+        ensures { PerformsOnly blank_line self.old self.new
+            (O.sunk out.old) (O.sunk out.new) result }
+    {
+        match self.end_word(out) {
+            Ok(()) => self.break_and_space(out),
+            Err(halt) => Err(halt),
+        }
+    }
+
+    /// Breaks, and writes a blank line.
+    #[inline(always)]
+    fn break_and_space<O: ByteSink>(&mut self, out: &mut O) -> Result<(), Halt>
+        ensures { PerformsOnly (Text Break ∷ Space 1 ∷ []) self.old self.new
+            (O.sunk out.old) (O.sunk out.new) result }
+    {
+        match self.brk(out) {
+            Ok(()) => self.space(1, out),
+            Err(halt) => Err(halt),
         }
     }
 

@@ -1,10 +1,11 @@
 //! A run under way: what each item of the input does.
 
-ghost use Rattle.std.specs.Prelude.{◌≡◌, ◌≤◌, ℕ, [], length, true, None, Some, Result, Err, IsOkUnless};
+ghost use Rattle.std.specs.Prelude.{◌≡◌, ◌≤◌, ℕ, [], length, true, false, None, Some, Result, Err, IsOkUnless};
 ghost use Rattle.std.specs.Prelude.{OnOk};
 ghost use Rattle.roff_run.specs.Run.{ahead_taken, awaited, byte_taken, end_met, half_ends};
 ghost use Rattle.roff_run.specs.Run.{in_front_taken, input_ended, step, waiting};
-ghost use Rattle.roff_run.specs.Stages.{Holds, ReadsHalves};
+ghost use Rattle.roff_run.specs.ControlFronts.{BeginsControl};
+ghost use Rattle.roff_run.specs.Stages.{Holds, ReadsHalves, TakesHalf, counts_blanks};
 ghost use Rattle.roff_run.specs.Telling.{Prints};
 ghost use Rattle.roff_scan.specs.Arguments.{is_argument_byte};
 ghost use Rattle.roff_scan.specs.Bytes.{is_text_byte};
@@ -34,10 +35,58 @@ impl Running {
     ghost use Rattle.roff_engine.specs.Running.Turning.{Acts, GoesPast, Halts, IsEnded, MayEnd};
     ghost use Rattle.roff_engine.specs.Running.Turning.{Settles, TurnsBy, input_ends, line_told};
 
-    /// Passes over bytes of the source that stand ready, or of a body ahead, and change nothing, if
-    /// there are some, or tells those of a text line, or holds those of arguments.
+    /// Takes bytes at once that stand in front: those of a control line's front, and those that
+    /// [`pass_front`](Running::pass_front) takes.
     #[inline(always)]
     pub(crate) fn pass_over<S: ByteSource>(&mut self, source: &mut S)
+        ensures { (out err : Sunk) → GoesPast
+            (S.gives source.old) (S.gives source.new) (S.notes source.old) (S.notes source.new)
+            self.old self.new
+            (seen (S.failures source.old) out err) (seen (S.failures source.new) out err) }
+    {
+        if self.formatter.begins_control_line() && !self.unread.is_half_read() {
+            self.pass_control_line(source);
+        } else {
+            self.pass_front(source);
+        }
+    }
+
+    /// Takes the front of a control line at once, if it stands in front, and then bytes behind it.
+    #[inline(never)]
+    fn pass_control_line<S: ByteSource>(&mut self, source: &mut S)
+        requires begins { BeginsControl self.old.formatter.reader.reading }
+        requires none_due { due self.old.formatter.reader.reading ≡ None }
+        requires none_half { self.old.unread.input.half ≡ [] }
+        ensures { (out err : Sunk) → GoesPast
+            (S.gives source.old) (S.gives source.new) (S.notes source.old) (S.notes source.new)
+            self.old self.new
+            (seen (S.failures source.old) out err) (seen (S.failures source.new) out err) }
+    {
+        if self.read_control_front(source) {
+            self.pass_front(source);
+        }
+    }
+
+    /// Takes the front of a control line at once, if it stands in front. Whether it did.
+    #[inline(always)]
+    fn read_control_front<S: ByteSource>(&mut self, source: &mut S) -> bool
+        requires begins { BeginsControl self.old.formatter.reader.reading }
+        requires none_due { due self.old.formatter.reader.reading ≡ None }
+        requires none_half { self.old.unread.input.half ≡ [] }
+        ensures past { result ≡ true → (out err : Sunk) → GoesPast
+            (S.gives source.old) (S.gives source.new) (S.notes source.old) (S.notes source.new)
+            self.old self.new
+            (seen (S.failures source.old) out err) (seen (S.failures source.new) out err) }
+        ensures kept { result ≡ false → (self.new ≡ self.old) × (source.new ≡ source.old) }
+    {
+        self.formatter.read_control_front(&mut self.unread, source)
+    }
+
+    /// Passes over bytes of the source that stand ready, or of a body ahead, and change nothing, if
+    /// there are some, or tells those of a text line, or counts its leading blanks, or holds those of
+    /// arguments.
+    #[inline(always)]
+    fn pass_front<S: ByteSource>(&mut self, source: &mut S)
         ensures { (out err : Sunk) → GoesPast
             (S.gives source.old) (S.gives source.new) (S.notes source.old) (S.notes source.new)
             self.old self.new
@@ -51,10 +100,14 @@ impl Running {
             }
         } else if self.formatter.prints() && !self.unread.is_half_read() {
             self.tell_front(source);
+        } else if self.formatter.counts_blanks() && !self.unread.is_half_read() {
+            self.count_blanks(source);
         } else if self.formatter.holds_arguments() && !self.unread.is_half_read() {
             self.hold_arguments(source);
         } else if self.formatter.reads_names() && self.unread.is_half_read() {
             self.read_name(source);
+        } else if self.formatter.reads_condition() {
+            self.read_condition(source);
         }
     }
 
@@ -74,6 +127,21 @@ impl Running {
         let front = self.unread.front(source);
         let count = self.formatter.text_front(front);
         self.unread.pass(source, count);
+    }
+
+    /// Takes blanks at once that stand in front, where they only count.
+    #[inline(never)]
+    fn count_blanks<S: ByteSource>(&mut self, source: &mut S)
+        requires counts { counts_blanks self.old.formatter.reader.reading ≡ true }
+        requires none_half { self.old.unread.input.half ≡ [] }
+        ensures { (out err : Sunk) → GoesPast
+            (S.gives source.old) (S.gives source.new) (S.notes source.old) (S.notes source.new)
+            self.old self.new
+            (seen (S.failures source.old) out err) (seen (S.failures source.new) out err) }
+    {
+        let front = self.unread.front(source);
+        let blanks = self.formatter.count_blanks(front);
+        self.unread.pass(source, blanks);
     }
 
     /// Takes bytes of a line at once that stand in front, and holds them in its arguments: up to the
@@ -104,6 +172,20 @@ impl Running {
             (seen (S.failures source.old) out err) (seen (S.failures source.new) out err) }
     {
         self.unread.read_front(source);
+    }
+
+    /// Takes bytes of a condition at once that stand in front and change only what is half read, in
+    /// which some are held.
+    #[inline(always)]
+    fn read_condition<S: ByteSource>(&mut self, source: &mut S)
+        requires takes { TakesHalf self.old.formatter.reader.reading }
+        requires none_due { due self.old.formatter.reader.reading ≡ None }
+        ensures { (out err : Sunk) → GoesPast
+            (S.gives source.old) (S.gives source.new) (S.notes source.old) (S.notes source.new)
+            self.old self.new
+            (seen (S.failures source.old) out err) (seen (S.failures source.new) out err) }
+    {
+        self.unread.take_front(source);
     }
 
     /// Does what is due before anything more is taken. An `Err` is the status of a run that ended.
@@ -233,7 +315,7 @@ impl Running {
         if self.unread.seen_stays(seen) {
             return self.end_half(out, err);
         }
-        self.turn_in_front(source, out, err)
+        self.turn_above(source, out, err)
     }
 
     /// Takes the item in front, whatever is half read: most often a byte that stands ready.
@@ -253,6 +335,27 @@ impl Running {
         let line = self.unread.line();
         match self.unread.take_ready(source) {
             Some(byte) => self.take(byte, line, out, err),
+            None => self.turn_item(source, out, err),
+        }
+    }
+
+    /// The same above what is half read, where a byte is seldom one of a text line.
+    #[inline(always)]
+    fn turn_above<S: ByteSource, O: ByteSink, E: ByteSink>(
+        &mut self,
+        source: &mut S,
+        out: &mut O,
+        err: &mut E,
+    ) -> Result<(), Status>
+        ensures { TurnsBy (λ s. in_front_taken self.old.limits s.input.ahead s)
+            (S.gives source.old) (S.gives source.new) (S.notes source.old) (S.notes source.new)
+            self.old self.new
+            (seen (S.failures source.old) (O.sunk out.old) (E.sunk err.old))
+            (seen (S.failures source.new) (O.sunk out.new) (E.sunk err.new)) result }
+    {
+        let line = self.unread.line();
+        match self.unread.take_ready(source) {
+            Some(byte) => self.take_above(byte, line, out, err),
             None => self.turn_item(source, out, err),
         }
     }
@@ -303,6 +406,26 @@ impl Running {
     {
         let line = self.unread.line();
         match self.formatter.take(byte, &mut self.unread, out, err) {
+            Ok(()) => Ok(()),
+            Err(halt) => Err(self.halted(halt, line_before, line, err)),
+        }
+    }
+
+    /// The same above what is half read.
+    #[inline(always)]
+    fn take_above<O: ByteSink, E: ByteSink>(
+        &mut self,
+        byte: u8,
+        line_before: u32,
+        out: &mut O,
+        err: &mut E,
+    ) -> Result<(), Status>
+        ensures { (failures : ℕ) → Acts line_before (byte_taken byte) self.old self.new
+            (seen failures (O.sunk out.old) (E.sunk err.old))
+            (seen failures (O.sunk out.new) (E.sunk err.new)) result }
+    {
+        let line = self.unread.line();
+        match self.formatter.take_above(byte, &mut self.unread, out, err) {
             Ok(()) => Ok(()),
             Err(halt) => Err(self.halted(halt, line_before, line, err)),
         }

@@ -41,7 +41,7 @@ use Rattle.roff_run.specs.declared.request.Called.{Called}
 use Rattle.roff_run.specs.declared.request.Called.TheVariants.{Body as ABody, Nothing as Unknown}
 
 -- a stage
-abbrev stage : Reading → Arguments → List (List ℕ) → Stage
+abbrev pub stage : Reading → Arguments → List (List ℕ) → Stage
 stage reading a texts = record { reading = reading; half = []; arguments = a; texts = texts }
 
 -- what begins a control line
@@ -56,7 +56,7 @@ first-of-two true y z neither = neither
 first-of-two false true z neither = neither
 first-of-two false false z neither = refl
 
-turns-first : (names : Named Entry) (a : Arguments) (texts : List (List ℕ)) (breaks : Bool) (b : ℕ) → BelongsToName b
+pub turns-first : (names : Named Entry) (a : Arguments) (texts : List (List ℕ)) (breaks : Bool) (b : ℕ) → BelongsToName b
     → Turns names (stage (Control breaks) a texts) b (stage (Name breaks b) a texts)
 turns-first names a texts breaks b belongs k i =
     let here : PageInput = input_at names (stage (Control breaks) a texts) i in

@@ -9,6 +9,7 @@ use Rattle.roff_scan.specs.declared.half.CopyUnit.{CopyUnit}
 use Rattle.roff_scan.specs.declared.half.CopyUnit.TheVariants.{Byte, Kept}
 use Rattle.roff_scan.specs.declared.half.Read.{Read}
 use Rattle.roff_scan.specs.declared.half.Read.TheVariants.{GoesOn, Unit as OneUnit, Holds, Escape, Asks, Motion, Measures, Tells, Decides}
+use Rattle.roff_run.specs.Events.Meant.{none_meant}
 use Rattle.roff_run.specs.Reader.State.{ReaderState}
 use Rattle.roff_run.specs.Reader.Taken.{PageUnread, TakesAs}
 use Rattle.roff_run.specs.Reading.{PageInput, argument_named, call_found, call_unit, going_on, holding, holding_call, no_unit_found, settling}
@@ -54,7 +55,7 @@ module _ (unit : CopyUnit) (name : ShortName) (es : EnvironmentsOf) (old new : R
       ap (λ (full : Bool). going_on (if full then u.input else holding unit u.input) (Calling name)) (sym (lt-leb 9 (length u.input.arguments.whole) few))
 
   pub TakesAs-call_held : (m : Meaning) (done : Unit {0}) → length u.input.arguments.whole < 9 → (Ok done, behind) ≡ changing (holding unit u.input) u
-      → new ≡ record old { reading = Calling name } → m.message ≡ None → m.events.items ≡ []
+      → new ≡ record old { reading = Calling name } → m.message ≡ None → m.events ≡ none_meant
       → TakesAs (λ k. going_on (holding_call unit u.input) (Calling name)) es old new u behind (Ok m)
   TakesAs-call_held m done few changes came silent none =
       subst (λ (t : _). TakesAs (λ k. t) es old new u behind (Ok m)) (holding_few few)
@@ -69,7 +70,7 @@ module _ (unit : CopyUnit) (name : ShortName) (es : EnvironmentsOf) (old new : R
 
 -- behind nine arguments nothing is held
 pub TakesAs-call_full : (unit : CopyUnit) (name : ShortName) (es : EnvironmentsOf) (old new : ReaderState) (u : PageUnread) (m : Meaning) → 9 ≤ length u.input.arguments.whole
-    → new ≡ record old { reading = Calling name } → m.message ≡ None → m.events.items ≡ []
+    → new ≡ record old { reading = Calling name } → m.message ≡ None → m.events ≡ none_meant
     → TakesAs (λ k. going_on (holding_call unit u.input) (Calling name)) es old new u u (Ok m)
 TakesAs-call_full unit name es old new u m full came silent none =
     TakesAs-meant (λ k. going_on (holding_call unit u.input) (Calling name)) (Calling name) [] es old new u m

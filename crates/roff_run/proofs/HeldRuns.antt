@@ -94,5 +94,6 @@ reads-held gave gives r before after none_half none_due holds held within =
           (subst (λ (q : Stage). Turned i.names (stage_with r.reading i.open_texts i.arguments) held.bytes q) (sym behind) turned);
       passes = subst (λ (there : PageInput). PassesFront gave gives held.bytes before (record after { input = there })) same held.passes;
       registers = refl;
+      requested = refl;
       within = within;
     }

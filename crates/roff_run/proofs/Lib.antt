@@ -52,11 +52,15 @@ pub mod PassingRuns
 pub mod PassingBodies
 pub mod PrintedRuns
 pub mod TextBytes
+pub mod TextTaken
 pub mod CalledBodies
 pub mod BegunDefinitions
 pub mod PlainRuns
 pub mod TurnedRuns
 pub mod HeldRuns
+pub mod BlankRuns
 pub mod NameFronts
+pub mod ConditionRuns
 pub mod CallLaws
+pub mod ControlFronts
 pub mod DefinitionLaws

@@ -15,7 +15,7 @@ use Rattle.roff_store.proofs.Calls.{length-without_entry_le}
 use Rattle.roff_store.specs.Named.{without_entry}
 use Rattle.roff_store.specs.Registers.{Registers}
 use Rattle.roff_store.specs.TextCalls.{Call}
-use Rattle.roff_run.specs.Events.Kept.{Told}
+use Rattle.roff_run.specs.Events.Meant.{events_meant}
 use Rattle.roff_run.specs.Output.{PageHistory}
 use Rattle.roff_run.specs.Reader.State.{ReaderState}
 use Rattle.roff_run.specs.Reader.Taken.{ChangedTo, PageUnread, Refused, TakesAs, Took, behind_changes}
@@ -84,7 +84,7 @@ pub TakesAs-obeyed : (es : EnvironmentsOf) (old new : ReaderState) (before mid c
     → mid ≡ line_finished before → Obeys es old.registers.all mid breaks request e
     → ChangedTo (changes_of (texts_read mid) e.changes) old.registers new.registers
     → change ≡ called (calls_of (texts_read mid) e.changes) mid → behind ≡ released change
-    → new.reading ≡ reading_behind (row_of request).line → m.message ≡ e.message → m.events ≡ e.events
+    → new.reading ≡ reading_behind (row_of request).line → m.message ≡ e.message → events_meant new.requested m.events ≡ e.events.items
     → TakesAs (λ k. line_ended k before.input breaks request) es old new before behind (Ok m)
 TakesAs-obeyed es old new before mid change behind breaks request e m finishes obeying changed calls releases begins says means = record {
   takes = λ l h stands ready.
@@ -116,7 +116,7 @@ TakesAs-obeyed es old new before mid change behind breaks request e m finishes o
               ∙ input_refusal-no_more before.limits ended i less none_before;
         };
         messages = ap (λ (message : Option Message). option_to_list message) says;
-        events = ap (λ (events : Told). events.items) means;
+        events = means;
       });
 }
 

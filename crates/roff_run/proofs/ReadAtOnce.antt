@@ -19,6 +19,7 @@ use Rattle.roff_scan.specs.declared.half.Surroundings.{Surroundings}
 use Rattle.roff_scan.specs.declared.half.Surroundings.TheVariants.{Arguments as AboveArguments}
 use Rattle.roff_run.specs.Environments.{PageHistory, interrupted_line}
 use Rattle.roff_run.specs.Environments.Standing.{StandFor}
+use Rattle.roff_run.specs.Events.Meant.{events_meant, none_meant}
 use Rattle.roff_run.specs.Reader.Above.{reads_above}
 use Rattle.roff_run.specs.Reader.AtOnce.{GoesOnAbove, IsReadAbove, MeansNothing, TakesAtOnce, only_events}
 use Rattle.roff_run.specs.Reader.Found.{found_in, place_in}
@@ -94,7 +95,7 @@ meant-uninterrupted t place events es old new u as_defined none came = record {
 
 -- what means nothing means it whatever meaning says so
 pub TakesAs-nothing : (t : Known → Taking) (es : EnvironmentsOf) (old new : ReaderState) (before behind : PageUnread) (m : Meaning)
-    → m.message ≡ None → m.events.items ≡ [] → TakesAs t es old new before behind (Ok (only_events []))
+    → m.message ≡ None → m.events ≡ none_meant → TakesAs t es old new before behind (Ok (only_events []))
     → TakesAs t es old new before behind (Ok m)
 TakesAs-nothing t es old new before behind m silent none takes = record {
   takes = λ l h stands ready.
@@ -102,7 +103,7 @@ TakesAs-nothing t es old new before behind m silent none takes = record {
       record {
         became = took.became;
         messages = ap (λ (message : Option Message). option_to_list message) silent ∙ took.messages;
-        events = none ∙ took.events;
+        events = ap (events_meant new.requested) none ∙ took.events;
       };
 }
 

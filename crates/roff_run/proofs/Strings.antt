@@ -17,6 +17,7 @@ use Rattle.roff_scan.specs.declared.half.CopyUnit.{CopyUnit}
 use Rattle.roff_scan.specs.declared.half.CopyUnit.TheVariants.{Byte, Kept}
 use Rattle.roff_scan.specs.declared.half.Read.{Read}
 use Rattle.roff_scan.specs.declared.half.Read.TheVariants.{GoesOn, Unit as OneUnit, Holds, Escape, Asks, Motion, Measures, Tells, Decides}
+use Rattle.roff_run.specs.Events.Meant.{events_meant, none_meant}
 use Rattle.roff_run.specs.Reader.State.{ReaderState}
 use Rattle.roff_run.specs.Reader.Taken.{InputBecame, IsInputNow, IsReady, PageUnread, TakesAs}
 use Rattle.roff_run.specs.Reading.{PageInput, Taking, going_on, message_unit, name_bytes, name_read, no_unit_found, settling, string_emptied, string_grown, string_name_found, string_name_or_text, string_name_unit, string_text_found, string_unit}
@@ -94,7 +95,7 @@ refused_none r u ready = sym (first_passed-few_names u.limits r.all u.input (few
 
 -- the input became this, and this is read on
 pub TakesAs-became : (i : PageInput) (place : Reading) (es : EnvironmentsOf) (old new : ReaderState) (before behind : PageUnread) (m : Meaning) (done : Unit {0})
-    → InputBecame i before behind (Ok done) → new ≡ record old { reading = place } → m.message ≡ None → m.events.items ≡ []
+    → InputBecame i before behind (Ok done) → new ≡ record old { reading = place } → m.message ≡ None → m.events ≡ none_meant
     → TakesAs (λ k. going_on i place) es old new before behind (Ok m)
 TakesAs-became i place es old new before behind m done became came silent none = record {
   takes = λ l h stands ready.
@@ -107,7 +108,7 @@ TakesAs-became i place es old new before behind m done became came silent none =
           within = first_passed-few_names before.limits old.registers.all i (few_names old.registers before ready) ∙ now.1;
         };
         messages = ap (λ (message : Option Message). option_to_list message) silent;
-        events = none;
+        events = ap (events_meant new.requested) none;
       };
 }
 

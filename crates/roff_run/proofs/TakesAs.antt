@@ -4,6 +4,8 @@ use Rattle.std.specs.Option.{option_to_list}
 use Rattle.std.specs.Prelude.{nat_lt, ◌&&◌, drop, is_some, if◌then◌else◌, ◌==◌}
 use Rattle.roff_num.specs.declared.limits.Limits.{Limits}
 use Rattle.roff_run.specs.Environments.{interrupted_line}
+use Rattle.roff_run.specs.Events.Lines.{line_events}
+use Rattle.roff_run.specs.Events.Meant.{events_meant, few_meant, none_meant}
 use Rattle.roff_run.specs.Environments.Standing.{StandFor}
 use Rattle.roff_run.specs.declared.environments.Environments.{Environments as EnvironmentsOf}
 use Rattle.roff_num.specs.declared.limit.Limit.{Limit}
@@ -226,15 +228,15 @@ text_at es rs i step name text knows l h stands =
 pub TakesAs-interpolated : (es : EnvironmentsOf) (old : ReaderState) (registers : Capped) (before behind : PageUnread) (step : Option Direction) (name text : List ℕ) (m : Meaning) (done : Unit {0})
     → KnowsText es old.registers.all before.input step name text
     → registers ≡ record old.registers { all = changed_by_all (step_changes step name) old.registers.all }
-    → option_to_list m.message ≡ step_messages step name old.registers.all → m.events.items ≡ []
+    → option_to_list m.message ≡ step_messages step name old.registers.all → m.events ≡ none_meant
     → (Ok done, behind) ≡ changing (pushing text before.input) before
-    → TakesAs (λ k. interpolating k before.input old.reading step name) es old (record { reading = old.reading; registers = registers }) before behind (Ok m)
+    → TakesAs (λ k. interpolating k before.input old.reading step name) es old (record old { registers = registers }) before behind (Ok m)
 TakesAs-interpolated es old registers before behind step name text m done knows changed messages events pushes = record {
   takes = λ l h stands ready.
       let known : text ≡ text_of_register (known_behind (step_changes step name) (known_at h old.registers.all before.input)) name =
       text_at es old.registers.all before.input step name text knows l h stands in
       let passed = passed_none (input_refusal before.limits (pushing text before.input)) (pushing text before.input) before behind done pushes in
-      let new : ReaderState = record { reading = old.reading; registers = registers } in
+      let new : ReaderState = record old { registers = registers } in
       let at : List ℕ → Taking = λ t. record {
         input = pushing t before.input;
         reading = old.reading;
@@ -249,7 +251,7 @@ TakesAs-interpolated es old registers before behind step name text m done knows 
           within = passed-stepped step name old.registers before (pushing text before.input) ready ∙ passed.1;
         };
         messages = messages;
-        events = events;
+        events = ap (events_meant old.requested) events;
       });
 }
 
@@ -269,7 +271,7 @@ TakesAs-not_interpolated es old new before behind step name text limit knows pus
 
 -- a byte that isn't one of the line is taken
 pub TakesAs-interrupted : (es : EnvironmentsOf) (old : ReaderState) (u behind : PageUnread) (m : Meaning) → behind ≡ record u { input = interrupted old.reading u.input }
-    → m.message ≡ None → m.events.items ≡ [] → TakesAs (λ k. going_on (interrupted old.reading u.input) old.reading) es old old u behind (Ok m)
+    → m.message ≡ None → m.events ≡ none_meant → TakesAs (λ k. going_on (interrupted old.reading u.input) old.reading) es old old u behind (Ok m)
 TakesAs-interrupted es old u behind m came silent none = record {
   takes = λ l h stands ready. record {
     became = record {
@@ -279,13 +281,13 @@ TakesAs-interrupted es old u behind m came silent none = record {
       within = first_passed-no_more u.limits old.registers.all (interrupted old.reading u.input) u.input (NoMore-interrupted old.reading u.input) ready.within;
     };
     messages = ap (λ (message : Option Message). option_to_list message) silent;
-    events = none;
+    events = ap (events_meant old.requested) none;
   };
 }
 
 -- this is read on, and some events are meant
 pub TakesAs-meant : (t : Known → Taking) (behind : Reading) (events : List PageEvent) (es : EnvironmentsOf) (old new : ReaderState) (u : PageUnread) (m : Meaning)
-    → ((k : Known) → t k ≡ meaning_events u.input behind events) → new ≡ record old { reading = behind } → m.message ≡ None → m.events.items ≡ events
+    → ((k : Known) → t k ≡ meaning_events u.input behind events) → new ≡ record old { reading = behind } → m.message ≡ None → m.events ≡ few_meant events
     → TakesAs t es old new u u (Ok m)
 TakesAs-meant t behind events es old new u m as_defined came silent means = record {
   takes = λ l h stands ready.
@@ -298,13 +300,13 @@ TakesAs-meant t behind events es old new u m as_defined came silent means = reco
           within = ready.within;
         };
         messages = ap (λ (message : Option Message). option_to_list message) silent;
-        events = means;
+        events = ap (events_meant new.requested) means;
       });
 }
 
 -- a step of a text line
 pub TakesAs-stepped : (t : PageInput → Taking) (step : TextStep) (es : EnvironmentsOf) (old new : ReaderState) (u : PageUnread) (m : Meaning)
-    → ((i : PageInput) → step_at i step ≡ t i) → new ≡ record old { reading = step.reading } → m.message ≡ step.message → m.events.items ≡ step.events.items
+    → ((i : PageInput) → step_at i step ≡ t i) → new ≡ record old { reading = step.reading } → m.message ≡ step.message → m.events ≡ few_meant (line_events step.events)
     → TakesAs (λ k. t u.input) es old new u u (Ok m)
 TakesAs-stepped t step es old new u m as_defined came says means = record {
   takes = λ l h stands ready.
@@ -317,13 +319,13 @@ TakesAs-stepped t step es old new u m as_defined came says means = record {
           within = ready.within;
         };
         messages = ap (λ (message : Option Message). option_to_list message) says;
-        events = means;
+        events = ap (events_meant new.requested) means;
       });
 }
 
 -- the input changes, and this is read on
 pub TakesAs-changed : (i : PageInput) (place : Reading) (es : EnvironmentsOf) (old new : ReaderState) (before behind : PageUnread) (m : Meaning) (done : Unit {0})
-    → (Ok done, behind) ≡ changing i before → new ≡ record old { reading = place } → m.message ≡ None → m.events.items ≡ []
+    → (Ok done, behind) ≡ changing i before → new ≡ record old { reading = place } → m.message ≡ None → m.events ≡ none_meant
     → TakesAs (λ k. going_on i place) es old new before behind (Ok m)
 TakesAs-changed i place es old new before behind m done changes came silent none = record {
   takes = λ l h stands ready.
@@ -336,7 +338,7 @@ TakesAs-changed i place es old new before behind m done changes came silent none
           within = first_passed-few_names before.limits old.registers.all i (few_names old.registers before ready) ∙ passed.1;
         };
         messages = ap (λ (message : Option Message). option_to_list message) silent;
-        events = none;
+        events = ap (events_meant new.requested) none;
       };
 }
 
@@ -396,7 +398,7 @@ pub TakesAs-begun : (t : PageInput → TextLine → Taking) (step : TextStep) (i
     (es : EnvironmentsOf) (old new : ReaderState) (u : PageUnread) (m : Meaning)
     → ((l : Limits) (h : PageHistory) → StandFor l h es → interrupted ≡ interrupted_line h) → line ≡ line_begun_as interrupted
     → ((i : PageInput) → step_at i step ≡ t i line) → new ≡ record old { reading = step.reading } → m.message ≡ step.message
-    → m.events.items ≡ going_on_told interrupted ++ step.events.items
+    → m.events ≡ few_meant (going_on_told interrupted ++ line_events step.events)
     → TakesAs (λ k. beginning_text k (t u.input)) es old new u u (Ok m)
 TakesAs-begun t step interrupted line es old new u m asked begun steps came says means =
     let at : Option TextLine → Taking = λ l. behind_events (going_on_told l) (t u.input (line_begun_as l)) in
@@ -413,7 +415,7 @@ TakesAs-begun t step interrupted line es old new u m asked begun steps came says
               within = ready.within;
             };
             messages = ap (λ (message : Option Message). option_to_list message) says;
-            events = means;
+            events = ap (events_meant new.requested) means;
           });
     })
 

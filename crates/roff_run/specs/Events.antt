@@ -5,6 +5,8 @@ use Rattle.roff_lines.specs.declared.settings.Param.TheVariants.{NoStops, Stop}
 use Rattle.roff_run.specs.declared.event.PageEvent.{PageEvent}
 use Rattle.roff_run.specs.declared.event.PageEvent.TheVariants.{Text}
 pub mod Kept
+pub mod Lines
+pub mod Meant
 
 -- the event of a stop, by its column
 abbrev pub stop_at : ℕ → PageEvent

@@ -34,3 +34,4 @@ pub mod Reader
 pub mod Clauses
 pub mod TurnsToCome
 pub mod Stages
+pub mod ControlFronts

@@ -1,12 +1,13 @@
 -- Stages of the reading: what bytes change that change only what is read.
-use Rattle.std.specs.Prelude.{◌≡◌, ℕ, ◌+◌, ◌≤◌, false, List, [], ◌∷◌, None, Some}
+use Rattle.std.specs.Prelude.{◌≡◌, ℕ, ◌+◌, ◌≤◌, ◌==◌, ◌&&◌, Bool, false, if◌then◌else◌, List, [], ◌∷◌, length, min, nat_lt, not, take, None, Some}
 use Rattle.roff_scan.specs.Arguments.{Arguments, held}
 use Rattle.roff_scan.specs.Bytes.{is_dropped}
+use Rattle.roff_scan.specs.ConditionFronts.{TakesOn}
 use Rattle.roff_scan.specs.Half.{Half, texts_held}
 use Rattle.roff_scan.specs.Halves.{byte_read, seen_stays}
 use Rattle.roff_scan.specs.Tape.{Tape}
 use Rattle.roff_scan.specs.Unread.{IsWithin}
-use Rattle.roff_scan.specs.Unread.Calls.{PassesFront}
+use Rattle.roff_scan.specs.Unread.Calls.{NoNewline, PassesFront}
 use Rattle.roff_scan.specs.declared.half.CopyUnit.TheVariants.{Byte}
 use Rattle.roff_scan.specs.declared.half.Read.TheVariants.{GoesOn}
 use Rattle.roff_scan.specs.declared.half.Surroundings.{Surroundings}
@@ -14,9 +15,10 @@ use Rattle.roff_store.specs.Named.{Named}
 use Rattle.roff_store.specs.Texts.{Entry}
 use Rattle.roff_run.specs.Reader.State.{ReaderState}
 use Rattle.roff_run.specs.Reader.Taken.{PageUnread}
-use Rattle.roff_run.specs.Reading.{PageInput, due, going_on, holding, taking}
+use Rattle.roff_run.specs.Reading.{PageInput, due, going_on, holding, most_leading, taking}
 use Rattle.roff_run.specs.Registers.{Known}
 use Rattle.roff_run.specs.declared.reading.Reading.{Reading}
+use Rattle.roff_run.specs.declared.reading.Reading.TheVariants.{Text as InText}
 
 -- what bytes change: what is read, what is half read, the arguments of the line, and the texts in the making
 pub record Stage : Type 0 where
@@ -47,6 +49,10 @@ ReadsHalves reading =
     (k : Known) (i : PageInput) (b : ℕ) (next : List Half) → is_dropped b ≡ false → ((base : Surroundings) → byte_read base i.half b ≡ (GoesOn, next))
     → taking k reading i b ≡ going_on (record i { half = next }) reading
 
+-- where this is read, bytes may change only what is half read, in which some are held
+abbrev pub TakesHalf : Reading → Type 0
+TakesHalf reading = (k : Known) (i : PageInput) (b : ℕ) (next : List Half) → TakesOn i.half b next → taking k reading i b ≡ going_on (record i { half = next }) reading
+
 -- the bytes that are held at a stage, of arguments and of texts that are half read
 abbrev pub held_at : Stage → ℕ
 held_at p = held p.arguments + texts_held p.half
@@ -69,4 +75,23 @@ pub record ReadsPast (gave gives : Tape → Type 0) (old new : ReaderState) (bef
   pub turned : Turned before.input.names (stage_of old.reading before.input) bytes (stage_of new.reading after.input)
   pub passes : PassesFront gave gives bytes before (record after { input = with_stage_of before.input after.input })
   pub registers : new.registers ≡ old.registers
+  pub requested : new.requested ≡ old.requested
   pub within : IsWithin after
+
+-- So many of these bytes, from the first on, lead from what was read to what is read now, where nothing is half read. None is a
+-- newline.
+pub record TurnsFront (front : List ℕ) (count : ℕ) (old new : ReaderState) : Type 0 where
+  pub few : count ≤ length front
+  pub no_newline : NoNewline (take count front)
+  pub turned : (names : Named Entry) (i : PageInput) → i.half ≡ [] → Turned names (stage_of old.reading i) (take count front) (stage_of new.reading i)
+  pub registers : new.registers ≡ old.registers
+  pub requested : new.requested ≡ old.requested
+
+-- blanks only count where this is read and nothing is half read: in front of the first glyph of a text line, behind another blank
+abbrev pub counts_blanks : Reading → Bool
+counts_blanks (InText line) = not line.has_glyph && nat_lt 0 line.leading
+counts_blanks (_) = false
+
+-- how many leading blanks so many more make
+abbrev pub blanks_counted : ℕ → ℕ → ℕ
+blanks_counted count leading = if count == 0 then leading else min (leading + count) most_leading

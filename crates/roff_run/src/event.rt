@@ -1,11 +1,14 @@
 //! The events that bytes and requests mean.
 
-ghost use Rattle.std.specs.Prelude.{◌≡◌, ◌≤◌, ◌+◌, ◌++◌, [], length, map, IfSome};
+ghost use Rattle.std.specs.Prelude.{◌≡◌, ◌≤◌, ◌+◌, ◌++◌, [], true, length, map};
 ghost use Rattle.roff_run.specs.Events.{resumed_if, stop_at, stops_set};
+ghost use Rattle.roff_run.specs.Events.Lines.{line_events, print_event};
+ghost use Rattle.roff_run.specs.Events.Meant.{few_meant, none_meant, requested_meant};
+ghost use Rattle.roff_run.specs.Reading.{leading_glyph};
 
 use crate::environments::EnvironmentNumber;
 use arrayvec::ArrayVec;
-use roff_lines::{Event, Param};
+use roff_lines::{Event, Glyph, Param};
 use std::marker::Model;
 
 /// What happens to the page.
@@ -29,33 +32,73 @@ impl Default for PageEvent {
     }
 }
 
-/// The events of something of a text line, of which there are at most five: the glyphs of a
-/// character behind the leading blanks.
-pub(crate) type LineEvents = ArrayVec<PageEvent, 5>;
+/// The events of something of a text line: small, as they are told of each byte.
+#[derive(Clone, Copy, Debug, PartialEq, Eq)]
+pub(crate) enum LineEvents {
+    /// None.
+    Nothing,
+    /// The open word ends, and a line of the input, which counts.
+    LineEnd,
+    /// A break.
+    Break,
+    /// A break, and a blank line.
+    BlankLine,
+    /// A gap of one blank behind the open word.
+    Gap,
+    /// The line is interrupted; so many leading blanks of it aren't told yet.
+    Interrupt(u32),
+    /// A tab behind so many leading blanks.
+    Tab(u32),
+    /// So many leading blanks alone.
+    Leading(u32),
+    /// A glyph behind so many leading blanks.
+    Print(u32, Glyph),
+    /// Two printed bytes behind so many leading blanks.
+    Two(u32, [u8; 2]),
+    /// Three printed bytes behind so many leading blanks.
+    Three(u32, [u8; 3]),
+    /// Four printed bytes behind so many leading blanks.
+    Four(u32, [u8; 4]),
+}
 
-/// The same, behind one that tells that an interrupted line goes on, or the events of a request and
-/// of its break.
-pub(crate) type FewEvents = ArrayVec<PageEvent, 6>;
+/// The events of something of a text line behind one that tells that an interrupted line goes on, or
+/// the events of a request and of its break.
+pub type FewEvents = ArrayVec<PageEvent, 6>;
 
 /// The events of a request behind its break, but for tab stops.
 pub(crate) type RequestEvents = ArrayVec<PageEvent, 2>;
 
-/// All events of a byte or request: a few, and those of tab stops.
+/// All events of a request: a few, and those of tab stops.
 pub type AllEvents = ArrayVec<PageEvent, 39>;
 
 /// Tab stops, in columns.
 pub(crate) type Stops = ArrayVec<u32, 32>;
 
-/// The events of one byte or request: a few, and then those of tab stops, if they are set.
-///
-/// Stops are many and rare, and events are told of each byte: so stops aren't kept as events.
+/// The events of one byte or request: those of a text line, or those of a request, which the reader
+/// keeps.
 #[derive(Drop)]
 pub struct Events {
+    line: LineEvents,
+    goes_on: bool,
+    are_requested: bool,
+}
+
+/// The events of a request: a few, and then those of tab stops, if they are set.
+#[derive(Drop)]
+pub(crate) struct RequestedEvents {
     few: FewEvents,
     stops: Option<Stops>,
 }
 
 impl Model for Events {
+    ghost use Rattle.roff_run.specs.Events.Meant.{Meant, meant_by};
+
+    ghost Value = { Meant };
+
+    ghost view = { meant_by };
+}
+
+impl Model for RequestedEvents {
     ghost use Rattle.roff_run.specs.Events.Kept.{Told, told_by};
 
     ghost Value = { Told };
@@ -65,57 +108,115 @@ impl Model for Events {
 
 impl Events {
     /// None.
+    #[inline(always)]
+    pub(crate) fn new() -> Self
+        ensures { result ≡ none_meant }
+    {
+        Events {
+            line: LineEvents::Nothing,
+            goes_on: false,
+            are_requested: false,
+        }
+    }
+
+    /// Those of a text line, which may go on with an interrupted one.
+    #[inline(always)]
+    pub(crate) fn of_line(goes_on: bool, line: LineEvents) -> Self
+        ensures { result ≡ few_meant (resumed_if goes_on (line_events line)) }
+    {
+        Events {
+            line,
+            goes_on,
+            are_requested: false,
+        }
+    }
+
+    /// Those of a request, which the reader keeps.
+    pub(crate) fn requested() -> Self
+        ensures { result ≡ requested_meant }
+    {
+        Events {
+            line: LineEvents::Nothing,
+            goes_on: false,
+            are_requested: true,
+        }
+    }
+
+    /// Whether there are none. Where there are none of a request, that may be unknown.
+    #[inline(always)]
+    pub fn are_none(&self) -> bool
+        ensures { result ≡ true → self.now ≡ none_meant }
+    {
+        if self.goes_on || self.are_requested {
+            return false;
+        }
+        match self.line {
+            LineEvents::Nothing => true,
+            _ => false,
+        }
+    }
+
+    /// Whether they are those of a request, which the reader keeps.
+    #[inline(always)]
+    pub fn are_requested(&self) -> bool
+        ensures { result ≡ self.now.are_requested }
+    {
+        self.are_requested
+    }
+
+    /// Those of a text line.
+    pub fn few(&self) -> FewEvents
+        ensures { result.items ≡ self.now.few }
+    {
+        let mut few = FewEvents::new();
+        if self.goes_on {
+            few.push(PageEvent::Text(Event::Resume));
+        }
+        push_line(&mut few, self.line);
+        few
+    }
+}
+
+impl RequestedEvents {
+    /// None.
     pub(crate) fn new() -> Self
         ensures { result.items ≡ [] }
     {
-        Events::few(FewEvents::new())
+        RequestedEvents::few(FewEvents::new())
     }
 
     /// A few.
     pub(crate) fn few(events: FewEvents) -> Self
         ensures { result.items ≡ events.items }
     {
-        Events {
+        RequestedEvents {
             few: events,
             stops: None,
         }
-    }
-
-    /// Those of a text line, which may go on with an interrupted one.
-    pub(crate) fn of_line(goes_on: bool, events: &LineEvents) -> Self
-        ensures { result.items ≡ resumed_if goes_on events.now.items }
-    {
-        let mut few = FewEvents::new();
-        if goes_on {
-            few.push(PageEvent::Text(Event::Resume));
-        }
-        few.try_extend_from_slice(events).unwrap();
-        Events::few(few)
     }
 
     /// A few, and behind them these stops are set in place of those in force.
     pub(crate) fn setting_stops(few: FewEvents, stops: Stops) -> Self
         ensures { result.items ≡ few.items ++ stops_set stops.items }
     {
-        Events {
+        RequestedEvents {
             few,
             stops: Some(stops),
         }
     }
 
-    /// All, where no stops are set.
-    #[inline(always)]
-    pub fn without_stops(&self) -> Option<&[PageEvent]>
-        ensures { IfSome result (λ events. events.now ≡ self.now.items) }
+    /// Whether there are none. Where stops are set, there are some.
+    pub(crate) fn are_none(&self) -> bool
+        ensures { result ≡ true → self.now.items ≡ [] }
     {
         match self.stops {
-            None => Some(self.few.as_slice()),
-            Some(_) => None,
+            None => self.few.is_empty(),
+            Some(_) => false,
         }
     }
 
     /// All, one after another.
-    pub fn all(&self) -> AllEvents
+    pub(crate) fn all(&self) -> AllEvents
         ensures { result.items ≡ self.now.items }
     {
         let mut all = AllEvents::new();
@@ -125,6 +226,97 @@ impl Events {
             push_stops(&mut all, stops);
         }
         all
+    }
+}
+
+/// Adds the events of something of a text line.
+fn push_line(events: &mut FewEvents, line: LineEvents)
+    requires { length events.old.items ≤ 1 }
+    ensures { events.new.items ≡ events.old.items ++ line_events line }
+{
+    match line {
+        LineEvents::Nothing => {}
+        LineEvents::LineEnd => push_all(
+            events,
+            &[
+                PageEvent::Text(Event::WordEnd),
+                PageEvent::Text(Event::LineEnd),
+                PageEvent::Text(Event::Count),
+            ],
+        ),
+        LineEvents::Break => push_all(
+            events,
+            &[
+                PageEvent::Text(Event::WordEnd),
+                PageEvent::Text(Event::Break),
+            ],
+        ),
+        LineEvents::BlankLine => push_all(
+            events,
+            &[
+                PageEvent::Text(Event::WordEnd),
+                PageEvent::Text(Event::Break),
+                PageEvent::Space(1),
+            ],
+        ),
+        LineEvents::Gap => push_all(
+            events,
+            &[
+                PageEvent::Text(Event::WordEnd),
+                PageEvent::Text(Event::Gap(1)),
+            ],
+        ),
+        LineEvents::Interrupt(untold) => push_all(events, &[PageEvent::Interrupt(untold)]),
+        LineEvents::Tab(leading) => {
+            push_behind(events, leading, &[PageEvent::Text(Event::Tab)]);
+        }
+        LineEvents::Leading(leading) => push_behind(events, leading, &[]),
+        LineEvents::Print(leading, glyph) => {
+            push_behind(events, leading, &[PageEvent::Text(Event::Print(glyph))]);
+        }
+        LineEvents::Two(leading, bytes) => push_bytes(events, leading, &bytes),
+        LineEvents::Three(leading, bytes) => push_bytes(events, leading, &bytes),
+        LineEvents::Four(leading, bytes) => push_bytes(events, leading, &bytes),
+    }
+}
+
+/// Adds these events.
+fn push_all(events: &mut FewEvents, all: &[PageEvent])
+    requires { length events.old.items + length all.now ≤ 6 }
+    ensures { events.new.items ≡ events.old.items ++ all.now }
+{
+    events.try_extend_from_slice(all).unwrap();
+}
+
+/// Adds these events behind the leading blanks, as a glyph of their own.
+fn push_behind(events: &mut FewEvents, leading: u32, all: &[PageEvent])
+    requires { length events.old.items + length all.now ≤ 5 }
+    ensures { events.new.items ≡ events.old.items ++ (leading_glyph leading ++ all.now) }
+{
+    if leading != 0 {
+        events.push(PageEvent::Text(Event::Print(Glyph::Blanks(leading))));
+    }
+    events.try_extend_from_slice(all).unwrap();
+}
+
+/// Adds the events of bytes that are printed behind the leading blanks.
+fn push_bytes(events: &mut FewEvents, leading: u32, bytes: &[u8])
+    requires { length events.old.items + length bytes.now ≤ 5 }
+    ensures { events.new.items ≡ events.old.items ++ (leading_glyph leading ++ map print_event bytes.now) }
+{
+    push_behind(events, leading, &[]);
+    print_bytes(events, bytes);
+}
+
+/// Adds the events of bytes that are printed.
+fn print_bytes(events: &mut FewEvents, text: &[u8])
+    requires { length events.old.items + length text.now ≤ 6 }
+    ensures { events.new.items ≡ events.old.items ++ map print_event text.now }
+{
+    let mut rest = text;
+    while let Some((byte, others)) = rest.split_first() {
+        events.push(PageEvent::Text(Event::Print(Glyph::Printed(*byte))));
+        rest = others;
     }
 }
 

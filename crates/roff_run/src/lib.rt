@@ -24,5 +24,5 @@ pub use environments::{Environment, EnvironmentNumber, Environments, Left};
 pub use event::{AllEvents, Events, PageEvent};
 pub use message::{CharacterName, Message, MessageLine};
 pub use reader::{AtOnce, Meaning, Reader, first_unread};
-pub use reading::Due;
+pub use reading::{Due, TextByte};
 pub use status::Status;

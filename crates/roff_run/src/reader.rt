@@ -1,10 +1,12 @@
 //! Reading: what each item of the input means, before it is done.
 
-ghost use Rattle.std.specs.Prelude.{◌≡◌, [], None, IfOk, Ok};
+ghost use Rattle.std.specs.Prelude.{◌≡◌, None, IfOk, Ok};
+ghost use Rattle.roff_run.specs.Events.Meant.{none_meant};
 ghost use Rattle.roff_run.specs.Clauses.{EnvironmentsOf, LineStart, PageUnread, TakesAs, fresh_reader};
 ghost use Rattle.roff_run.specs.Clauses.{interrupted, first_unread, taking, due, line_ends_first};
 ghost use Rattle.roff_run.specs.Clauses.{behind_return};
 
+mod ahead;
 mod arguments;
 mod at_once;
 mod bytes;
@@ -24,7 +26,7 @@ mod strings;
 mod text_lines;
 
 use crate::environments::Environments;
-use crate::event::{Events, PageEvent};
+use crate::event::{AllEvents, Events, PageEvent, RequestedEvents};
 use crate::message::Message;
 use crate::reading::{Due, Reading};
 use crate::registers::RunRegisters;
@@ -35,13 +37,16 @@ use roff_store::Entry;
 use std::alloc::{AllocError, Global};
 use std::marker::Model;
 
-/// What is being read, and the number registers.
+/// What is being read, the number registers, and the events of the request that was obeyed last.
+///
+/// Those are many at most and rare, and are kept here: so what other items mean is small.
 ///
 /// All its memory is reserved as it is made.
 #[derive(Drop)]
 pub struct Reader {
     reading: Reading,
     registers: RunRegisters,
+    requested: RequestedEvents,
 }
 
 /// What an item means: a message, and then events.
@@ -49,7 +54,7 @@ pub struct Reader {
 pub struct Meaning {
     /// The message, which stands on the line of the last byte taken.
     pub message: Option<Message>,
-    /// The events, in order.
+    /// The events, in order; the reader keeps those of a request.
     pub events: Events,
 }
 
@@ -69,7 +74,11 @@ impl Model for Reader {
 
     ghost Value = { ReaderState };
 
-    ghost view = { λ r. record { reading = r.reading; registers = r.registers } };
+    ghost view = { λ r. record {
+      reading = r.reading;
+      registers = r.registers;
+      requested = r.requested.items;
+    } };
 }
 
 impl Reader {
@@ -80,6 +89,7 @@ impl Reader {
         Ok(Reader {
             reading: Reading::LineStart,
             registers: RunRegisters::new(alloc, names_cap)?,
+            requested: RequestedEvents::new(),
         })
     }
 
@@ -148,11 +158,19 @@ impl Reader {
         }
     }
 
+    /// The events of the request that was obeyed last, if it had any.
+    pub fn requested(&self) -> AllEvents
+        ensures { result.items ≡ self.now.requested }
+    {
+        self.requested.all()
+    }
+
     /// This is read on, and nothing is meant.
+    #[inline(always)]
     fn read_on(&mut self, reading: Reading) -> Meaning
         ensures reading { self.new ≡ record self.old { reading = reading } }
         ensures message { result.message ≡ None }
-        ensures events { result.events.items ≡ [] }
+        ensures events { result.events ≡ none_meant }
     {
         self.reading = reading;
         Meaning::nothing()
@@ -161,9 +179,10 @@ impl Reader {
 
 impl Meaning {
     /// Nothing.
+    #[inline(always)]
     fn nothing() -> Self
         ensures message { result.message ≡ None }
-        ensures events { result.events.items ≡ [] }
+        ensures events { result.events ≡ none_meant }
     {
         Meaning {
             message: None,

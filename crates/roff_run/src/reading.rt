@@ -1,8 +1,8 @@
 //! What is being read of a line, and what stands on it.
 
-ghost use Rattle.std.specs.Prelude.{◌≡◌, ℕ, ◌≤◌, ◌+◌, ◌++◌, ◌∷◌, [], length, map, true, min, None};
-ghost use Rattle.roff_lines.specs.declared.event.Event.TheVariants.{Count, Gap, LineEnd, Print, Tab};
-ghost use Rattle.roff_lines.specs.declared.event.Event.TheVariants.{WordEnd};
+ghost use Rattle.std.specs.Prelude.{◌≡◌, ℕ, ◌≤◌, ◌+◌, ◌++◌, ◌∷◌, [], length, map, true, min, IfSome};
+ghost use Rattle.std.specs.Prelude.{◌==◌, take_while};
+ghost use Rattle.roff_lines.specs.declared.event.Event.TheVariants.{Gap, Print, Tab, WordEnd};
 ghost use Rattle.roff_lines.specs.declared.glyph.Glyph.TheVariants.{Printed};
 ghost use Rattle.roff_run.specs.Reading.{PageInput, due, line_ends_first, name_bytes};
 ghost use Rattle.roff_run.specs.Reading.{reading_behind, short_name, branch_of, counted_if};
@@ -17,18 +17,21 @@ ghost use Rattle.roff_run.specs.Reading.{interrupt_taking, tab_taking};
 ghost use Rattle.std.specs.Option.{option_to_list};
 ghost use Rattle.roff_run.specs.Messages.{remark_messages};
 ghost use Rattle.roff_run.specs.Requests.{Text};
+ghost use Rattle.roff_run.specs.Events.Lines.{line_events, print_event};
+ghost use Rattle.roff_run.specs.Stages.{blanks_counted, counts_blanks};
 ghost use Rattle.roff_run.specs.TextLine.Stepping.{step_at};
 ghost use Rattle.roff_run.specs.Telling.{Prints};
-ghost use Rattle.roff_scan.specs.Bytes.{is_text_byte};
+ghost use Rattle.roff_scan.specs.Bytes.{blank, is_text_byte};
 ghost use Rattle.roff_run.specs.Registers.{Known};
 ghost use Rattle.roff_run.specs.Reader.Above.{reads_above};
+ghost use Rattle.roff_run.specs.Reader.AtOnce.{text_byte_events};
 ghost use Rattle.roff_run.specs.declared.reading.Reading.TheVariants.{Control as BehindControl};
 ghost use Rattle.roff_run.specs.declared.reading.Reading.TheVariants.{LineStart, Text as InText};
 
-use crate::event::{LineEvents, PageEvent};
+use crate::event::LineEvents;
 use crate::message::{CharacterName, Message};
 use crate::request::{LineReading, Request};
-use roff_lines::{Event, Glyph};
+use roff_lines::Glyph;
 use roff_num::Name;
 use roff_scan::{Escape, Remark, TextUse, character, escape_of, is_silent};
 
@@ -119,6 +122,21 @@ pub enum Due {
     },
     /// The input is left.
     Leaves,
+}
+
+/// What a byte of a text line is, of those that are taken at once.
+#[derive(Clone, Copy, Debug, PartialEq, Eq)]
+pub enum TextByte {
+    /// A glyph behind so many leading blanks.
+    Glyph(u32),
+    /// A tab behind so many leading blanks.
+    Tab(u32),
+    /// A leading blank behind so many others.
+    LeadingBlank(u32),
+    /// The end of a line that isn't blank.
+    LineEnd,
+    /// The end of a blank line.
+    BlankLine,
 }
 
 /// A name of one or two bytes.
@@ -317,19 +335,6 @@ impl TextLine {
         }
     }
 
-    /// One glyph.
-    #[inline(always)]
-    pub(crate) fn of_glyph() -> Self
-        ensures { result ≡ record fresh_line { has_glyph = true } }
-    {
-        TextLine {
-            has_glyph: true,
-            has_other: false,
-            has_brace: false,
-            leading: 0,
-        }
-    }
-
     /// The line that begins: the interrupted one, if one is to go on.
     pub(crate) fn begun_as(interrupted: Option<TextLine>) -> Self
         ensures { result ≡ line_begun_as interrupted }
@@ -358,16 +363,6 @@ impl TextLine {
         self.has_glyph && byte == b' '
     }
 
-    /// Whether a byte ends the line, on which a glyph stands.
-    #[inline(always)]
-    pub(crate) fn ends_with(self, byte: u8) -> bool
-        ensures { result ≡ true → (k : Known) (i : PageInput) → i.half ≡ []
-            → taking k (InText self) i byte ≡ meaning_events i LineStart
-            (Text WordEnd ∷ Text LineEnd ∷ Text Count ∷ []) }
-    {
-        self.has_glyph && byte == b'\n'
-    }
-
     /// Whether bytes of plain text are told, each as a glyph or a gap, and the line stays as it is.
     #[tactic(auto, using(crate::proofs::TextBytes::prints_text))]
     pub(crate) fn prints(self) -> bool
@@ -376,25 +371,100 @@ impl TextLine {
         self.leading == 0 && self.has_glyph
     }
 
+    /// What a byte that isn't dropped does, if it is one of those that most often stand at the
+    /// beginning of a line, or at its end: what is read behind it, and what it is.
+    #[inline(always)]
+    pub(crate) fn at_once(self, byte: u8) -> Option<(Reading, TextByte)>
+        ensures { IfSome result (λ taken. (i : PageInput) → text_taking i self byte
+            ≡ meaning_events i taken.0 (text_byte_events byte taken.1)) }
+    {
+        if byte == b'\n' {
+            self.end_at_once()
+        } else if byte == b'\t' {
+            Some((self.behind_glyph(), TextByte::Tab(self.leading)))
+        } else if is_silent(byte) {
+            None
+        } else if byte == b' ' {
+            self.blank_at_once()
+        } else {
+            Some((self.behind_glyph(), TextByte::Glyph(self.leading)))
+        }
+    }
+
+    /// The same of a newline.
+    #[inline(always)]
+    fn end_at_once(self) -> Option<(Reading, TextByte)>
+        ensures { IfSome result (λ taken. (b : ℕ) (i : PageInput)
+            → meaning_events i LineStart (text_line_end self)
+            ≡ meaning_events i taken.0 (text_byte_events b taken.1)) }
+    {
+        if self.has_glyph || self.has_other {
+            Some((Reading::LineStart, TextByte::LineEnd))
+        } else if self.has_brace {
+            None
+        } else {
+            Some((Reading::LineStart, TextByte::BlankLine))
+        }
+    }
+
+    /// The same of a blank in front of the first glyph.
+    #[inline(always)]
+    fn blank_at_once(self) -> Option<(Reading, TextByte)>
+        ensures { IfSome result (λ taken. (b : ℕ) (i : PageInput) → blank_taking i self
+            ≡ meaning_events i taken.0 (text_byte_events b taken.1)) }
+    {
+        if self.has_glyph {
+            return None;
+        }
+        let mut behind = self;
+        behind.leading = self.leading.saturating_add(1).min(MOST_LEADING);
+        Some((Reading::Text(behind), TextByte::LeadingBlank(self.leading)))
+    }
+
+    /// What is read behind a glyph, or a tab.
+    #[inline(always)]
+    fn behind_glyph(self) -> Reading
+        ensures { result ≡ InText (record self { has_glyph = true; leading = 0 }) }
+    {
+        let mut behind = self;
+        behind.has_glyph = true;
+        behind.leading = 0;
+        Reading::Text(behind)
+    }
+
+    /// Whether blanks only count: in front of the first glyph, behind another blank.
+    #[inline(always)]
+    pub(crate) fn counts_blanks(self) -> bool
+        ensures { result ≡ counts_blanks (InText self) }
+    {
+        !self.has_glyph && self.leading > 0
+    }
+
+    /// The same line behind so many blanks more.
+    #[inline(always)]
+    pub(crate) fn behind_blanks(self, count: usize) -> Self
+        ensures { result ≡ record self { leading = blanks_counted count self.leading } }
+    {
+        if count == 0 {
+            return self;
+        }
+        let counted = (self.leading as usize).saturating_add(count);
+        let mut behind = self;
+        behind.leading = counted.min(MOST_LEADING as usize) as u32;
+        behind
+    }
+
     /// The events of the line's end: a line of blanks alone is a break and a blank line, and one of
     /// braces and blanks nothing.
     pub(crate) fn end(self) -> LineEvents
-        ensures { result.items ≡ text_line_end self }
+        ensures { line_events result ≡ text_line_end self }
     {
         if self.has_glyph || self.has_other {
-            events(&[
-                PageEvent::Text(Event::WordEnd),
-                PageEvent::Text(Event::LineEnd),
-                PageEvent::Text(Event::Count),
-            ])
+            LineEvents::LineEnd
         } else if self.has_brace {
-            LineEvents::new()
+            LineEvents::Nothing
         } else {
-            events(&[
-                PageEvent::Text(Event::WordEnd),
-                PageEvent::Text(Event::Break),
-                PageEvent::Space(1),
-            ])
+            LineEvents::BlankLine
         }
     }
 
@@ -479,7 +549,7 @@ impl TextLine {
         TextStep {
             reading: Reading::Text(behind),
             message: Some(message),
-            events: LineEvents::new(),
+            events: LineEvents::Nothing,
         }
     }
 
@@ -487,9 +557,7 @@ impl TextLine {
     fn tab(self) -> TextStep
         ensures { (i : PageInput) → step_at i result ≡ tab_taking i self }
     {
-        let mut events = leading_glyph(self.leading);
-        events.push(PageEvent::Text(Event::Tab));
-        self.printed(events)
+        self.printed(LineEvents::Tab(self.leading))
     }
 
     /// The line is interrupted: the rest of it is dropped.
@@ -499,7 +567,7 @@ impl TextLine {
         TextStep {
             reading: Reading::Dropped,
             message: None,
-            events: events(&[PageEvent::Interrupt(self.leading)]),
+            events: LineEvents::Interrupt(self.leading),
         }
     }
 
@@ -512,7 +580,7 @@ impl TextLine {
         TextStep {
             reading: Reading::Text(behind),
             message: None,
-            events: LineEvents::new(),
+            events: LineEvents::Nothing,
         }
     }
 
@@ -525,7 +593,7 @@ impl TextLine {
         TextStep {
             reading: Reading::Text(behind),
             message: None,
-            events: LineEvents::new(),
+            events: LineEvents::Nothing,
         }
     }
 
@@ -533,7 +601,7 @@ impl TextLine {
     fn glyph(self, glyph: Glyph) -> TextStep
         ensures { (i : PageInput) → step_at i result ≡ glyph_taking i self glyph }
     {
-        self.printed(printed(self.leading, glyph))
+        self.printed(LineEvents::Print(self.leading, glyph))
     }
 
     /// Bytes that are printed, behind the leading blanks.
@@ -541,21 +609,17 @@ impl TextLine {
         requires { length text.now ≤ 4 }
         ensures { (i : PageInput) → step_at i result ≡ glyphs_taking i self (map Printed text.now) }
     {
-        let mut events = leading_glyph(self.leading);
-        print_bytes(&mut events, text);
-        self.printed(events)
+        self.printed(bytes_printed(self.leading, text))
     }
 
     /// Glyphs of the line: these are their events.
     fn printed(self, events: LineEvents) -> TextStep
         ensures { (i : PageInput) → step_at i result
-            ≡ meaning_events i (InText (record self { has_glyph = true; leading = 0 })) events.items }
+            ≡ meaning_events i (InText (record self { has_glyph = true; leading = 0 }))
+            (line_events events) }
     {
-        let mut behind = self;
-        behind.has_glyph = true;
-        behind.leading = 0;
         TextStep {
-            reading: Reading::Text(behind),
+            reading: self.behind_glyph(),
             message: None,
             events,
         }
@@ -569,10 +633,7 @@ impl TextLine {
             return TextStep {
                 reading: Reading::Text(self),
                 message: None,
-                events: events(&[
-                    PageEvent::Text(Event::WordEnd),
-                    PageEvent::Text(Event::Gap(1)),
-                ]),
+                events: LineEvents::Gap,
             };
         }
         let mut behind = self;
@@ -585,73 +646,30 @@ impl TextLine {
     }
 }
 
-/// Whether a byte where a line begins is the first glyph of a text line, unless an interrupted line
-/// goes on.
-#[inline(always)]
-pub(crate) fn begins_with_glyph(byte: u8) -> bool
-    ensures { result ≡ true → (k : Known) (i : PageInput) → i.half ≡ [] → k.interrupted ≡ None
-        → taking k LineStart i byte ≡ meaning_events i (InText (record fresh_line { has_glyph = true }))
-        (Text (Print (Printed byte)) ∷ []) }
+/// The events of bytes that are printed behind so many leading blanks.
+fn bytes_printed(leading: u32, text: &[u8]) -> LineEvents
+    requires { length text.now ≤ 4 }
+    ensures { line_events result ≡ leading_glyph leading ++ map print_event text.now }
 {
-    byte > b' ' && byte != 127 && byte != b'\\' && byte != b'.' && byte != b'\''
-}
-
-/// The events of a glyph behind so many leading blanks.
-fn printed(leading: u32, glyph: Glyph) -> LineEvents
-    ensures { result.items ≡ leading_glyph leading ++ Text (Print glyph) ∷ [] }
-{
-    let mut events = leading_glyph(leading);
-    events.push(PageEvent::Text(Event::Print(glyph)));
-    events
-}
-
-/// The leading blanks, as a glyph of their own.
-fn leading_glyph(leading: u32) -> LineEvents
-    ensures items { result.items ≡ leading_glyph leading }
-    ensures few { length result.items ≤ 1 }
-{
-    let mut events = LineEvents::new();
-    if leading != 0 {
-        events.push(PageEvent::Text(Event::Print(Glyph::Blanks(leading))));
-    }
-    events
-}
-
-/// Adds the events of bytes that are printed.
-fn print_bytes(events: &mut LineEvents, text: &[u8])
-    requires { length events.old.items + length text.now ≤ 5 }
-    ensures { events.new.items
-        ≡ events.old.items ++ map (λ byte. Text (Print (Printed byte))) text.now }
-{
-    let mut rest = text;
-    while let Some((byte, others)) = rest.split_first() {
-        events.push(PageEvent::Text(Event::Print(Glyph::Printed(*byte))));
-        rest = others;
+    match text {
+        [] => LineEvents::Leading(leading),
+        [a] => LineEvents::Print(leading, Glyph::Printed(*a)),
+        [a, b] => LineEvents::Two(leading, [*a, *b]),
+        [a, b, c] => LineEvents::Three(leading, [*a, *b, *c]),
+        [a, b, c, d] => LineEvents::Four(leading, [*a, *b, *c, *d]),
+        _ => unreachable!(),
     }
 }
 
 /// The events of a blank behind so many others at a line's beginning.
 fn leading_blank(before: u32) -> LineEvents
-    ensures { result.items ≡ leading_blank_events before }
+    ensures { line_events result ≡ leading_blank_events before }
 {
     if before == 0 {
-        events(&[
-            PageEvent::Text(Event::WordEnd),
-            PageEvent::Text(Event::Break),
-        ])
+        LineEvents::Break
     } else {
-        LineEvents::new()
+        LineEvents::Nothing
     }
-}
-
-/// These events.
-fn events(all: &[PageEvent]) -> LineEvents
-    requires { length all.now ≤ 5 }
-    ensures { result.items ≡ all.now }
-{
-    let mut events = LineEvents::new();
-    events.try_extend_from_slice(all).unwrap();
-    events
 }
 
 /// What is said, if something is.
@@ -662,6 +680,14 @@ fn message_of(remark: Option<Remark>) -> Option<Message>
         None => None,
         Some(remark) => Some(Message::of_remark(remark)),
     }
+}
+
+/// How many blanks these bytes begin with.
+#[inline(always)]
+pub(crate) fn blanks_in_front(bytes: &[u8]) -> usize
+    ensures { result ≡ length (take_while (λ b. b == blank) bytes.now) }
+{
+    bytes.iter().take_while(|byte| **byte == b' ').count()
 }
 
 /// A count of braces, with one more if this is so.

@@ -1,7 +1,7 @@
--- What the code keeps of the events of a byte or request.
+-- What the code keeps of the events of a request.
 use Rattle.std.specs.Prelude.{ℕ, List, ◌++◌, Option, Some, None}
 use Rattle.arrayvec.specs.ArrayVec.{ArrayVec}
-use Rattle.roff_run.specs.declared.event.Events.TheInside.{Inside}
+use Rattle.roff_run.specs.declared.event.RequestedEvents.TheInside.{Inside}
 use Rattle.roff_run.specs.declared.event.PageEvent.{PageEvent}
 use Rattle.roff_run.specs.Events.{stops_set}
 

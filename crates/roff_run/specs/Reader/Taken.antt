@@ -6,6 +6,7 @@ use Rattle.roff_num.specs.declared.limit.Limit.TheVariants.{Names}
 use Rattle.roff_num.specs.declared.limits.Limits.{Limits}
 use Rattle.roff_scan.specs.Unread.{Unread, input_refusal}
 use Rattle.roff_run.specs.Environments.{PageHistory}
+use Rattle.roff_run.specs.Events.Meant.{events_meant}
 use Rattle.roff_run.specs.Environments.Standing.{StandFor}
 use Rattle.roff_run.specs.declared.environments.Environments.{Environments as EnvironmentsOf}
 use Rattle.roff_run.specs.Reading.{PageInput, Taking}
@@ -47,11 +48,11 @@ pub record Became (t : Taking) (old : Capped) (new : ReaderState) (before behind
   pub registers : new.registers ≡ behind_changes t.effect.changes old
   pub within : first_passed before.limits (counts_in (changed_by_all t.effect.changes old.all) t.input) ≡ None
 
--- and it means what the taking means
+-- and it means what the taking means, with the events that are kept of a request
 pub record Took (t : Taking) (old : Capped) (new : ReaderState) (before behind : PageUnread) (m : Meaning) : Type 0 where
   pub became : Became t old new before behind
   pub messages : option_to_list m.message ≡ t.effect.messages
-  pub events : m.events.items ≡ t.effect.events
+  pub events : events_meant new.requested m.events ≡ t.effect.events
 
 -- or a count would be above this limit, and none above an earlier one
 abbrev pub Takes : Taking → Capped → ReaderState → PageUnread → PageUnread → Result Meaning Limit → Type 0

@@ -1,5 +1,6 @@
 -- What the code of a text line does, as the definition has it.
 use Rattle.std.specs.Option.{option_to_list}
+use Rattle.roff_run.specs.Events.Lines.{line_events}
 use Rattle.roff_run.specs.Reading.{PageInput, Taking}
 use Rattle.roff_run.specs.Requests.{saying}
 use Rattle.roff_run.specs.declared.reading.TextStep.{TextStep}
@@ -9,5 +10,5 @@ abbrev pub step_at : PageInput → TextStep → Taking
 step_at i step = record {
   input = i;
   reading = step.reading;
-  effect = saying (option_to_list step.message) step.events.items;
+  effect = saying (option_to_list step.message) (line_events step.events);
 }

@@ -1,19 +1,20 @@
 //! Bytes that are read at once: most mean nothing.
 
-ghost use Rattle.std.specs.Prelude.{◌≡◌, [], true, false, Ok};
+ghost use Rattle.std.specs.Prelude.{◌≡◌, [], IfSome, None, Ok, true};
 ghost use Rattle.roff_scan.specs.Bytes.{newline};
-ghost use Rattle.roff_run.specs.Reader.AtOnce.{GoesOnAbove, IsReadAbove, TakesAtOnce, ended_line};
-ghost use Rattle.roff_run.specs.Reader.AtOnce.{first_glyph, only_events};
+ghost use Rattle.roff_run.specs.Reader.AtOnce.{GoesOnAbove, IsReadAbove, TakesAtOnce, only_events};
+ghost use Rattle.roff_run.specs.Reader.AtOnce.{text_byte_events};
+ghost use Rattle.roff_run.specs.Reading.{PageInput, line_begun, meaning_events, text_taking};
+ghost use Rattle.roff_run.specs.Stages.{TurnsFront, counts_blanks};
 ghost use Rattle.roff_run.specs.Clauses.{LineStart, NameOf, PageUnread, TakesAs, kept_taking};
 ghost use Rattle.roff_run.specs.Clauses.{taking};
-ghost use Rattle.roff_run.specs.declared.reading.Reading.TheVariants.{Arguments as InArguments};
-ghost use Rattle.roff_run.specs.declared.reading.Reading.TheVariants.{Calling, Text as InText};
+ghost use Rattle.roff_run.specs.declared.reading.Reading.TheVariants.{Arguments as InArguments, Calling};
 
 use super::control_lines::called_by;
 use super::{AtOnce, Reader};
 use crate::environments::Environments;
 use crate::event::PageEvent;
-use crate::reading::{Reading, ShortName, TextLine, begins_with_glyph, ends_name};
+use crate::reading::{Reading, ShortName, TextByte, TextLine, blanks_in_front, ends_name};
 use crate::request::{Called, Request};
 use roff_scan::{CopyUnit, Read, Unread, is_dropped};
 
@@ -34,78 +35,95 @@ impl Reader {
         self.reads_kept_on(byte, unread)
     }
 
-    /// Reads the end of a text line on which a glyph stands. Another byte does nothing.
+    /// Reads a byte of a text line, or the first of one that isn't an interrupted one, if it is one
+    /// of those that most often stand at the beginning of a line, or at its end. Another byte does
+    /// nothing.
     #[inline(always)]
-    pub fn ends_text_line(&mut self, byte: u8, unread: &Unread<PageEvent>) -> bool
-        ensures { TakesAtOnce (λ k. taking k self.old.reading unread.now.input byte) ended_line
-            self.old self.new unread.now unread.now result }
-    {
-        match self.reading {
-            Reading::Text(line) => self.ends_line(line, byte, unread),
-            _ => false,
-        }
-    }
-
-    /// The same of this line.
-    #[inline(always)]
-    fn ends_line(&mut self, line: TextLine, byte: u8, unread: &Unread<PageEvent>) -> bool
-        ensures { TakesAtOnce (λ k. taking k (InText line) unread.now.input byte) ended_line
-            self.old self.new unread.now unread.now result }
-    {
-        if unread.is_half_read() {
-            return false;
-        }
-        if !line.ends_with(byte) {
-            return false;
-        }
-        self.go_on(Reading::LineStart);
-        true
-    }
-
-    /// Reads the first glyph of a text line that isn't an interrupted one. Another byte does nothing.
-    #[inline(always)]
-    pub fn begins_text_line(
+    pub fn take_text(
         &mut self,
         byte: u8,
         environments: &Environments,
         unread: &Unread<PageEvent>,
-    ) -> bool
-        ensures begins { result ≡ true
-            → TakesAs (λ k. taking k self.old.reading unread.now.input byte) environments.now
-            self.old self.new unread.now unread.now (Ok (only_events (first_glyph byte))) }
-        ensures kept { result ≡ false → self.new ≡ self.old }
+    ) -> Option<TextByte>
+        ensures takes { IfSome result (λ means.
+            TakesAs (λ k. taking k self.old.reading unread.now.input byte) environments.now
+            self.old self.new unread.now unread.now
+            (Ok (only_events (text_byte_events byte means)))) }
+        ensures kept { result ≡ None → self.new ≡ self.old }
     {
+        if unread.is_half_read() {
+            return None;
+        }
+        if is_dropped(byte) {
+            return None;
+        }
+        if byte == b'\\' {
+            return None;
+        }
         match self.reading {
-            Reading::LineStart => self.begins_line(byte, environments, unread),
-            _ => false,
+            Reading::LineStart => self.take_first(byte, environments),
+            Reading::Text(line) => self.take_on(line, byte),
+            _ => None,
         }
     }
 
-    /// The same where a line begins.
+    /// The same where a line begins, of a byte that is neither dropped nor a backslash.
     #[inline(always)]
-    fn begins_line(
-        &mut self,
-        byte: u8,
-        environments: &Environments,
-        unread: &Unread<PageEvent>,
-    ) -> bool
-        ensures begins { result ≡ true
-            → TakesAs (λ k. taking k LineStart unread.now.input byte) environments.now
-            self.old self.new unread.now unread.now (Ok (only_events (first_glyph byte))) }
-        ensures kept { result ≡ false → self.new ≡ self.old }
+    fn take_first(&mut self, byte: u8, environments: &Environments) -> Option<TextByte>
+        ensures takes { IfSome result (λ means. (u : PageUnread)
+            → TakesAs (λ k. line_begun k u.input byte) environments.now
+            self.old self.new u u (Ok (only_events (text_byte_events byte means)))) }
+        ensures kept { result ≡ None → self.new ≡ self.old }
     {
-        if unread.is_half_read() {
-            return false;
+        if byte == b'.' {
+            return None;
         }
-        if !begins_with_glyph(byte) {
-            return false;
+        if byte == b'\'' {
+            return None;
         }
         match environments.interrupted_line() {
-            Some(_) => false,
-            None => {
-                self.go_on(Reading::Text(TextLine::of_glyph()));
-                true
+            Some(_) => None,
+            None => self.take_on(TextLine::new(), byte),
+        }
+    }
+
+    /// The same on this text line.
+    #[inline(always)]
+    fn take_on(&mut self, line: TextLine, byte: u8) -> Option<TextByte>
+        ensures takes { IfSome result (λ means. (i : PageInput) → text_taking i line byte
+            ≡ meaning_events i self.new.reading (text_byte_events byte means)) }
+        ensures reading { self.new ≡ record self.old { reading = self.new.reading } }
+        ensures kept { result ≡ None → self.new ≡ self.old }
+    {
+        let (reading, means) = line.at_once(byte)?;
+        self.go_on(reading);
+        Some(means)
+    }
+
+    /// Whether blanks only count where nothing is half read: in front of the first glyph of a text
+    /// line, behind another blank.
+    #[inline(always)]
+    pub fn counts_blanks(&self) -> bool
+        ensures { result ≡ counts_blanks self.now.reading }
+    {
+        match self.reading {
+            Reading::Text(line) => line.counts_blanks(),
+            _ => false,
+        }
+    }
+
+    /// Counts the blanks with which these bytes begin, where they only count. How many they are.
+    pub fn count_blanks(&mut self, front: &[u8]) -> usize
+        requires { counts_blanks self.old.reading ≡ true }
+        ensures { TurnsFront front.now result self.old self.new }
+    {
+        match self.reading {
+            Reading::Text(line) => {
+                let count = blanks_in_front(front);
+                self.go_on(Reading::Text(line.behind_blanks(count)));
+                count
             }
+            _ => 0,
         }
     }
 

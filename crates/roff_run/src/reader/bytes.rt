@@ -9,7 +9,7 @@ ghost use Rattle.roff_run.specs.Clauses.{Passes, TakesAs, meaning_events, is_pas
 ghost use Rattle.roff_run.specs.Clauses.{taking, due};
 ghost use Rattle.roff_run.specs.Reader.Found.{has_place};
 ghost use Rattle.roff_run.specs.Telling.{Prints};
-ghost use Rattle.roff_run.specs.Stages.{Holds, ReadsHalves};
+ghost use Rattle.roff_run.specs.Stages.{Holds, ReadsHalves, TakesHalf};
 ghost use Rattle.roff_scan.specs.Arguments.{is_argument_byte};
 ghost use Rattle.roff_scan.specs.Bytes.{is_text_byte};
 
@@ -107,6 +107,20 @@ impl Reader {
             Reading::LineStart => true,
             Reading::Branch => true,
             Reading::Text(_) => true,
+            _ => false,
+        }
+    }
+
+    /// Whether bytes may change only what is half read, in which some are held, and what is read
+    /// stays: in a condition.
+    #[inline(always)]
+    #[tactic(auto, using(crate::proofs::ConditionRuns::takes_where))]
+    pub fn reads_condition(&self) -> bool
+        ensures takes { result ≡ true → TakesHalf self.now.reading }
+        ensures none_due { result ≡ true → due self.now.reading ≡ None }
+    {
+        match self.reading {
+            Reading::Deciding { .. } => true,
             _ => false,
         }
     }

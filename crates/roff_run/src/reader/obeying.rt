@@ -4,12 +4,13 @@ ghost use Rattle.std.specs.Prelude.{◌≡◌, ℕ, reverse, slice_get};
 ghost use Rattle.roff_num.specs.declared.limits.Limits.{Limits};
 ghost use Rattle.roff_run.specs.Clauses.{Changed, calling_all, calls_of, name_in, removals};
 ghost use Rattle.roff_run.specs.Clauses.{PageHistory, StandFor, TakesAs, changes_of, effect_of};
+ghost use Rattle.roff_run.specs.Events.Meant.{events_meant};
 ghost use Rattle.roff_run.specs.Clauses.{known_at, line_ended, names_given, request_effect};
 
 use super::registers::facts;
 use super::{Meaning, Reader};
 use crate::environments::Environments;
-use crate::event::PageEvent;
+use crate::event::{Events, PageEvent, RequestedEvents};
 use crate::reading::Reading;
 use crate::request::{Changes, Effect, Given, Known, Request, name_given};
 use roff_num::{Limit, Name};
@@ -35,8 +36,20 @@ impl Reader {
         self.reading = behind;
         Ok(Meaning {
             message: effect.message,
-            events: effect.events,
+            events: self.keep(effect.events),
         })
+    }
+
+    /// Keeps the events of a request, if it has any.
+    fn keep(&mut self, events: RequestedEvents) -> Events
+        ensures kept { events_meant self.new.requested result ≡ events.items }
+        ensures others { self.new ≡ record self.old { requested = self.new.requested } }
+    {
+        if events.are_none() {
+            return Events::new();
+        }
+        self.requested = events;
+        Events::requested()
     }
 
     /// What a request means with the arguments that were read.

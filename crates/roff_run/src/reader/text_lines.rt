@@ -1,6 +1,8 @@
 //! The beginning of a line, and text lines.
 
 ghost use Rattle.std.specs.Prelude.{◌≡◌, ◌++◌, Ok};
+ghost use Rattle.roff_run.specs.Events.Lines.{line_events};
+ghost use Rattle.roff_run.specs.Events.Meant.{few_meant};
 ghost use Rattle.roff_run.specs.Clauses.{PageUnread, TakesAs, beginning_found, first_escape, first_name};
 ghost use Rattle.roff_run.specs.Clauses.{first_taking, going_on_told, line_begun, name_taking, text_found};
 
@@ -168,12 +170,12 @@ impl Reader {
     pub(super) fn step(&mut self, step: TextStep) -> Meaning
         ensures reading { self.new ≡ record self.old { reading = step.reading } }
         ensures message { result.message ≡ step.message }
-        ensures events { result.events.items ≡ step.events.items }
+        ensures events { result.events ≡ few_meant (line_events step.events) }
     {
         self.reading = step.reading;
         Meaning {
             message: step.message,
-            events: Events::of_line(false, &step.events),
+            events: Events::of_line(false, step.events),
         }
     }
 
@@ -181,12 +183,13 @@ impl Reader {
     pub(super) fn begin_text(&mut self, step: TextStep, interrupted: Option<TextLine>) -> Meaning
         ensures reading { self.new ≡ record self.old { reading = step.reading } }
         ensures message { result.message ≡ step.message }
-        ensures events { result.events.items ≡ going_on_told interrupted ++ step.events.items }
+        ensures events { result.events
+            ≡ few_meant (going_on_told interrupted ++ line_events step.events) }
     {
         self.reading = step.reading;
         Meaning {
             message: step.message,
-            events: Events::of_line(interrupted.is_some(), &step.events),
+            events: Events::of_line(interrupted.is_some(), step.events),
         }
     }
 }

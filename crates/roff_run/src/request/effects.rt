@@ -5,7 +5,7 @@ ghost use Rattle.std.specs.Option.{option_to_list};
 ghost use Rattle.roff_run.specs.Request.Coded.{calls_of, changes_of, done_of, effect_of};
 ghost use Rattle.roff_run.specs.Requests.Effects.{Does, Ignored, bad_format, bad_number, behind_break, happens, left_out, meant_by, no_such_environment, nothing, setting};
 
-use crate::event::{Events, FewEvents, PageEvent, RequestEvents, Stops};
+use crate::event::{FewEvents, PageEvent, RequestEvents, RequestedEvents, Stops};
 use crate::message::Message;
 use crate::registers::Change;
 use roff_lines::{Event, Param, Settings};
@@ -58,7 +58,7 @@ pub(crate) enum Changes {
 pub(crate) struct Effect {
     pub(crate) message: Option<Message>,
     pub(crate) changes: Changes,
-    pub(crate) events: Events,
+    pub(crate) events: RequestedEvents,
 }
 
 impl Done {
@@ -140,7 +140,7 @@ impl Done {
             Done::Ignored(message) => Effect {
                 message,
                 changes: Changes::Nothing,
-                events: Events::new(),
+                events: RequestedEvents::new(),
             },
             Done::Does(message, changes, events) => {
                 let mut few = break_events(breaks);
@@ -148,13 +148,13 @@ impl Done {
                 Effect {
                     message,
                     changes,
-                    events: Events::few(few),
+                    events: RequestedEvents::few(few),
                 }
             }
             Done::SetsStops(stops) => Effect {
                 message: None,
                 changes: Changes::Nothing,
-                events: Events::setting_stops(break_events(breaks), stops),
+                events: RequestedEvents::setting_stops(break_events(breaks), stops),
             },
         }
     }

@@ -39,5 +39,5 @@ returns g c =
       | in-SourceEnd w ↦ rw w.in-SourceEnd.is w.seen-is
     ] in
     let look = c.look.ensures in
-    waiting_in_front c.args.self.now look.looks c.match-look.seen is_front (sym c.seen_stays.ensures ∙ c.if-seen_stays.false) _ _ _ _ _ _ _ c.turn_in_front.new.self _ _
-    look.failures look.notes c.turn_in_front.ensures
+    waiting_in_front c.args.self.now look.looks c.match-look.seen is_front (sym c.seen_stays.ensures ∙ c.if-seen_stays.false) _ _ _ _ _ _ _ c.turn_above.new.self _ _
+    look.failures look.notes c.turn_above.ensures

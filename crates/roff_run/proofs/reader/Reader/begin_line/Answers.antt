@@ -9,7 +9,7 @@ use Rattle.roff_run.proofs.reader.Reader.begin_line.Goals as goal
 pub returns-in-Asks : goal.returns-in-Asks
 returns-in-Asks c =
     let u = c.args.unread.now in
-    let set : ReaderState = record { reading = c.args.at; registers = c.self.inside.registers } in
+    let set : ReaderState = record { reading = c.args.at; registers = c.self.inside.registers; requested = c.self.inside.requested.items } in
     let done = c.begin_with_name in
     rw c.in-Asks.is
     (TakesAs-set (λ k. first_name k u.input c.args.at c.in-Asks.purpose c.in-Asks.name) c.args.environments.now c.args.self.now set done.new.self u

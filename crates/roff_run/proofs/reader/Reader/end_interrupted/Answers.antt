@@ -1,5 +1,6 @@
 use Rattle.std.proofs.Common.{List, ◌∷◌, [], Option, None, Some, Ok, refl, sym, ap, ◌∙◌}
 use Rattle.roff_lines.specs.declared.event.Event.TheVariants.{Resume}
+use Rattle.roff_run.specs.Events.Meant.{few_meant}
 use Rattle.roff_run.specs.Reader.State.{ReaderState}
 use Rattle.roff_run.specs.Reading.{going_on, interrupted_end, meaning_events}
 use Rattle.roff_run.specs.Requests.{PageEvent, Text}
@@ -12,7 +13,7 @@ returns-in-None c = λ u.
     let behind = c.args.behind in
     let es = c.args.environments.now in
     let old = c.args.self.now in
-    let new : ReaderState = record { reading = behind; registers = c.self.inside.registers } in
+    let new : ReaderState = record { reading = behind; registers = c.self.inside.registers; requested = c.self.inside.requested.items } in
     let m = c.nothing.result in
     let none : Option TextLine = None in
     TakesAs-asked (λ k line. meaning_events u.input behind (interrupted_end line)) (λ k. k.interrupted) none es old new u u (Ok m)
@@ -31,4 +32,4 @@ returns-in-Some c = λ u.
     (λ l h rs i stands. sym c.in-Some.is ∙ c.interrupted_line.ensures l h stands)
     (TakesAs-meant (λ k. meaning_events u.input behind (interrupted_end line)) behind (interrupted_end line) es old done.new.self u done.result (λ k. refl)
     (done.ensures.reading ∙ ap (λ (s : ReaderState). record s { reading = behind }) c.self.view_is) done.ensures.message
-    (done.ensures.events ∙ ap (λ (events : List PageEvent). Text Resume ∷ events) c.end.ensures))
+    (done.ensures.events ∙ ap (λ (events : List PageEvent). few_meant (Text Resume ∷ events)) c.end.ensures))

@@ -10,8 +10,8 @@ pub returns-in_err-push : goal.returns-in_err-push
 returns-in_err-push c =
     let u = c.args.unread.now in
     let name = c.args.name.now in
-    let kept : ReaderState = record { reading = c.self.inside.reading; registers = c.self.inside.registers } in
-    let new : ReaderState = record { reading = c.self.inside.reading; registers = c.interpolate-given.new.self } in
+    let kept : ReaderState = record { reading = c.self.inside.reading; registers = c.self.inside.registers; requested = c.self.inside.requested.items } in
+    let new : ReaderState = record { reading = c.self.inside.reading; registers = c.interpolate-given.new.self; requested = c.self.inside.requested.items } in
     let knows : KnowsText c.args.environments.now kept.registers.all u.input c.args.step name c.deref.result.now = record {
       facts = c.facts-facts.result;
       known = c.facts-facts.ensures;
@@ -26,8 +26,8 @@ pub returns : goal.returns
 returns c =
     let u = c.args.unread.now in
     let name = c.args.name.now in
-    let kept : ReaderState = record { reading = c.self.inside.reading; registers = c.self.inside.registers } in
-    let new : ReaderState = record { reading = c.self.inside.reading; registers = c.interpolate-given.new.self } in
+    let kept : ReaderState = record { reading = c.self.inside.reading; registers = c.self.inside.registers; requested = c.self.inside.requested.items } in
+    let new : ReaderState = record { reading = c.self.inside.reading; registers = c.interpolate-given.new.self; requested = c.self.inside.requested.items } in
     let knows : KnowsText c.args.environments.now kept.registers.all u.input c.args.step name c.deref.result.now = record {
       facts = c.facts-facts.result;
       known = c.facts-facts.ensures;

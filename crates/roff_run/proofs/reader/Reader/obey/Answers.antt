@@ -1,6 +1,7 @@
 use Rattle.std.proofs.Common.{◌≡◌, ◌∙◌, Err, ap, refl, rules, subst, sym}
 use Rattle.roff_run.specs.Reader.State.{ReaderState}
 use Rattle.roff_run.specs.Reader.Taken.{ChangedTo}
+use Rattle.roff_run.specs.Registers.Capped.{Capped}
 use Rattle.roff_run.specs.Request.Coded.{changes_of}
 use Rattle.roff_run.specs.Reading.{reading_behind}
 use Rattle.roff_run.specs.declared.request.Row.{Row}
@@ -24,10 +25,14 @@ returns c =
     let u = c.args.unread.now in
     let mid = c.finish_arguments.new.self in
     let obeys : Obeys es c.args.self.now.registers.all mid c.args.breaks c.args.request c.effect-effect.result = record { effect_is = c.effect-effect.ensures } in
-    let set : ReaderState = record { reading = c.behind_line-behind.result; registers = c.self.inside.registers } in
+    let set : ReaderState = record { reading = c.behind_line-behind.result; registers = c.self.inside.registers; requested = c.self.inside.requested.items } in
     let changed : ChangedTo (changes_of (texts_read mid) c.effect-effect.result.changes) c.args.self.now.registers set.registers =
     subst (λ (s : ReaderState). ChangedTo (changes_of (texts_read mid) c.effect-effect.result.changes) c.args.self.now.registers s.registers) (sym c.self.view_is)
     c.in_ok-change.ensures.changed in
-    TakesAs-obeyed es c.args.self.now set u mid c.change.new.unread c.begin_arguments.new.self c.args.breaks c.args.request c.effect-effect.result _
-    c.finish_arguments.ensures.change obeys changed c.in_ok-change.ensures.called c.begin_arguments.ensures.change
-    (c.behind_line-behind.ensures ∙ ap (λ (r : Row). reading_behind r.line) c.row.ensures) refl refl
+    let kept = c.keep in
+    let changed_now : ChangedTo (changes_of (texts_read mid) c.effect-effect.result.changes) c.args.self.now.registers kept.new.self.registers =
+    subst (λ (r : Capped). ChangedTo (changes_of (texts_read mid) c.effect-effect.result.changes) c.args.self.now.registers r)
+    (sym (ap (λ (s : ReaderState). s.registers) kept.ensures.others)) changed in
+    TakesAs-obeyed es c.args.self.now kept.new.self u mid c.change.new.unread c.begin_arguments.new.self c.args.breaks c.args.request c.effect-effect.result _
+    c.finish_arguments.ensures.change obeys changed_now c.in_ok-change.ensures.called c.begin_arguments.ensures.change
+    (ap (λ (s : ReaderState). s.reading) kept.ensures.others ∙ c.behind_line-behind.ensures ∙ ap (λ (r : Row). reading_behind r.line) c.row.ensures) refl kept.ensures.kept

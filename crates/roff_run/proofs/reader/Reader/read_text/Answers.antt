@@ -23,7 +23,7 @@ returns-in-Tells c = rw c.in-Tells.is (c.tell.ensures c.args.environments.now c.
 pub returns-in-Asks : goal.returns-in-Asks
 returns-in-Asks c =
     let u = c.args.unread.now in
-    let set : ReaderState = record { reading = Text c.args.line; registers = c.self.inside.registers } in
+    let set : ReaderState = record { reading = Text c.args.line; registers = c.self.inside.registers; requested = c.self.inside.requested.items } in
     rw c.in-Asks.is
     (TakesAs-set (λ k. name_taking k u.input (Text c.args.line) c.args.line c.in-Asks.purpose c.in-Asks.name) c.args.environments.now c.args.self.now set c.read_name.new.self u
     c.read_name.new.unread c.read_name.result (ap (λ (s : ReaderState). s.registers) c.self.view_is) c.read_name.ensures)

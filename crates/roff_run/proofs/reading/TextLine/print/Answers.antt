@@ -2,13 +2,12 @@ use Rattle.std.proofs.Common.{true, List, ◌++◌, sym, ap, ◌∙◌}
 use Rattle.roff_run.specs.Reading.{leading_glyph, meaning_events}
 use Rattle.roff_run.specs.Requests.{PageEvent}
 use Rattle.roff_run.specs.declared.reading.Reading.TheVariants.{Text}
-use Rattle.roff_run.proofs.Printing.{prints, prints-glyphs}
+use Rattle.roff_run.proofs.Printing.{prints-glyphs}
 use Rattle.roff_run.proofs.reading.TextLine.print.Goals as goal
 
 pub returns : goal.returns
 returns c = λ i.
     let at = λ (events : List PageEvent). meaning_events i (Text (record c.args.self { has_glyph = true; leading = 0 })) events in
     c.printed.ensures i
-    ∙ ap at c.print_bytes.ensures
-    ∙ ap (λ (events : List PageEvent). at (events ++ prints c.args.text.now)) c.leading_glyph-events.ensures.items
+    ∙ ap at c.bytes_printed.ensures
     ∙ ap (λ (events : List PageEvent). at (leading_glyph c.args.self.leading ++ events)) (sym (prints-glyphs c.args.text.now))

@@ -1,0 +1,11 @@
+use Rattle.roff_run.proofs.ConditionRuns.{reads-condition}
+use Rattle.roff_engine.proofs.Turned.{goes_past_turned}
+use Rattle.roff_engine.proofs.running.Running.read_condition.Goals as goal
+
+pub returns : goal.returns
+returns g c = λ out err.
+    let took = c.take_front.ensures in
+    let old = c.args.self.now in
+    goes_past_turned _ _ _ _ _ _ out err old _ old.formatter.reader
+    (reads-condition _ _ old.formatter.reader old.unread _ c.requires.none_due c.requires.takes took.takes took.within)
+    took.notes took.failures
