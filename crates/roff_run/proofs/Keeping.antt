@@ -414,7 +414,9 @@ ends_plain k (Deciding keeping) i is = absurd (cc)
 ends_plain k (StringName appends) i is = absurd (cc)
 ends_plain k (StringText name appends is_front) i is = absurd (cc)
 ends_plain k (Skipping opened closed behind) i is = absurd (cc)
-ends_plain k (Defining name appends end matched) i is = absurd (cc)
+ends_plain k (Defining name appends end matched) i is =
+    Keeps-alike 2 (plain i) (plain i) LineStart (definition_dropped name (plain i)) LineStart (Keeps-plain i 2 LineStart (omega arith))
+    (Alike-definition_dropped name (plain i)) refl
 ends_plain k Dropped i is = absurd (cc)
 ends_plain k (Told aborts) i is = absurd (cc)
 ends_plain k Exiting i is = absurd (cc)

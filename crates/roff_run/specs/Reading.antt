@@ -743,12 +743,14 @@ due Exiting = Some Leaves
 due (_) = None
 
 -- whether a control line is read behind whose end there may be more to do: where the input ends, that line ends first, and
--- then a called body is read, a message is told, or a definition has begun
+-- then a called body is read, a message is told, or a definition has begun; a definition that the input's end cuts is dropped
+-- first, and then the input ends where a line begins
 abbrev pub line_ends_first : Reading → Bool
 line_ends_first (Name breaks first) = true
 line_ends_first (InArguments breaks request) = true
 line_ends_first (Calling name) = true
 line_ends_first (Telling aborts is_front) = true
+line_ends_first (Defining name appends end matched) = true
 line_ends_first (_) = false
 
 -- the text of a message, as it was read

@@ -211,7 +211,8 @@ impl Reading {
         }
     }
 
-    /// Whether a control line is read that ends where the input does, before the input's end is met.
+    /// Whether a control line is read that ends where the input does, or a definition that is dropped
+    /// there, before the input's end is met.
     pub(crate) fn line_ends_first(self) -> bool
         ensures { result ≡ line_ends_first self }
     {
@@ -220,6 +221,7 @@ impl Reading {
             Reading::Arguments { .. } => true,
             Reading::Calling { .. } => true,
             Reading::Telling { .. } => true,
+            Reading::Defining { .. } => true,
             _ => false,
         }
     }
