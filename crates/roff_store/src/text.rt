@@ -18,6 +18,15 @@ pub enum Kind {
     Request(u16),
 }
 
+/// How long the body of a name is, and what it ends in.
+#[derive(Clone, Copy, Debug)]
+pub struct BodyEnd {
+    /// How many bytes it has; none where the name has no body.
+    pub len: usize,
+    /// The last of them, if there is one.
+    pub last: Option<u8>,
+}
+
 /// A text in the making, by its number: the oldest is 0.
 #[derive(Clone, Copy, Debug, PartialEq, Eq)]
 pub struct OpenId(pub usize);

@@ -12,7 +12,7 @@ ghost use Rattle.roff_store.specs.TextStore.Strands.{strands_of};
 use crate::chunks::{CHUNK, Chunks};
 use crate::name_table::NameTable;
 use crate::strand::Strand;
-use crate::text::{Entry, Kind, LeaseId, OpenId};
+use crate::text::{BodyEnd, Entry, Kind, LeaseId, OpenId};
 use roff_num::{Limit, Name};
 use std::alloc::{AllocError, Global};
 use std::marker::Model;
@@ -158,6 +158,21 @@ impl TextStore {
         match self.names.get(name)? {
             Meaning::Body(strand) => self.chunks.last_byte(strand),
             Meaning::Request(_) => None,
+        }
+    }
+
+    /// How long the body of a name is, and what it ends in. A name without a body has an empty one.
+    pub fn body_end(&self, name: &Name) -> BodyEnd
+        ensures len { result.len ≡ length (body_of name.now self.now) }
+        ensures last { result.last ≡ last_or None (body_of name.now self.now) }
+    {
+        match self.names.get(name) {
+            Some(Meaning::Body(strand)) => BodyEnd {
+                len: strand.rest,
+                last: self.chunks.last_byte(strand),
+            },
+            Some(Meaning::Request(_)) => BodyEnd { len: 0, last: None },
+            None => BodyEnd { len: 0, last: None },
         }
     }
 
