@@ -2,7 +2,8 @@
 
 ghost use Rattle.std.specs.Prelude.{IsTrue, false, true, ◌≡◌, ◌↔◌, ◌+◌, ◌<◌, ◌≤◌, ◌^◌, [], ◌∷◌};
 ghost use Rattle.std.specs.Prelude.{◌++◌, drop, map, length, option_map, IfOk, IfSome, None, take};
-ghost use Rattle.std.specs.Prelude.{take_while, Some};
+ghost use Rattle.std.specs.Prelude.{take_while, Some, ℕ, List};
+ghost use Rattle.std.specs.List.{last_or};
 ghost use Rattle.roff_scan.specs.Input.{is_none_ahead, first, front_cost, called_text};
 ghost use Rattle.roff_scan.specs.Input.{lacks_newline};
 ghost use Rattle.roff_scan.specs.Input.{ByteAhead, FreeAhead, EndAhead, ReturnAhead, DoAhead};
@@ -32,6 +33,15 @@ pub(crate) enum Frame<E> {
     Event(E),
     /// A body, by the lease on it.
     Body(LeaseId),
+}
+
+/// How a line calls the body of a name.
+#[derive(Clone, Copy)]
+pub(crate) struct Called {
+    /// How many bytes are put in front: those of the body, and the newline behind them.
+    pub(crate) len: usize,
+    /// Whether a newline is put behind the body: it has bytes, and none at its end.
+    pub(crate) lacks_newline: bool,
 }
 
 /// What stands ahead of the source, and the texts by name. All its memory is reserved as it is
@@ -131,8 +141,10 @@ impl<E: Copy> Frames<E> {
         body_len(&self.texts, name)
     }
 
-    /// Puts the body of a name and its end in front; it is read where it lies.
-    pub(crate) fn push_body(&mut self, name: &Name)
+    /// Puts the body of a name, which has so many bytes, and its end in front; it is read where it
+    /// lies.
+    pub(crate) fn push_body(&mut self, name: &Name, len: usize)
+        requires len { len ≡ length (body_of name.now self.old.texts) }
         requires bytes { length (body_of name.now self.old.texts) + bytes_ahead self.old.ahead
             ≤ self.old.most_bytes }
         requires ends { ends_ahead self.old.ahead < self.old.most_texts }
@@ -141,36 +153,35 @@ impl<E: Copy> Frames<E> {
         } }
     {
         self.slots.push(&[]);
-        put_body(&mut self.slots, &mut self.texts, name);
+        put_body(&mut self.slots, &mut self.texts, name, len);
     }
 
-    /// How many bytes the body of a name has where a line calls it.
-    pub(crate) fn called_len(&self, name: &Name) -> usize
-        ensures { result ≡ length (called_text (body_of name.now self.now.texts)) }
+    /// How a line calls the body of a name.
+    pub(crate) fn called(&self, name: &Name) -> Called
+        ensures len { result.len ≡ length (called_text (body_of name.now self.now.texts)) }
+        ensures lacks { result.lacks_newline ≡ lacks_newline (body_of name.now self.now.texts) }
     {
         // No body is longer than all of them.
         let _ = self.texts.used();
-        let len = self.body_len(name);
-        if self.lacks_newline(name) {
-            len + 1
+        let body = self.texts.body_end(name);
+        if lacks_newline(body.last) {
+            Called {
+                len: body.len + 1,
+                lacks_newline: true,
+            }
         } else {
-            len
+            Called {
+                len: body.len,
+                lacks_newline: false,
+            }
         }
     }
 
-    /// Whether the body of a name has bytes, and no newline at its end.
-    fn lacks_newline(&self, name: &Name) -> bool
-        ensures { result ≡ lacks_newline (body_of name.now self.now.texts) }
-    {
-        match self.texts.last_byte(name) {
-            Some(byte) => byte != b'\n',
-            None => false,
-        }
-    }
-
-    /// Puts the body of a name that a line calls in front, and the end of the call; it is read
+    /// Puts the body of a name that a line calls so in front, and the end of the call; it is read
     /// where it lies.
-    pub(crate) fn push_call(&mut self, name: &Name)
+    pub(crate) fn push_call(&mut self, name: &Name, called: Called)
+        requires len { called.len ≡ length (called_text (body_of name.now self.old.texts)) }
+        requires lacks { called.lacks_newline ≡ lacks_newline (body_of name.now self.old.texts) }
         requires bytes { length (called_text (body_of name.now self.old.texts))
             + bytes_ahead self.old.ahead ≤ self.old.most_bytes }
         requires ends { ends_ahead self.old.ahead < self.old.most_texts }
@@ -179,13 +190,12 @@ impl<E: Copy> Frames<E> {
               ++ ReturnAhead ∷ self.old.ahead;
         } }
     {
-        let lacks_newline = self.lacks_newline(name);
         self.slots.push_return();
-        if lacks_newline {
+        if called.lacks_newline {
             self.slots.push_byte(b'\n');
-            put_body(&mut self.slots, &mut self.texts, name);
+            put_body(&mut self.slots, &mut self.texts, name, called.len - 1);
         } else {
-            put_body(&mut self.slots, &mut self.texts, name);
+            put_body(&mut self.slots, &mut self.texts, name, called.len);
         }
     }
 
@@ -548,8 +558,24 @@ fn body_len(texts: &TextStore, name: &Name) -> usize
     }
 }
 
-/// Puts the body of a name in front of an end, or of bytes before one.
-fn put_body<E: Copy>(slots: &mut Slots<Frame<E>>, texts: &mut TextStore, name: &Name)
+/// Whether a body has bytes, and no newline at its end, by its last byte.
+fn lacks_newline(last: Option<u8>) -> bool
+    ensures { (body : List ℕ) → last ≡ last_or None body → result ≡ lacks_newline body }
+{
+    match last {
+        Some(byte) => byte != b'\n',
+        None => false,
+    }
+}
+
+/// Puts the body of a name, which has so many bytes, in front of an end, or of bytes before one.
+fn put_body<E: Copy>(
+    slots: &mut Slots<Frame<E>>,
+    texts: &mut TextStore,
+    name: &Name,
+    len: usize,
+)
+    requires len { len ≡ length (body_of name.now texts.old) }
     requires sound { IsSound {E = E} (record { slots = slots.old; texts = texts.old }) }
     requires end { is_end_next slots.old.ahead ≡ true }
     requires bytes { length (body_of name.now texts.old)
@@ -557,7 +583,7 @@ fn put_body<E: Copy>(slots: &mut Slots<Frame<E>>, texts: &mut TextStore, name: &
     ensures { PutsBytes (record { slots = slots.old; texts = texts.old })
         (record { slots = slots.new; texts = texts.new }) (body_of name.now texts.old) }
 {
-    if body_len(texts, name) == 0 {
+    if len == 0 {
         return;
     }
     if let Some(lease) = texts.lease(name) {

@@ -505,13 +505,14 @@ impl<E: Copy> Unread<E> {
             ≡ changing (pushing (body_named name.now self.old.input) self.old.input) self.old }
         ensures within { IsWithin self.new }
     {
-        if self.frames.body_len(name) > self.limits.stack as usize - self.pushed() {
+        let len = self.frames.body_len(name);
+        if len > self.limits.stack as usize - self.pushed() {
             return Err(Limit::Stack);
         }
         if self.is_deep() {
             return Err(Limit::Depth);
         }
-        self.frames.push_body(name);
+        self.frames.push_body(name, len);
         Ok(())
     }
 
@@ -527,7 +528,8 @@ impl<E: Copy> Unread<E> {
             ≡ changing (calling_body (body_named name.now self.old.input) self.old.input) self.old }
         ensures within { IsWithin self.new }
     {
-        if self.frames.called_len(name) > self.limits.stack as usize - self.pushed() {
+        let called = self.frames.called(name);
+        if called.len > self.limits.stack as usize - self.pushed() {
             return Err(Limit::Stack);
         }
         if self.is_deep() {
@@ -536,7 +538,7 @@ impl<E: Copy> Unread<E> {
         self.arguments.finish();
         self.calls.push(self.arguments.list());
         self.arguments.clear();
-        self.frames.push_call(name);
+        self.frames.push_call(name, called);
         Ok(())
     }
 

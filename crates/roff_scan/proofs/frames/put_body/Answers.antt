@@ -19,17 +19,17 @@ put_back-requires g c =
     let a : Inside _ = record { slots = c.args.slots.now; texts = c.args.texts.now } in
     room-for-mark a c.requires.sound c.args.name.now c.requires.end c.requires.bytes
 
-pub returns-then-body_len-eq0 : goal.returns-then-body_len-eq0
-returns-then-body_len-eq0 g c =
+pub returns-then-len-eq0 : goal.returns-then-len-eq0
+returns-then-len-eq0 g c =
     let a : Inside _ = record { slots = c.args.slots.now; texts = c.args.texts.now } in
-    let none : length (body_of c.args.name.now c.args.texts.now) ≡ 0 = omega (arith, c.body_len.ensures, c.if-body_len-eq0.true) in
+    let none : length (body_of c.args.name.now c.args.texts.now) ≡ 0 = omega (arith, c.requires.len, c.if-len-eq0.true) in
     PutsBytes-none a (body_of c.args.name.now c.args.texts.now) none c.requires.sound
 
 pub returns-in-Some : goal.returns-in-Some
 returns-in-Some g c =
     let a : Inside _ = record { slots = c.args.slots.now; texts = c.args.texts.now } in
     let body = body_of c.args.name.now c.args.texts.now in
-    let some : 0 < length body = omega (arith, c.body_len.ensures, c.if-body_len-eq0.false) in
+    let some : 0 < length body = omega (arith, c.requires.len, c.if-len-eq0.false) in
     rw (c.put_back.ensures, c.in-Some.ensures.leased)
     (PutsBytes-leased a c.requires.sound c.args.name.now c.requires.end c.requires.bytes some
     c.in-Some.lease c.in-Some.ensures.number)

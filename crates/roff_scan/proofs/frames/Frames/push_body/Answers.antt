@@ -15,6 +15,9 @@ push-requires-clause-ends g c =
     let few = rw (← c.self.view_is) at c.requires.ends in
     omega (arith, few, ends-with_bodies c.self.inside.texts c.self.inside.slots.ahead)
 
+pub put_body-requires-clause-len : goal.put_body-requires-clause-len
+put_body-requires-clause-len g c = rw (← c.self.view_is) at c.requires.len
+
 pub put_body-requires-clause-sound : goal.put_body-requires-clause-sound
 put_body-requires-clause-sound g c =
     let few = rw (← c.self.view_is) at c.requires.ends in

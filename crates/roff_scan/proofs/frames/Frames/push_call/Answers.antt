@@ -1,4 +1,4 @@
-use Rattle.std.proofs.Common.{ℕ, List, ◌∷◌, ◌++◌, length, map, arith, refl, sym, ap, ◌∙◌}
+use Rattle.std.proofs.Common.{◌≡◌, ◌-◌, ℕ, List, ◌∷◌, ◌++◌, length, map, arith, refl, sym, ap, ◌∙◌}
 use Rattle.roff_scan.specs.Bytes.{newline}
 use Rattle.roff_scan.specs.Frames.Kept.{Framed}
 use Rattle.roff_scan.specs.Input.{Ahead, ByteAhead, ReturnAhead}
@@ -18,15 +18,29 @@ push_byte-requires-clause-some g c = rw c.push_return.ensures refl
 pub push_byte-requires-clause-room : goal.push_byte-requires-clause-room
 push_byte-requires-clause-room g c =
     let inside = c.self.inside in
-    let lacks = rw (← c.self.view_is) at (sym c.lacks_newline-lacks_newline.ensures ∙ c.if-lacks_newline.true) in
+    let lacks = rw (← c.self.view_is) at (sym c.requires.lacks ∙ c.if-called.true) in
     let fits = rw (← c.self.view_is) at c.requires.bytes in
     let len = called-len (body_of c.args.name.now inside.texts) lacks in
     rw c.push_return.ensures (omega (arith, fits, len, bytes-with_bodies inside.texts inside.slots.ahead))
 
+pub overflow_sub-called : goal.overflow_sub-called
+overflow_sub-called g c =
+    let lacks = sym c.requires.lacks ∙ c.if-called.true in
+    let len = called-len (body_of c.args.name.now c.args.self.now.texts) lacks in
+    omega (arith, len, c.requires.len)
+
+pub put_body-requires-clause-len : goal.put_body-requires-clause-len
+put_body-requires-clause-len g c =
+    let lacks = sym c.requires.lacks ∙ c.if-called.true in
+    let len = called-len (body_of c.args.name.now c.args.self.now.texts) lacks in
+    let count : c.args.called.len - 1 ≡ length (body_of c.args.name.now c.args.self.now.texts) =
+    omega (arith, len, c.requires.len) in
+    rw (← c.self.view_is) at count
+
 pub put_body-requires-clause-sound : goal.put_body-requires-clause-sound
 put_body-requires-clause-sound g c =
     let inside = c.self.inside in
-    let lacks = rw (← c.self.view_is) at (sym c.lacks_newline-lacks_newline.ensures ∙ c.if-lacks_newline.true) in
+    let lacks = rw (← c.self.view_is) at (sym c.requires.lacks ∙ c.if-called.true) in
     let fits = rw (← c.self.view_is) at c.requires.bytes in
     let few = rw (← c.self.view_is) at c.requires.ends in
     let len = called-len (body_of c.args.name.now inside.texts) lacks in
@@ -40,7 +54,7 @@ put_body-requires-clause-end g c = rw (c.push_byte.ensures, c.push_return.ensure
 pub put_body-requires-clause-bytes : goal.put_body-requires-clause-bytes
 put_body-requires-clause-bytes g c =
     let inside = c.self.inside in
-    let lacks = rw (← c.self.view_is) at (sym c.lacks_newline-lacks_newline.ensures ∙ c.if-lacks_newline.true) in
+    let lacks = rw (← c.self.view_is) at (sym c.requires.lacks ∙ c.if-called.true) in
     let fits = rw (← c.self.view_is) at c.requires.bytes in
     let len = called-len (body_of c.args.name.now inside.texts) lacks in
     rw (c.push_byte.ensures, c.push_return.ensures) (omega (arith, fits, len))
@@ -48,9 +62,9 @@ put_body-requires-clause-bytes g c =
 pub invariant_of-self : goal.invariant_of-self
 invariant_of-self g c = c.put_body.ensures.sound
 
-pub returns-then-lacks_newline : goal.returns-then-lacks_newline
-returns-then-lacks_newline g c =
-    let lacks = sym c.lacks_newline-lacks_newline.ensures ∙ c.if-lacks_newline.true in
+pub returns-then-called : goal.returns-then-called
+returns-then-called g c =
+    let lacks = sym c.requires.lacks ∙ c.if-called.true in
     let put = rw (c.push_byte.ensures, c.push_return.ensures) at c.put_body.ensures.kept in
     let name = c.args.name.now in
     let viewed =
@@ -59,30 +73,36 @@ returns-then-lacks_newline g c =
     let whole = called-in-front (body_of name c.args.self.now.texts) (ReturnAhead ∷ c.args.self.now.ahead) lacks in
     put ∙ viewed ∙ ap (λ (items : List (Ahead _)). record c.args.self.now { ahead = items }) whole
 
-pub put_body-requires-else-lacks_newline-clause-sound : goal.put_body-requires-else-lacks_newline-clause-sound
-put_body-requires-else-lacks_newline-clause-sound g c =
+pub put_body-requires-else-called-clause-len : goal.put_body-requires-else-called-clause-len
+put_body-requires-else-called-clause-len g c =
+    let ends = sym c.requires.lacks ∙ c.if-called.false in
+    let whole = called-whole (body_of c.args.name.now c.args.self.now.texts) ends in
+    rw (← c.self.view_is) at (c.requires.len ∙ ap length whole)
+
+pub put_body-requires-else-called-clause-sound : goal.put_body-requires-else-called-clause-sound
+put_body-requires-else-called-clause-sound g c =
     let few = rw (← c.self.view_is) at c.requires.ends in
     rw c.push_return.ensures (IsSound-returning c.self.inside c.self.invariant few)
 
-pub put_body-requires-else-lacks_newline-clause-end : goal.put_body-requires-else-lacks_newline-clause-end
-put_body-requires-else-lacks_newline-clause-end g c = rw c.push_return.ensures refl
+pub put_body-requires-else-called-clause-end : goal.put_body-requires-else-called-clause-end
+put_body-requires-else-called-clause-end g c = rw c.push_return.ensures refl
 
-pub put_body-requires-else-lacks_newline-clause-bytes : goal.put_body-requires-else-lacks_newline-clause-bytes
-put_body-requires-else-lacks_newline-clause-bytes g c =
-    let whole = rw (← c.self.view_is) at (sym c.lacks_newline-lacks_newline.ensures ∙ c.if-lacks_newline.false) in
+pub put_body-requires-else-called-clause-bytes : goal.put_body-requires-else-called-clause-bytes
+put_body-requires-else-called-clause-bytes g c =
+    let whole = rw (← c.self.view_is) at (sym c.requires.lacks ∙ c.if-called.false) in
     let fits = rw (← c.self.view_is) at c.requires.bytes in
     let len = ap length (called-whole (body_of c.args.name.now c.self.inside.texts) whole) in
     rw c.push_return.ensures (omega (arith, fits, len))
 
-pub invariant_of-self-else-lacks_newline : goal.invariant_of-self-else-lacks_newline
-invariant_of-self-else-lacks_newline g c = c.put_body-else-lacks_newline.ensures.sound
+pub invariant_of-self-else-called : goal.invariant_of-self-else-called
+invariant_of-self-else-called g c = c.put_body-else-called.ensures.sound
 
-pub returns-else-lacks_newline : goal.returns-else-lacks_newline
-returns-else-lacks_newline g c =
+pub returns-else-called : goal.returns-else-called
+returns-else-called g c =
     let name = c.args.name.now in
-    let ends = sym c.lacks_newline-lacks_newline.ensures ∙ c.if-lacks_newline.false in
+    let ends = sym c.requires.lacks ∙ c.if-called.false in
     let whole = called-whole (body_of name c.args.self.now.texts) ends in
-    let put = rw c.push_return.ensures at c.put_body-else-lacks_newline.ensures.kept in
+    let put = rw c.push_return.ensures at c.put_body-else-called.ensures.kept in
     let viewed =
     ap (λ (f : Framed _). record f { ahead = map ByteAhead (body_of name f.texts) ++ ReturnAhead ∷ f.ahead }) c.self.view_is in
     let old = c.args.self.now in

@@ -5,12 +5,12 @@ use Rattle.roff_scan.proofs.Changing.{push_past_stack, push_past_depth, push_wit
 use Rattle.roff_scan.proofs.Counts.{returns_ahead-bytes}
 use Rattle.roff_scan.proofs.unread.Unread.push_body.Goals as goal
 
-pub returns-then-body_len-self-clause-change : goal.returns-then-body_len-self-clause-change
-returns-then-body_len-self-clause-change g c =
+pub returns-then-len-self-clause-change : goal.returns-then-len-self-clause-change
+returns-then-len-self-clause-change g c =
     let kept = kept_by c.self.inside in
     let body = body_named c.args.name.now kept.input in
     let counted = rw (← c.self.view_is) at c.pushed.ensures in
-    let long : kept.limits.stack - c.pushed.result < length body = rw (← c.body_len.ensures) c.if-body_len-self.true in
+    let long : kept.limits.stack - c.pushed.result < length body = rw (← c.body_len-len.ensures) c.if-len-self.true in
     rw (← c.self.view_is) (sym (push_past_stack kept body c.self.invariant.within c.pushed.result counted long))
 
 pub returns-then-is_deep-clause-change : goal.returns-then-is_deep-clause-change
@@ -18,7 +18,7 @@ returns-then-is_deep-clause-change g c =
     let kept = kept_by c.self.inside in
     let body = body_named c.args.name.now kept.input in
     let counted = rw (← c.self.view_is) at c.pushed.ensures in
-    let short : length body ≤ kept.limits.stack - c.pushed.result = rw (← c.body_len.ensures) c.if-body_len-self.false in
+    let short : length body ≤ kept.limits.stack - c.pushed.result = rw (← c.body_len-len.ensures) c.if-len-self.false in
     let deep : kept.limits.depth ≤ depth kept.input = rw (← c.self.view_is) at (c.is_deep.ensures.deep c.if-is_deep.true) in
     rw (← c.self.view_is) (sym (push_past_depth kept body c.self.invariant.within c.pushed.result counted short deep))
 
@@ -27,7 +27,7 @@ invariant_of-self g c =
     let kept = kept_by c.self.inside in
     let body = body_named c.args.name.now kept.input in
     let counted = rw (← c.self.view_is) at c.pushed.ensures in
-    let short : length body ≤ kept.limits.stack - c.pushed.result = rw (← c.body_len.ensures) c.if-body_len-self.false in
+    let short : length body ≤ kept.limits.stack - c.pushed.result = rw (← c.body_len-len.ensures) c.if-len-self.false in
     let shallow : depth kept.input < kept.limits.depth = rw (← c.self.view_is) at (c.is_deep.ensures.shallow c.if-is_deep.false) in
     record {
       bytes = rw c.push_body.ensures c.self.invariant.bytes;
@@ -50,7 +50,7 @@ returns-clause-change g c =
     let kept = kept_by c.self.inside in
     let body = body_named c.args.name.now kept.input in
     let counted = rw (← c.self.view_is) at c.pushed.ensures in
-    let short : length body ≤ kept.limits.stack - c.pushed.result = rw (← c.body_len.ensures) c.if-body_len-self.false in
+    let short : length body ≤ kept.limits.stack - c.pushed.result = rw (← c.body_len-len.ensures) c.if-len-self.false in
     let shallow : depth kept.input < kept.limits.depth = rw (← c.self.view_is) at (c.is_deep.ensures.shallow c.if-is_deep.false) in
     rw (← c.self.view_is, c.push_body.ensures) (sym (push_within kept body c.self.invariant.within c.pushed.result counted short shallow))
 
