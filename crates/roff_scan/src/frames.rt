@@ -569,12 +569,7 @@ fn lacks_newline(last: Option<u8>) -> bool
 }
 
 /// Puts the body of a name, which has so many bytes, in front of an end, or of bytes before one.
-fn put_body<E: Copy>(
-    slots: &mut Slots<Frame<E>>,
-    texts: &mut TextStore,
-    name: &Name,
-    len: usize,
-)
+fn put_body<E: Copy>(slots: &mut Slots<Frame<E>>, texts: &mut TextStore, name: &Name, len: usize)
     requires len { len ≡ length (body_of name.now texts.old) }
     requires sound { IsSound {E = E} (record { slots = slots.old; texts = texts.old }) }
     requires end { is_end_next slots.old.ahead ≡ true }

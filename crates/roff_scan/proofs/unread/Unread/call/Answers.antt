@@ -12,7 +12,7 @@ returns-then-called-self-clause-change g c =
     let body = body_named c.args.name.now kept.input in
     let counted = rw (← c.self.view_is) at c.pushed.ensures in
     let long : kept.limits.stack - c.pushed.result < length (called_text body) =
-    rw (← c.called.ensures.len) c.if-called-self.true in
+    rw (← c.called-called.ensures.len) c.if-called-self.true in
     rw (← c.self.view_is)
     (sym (call_past_stack kept body c.self.invariant.within c.self.invariant.begun c.pushed.result counted long))
 
@@ -22,7 +22,7 @@ returns-then-is_deep-clause-change g c =
     let body = body_named c.args.name.now kept.input in
     let counted = rw (← c.self.view_is) at c.pushed.ensures in
     let short : length (called_text body) ≤ kept.limits.stack - c.pushed.result =
-    rw (← c.called.ensures.len) c.if-called-self.false in
+    rw (← c.called-called.ensures.len) c.if-called-self.false in
     let deep : kept.limits.depth ≤ depth kept.input =
     rw (← c.self.view_is) at (c.is_deep.ensures.deep c.if-is_deep.true) in
     rw (← c.self.view_is)
@@ -49,7 +49,7 @@ invariant_of-self g c =
     let body = body_named c.args.name.now kept.input in
     let counted = rw (← c.self.view_is) at c.pushed.ensures in
     let short : length (called_text body) ≤ kept.limits.stack - c.pushed.result =
-    rw (← c.called.ensures.len) c.if-called-self.false in
+    rw (← c.called-called.ensures.len) c.if-called-self.false in
     let shallow : depth kept.input < kept.limits.depth =
     rw (← c.self.view_is) at (c.is_deep.ensures.shallow c.if-is_deep.false) in
     record {
@@ -75,7 +75,7 @@ returns-clause-change g c =
     let body = body_named c.args.name.now kept.input in
     let counted = rw (← c.self.view_is) at c.pushed.ensures in
     let short : length (called_text body) ≤ kept.limits.stack - c.pushed.result =
-    rw (← c.called.ensures.len) c.if-called-self.false in
+    rw (← c.called-called.ensures.len) c.if-called-self.false in
     let shallow : depth kept.input < kept.limits.depth =
     rw (← c.self.view_is) at (c.is_deep.ensures.shallow c.if-is_deep.false) in
     rw (← c.self.view_is, c.push_call.ensures, c.push.ensures, c.clear.ensures.value, c.list.ensures.value, c.finish.ensures.value)
