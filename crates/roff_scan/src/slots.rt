@@ -158,6 +158,7 @@ impl<E: Copy> Slots<E> {
     }
 
     /// The front item, if there is one. It isn't taken.
+    #[inline]
     pub(crate) fn front(&self) -> Option<Front<E>>
         ensures { option_map item_of result ≡ first self.now.ahead }
     {
@@ -176,6 +177,7 @@ impl<E: Copy> Slots<E> {
     }
 
     /// Takes the front item.
+    #[inline]
     pub(crate) fn take(&mut self) -> Front<E>
         requires { is_none_ahead self.old.ahead ≡ false }
         ensures { self.old ≡ record self.new { ahead = item_of result ∷ self.new.ahead } }
@@ -219,6 +221,7 @@ impl<E: Copy> Slots<E> {
 }
 
 /// Whether a byte of a text comes next.
+#[inline(always)]
 fn is_byte_next<E>(slots: &[Slot<E>], bytes: &[u8]) -> bool
     ensures { result ≡ is_byte_next (reverse slots.now) bytes.now }
 {
@@ -229,6 +232,7 @@ fn is_byte_next<E>(slots: &[Slot<E>], bytes: &[u8]) -> bool
 }
 
 /// Takes the first item of the mark in front.
+#[inline(never)]
 fn take_mark<E>(slots: &mut Vec<Slot<E>>, bytes: &[u8]) -> Front<E>
     requires some { 0 < vec_len slots.old }
     requires mark { is_byte_next (reverse slots.old.items) bytes.now ≡ false }
