@@ -177,7 +177,6 @@ impl<E: Copy> Slots<E> {
     }
 
     /// Takes the front item.
-    #[inline]
     pub(crate) fn take(&mut self) -> Front<E>
         requires { is_none_ahead self.old.ahead ≡ false }
         ensures { self.old ≡ record self.new { ahead = item_of result ∷ self.new.ahead } }
@@ -232,7 +231,6 @@ fn is_byte_next<E>(slots: &[Slot<E>], bytes: &[u8]) -> bool
 }
 
 /// Takes the first item of the mark in front.
-#[inline(never)]
 fn take_mark<E>(slots: &mut Vec<Slot<E>>, bytes: &[u8]) -> Front<E>
     requires some { 0 < vec_len slots.old }
     requires mark { is_byte_next (reverse slots.old.items) bytes.now ≡ false }
