@@ -26,6 +26,7 @@ use Rattle.roff_scan.specs.declared.half.Read.{Read}
 use Rattle.roff_scan.specs.declared.half.Read.TheVariants.{GoesOn, Holds}
 use Rattle.roff_scan.specs.declared.half.Surroundings.{Surroundings}
 use Rattle.roff_scan.specs.declared.half.Surroundings.TheVariants.{Arguments as AboveArguments}
+use Rattle.roff_scan.proofs.Fronts.{passes_none}
 use Rattle.roff_scan.proofs.HalfFronts.{Reads, half-behind, one_of_three, passes-half, reads-in_front, with_read}
 
 -- a byte that is held, and the text on top in which it is
@@ -403,3 +404,7 @@ module _ {E : Type 0} where
             taken = subst (λ (h : List Half). HalvesTaken u.input.half bytes h) (sym (half-behind old new bytes half u after passes)) taken;
             passes = passes-half old new bytes half u after passes;
           }
+
+  -- where none are in front, none are taken
+  pub takes_none : (gives : Tape → Type 0) (u : Unread E) → u.input.charge ≤ u.limits.bytes → TakesHalves gives gives u u
+  takes_none gives u within = record { bytes = []; taken = NothingTaken u.input.half; passes = passes_none [] u gives 0 refl within }

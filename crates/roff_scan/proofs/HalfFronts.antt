@@ -20,6 +20,7 @@ use Rattle.roff_scan.specs.declared.half.NamePart.TheVariants.{Nothing, Opened, 
 use Rattle.roff_scan.specs.declared.half.Read.{Read}
 use Rattle.roff_scan.specs.declared.half.Read.TheVariants.{GoesOn}
 use Rattle.roff_scan.specs.declared.half.Surroundings.TheVariants.{Arguments as AboveArguments}
+use Rattle.roff_scan.proofs.Fronts.{passes_none}
 use Rattle.roff_scan.proofs.HeldFronts.{none_of_three}
 
 -- a byte that changes only what is half read, and what is half read behind it
@@ -224,3 +225,7 @@ module _ {E : Type 0} where
             read = subst (λ (h : List Half). HalvesRead u.input.half bytes h) (sym (half-behind old new bytes half u after passes)) read;
             passes = passes-half old new bytes half u after passes;
           }
+
+  -- where none are in front, none are read
+  pub reads_none : (gives : Tape → Type 0) (u : Unread E) → u.input.charge ≤ u.limits.bytes → ReadsNames gives gives u u
+  reads_none gives u within = record { bytes = []; read = NothingRead u.input.half; passes = passes_none [] u gives 0 refl within }

@@ -12,6 +12,7 @@ use Rattle.roff_scan.specs.Unread.{Unread, IsWithin}
 use Rattle.roff_scan.specs.Unread.Calls.{HoldsFront, IsFront, NoNewline, OfSource, OfTexts, PassesFront, front_bytes, next_bytes}
 use Rattle.roff_scan.specs.Unread.Kept.{NoneBegun}
 use Rattle.roff_scan.specs.declared.half.CopyUnit.TheVariants.{Byte}
+use Rattle.roff_scan.proofs.Fronts.{passes_none}
 use Rattle.roff_scan.proofs.KeptArguments.{held-only_kept, held-with_argument_byte}
 use Rattle.roff_scan.proofs.LineCalls.{NoneBegun-with_unit}
 
@@ -181,3 +182,7 @@ module _ {E : Type 0} where
           passes = passes-arguments old new bytes a u after passes;
           arguments = arguments-behind old new bytes a u after passes;
         }
+
+  -- where none are in front, none are held
+  pub holds_none : (gives : Tape → Type 0) (u : Unread E) → u.input.charge ≤ u.limits.bytes → HoldsFront gives gives u u
+  holds_none gives u within = record { bytes = []; plain = tt; passes = passes_none [] u gives 0 refl within; arguments = refl }

@@ -311,6 +311,7 @@ impl<E: Copy> Frames<E> {
 
     /// Gives bytes of a pushed text in front to what is half read, one after another, as long as
     /// it takes them where a condition is read, and so many at the most. Returns how many.
+    #[inline(always)]
     pub(crate) fn give_front(&mut self, half: &mut Halves, most: usize) -> usize
         requires { bytes_ahead self.old.ahead + texts_held half.old.half ≤ half.old.room }
         ensures gives { GivesFront self.old self.new half.old half.new result }
@@ -349,6 +350,7 @@ impl<E: Copy> Frames<E> {
     }
 
     /// Bytes of a body in front, as they lie together; none where anything else is in front.
+    #[inline(always)]
     pub(crate) fn front(&self) -> &[u8]
         ensures { result.now ≡ take (length result.now) (leading self.now.ahead) }
     {
@@ -359,7 +361,26 @@ impl<E: Copy> Frames<E> {
     }
 
     /// Takes so many bytes in front at once.
+    #[inline(always)]
     pub(crate) fn pass(&mut self, count: usize)
+        requires { count ≤ length (leading self.old.ahead) }
+        ensures { self.new ≡ record self.old { ahead = drop count self.old.ahead } }
+    {
+        if count == 0 {
+            return;
+        }
+        if let Some(lease) = body_in_front(&self.slots)
+            && count < self.texts.lease_rest(lease)
+        {
+            self.texts.lease_pass(lease, count);
+            return;
+        }
+        self.pass_all(count);
+    }
+
+    /// The same, where the bytes may be the last ones of a body, or of several texts.
+    #[inline(never)]
+    fn pass_all(&mut self, count: usize)
         requires { count ≤ length (leading self.old.ahead) }
         ensures { self.new ≡ record self.old { ahead = drop count self.old.ahead } }
     {
@@ -525,6 +546,7 @@ impl<E: Copy> Frames<E> {
 }
 
 /// The lease on the body in front, if one is.
+#[inline(always)]
 fn body_in_front<E: Copy>(slots: &Slots<Frame<E>>) -> Option<LeaseId>
     ensures { IfSome result (λ id. Some (DoAhead (Body id)) ≡ first slots.now.ahead) }
 {

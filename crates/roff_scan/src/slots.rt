@@ -158,6 +158,7 @@ impl<E: Copy> Slots<E> {
     }
 
     /// The front item, if there is one. It isn't taken.
+    #[inline]
     pub(crate) fn front(&self) -> Option<Front<E>>
         ensures { option_map item_of result ≡ first self.now.ahead }
     {
@@ -219,6 +220,7 @@ impl<E: Copy> Slots<E> {
 }
 
 /// Whether a byte of a text comes next.
+#[inline(always)]
 fn is_byte_next<E>(slots: &[Slot<E>], bytes: &[u8]) -> bool
     ensures { result ≡ is_byte_next (reverse slots.now) bytes.now }
 {

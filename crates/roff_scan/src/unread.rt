@@ -373,7 +373,7 @@ impl<E: Copy> Unread<E> {
     }
 
     /// Takes at once so many of the bytes that stand in front, each at its cost.
-    #[inline]
+    #[inline(always)]
     pub fn pass<S: ByteSource>(&mut self, source: &mut S, count: usize)
         requires front { IsFront count (S.ready source.old) self.old }
         requires plain { NoNewline (front_bytes count (S.ready source.old) self.old) }
@@ -383,14 +383,17 @@ impl<E: Copy> Unread<E> {
         ensures failures { S.failures source.new ≡ S.failures source.old }
         ensures within { IsWithin self.new }
     {
+        // the invariant is known where a field is named
+        let _ = &self.limits;
+        if count == 0 {
+            return;
+        }
         if !self.frames.is_empty() {
             self.frames.pass(count);
             self.charge += count as u32;
             return;
         }
-        if count > 0 {
-            self.pass_source(source, count);
-        }
+        self.pass_source(source, count);
     }
 
     /// The same where nothing is ahead, of one byte at least.
@@ -678,6 +681,9 @@ impl<E: Copy> Unread<E> {
     {
         let most = (self.limits.bytes - self.charge) as usize;
         let front = front_of(&self.frames, self.looked, source, most);
+        if front.is_empty() {
+            return;
+        }
         let count = self.half.read_front(front);
         self.pass(source, count);
     }
@@ -721,6 +727,9 @@ impl<E: Copy> Unread<E> {
         let allowed = (self.limits.bytes - self.charge) as usize;
         let most = allowed.min(self.limits.stack as usize - self.pushed());
         let front = front_of(&self.frames, self.looked, source, most);
+        if front.is_empty() {
+            return;
+        }
         let count = self.half.take_front(front);
         self.pass(source, count);
     }
@@ -868,6 +877,9 @@ impl<E: Copy> Unread<E> {
         let room = self.limits.stack as usize - self.pushed();
         let most = room.min((self.limits.bytes - self.charge) as usize);
         let front = front_of(&self.frames, self.looked, source, most);
+        if front.is_empty() {
+            return;
+        }
         let count = self.arguments.take_front(front);
         self.pass(source, count);
     }

@@ -440,7 +440,7 @@ impl TextStore {
     }
 
     /// Takes so many bytes from a lease, as many as it still gives at most.
-    #[inline]
+    #[inline(always)]
     pub fn lease_pass(&mut self, id: LeaseId, count: usize)
         requires lives { IsSome (lease_of id.0 self.old) }
         requires within { count ≤ rest_of (lease_of id.0 self.old) }

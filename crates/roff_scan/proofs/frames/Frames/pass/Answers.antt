@@ -1,29 +1,33 @@
-use Rattle.std.proofs.Common.{◌≡◌, ◌-◌, ◌+◌, drop, length, arith, ap, ◌∙◌}
-use Rattle.std.proofs.lemmas.List.{drop-drop}
-use Rattle.roff_scan.specs.Frames.Kept.{Framed}
-use Rattle.roff_scan.specs.Input.{leading}
-use Rattle.roff_scan.proofs.Fronts.{leading-fewer}
+use Rattle.std.proofs.Common.{◌≤◌, drop, length, take, arith, sym}
+use Rattle.std.proofs.lemmas.List.{length-take-le, take-append-drop}
+use Rattle.roff_scan.specs.Frames.Kept.{kept_by}
+use Rattle.roff_scan.proofs.Bodies.{rest_is}
+use Rattle.roff_scan.proofs.BodyTaken.{with_body-first, IsSound-passed, taken-passed}
+use Rattle.roff_scan.proofs.Fronts.{drop-taken}
 use Rattle.roff_scan.proofs.frames.Frames.pass.Goals as goal
+use Rattle.roff_store.specs.TextCalls.{Take, after}
+use Rattle.roff_store.specs.Texts.{lease_bytes, lease_of}
 
-pub pass_some-left-requires-clause-among : goal.pass_some-left-requires-clause-among
-pass_some-left-requires-clause-among g c =
-    let all = c.args.self.now.ahead in
-    let left = c.loop-left.left in
-    let passed = c.args.count - left in
-    let fewer = leading-fewer passed all (omega (arith, c.requires)) in
-    let here = ap (λ (f : Framed _). length (leading f.ahead)) c.loop-left.invariant.taken in
-    omega (arith, fewer, here, c.requires, c.loop-left.invariant.few)
+pub invariant_of-self : goal.invariant_of-self
+invariant_of-self g c =
+    let inside = c.self.inside in
+    let lease = c.in-Some.lease in
+    let count = c.args.count in
+    let bytes = lease_bytes (lease_of lease.0 inside.texts) in
+    let behind = record inside.slots { ahead = drop 1 inside.slots.ahead } in
+    let whole = with_body-first inside.slots lease c.in-Some.ensures in
+    rw c.lease_pass.ensures (IsSound-passed inside.texts inside.slots behind lease whole c.self.invariant count (take count bytes)
+    (sym (take-append-drop count bytes)) (omega (arith, c.lease_rest.ensures, c.if-count-lease_rest.true)))
 
-pub loop-left-preserved : goal.loop-left-preserved
-loop-left-preserved g c =
-    let all = c.args.self.now in
-    let left = c.loop-left.left in
-    let count = c.pass_some-left.result in
-    let passed = c.args.count - left in
-    let same : passed + count ≡ c.args.count - (left - count) = omega (arith, c.loop-left.invariant.few, c.pass_some-left.ensures.few) in
-    record {
-      few = omega (arith, c.loop-left.invariant.few);
-      taken =
-          c.pass_some-left.ensures.taken ∙ ap (λ (f : Framed _). record f { ahead = drop count f.ahead }) c.loop-left.invariant.taken
-          ∙ ap (λ items. record all { ahead = items }) (drop-drop count passed all.ahead ∙ ap (λ n. drop n all.ahead) same);
-    }
+pub returns : goal.returns
+returns g c =
+    let inside = c.self.inside in
+    let lease = c.in-Some.lease in
+    let count = c.args.count in
+    let bytes = lease_bytes (lease_of lease.0 inside.texts) in
+    let behind = record inside.slots { ahead = drop 1 inside.slots.ahead } in
+    let whole = with_body-first inside.slots lease c.in-Some.ensures in
+    let few : count ≤ length bytes = omega (arith, c.lease_rest.ensures, c.if-count-lease_rest.true, rest_is (lease_of lease.0 inside.texts)) in
+    rw c.lease_pass.ensures (drop-taken c.args.self.now (kept_by (record inside { texts = after (Take lease.0 count) inside.texts })) (take count bytes) count (length-take-le count bytes few)
+    (taken-passed inside.texts inside.slots behind lease whole c.self.invariant count (take count bytes) (sym (take-append-drop count bytes))
+    c.args.self.now c.self.view_is))

@@ -4,8 +4,12 @@ use Rattle.roff_scan.specs.ArgumentTexts.Kept.{KeptArguments}
 use Rattle.roff_scan.specs.Input.{pushed}
 use Rattle.roff_scan.specs.Unread.Calls.{PassesFront, front_bytes}
 use Rattle.roff_scan.specs.Unread.Kept.{kept_by}
-use Rattle.roff_scan.proofs.HeldFronts.{IsWithin-held, NoneBegun-bytes_held, held_in_front, held_no_newline, holds_front, with_these}
+use Rattle.roff_scan.proofs.HeldFronts.{IsWithin-held, NoneBegun-bytes_held, held_in_front, held_no_newline, holds_front, holds_none, with_these}
 use Rattle.roff_scan.proofs.unread.Unread.hold_front.Goals as goal
+
+pub returns-then-is_empty-clause-holds : goal.returns-then-is_empty-clause-holds
+returns-then-is_empty-clause-holds g c =
+    rw (← c.self.view_is) (holds_none (g.S.ByteSource.gives c.args.source.now) (kept_by c.self.inside) c.self.invariant.within.charge)
 
 pub take_front-count-requires : goal.take_front-count-requires
 take_front-count-requires g c =

@@ -1,9 +1,15 @@
-use Rattle.std.proofs.Common.{◌≡◌, false, arith, sym, ◌∙◌}
+use Rattle.std.proofs.Common.{◌≡◌, false, sym, ◌∙◌}
 use Rattle.roff_scan.specs.Input.{is_none_ahead}
 use Rattle.roff_scan.specs.Unread.Calls.{IsFront, OfSource}
 use Rattle.roff_scan.specs.Unread.Kept.{kept_by}
 use Rattle.roff_scan.proofs.Fronts.{IsWithin-texts, among-ahead, passes_none, passes_texts, returns-behind}
 use Rattle.roff_scan.proofs.unread.Unread.pass.Goals as goal
+
+pub returns-then-count-eq0-clause-passes : goal.returns-then-count-eq0-clause-passes
+returns-then-count-eq0-clause-passes g c =
+    rw (← c.self.view_is)
+    (passes_none (g.S.ByteSource.ready c.args.source.now) (kept_by c.self.inside) (g.S.ByteSource.gives c.args.source.now) c.args.count
+    c.if-count-eq0.true c.self.invariant.within.charge)
 
 pub pass-requires : goal.pass-requires
 pass-requires g c =
@@ -45,11 +51,5 @@ returns-then-not-is_empty-clause-passes g c =
 pub returns-then-not-is_empty-clause-within : goal.returns-then-not-is_empty-clause-within
 returns-then-not-is_empty-clause-within g c = (invariant_of-self g c).within
 
-pub returns-then-count-gt0-clause-passes : goal.returns-then-count-gt0-clause-passes
-returns-then-count-gt0-clause-passes g c = OfSource c.pass_source.ensures.passes
-
-pub returns-else-count-gt0-clause-passes : goal.returns-else-count-gt0-clause-passes
-returns-else-count-gt0-clause-passes g c =
-    rw (← c.self.view_is)
-    (passes_none (g.S.ByteSource.ready c.args.source.now) (kept_by c.self.inside) (g.S.ByteSource.gives c.args.source.now) c.args.count
-    (omega (arith, c.if-count-gt0.false)) c.self.invariant.within.charge)
+pub returns-clause-passes : goal.returns-clause-passes
+returns-clause-passes g c = OfSource c.pass_source.ensures.passes

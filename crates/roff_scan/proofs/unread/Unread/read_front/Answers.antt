@@ -1,7 +1,11 @@
 use Rattle.std.proofs.Common.{take, arith}
 use Rattle.roff_scan.specs.Unread.Kept.{kept_by}
-use Rattle.roff_scan.proofs.HalfFronts.{IsWithin-read, read_in_front, read_no_newline, reads_names}
+use Rattle.roff_scan.proofs.HalfFronts.{IsWithin-read, read_in_front, read_no_newline, reads_names, reads_none}
 use Rattle.roff_scan.proofs.unread.Unread.read_front.Goals as goal
+
+pub returns-then-is_empty-clause-reads : goal.returns-then-is_empty-clause-reads
+returns-then-is_empty-clause-reads g c =
+    rw (← c.self.view_is) (reads_none (g.S.ByteSource.gives c.args.source.now) (kept_by c.self.inside) c.self.invariant.within.charge)
 
 pub invariant_of-self : goal.invariant_of-self
 invariant_of-self g c =

@@ -1,8 +1,12 @@
 use Rattle.std.proofs.Common.{◌+◌, ◌≤◌, arith}
 use Rattle.roff_scan.specs.Input.{pushed}
 use Rattle.roff_scan.specs.Unread.Kept.{kept_by}
-use Rattle.roff_scan.proofs.ConditionFronts.{IsWithin-taken, taken_in_front, taken_no_newline, takes_halves}
+use Rattle.roff_scan.proofs.ConditionFronts.{IsWithin-taken, taken_in_front, taken_no_newline, takes_halves, takes_none}
 use Rattle.roff_scan.proofs.unread.Unread.take_lying.Goals as goal
+
+pub returns-then-is_empty-clause-takes : goal.returns-then-is_empty-clause-takes
+returns-then-is_empty-clause-takes g c =
+    rw (← c.self.view_is) (takes_none (g.S.ByteSource.gives c.args.source.now) (kept_by c.self.inside) c.self.invariant.within.charge)
 
 pub take_front-count-requires : goal.take_front-count-requires
 take_front-count-requires g c =

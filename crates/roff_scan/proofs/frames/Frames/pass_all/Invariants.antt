@@ -1,5 +1,5 @@
 use Rattle.std.proofs.Common.{◌≡◌, ◌≤◌, ◌-◌, drop}
-use Rattle.roff_scan.proofs.frames.Frames.pass.Given as goal
+use Rattle.roff_scan.proofs.frames.Frames.pass_all.Given as goal
 
 abbrev pub invariant-loop-left : goal.invariant-loop-left
 invariant-loop-left g l = record {
