@@ -40,7 +40,8 @@ pub fn eval(
     eval_from(text, begin, pending, scale, place)
 }
 
-/// The value of an operand that is a numeral behind its sign, and the place behind it.
+/// The value of an operand that is a numeral behind its sign, and the place behind it; none where
+/// it holds another operand, or has a fault.
 fn read_plain_operand(text: &[u8], at: usize, scale: Scale) -> Option<(i32, usize)>
     ensures value { IfSome result (λ r. (place : Option ℤ) (pending : Option (Operator × ℤ))
         → outcome_of text.now scale place (unheld at pending) (Ok r)
@@ -61,7 +62,8 @@ fn read_plain_operand(text: &[u8], at: usize, scale: Scale) -> Option<(i32, usiz
 }
 
 /// The value of an expression from an operand on that no other one holds, behind the operator
-/// before it with the value of what stands before that.
+/// before it with the value of what stands before that. This makes room for all frames, which most
+/// expressions don't need.
 #[inline(never)]
 fn eval_from(
     text: &[u8],

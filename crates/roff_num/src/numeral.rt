@@ -75,7 +75,7 @@ fn value_of_whole(negative: bool, number: u64, unit: Ratio) -> Result<i32, NumFa
     in_range(if negative { -size } else { size })
 }
 
-/// The same for a numeral that may have decimals.
+/// The value of the numeral at a text's front, which may have decimals, and how many bytes it takes.
 #[inline(never)]
 fn read_with_decimals(text: &[u8], scale: Scale, negative: bool) -> Result<(i32, usize), NumFault>
     ensures value { result ≡ numeral_at scale negative text.now }
