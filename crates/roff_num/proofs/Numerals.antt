@@ -63,7 +63,7 @@ no_decimals (c ∷ behind) other = rw other refl
 
 -- a numeral of whole digits is what the number that they write gives in its unit
 pub numeral_at-whole : (text : List ℕ) (scale : Scale) (is_negative : Bool) (number count : ℕ) (behind : List ℕ) (unit : Ratio × ℕ) (given : Result ℤ NumFault)
-    → number ≡ min (digits_value 10 (digits_at text)) 18446744073709551615 → count ≡ length (digits_at text) → behind ≡ drop count text
+    → number ≡ min (digits_value 10 (digits_at text)) 4294967296 → count ≡ length (digits_at text) → behind ≡ drop count text
     → begins_with 46 behind ≡ false → unit ≡ unit_at scale behind → 0 < unit.0.under → unit.0.under ≤ unit.0.over
     → given ≡ in_range (signed is_negative (pos (number * unit.0.over / unit.0.under))) → 0 < count
     → followed given (λ v. Ok (v, count + unit.1)) ≡ numeral_at scale is_negative text

@@ -260,6 +260,7 @@ pub(crate) fn read_sign(text: &[u8]) -> (bool, usize)
 }
 
 /// What an operand's value gives behind the operator before it.
+#[inline(always)]
 pub(crate) fn combined(pending: Option<(Operator, i32)>, value: i32) -> Result<i32, NumFault>
     ensures { result ≡ combined pending value }
 {

@@ -16,8 +16,12 @@ pub(crate) struct Ratio {
 /// The most decimals of a number that count.
 const MOST_DECIMALS: usize = 9;
 
+/// What a number of whole digits counts at the most; more of any unit is out of range as well.
+const MOST_COUNTED: u64 = 4_294_967_296;
+
 /// The value of the numeral at a text's front behind a sign, in basic units, and how many bytes it
 /// takes.
+#[inline(always)]
 pub(crate) fn read_numeral(
     text: &[u8],
     scale: Scale,
@@ -42,10 +46,10 @@ pub(crate) fn read_numeral(
     }
 }
 
-/// The number that the digits at a text's front write, or 2^64 - 1 if it is greater, and how many
+/// The number that the digits at a text's front write, or 2^32 if it is greater, and how many
 /// digits they are.
 fn leading_number(text: &[u8]) -> (u64, usize)
-    ensures number { result.0 ≡ min (digits_value 10 (digits_at text.now)) (2 ^ 64 - 1) }
+    ensures number { result.0 ≡ min (digits_value 10 (digits_at text.now)) (2 ^ 32) }
     ensures count { result.1 ≡ length (digits_at text.now) }
 {
     let mut number: u64 = 0;
@@ -54,9 +58,7 @@ fn leading_number(text: &[u8]) -> (u64, usize)
         if !digit.is_ascii_digit() {
             return (number, count);
         }
-        number = number
-            .saturating_mul(10)
-            .saturating_add(u64::from(*digit - b'0'));
+        number = (number * 10 + u64::from(*digit - b'0')).min(MOST_COUNTED);
         count += 1;
     }
     (number, count)

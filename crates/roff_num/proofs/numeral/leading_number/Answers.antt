@@ -1,4 +1,4 @@
-use Rattle.std.proofs.Common.{◌≡◌, ◌+◌, ◌-◌, ◌^◌, ◌∷◌, [], length, min, drop, get_or, refl, ap, sym, ◌∙◌, arith, rules}
+use Rattle.std.proofs.Common.{◌≡◌, ◌+◌, ◌^◌, ◌∷◌, [], length, min, drop, get_or, refl, ap, sym, ◌∙◌, arith, rules}
 use Rattle.std.proofs.lemmas.List.{drop_all}
 use Rattle.std.specs.Str.Parse.{digits_value}
 use Rattle.roff_num.specs.Numerals.{digits_at}
@@ -12,7 +12,7 @@ pub returns-then-not-is_ascii_digit-clause-number : goal.returns-then-not-is_asc
 returns-then-not-is_ascii_digit-clause-number c =
     let none : digits_at (drop c.loop-digit.digit-index c.args.text.now) ≡ [] =
     digits_at-none c.args.text.now c.loop-digit.digit-index c.loop-digit-test.true (sym c.is_ascii_digit.ensures.value ∙ c.if-not-is_ascii_digit.true) in
-    let counted : min c.loop-digit.number (2 ^ 64 - 1) ≡ min (digits_value 10 (digits_at c.args.text.now)) (2 ^ 64 - 1) = rw none at c.loop-digit.invariant.0 in
+    let counted : min c.loop-digit.number (2 ^ 32) ≡ min (digits_value 10 (digits_at c.args.text.now)) (2 ^ 32) = rw none at c.loop-digit.invariant.0 in
     omega (arith, c.loop-digit.invariant.1)
 
 pub returns-then-not-is_ascii_digit-clause-count : goal.returns-then-not-is_ascii_digit-clause-count
@@ -31,7 +31,7 @@ loop-digit-preserved c =
     let rest = digits_at (drop (c.loop-digit.digit-index + 1) c.args.text.now) in
     let one_more : length (digits_at (drop c.loop-digit.digit-index c.args.text.now)) ≡ length (get_or c.args.text.now c.loop-digit.digit-index 0 ∷ rest) =
     ap length (digits_at-digit c.args.text.now c.loop-digit.digit-index c.loop-digit-test.true digit) in (
-      digits_at-step c.args.text.now c.loop-digit.digit-index (2 ^ 64 - 1) c.loop-digit.number c.saturating_add-number.result _ c.loop-digit-test.true digit (omega arith) c.loop-digit.invariant.0,
+      digits_at-step c.args.text.now c.loop-digit.digit-index (2 ^ 32) c.loop-digit.number c.min-number.result _ c.loop-digit-test.true digit (omega arith) c.loop-digit.invariant.0,
       omega arith,
       omega (arith, c.loop-digit.invariant.2),
       omega (arith, c.loop-digit.invariant.3),
@@ -40,7 +40,7 @@ loop-digit-preserved c =
 pub returns-clause-number : goal.returns-clause-number
 returns-clause-number c =
     let done : drop c.loop-digit.digit-index c.args.text.now ≡ [] = drop_all c.loop-digit.digit-index c.args.text.now (omega arith) in
-    let counted : min c.loop-digit.number (2 ^ 64 - 1) ≡ min (digits_value 10 (digits_at c.args.text.now)) (2 ^ 64 - 1) = rw done at c.loop-digit.invariant.0 in
+    let counted : min c.loop-digit.number (2 ^ 32) ≡ min (digits_value 10 (digits_at c.args.text.now)) (2 ^ 32) = rw done at c.loop-digit.invariant.0 in
     omega (arith, c.loop-digit.invariant.1)
 
 pub returns-clause-count : goal.returns-clause-count
