@@ -16,7 +16,7 @@ use Rattle.roff_num.specs.declared.num.NumFault.TheVariants.{Missing}
 use Rattle.roff_num.specs.declared.num.Scale.{Scale}
 use Rattle.roff_num.specs.declared.operator.Operator.{Operator}
 use Rattle.roff_num.specs.Expressions.{closed_behind, expression_of, folded_onto, operand_within, past, sign_at, unsigned_of}
-use Rattle.roff_num.specs.Reading.Frames.{combined, come_to, entered, folded_from, held_value, left_behind, outcome_of, outcome_opened, outcome_stepped, starts_at}
+use Rattle.roff_num.specs.Reading.Frames.{combined, come_to, entered, folded_from, held_value, left_behind, outcome_of, outcome_opened, outcome_stepped, unheld}
 use Rattle.roff_num.specs.Numerals.{numeral_at}
 use Rattle.roff_num.specs.Operators.{applied, begins_with, operator_at}
 use Rattle.roff_num.specs.Ranges.{in_range, signed}
@@ -284,6 +284,28 @@ started text operand at (Ok r) =
 started text operand at (Err e) = refl
 
 pub outcome_opened-start : (text : List ℕ) (scale : Scale) (place : Option ℤ) (at : ℕ)
-    → outcome_opened text scale place (starts_at at) ≡ past at (expression_of (operand_within scale place 33) (drop at text))
+    → outcome_opened text scale place (unheld at None) ≡ past at (expression_of (operand_within scale place 33) (drop at text))
 unfolding come_to
 outcome_opened-start text scale place at = started text (operand_within scale place 33) at (operand_within scale place 33 (drop at text))
+
+-- behind an operand that no other one holds stands an operator, or the expression's end, unless the operator before it
+-- has a fault
+pub outcome_opened-further : (text : List ℕ) (scale : Scale) (place : Option ℤ) (begin : ℕ) (pending : Option (Operator × ℤ)) (operand value : ℤ) (behind next : ℕ) (o : Operator) (k : ℕ) (total : Result (ℤ × ℕ) NumFault)
+    → outcome_of text scale place (unheld begin pending) (Ok (operand, behind)) ≡ total → combined pending operand ≡ Ok value
+    → operator_at (drop behind text) ≡ Some (o, k) → next ≡ behind + (1 + k)
+    → outcome_opened text scale place (unheld next (Some (o, value))) ≡ total
+outcome_opened-further text scale place begin pending operand value behind next o k total came c found e =
+    come_to-operator text scale place 33 value behind next o k found e
+    ∙ (ap (λ x. followed x (λ v. come_to text scale place 33 [] v behind)) (sym c) ∙ came)
+
+pub outcome_of-end : (text : List ℕ) (scale : Scale) (place : Option ℤ) (begin : ℕ) (pending : Option (Operator × ℤ)) (operand value : ℤ) (behind : ℕ) (total : Result (ℤ × ℕ) NumFault)
+    → outcome_of text scale place (unheld begin pending) (Ok (operand, behind)) ≡ total → combined pending operand ≡ Ok value
+    → operator_at (drop behind text) ≡ None → Ok (value, behind) ≡ total
+outcome_of-end text scale place begin pending operand value behind total came c found =
+    come_to-end text scale place 33 value behind found ∙ (ap (λ x. followed x (λ v. come_to text scale place 33 [] v behind)) (sym c) ∙ came)
+
+pub outcome_of-fault : (text : List ℕ) (scale : Scale) (place : Option ℤ) (begin : ℕ) (pending : Option (Operator × ℤ)) (operand : ℤ) (behind : ℕ) (fault : NumFault) (total : Result (ℤ × ℕ) NumFault)
+    → outcome_of text scale place (unheld begin pending) (Ok (operand, behind)) ≡ total → combined pending operand ≡ Err fault
+    → Err fault ≡ total
+outcome_of-fault text scale place begin pending operand behind fault total came c =
+    ap (λ x. followed x (λ v. come_to text scale place 33 [] v behind)) (sym c) ∙ came

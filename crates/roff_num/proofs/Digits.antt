@@ -1,5 +1,5 @@
 -- Digits at a text's front, and the numbers that they write.
-use Rattle.std.proofs.Common.{◌≡◌, ℕ, ◌+◌, ◌*◌, ◌-◌, ◌<◌, min, Bool, true, false, cond, List, [], ◌∷◌, ◌++◌, length, take, drop, get_or, refl, arith, ◌∙◌, add-one}
+use Rattle.std.proofs.Common.{◌≡◌, ℕ, ◌+◌, ◌*◌, ◌-◌, ◌<◌, min, Bool, true, false, cond, List, [], ◌∷◌, ◌++◌, length, take, drop, get_or, refl, arith, ap, sym, ◌∙◌, add-one}
 use Rattle.std.specs.Char.{is_ascii_digit, digit_value}
 use Rattle.std.specs.List.{take_while}
 use Rattle.std.specs.Str.Parse.{AllDigits, digits_value, digits_value_after}
@@ -13,6 +13,10 @@ use Rattle.std.proofs.lemmas.List.Folds.{length-prefix_len}
 -- a digit's value
 pub digit_value-lt : (c : ℕ) → is_ascii_digit c ≡ true → digit_value c < 10
 digit_value-lt c digit = grind (arith, nat_tests)
+
+-- it is how far the digit stands behind `0`
+pub digit_value-code : (c : ℕ) → is_ascii_digit c ≡ true → digit_value c ≡ c - 48
+digit_value-code c digit = grind (arith, nat_tests)
 
 -- a byte in front of digits, if it is one
 pub AllDigits-cond : (b : Bool) (c : ℕ) (digits : List ℕ) → is_ascii_digit c ≡ b → AllDigits 10 digits → AllDigits 10 (cond b (c ∷ digits) [])
@@ -61,3 +65,32 @@ digits_value-capped whole decimals cap =
 -- the digits at a text's front, as they are cut off by their number
 pub digits_at-take : (text : List ℕ) → take (length (take_while is_ascii_digit text)) text ≡ take_while is_ascii_digit text
 digits_at-take text = rw length-prefix_len refl
+
+-- a digit at a place is the first of the digits there
+pub digits_at-digit : (text : List ℕ) (i : ℕ) → i < length text → is_ascii_digit (get_or text i 0) ≡ true
+    → take_while is_ascii_digit (drop i text) ≡ get_or text i 0 ∷ take_while is_ascii_digit (drop (i + 1) text)
+digits_at-digit text i lt digit =
+    let front : drop i text ≡ get_or text i 0 ∷ drop (i + 1) text = rw (add-one i) (drop-cons text i 0 lt) in
+    ap (take_while is_ascii_digit) front
+    ∙ (take_while-cons is_ascii_digit (get_or text i 0) (drop (i + 1) text)
+    ∙ ap (λ b. cond b (get_or text i 0 ∷ take_while is_ascii_digit (drop (i + 1) text)) []) digit)
+
+-- where another byte stands there are none
+pub digits_at-none : (text : List ℕ) (i : ℕ) → i < length text → is_ascii_digit (get_or text i 0) ≡ false
+    → take_while is_ascii_digit (drop i text) ≡ []
+digits_at-none text i lt other =
+    let front : drop i text ≡ get_or text i 0 ∷ drop (i + 1) text = rw (add-one i) (drop-cons text i 0 lt) in
+    ap (take_while is_ascii_digit) front
+    ∙ (take_while-cons is_ascii_digit (get_or text i 0) (drop (i + 1) text)
+    ∙ ap (λ b. cond b (get_or text i 0 ∷ take_while is_ascii_digit (drop (i + 1) text)) []) other)
+
+-- one more digit is taken into the number of the digits at a text's front, up to the cap
+pub digits_at-step : (text : List ℕ) (i cap number more total : ℕ) → i < length text → is_ascii_digit (get_or text i 0) ≡ true
+    → min more cap ≡ min (number * 10 + (get_or text i 0 - 48)) cap
+    → min (digits_value_after 10 number (take_while is_ascii_digit (drop i text))) cap ≡ total
+    → min (digits_value_after 10 more (take_while is_ascii_digit (drop (i + 1) text))) cap ≡ total
+digits_at-step text i cap number more total lt digit taken before =
+    let value : digit_value (get_or text i 0) ≡ get_or text i 0 - 48 = digit_value-code (get_or text i 0) digit in
+    let same : min more cap ≡ min (number * 10 + digit_value (get_or text i 0)) cap = omega arith in
+    digits_value_after-capped cap more (number * 10 + digit_value (get_or text i 0)) (take_while is_ascii_digit (drop (i + 1) text)) same
+    ∙ (ap (λ ds. min (digits_value_after 10 number ds) cap) (sym (digits_at-digit text i lt digit)) ∙ before)

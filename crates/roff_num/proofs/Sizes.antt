@@ -31,3 +31,23 @@ in_range-capped is_negative n over under part some more parts few = elim (cases_
       out_of_range is_negative (min n 18446744073709551615 * over / (part * under)) (large_size (min n 18446744073709551615) over under part some more parts few (omega arith))
       ∙ sym (out_of_range is_negative (n * over / (part * under)) (large_size n over under part some more parts few large))
 ]
+
+-- a number above 2147483648 is a size out of range, in any unit of one basic unit or more
+pub in_range-large : (is_negative : Bool) (n over under : ℕ) → 0 < under → under ≤ over → 2147483648 < n
+    → Err Range ≡ in_range (signed is_negative (pos (n * over / under)))
+in_range-large is_negative n over under some more large =
+    let whole : 2147483649 * under ≤ n * over = mul-le-mul (let above : 2147483649 ≤ n = omega arith in above) more in
+    sym (out_of_range is_negative (n * over / under) ((le-div_iff_mul-le some).1 whole))
+
+-- so a cap of 2^32 on a whole number changes no value
+pub in_range-capped_whole : (is_negative : Bool) (n over under : ℕ) → 0 < under → under ≤ over
+    → in_range (signed is_negative (pos (min n 4294967296 * over / under))) ≡ in_range (signed is_negative (pos (n * over / (1 * under))))
+in_range-capped_whole is_negative n over under some more =
+    let one : in_range (signed is_negative (pos (n * over / under))) ≡ in_range (signed is_negative (pos (n * over / (1 * under)))) =
+    ap (λ k. in_range (signed is_negative (pos (n * over / k)))) (let same : under ≡ 1 * under = omega arith in same) in
+    elim (cases_lt n 4294967296) [
+      | inl small ↦ ap (λ k. in_range (signed is_negative (pos (k * over / under)))) (min-eq_left (omega arith)) ∙ one
+      | inr large ↦
+          sym (in_range-large is_negative (min n 4294967296) over under some more (omega arith))
+          ∙ (in_range-large is_negative n over under some more (omega arith) ∙ one)
+    ]

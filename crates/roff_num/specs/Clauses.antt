@@ -19,7 +19,7 @@ pub use Rattle.roff_num.specs.Steps.{followed}
 pub use Rattle.roff_num.specs.Widths.{byte_width}
 pub use Rattle.roff_num.specs.Operators.{truth, applied, begins_with, operator_at}
 pub use Rattle.roff_num.specs.Numerals.{letter_unit, scale_unit, unit_at, digits_at, dot_at, decimals_at, size_of, numeral_at}
-pub use Rattle.roff_num.specs.Expressions.{sign_at, most_levels, value_at}
+pub use Rattle.roff_num.specs.Expressions.{sign_at, most_levels, as_number, value_at}
 pub use Rattle.roff_num.specs.Laws.{IsLeftFold}
 pub use Rattle.roff_num.specs.Alphabetic.{word, IsOverLetters, ComesBefore, place}
 pub use Rattle.roff_num.specs.Roman.{ones, tens, hundreds, thousands, digit_of, roman, roman_value}

@@ -65,15 +65,15 @@ pub(crate) struct Reading {
 }
 
 impl Reading {
-    ghost use Rattle.roff_num.specs.Reading.Frames.{come_to, entered, LeavesLess, left_behind, outcome_behind, outcome_now, outcome_opened, outcome_stepped, starts_at, with_frame};
+    ghost use Rattle.roff_num.specs.Reading.Frames.{come_to, entered, LeavesLess, left_behind, outcome_behind, outcome_now, outcome_opened, outcome_stepped, unheld, with_frame};
 
-    /// Nothing is read yet of the expression that begins at a place.
-    pub(crate) fn new(at: usize) -> Self
-        ensures { result ≡ starts_at at }
+    /// The operand is read next that begins at a place and that no other one holds.
+    pub(crate) fn new(at: usize, pending: Option<(Operator, i32)>) -> Self
+        ensures { result ≡ unheld at pending }
     {
         Reading {
             at,
-            pending: None,
+            pending,
             frames: ArrayVec::new(),
         }
     }
@@ -240,7 +240,7 @@ impl Reading {
 }
 
 /// The text from a place on.
-fn text_from(text: &[u8], at: usize) -> &[u8]
+pub(crate) fn text_from(text: &[u8], at: usize) -> &[u8]
     ensures value { result.now ≡ drop at text.now }
     ensures length { length result.now ≡ length text.now - at }
 {
@@ -248,7 +248,7 @@ fn text_from(text: &[u8], at: usize) -> &[u8]
 }
 
 /// The sign at a text's front: whether it is `-`, and how many bytes it takes.
-fn read_sign(text: &[u8]) -> (bool, usize)
+pub(crate) fn read_sign(text: &[u8]) -> (bool, usize)
     ensures value { result ≡ sign_at text.now }
     ensures within { result.1 ≤ length text.now }
 {
@@ -260,7 +260,8 @@ fn read_sign(text: &[u8]) -> (bool, usize)
 }
 
 /// What an operand's value gives behind the operator before it.
-fn combined(pending: Option<(Operator, i32)>, value: i32) -> Result<i32, NumFault>
+#[inline(always)]
+pub(crate) fn combined(pending: Option<(Operator, i32)>, value: i32) -> Result<i32, NumFault>
     ensures { result ≡ combined pending value }
 {
     match pending {

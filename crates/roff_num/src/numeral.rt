@@ -4,6 +4,7 @@ ghost use Rattle.std.specs.Prelude.{◌≡◌, ◌+◌, ◌*◌, ◌/◌, ◌-�
 ghost use Rattle.roff_num.specs.Clauses.{AllDigits, digits_value, digits_value_after, decimals_at, digits_at, dot_at, letter_unit, numeral_at, scale_unit, size_of, unit_at, in_range, signed};
 
 use crate::num::{NumFault, Scale};
+use crate::operator::begins_with;
 
 /// A unit: `over` basic units in each `under` of it.
 #[derive(Clone, Copy, Debug, PartialEq, Eq)]
@@ -15,13 +16,70 @@ pub(crate) struct Ratio {
 /// The most decimals of a number that count.
 const MOST_DECIMALS: usize = 9;
 
+/// What a number of whole digits counts at the most; more of any unit is out of range as well.
+const MOST_COUNTED: u64 = 4_294_967_296;
+
 /// The value of the numeral at a text's front behind a sign, in basic units, and how many bytes it
 /// takes.
+#[inline(always)]
 pub(crate) fn read_numeral(
     text: &[u8],
     scale: Scale,
     negative: bool,
 ) -> Result<(i32, usize), NumFault>
+    ensures value { result ≡ numeral_at scale negative text.now }
+    ensures some { IfOk result (λ r. 0 < r.1) }
+    ensures within { IfOk result (λ r. r.1 ≤ length text.now) }
+{
+    let (number, count) = leading_number(text);
+    let (_, behind) = text.split_at(count);
+    if begins_with(behind, b'.') {
+        return read_with_decimals(text, scale, negative);
+    }
+    if count == 0 {
+        return Err(NumFault::Missing);
+    }
+    let (unit, letters) = read_unit(behind, scale);
+    match value_of_whole(negative, number, unit) {
+        Ok(value) => Ok((value, count + letters)),
+        Err(fault) => Err(fault),
+    }
+}
+
+/// The number that the digits at a text's front write, or 2^32 if it is greater, and how many
+/// digits they are.
+fn leading_number(text: &[u8]) -> (u64, usize)
+    ensures number { result.0 ≡ min (digits_value 10 (digits_at text.now)) (2 ^ 32) }
+    ensures count { result.1 ≡ length (digits_at text.now) }
+{
+    let mut number: u64 = 0;
+    let mut count = 0;
+    for digit in text {
+        if !digit.is_ascii_digit() {
+            return (number, count);
+        }
+        number = (number * 10 + u64::from(*digit - b'0')).min(MOST_COUNTED);
+        count += 1;
+    }
+    (number, count)
+}
+
+/// The value of a whole number of a unit behind a sign, if it is in range.
+fn value_of_whole(negative: bool, number: u64, unit: Ratio) -> Result<i32, NumFault>
+    requires some { 0 < unit.under }
+    requires one_or_more { unit.under ≤ unit.over }
+    ensures { result ≡ in_range (signed negative (pos (number * unit.over / unit.under))) }
+{
+    if number > 2_147_483_648 {
+        return Err(NumFault::Range);
+    }
+    let size = (number * u64::from(unit.over) / u64::from(unit.under)) as i64;
+    in_range(if negative { -size } else { size })
+}
+
+/// The value of the numeral at a text's front, which may have decimals, and how many bytes it takes.
+#[inline(never)]
+fn read_with_decimals(text: &[u8], scale: Scale, negative: bool) -> Result<(i32, usize), NumFault>
     ensures value { result ≡ numeral_at scale negative text.now }
     ensures some { IfOk result (λ r. 0 < r.1) }
     ensures within { IfOk result (λ r. r.1 ≤ length text.now) }

@@ -70,9 +70,9 @@ abbrev pub outcome_stepped : List ℕ → Scale → Option ℤ → Reading → R
 outcome_stepped text scale place reading (Ok next) = outcome_next text scale place reading next
 outcome_stepped text scale place reading (Err e) = Err e
 
--- nothing is read yet of the expression at a place
-abbrev pub starts_at : ℕ → Reading
-starts_at at = record { at = at; pending = None; frames = record { items = [] } }
+-- an operand begins at a place that no other one holds
+abbrev pub unheld : ℕ → Option (Operator × ℤ) → Reading
+unheld at pending = record { at = at; pending = pending; frames = record { items = [] } }
 
 -- an operand begins within another one
 abbrev pub entered : Reading → ℕ → Bool → Opening → Reading
