@@ -3,6 +3,7 @@ pub mod GlyphsInFront
 pub mod BlanksInFront
 pub mod SharedColumns
 pub mod SpreadsOver
+pub mod Copied
 pub mod Widths
 pub mod Sentences
 pub mod PendingLine
@@ -15,6 +16,7 @@ pub mod ToldGlyphs
 pub mod Tells
 pub mod TextRuns
 pub mod WholeWords
+pub mod WordRuns
 pub mod NearestStop
 pub mod Interruptions
 pub mod Telling

@@ -1,11 +1,11 @@
 //! What a finished line writes.
 
 ghost use Rattle.std.specs.Prelude.{◌≡◌, ◌+◌, ◌*◌, ◌<◌, ◌≤◌, ◌^◌, ◌++◌, ◌∷◌, [], length, take};
-ghost use Rattle.std.specs.Prelude.{◌-◌, ◌%◌, drop, vec_capacity, false, if◌then◌else◌};
+ghost use Rattle.std.specs.Prelude.{◌-◌, ◌%◌, ℕ, drop, map, vec_capacity, true, false, if◌then◌else◌};
 ghost use Rattle.roff_lines.specs.Clauses.{finished_of, line_bytes};
 ghost use Rattle.roff_lines.specs.Columns.{spaces};
 ghost use Rattle.roff_lines.specs.LineBytes.Fronts.{TakesPiece, blanks_in_front, glyphs_in_front};
-ghost use Rattle.roff_lines.specs.LineBytes.Fronts.{is_blank_mark, without_blanks};
+ghost use Rattle.roff_lines.specs.LineBytes.Fronts.{is_blank_mark, without_blanks, written_mark};
 ghost use Rattle.roff_lines.specs.LineBytes.Fronts.{Moves, SpreadsOver, WritesOver};
 ghost use Rattle.roff_lines.specs.LineBytes.Shares.{shared_out};
 
@@ -138,6 +138,13 @@ impl<'a> LineBytes<'a> {
         if self.blanks > 0 {
             return start;
         }
+        if is_copied(self.each, self.rest, self.text.len(), out.len() - start) {
+            let count = self.text.len();
+            copy_over(self.text, out, start);
+            let (_, behind) = self.text.split_at(count);
+            self.text = behind;
+            return start + count;
+        }
         let shares = Sharing {
             each: self.each,
             rest: self.rest,
@@ -158,9 +165,26 @@ impl<'a> LineBytes<'a> {
     pub fn take_piece(&mut self, most: usize) -> Piece<'a>
         ensures { TakesPiece most result.blanks result.glyphs.now self.old self.new }
     {
+        if self.is_text_written() {
+            return Piece {
+                blanks: 0,
+                glyphs: &[],
+            };
+        }
         let blanks = self.take_blanks(most);
         let glyphs = self.take_glyphs(most - blanks);
         Piece { blanks, glyphs }
+    }
+
+    /// Whether nothing is left to be taken in pieces.
+    #[inline(always)]
+    fn is_text_written(&self) -> bool
+        ensures { result ≡ true → (most : ℕ) → TakesPiece most 0 [] self.now self.now }
+    {
+        if self.blanks > 0 {
+            return false;
+        }
+        self.text.is_empty()
     }
 
     /// Takes the blanks in front, at most so many, and tells how many.
@@ -271,6 +295,35 @@ fn shares(spare: u64, gaps: u64) -> (u64, u64, u64)
         return (0, 0, 1);
     }
     (spare / gaps, spare % gaps, gaps)
+}
+
+/// Whether a text is written as it stands, where there is so much room: nothing is added to its gaps.
+#[inline(always)]
+fn is_copied(each: u64, rest: u64, length: usize, room: usize) -> bool
+    ensures { result ≡ true → (each ≡ 0) × ((rest ≡ 0) × (length ≤ room)) }
+{
+    each == 0 && rest == 0 && length <= room
+}
+
+/// Writes a text as it stands, from a place on.
+#[inline(always)]
+fn copy_over(text: &[u8], out: &mut [u8], start: usize)
+    requires { start + length text.now ≤ length out.old }
+    ensures same { length out.new ≡ length out.old }
+    ensures written { take (start + length text.now) out.new
+        ≡ take start out.old ++ map written_mark text.now }
+{
+    for taken in 0..text.len() {
+        out[start + taken] = written_byte(text[taken]);
+    }
+}
+
+/// What is written for a byte of a text where nothing is added to a gap.
+#[inline(always)]
+fn written_byte(byte: u8) -> u8
+    ensures { result ≡ written_mark byte }
+{
+    if byte <= FURTHER_BLANK { b' ' } else { byte }
 }
 
 /// Writes a text with its blanks spread over blanks, from a place on, as far as there is room for it.

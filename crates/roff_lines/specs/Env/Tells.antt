@@ -1,5 +1,5 @@
 -- Bytes of a text line that an environment is told at once.
-use Rattle.std.specs.Prelude.{◌≡◌, ℕ, ◌+◌, ◌<◌, ◌≤◌, true, List, [], ◌∷◌, ◌++◌, length}
+use Rattle.std.specs.Prelude.{◌≡◌, ℕ, ◌+◌, ◌-◌, ◌<◌, ◌≤◌, true, List, [], ◌∷◌, ◌++◌, length, slice_index_or}
 use Rattle.std.specs.List.{AllByRecursion}
 use Rattle.roff_lines.specs.Glyphs.{text_width}
 use Rattle.roff_lines.specs.Events.{History}
@@ -29,6 +29,18 @@ pub data WholeWords : ℕ → List ℕ → Type 0 where
   NoWord : WholeWords 0 []
   OneMore : (n : ℕ) (front word : List ℕ) → WholeWords n front → 0 < length word → AllByRecursion IsOneCharacter word
       → WholeWords (n + 1) (front ++ (word ++ 32 ∷ []))
+
+-- words with one blank between two of them go on with a byte behind another one
+pub record GoesOn (before b : ℕ) : Type 0 where
+  pub above : 32 ≤ b
+  pub below : b < 128
+  pub single : b ≡ 32 → before ≡ 32 → ⊥
+
+-- so many bytes in front are such words, the first behind a blank
+pub data IsRun (bytes : List ℕ) : ℕ → Type 0 where
+  Nothing : IsRun bytes 0
+  Begins : GoesOn 32 (slice_index_or bytes 0 0) → IsRun bytes 1
+  Further : (k : ℕ) → 0 < k → IsRun bytes k → GoesOn (slice_index_or bytes (k - 1) 0) (slice_index_or bytes k 0) → IsRun bytes (k + 1)
 
 -- behind a gap the pending line has room for text of so many columns and bytes
 pub record HasRoom (room : ℕ) (k : Kept) : Type 0 where

@@ -1,5 +1,5 @@
 -- What of a line's text, and of its bytes, stands in front.
-use Rattle.std.specs.Prelude.{◌≡◌, ℕ, ◌+◌, ◌-◌, ◌≤◌, Bool, ◌&&◌, ◌||◌, List, [], ◌∷◌, ◌++◌, length, take, drop, nat_lt, if◌then◌else◌, ◌==◌}
+use Rattle.std.specs.Prelude.{◌≡◌, ℕ, ◌+◌, ◌-◌, ◌≤◌, Bool, ◌&&◌, ◌||◌, List, [], ◌∷◌, ◌++◌, length, take, drop, nat_le, nat_lt, if◌then◌else◌, ◌==◌}
 use Rattle.std.specs.List.{take_while}
 use Rattle.roff_lines.specs.Glyphs.{gap_blank, further_blank, glyph_blank}
 use Rattle.roff_lines.specs.Words.{is_empty}
@@ -8,6 +8,10 @@ use Rattle.roff_lines.specs.Columns.{spaces, spread}
 -- whether a byte of a text stands for a blank
 abbrev pub is_blank_mark : ℕ → Bool
 is_blank_mark b = b == gap_blank || (b == further_blank || b == glyph_blank)
+
+-- what is written for a byte of a text where nothing is added to a gap
+abbrev pub written_mark : ℕ → ℕ
+written_mark b = if nat_le b 1 then 32 else b
 
 -- a line's text without its trailing blanks
 abbrev pub without_blanks : List ℕ → List ℕ

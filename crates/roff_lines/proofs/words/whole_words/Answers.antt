@@ -1,27 +1,24 @@
-use Rattle.std.proofs.Common.{[], refl, arith}
-use Rattle.roff_lines.specs.Env.Tells.{NoWord}
-use Rattle.roff_lines.proofs.WholeWords.{Counts-blank}
+use Rattle.std.proofs.Common.{arith, ◌∙◌}
+use Rattle.roff_lines.proofs.WordRuns.{IsRun-less, WholeWords-run, gaps_in-less}
 use Rattle.roff_lines.proofs.words.whole_words.Goals as goal
 
-pub loop-count-init : goal.loop-count-init
-loop-count-init c = record {
-  end = omega (arith, c.min-end.ensures);
-  most = omega (arith, c.min-end.ensures);
-  words = omega arith;
-  told = omega arith;
-  count = omega arith;
-  counts = record { front = NoWord; word = []; split = refl; characters = tt };
-}
-
-pub loop-count-preserved : goal.loop-count-preserved
-loop-count-preserved c =
-    let l = c.loop-count in record {
-      end = l.invariant.end;
-      most = l.invariant.most;
-      words = omega (arith, l.invariant.words, l.invariant.told);
-      told = omega arith;
-      count = omega (arith, c.loop-count-test.true);
-      counts =
-          Counts-blank c.args.bytes.now l.told l.words l.count l.invariant.counts (omega (arith, c.loop-count-test.true, l.invariant.end))
-          l.invariant.told c.if-byte-ne32.false c.if-count-told.false;
+pub loop-told-preserved : goal.loop-told-preserved
+loop-told-preserved c =
+    let l = c.loop-told in
+    record {
+      text = omega (arith, l.invariant.text);
+      most = omega (arith, l.invariant.most);
+      run = IsRun-less c.args.bytes.now l.told l.invariant.run;
+      gaps = gaps_in-less c.args.bytes.now l.told c.loop-told-test.true l.invariant.text c.if-bytes-told-ne32.true ∙ l.invariant.gaps;
     }
+
+pub returns-else-bytes-told-ne32-clause-words : goal.returns-else-bytes-told-ne32-clause-words
+returns-else-bytes-told-ne32-clause-words c =
+    let l = c.loop-told in
+    WholeWords-run c.args.bytes.now l.told c.run_in_front-count.result.1 l.invariant.run l.invariant.text (λ some. c.if-bytes-told-ne32.false) l.invariant.gaps
+
+pub returns-after-loop-told-clause-words : goal.returns-after-loop-told-clause-words
+returns-after-loop-told-clause-words c =
+    let l = c.loop-told in
+    WholeWords-run c.args.bytes.now l.told c.run_in_front-count.result.1 l.invariant.run l.invariant.text (λ some. absurd (omega (arith, some, c.loop-told-test.false)))
+    l.invariant.gaps

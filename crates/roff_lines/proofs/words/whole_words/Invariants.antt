@@ -1,16 +1,15 @@
-use Rattle.std.proofs.Common.{◌≤◌, ◌-◌, length}
-use Rattle.roff_lines.proofs.WholeWords.{Counts}
+use Rattle.std.proofs.Common.{◌≡◌, ◌≤◌, length, min, take}
+use Rattle.roff_lines.specs.Glyphs.{gaps_in}
+use Rattle.roff_lines.specs.Env.Tells.{IsRun}
 use Rattle.roff_lines.proofs.words.whole_words.Given as goal
 
-abbrev pub invariant-loop-count : goal.invariant-loop-count
-invariant-loop-count l = record {
-  end : l.end ≤ length l.bytes;
-  most : l.end ≤ l.most;
-  words : l.words ≤ l.told;
-  told : l.told ≤ l.count;
-  count : l.count ≤ l.end;
-  counts : Counts l.bytes l.told l.words l.count;
+abbrev pub invariant-loop-told : goal.invariant-loop-told
+invariant-loop-told l = record {
+  text : l.told ≤ length l.bytes;
+  most : l.told ≤ l.most;
+  run : IsRun l.bytes l.told;
+  gaps : gaps_in (take l.told l.bytes) ≡ l.words;
 }
 
-abbrev pub decreases-loop-count : goal.decreases-loop-count
-decreases-loop-count l = l.end - l.count
+abbrev pub decreases-loop-told : goal.decreases-loop-told
+decreases-loop-told l = l.told
