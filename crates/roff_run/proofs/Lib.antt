@@ -54,6 +54,7 @@ pub mod PrintedRuns
 pub mod TextBytes
 pub mod TextTaken
 pub mod CalledBodies
+pub mod CalledArguments
 pub mod BegunDefinitions
 pub mod PlainRuns
 pub mod TurnedRuns

@@ -10,6 +10,7 @@ ghost use Rattle.roff_run.specs.Clauses.{LineStart, NameOf, PageUnread, TakesAs,
 ghost use Rattle.roff_run.specs.Clauses.{taking};
 ghost use Rattle.roff_run.specs.declared.reading.Reading.TheVariants.{Arguments as InArguments, Calling};
 
+use super::calls::CALL_ARGUMENTS;
 use super::control_lines::called_by;
 use super::{AtOnce, Reader};
 use crate::environments::Environments;
@@ -253,7 +254,8 @@ impl Reader {
         }
     }
 
-    /// Reads the end of a line that calls a body, if no limit refuses that.
+    /// Reads a byte behind the name of a body that a line calls, if it is no backslash, and no limit
+    /// refuses it: the line's end, or one of the first arguments.
     fn calls(&mut self, name: ShortName, byte: u8, unread: &mut Unread<PageEvent>) -> bool
         requires { unread.old.input.half ≡ [] }
         ensures { TakesAtOnce (λ k. kept_taking k (Calling name) unread.old.input byte) []
@@ -262,7 +264,19 @@ impl Reader {
         if byte == b'\n' {
             return self.calls_body(name, unread);
         }
-        false
+        if byte == b'\\' {
+            return false;
+        }
+        if unread.arguments().len() >= CALL_ARGUMENTS - 1 {
+            return false;
+        }
+        match unread.hold(CopyUnit::Byte(byte)) {
+            Ok(()) => {
+                self.go_on(Reading::Calling { name });
+                true
+            }
+            Err(_) => false,
+        }
     }
 
     /// The same at that end.

@@ -10,7 +10,7 @@ use roff_num::Limit;
 use roff_scan::{CopyUnit, Read, Unread};
 
 /// How many arguments a body gets that a line calls.
-const CALL_ARGUMENTS: usize = 9;
+pub(super) const CALL_ARGUMENTS: usize = 9;
 
 impl Reader {
     /// Something behind the name of a body that a line calls.

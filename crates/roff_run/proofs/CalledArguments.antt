@@ -1,0 +1,98 @@
+-- Bytes behind the name of a body that a line calls are held in the arguments of the line.
+use Rattle.std.proofs.Common.{◌≡◌, ℕ, ◌+◌, ◌<◌, ◌≤◌, ◌==◌, Bool, true, false, inl, inr, List, [], ◌∷◌, length, take, drop, refl, sym, ap, ◌∙◌, arith}
+use Rattle.std.specs.Prelude.{if◌then◌else◌, filter, reverse, nat_le}
+use Rattle.std.proofs.lemmas.Bool.{cases_Bool, lt-leb}
+use Rattle.std.proofs.lemmas.List.{length-append, length-drop, length-reverse, length-take}
+use Rattle.std.proofs.lemmas.List.Sums.{count_by-le-length, length-filter}
+use Rattle.roff_scan.proofs.KeptArguments.{only_kept-with_unit}
+use Rattle.roff_scan.specs.Arguments.{Arguments, has_byte, kept, only_kept, settled, settled_at, with_argument_byte}
+use Rattle.roff_scan.specs.Bytes.{backslash, newline, quote}
+use Rattle.roff_scan.specs.Half.{Half, Backslash}
+use Rattle.roff_scan.specs.Halves.{byte_read}
+use Rattle.roff_scan.specs.declared.arguments.Place.{Place}
+use Rattle.roff_scan.specs.declared.arguments.Place.TheVariants.{Between, InPlain, InQuotes, BehindQuote}
+use Rattle.roff_scan.specs.declared.half.CopyUnit.TheVariants.{Byte}
+use Rattle.roff_scan.specs.declared.half.Read.TheVariants.{GoesOn, Unit as GivesUnit}
+use Rattle.roff_scan.specs.declared.half.Surroundings.TheVariants.{Arguments as AboveArguments}
+use Rattle.roff_run.specs.Reading.{PageInput, Taking, call_read, call_unit, going_on, holding, holding_call, kept_taking, settling}
+use Rattle.roff_run.specs.Registers.{Known}
+use Rattle.roff_run.specs.declared.reading.Reading.TheVariants.{Calling}
+use Rattle.roff_run.specs.declared.reading.ShortName.{ShortName}
+
+-- no more arguments are kept than there are
+kept-fewer : (texts : List (List ℕ)) → length (kept texts) ≤ length texts
+kept-fewer texts =
+    omega (
+      arith,
+      length-append (take 32 texts) (filter has_byte (drop 32 texts)),
+      length-take 32 texts,
+      length-filter has_byte (drop 32 texts),
+      count_by-le-length has_byte (drop 32 texts),
+      length-drop 32 texts,
+    )
+
+-- where no quote follows one argument more is whole at the most
+settled-longer : (place : Place) (a : Arguments) → length (settled_at place a).whole ≤ length a.whole + 1
+settled-longer Between a = omega arith
+settled-longer InPlain a = omega arith
+settled-longer InQuotes a = omega arith
+settled-longer BehindQuote a = omega arith
+
+-- a byte that is no quote tells that itself
+settled-byte : (whole : List (List ℕ)) (begun : List ℕ) (place : Place) (b : ℕ) → (b == quote) ≡ false
+    → with_argument_byte (settled (record { whole = whole; begun = begun; place = place })) b
+    ≡ with_argument_byte (record { whole = whole; begun = begun; place = place }) b
+settled-byte whole begun Between b other = refl
+settled-byte whole begun InPlain b other = refl
+settled-byte whole begun InQuotes b other = refl
+settled-byte whole begun BehindQuote b other = rw other refl
+
+module _ (i : PageInput) (b : ℕ) (few : length i.arguments.whole < 8) where
+  abbrev a : Arguments
+  a = i.arguments
+
+  -- so there is room for one of them
+  settled-few : length (settling i).arguments.whole < 9
+  settled-few =
+      omega (
+        arith,
+        length-reverse (kept (reverse (settled a).whole)),
+        kept-fewer (reverse (settled a).whole),
+        length-reverse (settled a).whole,
+        settled-longer a.place a,
+        few,
+      )
+
+  -- such a byte is held
+  held-settled : (b == quote) ≡ false → holding_call (Byte b) (settling i) ≡ holding (Byte b) i
+  held-settled other =
+      ap (λ (full : Bool). if full then settling i else holding (Byte b) (settling i)) (lt-leb 9 (length (settling i).arguments.whole) settled-few)
+      ∙ ap (λ (arguments : Arguments). record i { arguments = arguments })
+      (only_kept-with_unit (settled a) (Byte b) ∙ ap only_kept (settled-byte a.whole a.begun a.place b other))
+
+  -- and a quote
+  held-quote : holding_call (Byte b) i ≡ holding (Byte b) i
+  held-quote =
+      let fewer : length i.arguments.whole < 9 = omega (arith, few) in
+      ap (λ (full : Bool). if full then i else holding (Byte b) i) (lt-leb 9 (length i.arguments.whole) fewer)
+
+  -- so each unit of one byte is, but for a newline
+  held-unit : (name : ShortName) → (b == newline) ≡ false → call_unit i name (Byte b) ≡ going_on (holding (Byte b) i) (Calling name)
+  held-unit name no_newline =
+      elim (cases_Bool (b == quote)) [
+        | inl e ↦ rw (no_newline, e) (ap (λ (j : PageInput). going_on j (Calling name)) held-quote)
+        | inr e ↦ rw (no_newline, e) (ap (λ (j : PageInput). going_on j (Calling name)) (held-settled e))
+      ]
+
+-- a byte there that is neither a newline nor a backslash is held
+pub call-byte : (k : Known) (name : ShortName) (i : PageInput) (b : ℕ) → i.half ≡ [] → length i.arguments.whole < 8
+    → (b == backslash) ≡ false → (b == newline) ≡ false → going_on (holding (Byte b) i) (Calling name) ≡ kept_taking k (Calling name) i b
+call-byte k name i b none few no_escape no_newline =
+    let bare : PageInput = record i { half = [] } in
+    let unit : byte_read AboveArguments [] b ≡ (GivesUnit (Byte b), []) =
+    ap (λ (c : Bool). if c then (GoesOn, Backslash ∷ []) else (GivesUnit (Byte b), [])) no_escape in
+    sym
+    (ap (λ (half : List Half). call_read k i name (byte_read AboveArguments half b)) none
+    ∙ ap (call_read k i name) unit
+    ∙ held-unit bare b few name no_newline
+    ∙ ap (λ (half : List Half). going_on (holding (Byte b) (record i { half = half })) (Calling name)) (sym none))
