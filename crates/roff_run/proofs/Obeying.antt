@@ -84,7 +84,8 @@ pub TakesAs-obeyed : (es : EnvironmentsOf) (old new : ReaderState) (before mid c
     → mid ≡ line_finished before → Obeys es old.registers.all mid breaks request e
     → ChangedTo (changes_of (texts_read mid) e.changes) old.registers new.registers
     → change ≡ called (calls_of (texts_read mid) e.changes) mid → behind ≡ released change
-    → new.reading ≡ reading_behind (row_of request).line → m.message ≡ e.message → events_meant new.requested m.events ≡ e.events.items
+    → new.reading ≡ reading_behind (row_of request).line → option_to_list m.message ≡ (effect_of (texts_read mid) e).messages
+    → events_meant new.requested m.events ≡ (effect_of (texts_read mid) e).events
     → TakesAs (λ k. line_ended k before.input breaks request) es old new before behind (Ok m)
 TakesAs-obeyed es old new before mid change behind breaks request e m finishes obeying changed calls releases begins says means = record {
   takes = λ l h stands ready.
@@ -115,8 +116,8 @@ TakesAs-obeyed es old new before mid change behind breaks request e m finishes o
           within = first_passed-few_names before.limits (changed_by_all changes old.registers.all) ended few_now
               ∙ input_refusal-no_more before.limits ended i less none_before;
         };
-        messages = ap (λ (message : Option Message). option_to_list message) says;
-        events = means;
+        messages = says ∙ ap (λ (u : PageUnread). (effect_of (texts_read u) e).messages) finishes;
+        events = means ∙ ap (λ (u : PageUnread). (effect_of (texts_read u) e).events) finishes;
       });
 }
 
