@@ -439,8 +439,13 @@ impl Formatter {
         ensures { PerformsOnly self.old.reader.requested self.old self.new
             (O.sunk out.old) (O.sunk out.new) result }
     {
-        let events = self.reader.requested();
-        self.perform_each(&events, out)
+        match self.reader.few_requested() {
+            Some(few) => self.perform_each(&few, out),
+            None => {
+                let all = self.reader.requested();
+                self.perform_each(&all, out)
+            }
+        }
     }
 
     /// Performs events, one after another.

@@ -1,5 +1,5 @@
 -- A request that is obeyed, and how it changes registers, as the definition takes its line's end.
-use Rattle.std.proofs.Common.{◌≡◌, ℕ, ◌≤◌, Bool, true, false, List, [], ◌∷◌, length, fold, Option, Some, None, Ok, Err, sym, subst, ap, ◌∙◌, arith}
+use Rattle.std.proofs.Common.{◌≡◌, ℕ, ◌≤◌, Bool, true, false, List, [], ◌∷◌, length, fold, Some, None, Ok, Err, sym, subst, ap, ◌∙◌, arith}
 use Rattle.std.specs.Option.{option_to_list}
 use Rattle.std.proofs.lemmas.Bool.{le-ltb, ltb-false}
 use Rattle.std.specs.Prelude.{reverse, nat_lt, if◌then◌else◌}
@@ -25,7 +25,6 @@ use Rattle.roff_run.specs.Registers.Capped.{Capped, is_past_cap, with_change}
 use Rattle.roff_run.specs.Request.Coded.{calls_of, changes_of, effect_of}
 use Rattle.roff_run.specs.Requests.{Effect, request_effect, row_of}
 use Rattle.roff_run.specs.Run.{counts_in, first_passed, known_at}
-use Rattle.roff_run.specs.declared.message.Message.{Message}
 use Rattle.roff_run.specs.declared.reader.Meaning.{Meaning}
 use Rattle.roff_run.specs.declared.request.Request.{Request}
 use Rattle.roff_run.specs.declared.request.effects.Effect.{Effect as CodedEffect}
@@ -84,7 +83,8 @@ pub TakesAs-obeyed : (es : EnvironmentsOf) (old new : ReaderState) (before mid c
     → mid ≡ line_finished before → Obeys es old.registers.all mid breaks request e
     → ChangedTo (changes_of (texts_read mid) e.changes) old.registers new.registers
     → change ≡ called (calls_of (texts_read mid) e.changes) mid → behind ≡ released change
-    → new.reading ≡ reading_behind (row_of request).line → m.message ≡ e.message → events_meant new.requested m.events ≡ e.events.items
+    → new.reading ≡ reading_behind (row_of request).line → option_to_list m.message ≡ (effect_of (texts_read mid) e).messages
+    → events_meant new.requested m.events ≡ (effect_of (texts_read mid) e).events
     → TakesAs (λ k. line_ended k before.input breaks request) es old new before behind (Ok m)
 TakesAs-obeyed es old new before mid change behind breaks request e m finishes obeying changed calls releases begins says means = record {
   takes = λ l h stands ready.
@@ -115,8 +115,8 @@ TakesAs-obeyed es old new before mid change behind breaks request e m finishes o
           within = first_passed-few_names before.limits (changed_by_all changes old.registers.all) ended few_now
               ∙ input_refusal-no_more before.limits ended i less none_before;
         };
-        messages = ap (λ (message : Option Message). option_to_list message) says;
-        events = means;
+        messages = says ∙ ap (λ (u : PageUnread). (effect_of (texts_read u) e).messages) finishes;
+        events = means ∙ ap (λ (u : PageUnread). (effect_of (texts_read u) e).events) finishes;
       });
 }
 

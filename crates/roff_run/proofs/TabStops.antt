@@ -1,5 +1,5 @@
 -- Tab stops that are read one after another, each beside the one before.
-use Rattle.std.proofs.Common.{◌≡◌, ◌≤◌, ◌<◌, ◌+◌, ℕ, zero, suc, ℤ, pos, List, [], ◌∷◌, ◌++◌, length, length-append, map, drop, take, slice_get, Some, Result, Ok, Err, refl, sym, ap, ◌∙◌, add-one, append_assoc, arith}
+use Rattle.std.proofs.Common.{◌≡◌, ◌≤◌, ◌<◌, ◌+◌, Bool, ℕ, zero, suc, ℤ, pos, List, [], ◌∷◌, ◌++◌, length, length-append, map, drop, take, slice_get, Some, Result, Ok, Err, refl, sym, ap, ◌∙◌, add-one, append_assoc, arith}
 use Rattle.std.specs.Prelude.{◌/◌}
 use Rattle.std.proofs.Math.Seq.{append_snoc}
 use Rattle.std.proofs.lemmas.List.{append-nil, drop_all, map-append}
@@ -10,7 +10,7 @@ use Rattle.roff_run.specs.Numbers.{at_least_zero, rounded_in_range}
 use Rattle.roff_lines.specs.declared.event.Event.TheVariants.{Set}
 use Rattle.roff_lines.specs.declared.settings.Param.TheVariants.{NoStops}
 use Rattle.roff_run.specs.Requests.{PageEvent, Text}
-use Rattle.roff_run.specs.Requests.Effects.{Done, bad_number, happens}
+use Rattle.roff_run.specs.Requests.Effects.{Done, bad_number, happens, meant_by, saying}
 use Rattle.roff_run.specs.Requests.Tabs.{setting_stops, stop_place, stop_places, stop_set}
 
 -- the column of a stop
@@ -97,6 +97,12 @@ all_read texts count before columns so_far behind =
     ∙ ap (λ (stops : List ℤ). setting_stops (Ok stops)) (sym (append-nil so_far.stops))
     ∙ ap (λ (rest : List (List ℕ)). setting_stops (in_front so_far.stops (stop_places before rest))) (sym (drop_all count texts behind))
     ∙ ap setting_stops (sym so_far.decide)
+
+-- a request for stops says something and sets them, and changes nothing else
+pub stops_meant : (breaks : Bool) (stops : Result (List ℤ) NumFault)
+    → let effect = meant_by breaks (setting_stops stops) in saying effect.messages effect.events ≡ effect
+stops_meant breaks (Ok stops) = refl
+stops_meant breaks (Err fault) = refl
 
 -- of the first so many texts, one of them
 pub slice_get-take : (n most : ℕ) (texts : List (List ℕ)) → n < most → slice_get (take most texts) n ≡ slice_get texts n

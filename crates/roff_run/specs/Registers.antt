@@ -18,6 +18,7 @@ use Rattle.roff_run.specs.declared.registers.Query.TheVariants.{Newlines, Indent
 pub mod Capped
 pub mod Kept
 pub mod Coded
+pub mod ReadOnly
 
 -- the registers that can be set: those by name, and the page number `%`, which always is one
 pub record AllRegisters : Type 0 where

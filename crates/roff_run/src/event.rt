@@ -1,9 +1,10 @@
 //! The events that bytes and requests mean.
 
-ghost use Rattle.std.specs.Prelude.{◌≡◌, ◌≤◌, ◌+◌, ◌++◌, [], true, length, map};
-ghost use Rattle.roff_run.specs.Events.{resumed_if, stop_at, stops_set};
+ghost use Rattle.std.specs.Prelude.{◌≡◌, ◌≤◌, ◌+◌, ◌++◌, [], true, length, map, IfSome};
+ghost use Rattle.roff_run.specs.Events.{request_events, resumed_if, stop_at, stops_set};
 ghost use Rattle.roff_run.specs.Events.Lines.{line_events, print_event};
 ghost use Rattle.roff_run.specs.Events.Meant.{few_meant, none_meant, requested_meant};
+ghost use Rattle.roff_run.specs.Requests.Effects.{behind_break};
 ghost use Rattle.roff_run.specs.Reading.{leading_glyph};
 
 use crate::environments::EnvironmentNumber;
@@ -66,7 +67,15 @@ pub(crate) enum LineEvents {
 pub type FewEvents = ArrayVec<PageEvent, 6>;
 
 /// The events of a request behind its break, but for tab stops.
-pub(crate) type RequestEvents = ArrayVec<PageEvent, 2>;
+#[derive(Clone, Copy, Debug, PartialEq, Eq)]
+pub(crate) enum RequestEvents {
+    /// None.
+    Nothing,
+    /// This one.
+    One(PageEvent),
+    /// These two.
+    Two(PageEvent, PageEvent),
+}
 
 /// All events of a request: a few, and those of tab stops.
 pub type AllEvents = ArrayVec<PageEvent, 39>;
@@ -83,11 +92,14 @@ pub struct Events {
     are_requested: bool,
 }
 
-/// The events of a request: a few, and then those of tab stops, if they are set.
+/// The events of a request: those of its break, if it breaks, and behind them a few, or those of tab
+/// stops. The stops are large and seldom set: they stay where they are until others are.
 #[derive(Drop)]
 pub(crate) struct RequestedEvents {
-    few: FewEvents,
-    stops: Option<Stops>,
+    breaks: bool,
+    behind: RequestEvents,
+    sets_stops: bool,
+    stops: Stops,
 }
 
 impl Model for Events {
@@ -182,37 +194,41 @@ impl RequestedEvents {
     pub(crate) fn new() -> Self
         ensures { result.items ≡ [] }
     {
-        RequestedEvents::few(FewEvents::new())
-    }
-
-    /// A few.
-    pub(crate) fn few(events: FewEvents) -> Self
-        ensures { result.items ≡ events.items }
-    {
         RequestedEvents {
-            few: events,
-            stops: None,
+            breaks: false,
+            behind: RequestEvents::Nothing,
+            sets_stops: false,
+            stops: Stops::new(),
         }
     }
 
-    /// A few, and behind them these stops are set in place of those in force.
-    pub(crate) fn setting_stops(few: FewEvents, stops: Stops) -> Self
-        ensures { result.items ≡ few.items ++ stops_set stops.items }
+    /// Keeps those of a break, if there is one, and these behind it.
+    pub(crate) fn keep(&mut self, breaks: bool, behind: RequestEvents)
+        ensures { self.new.items ≡ behind_break breaks (request_events behind) }
     {
-        RequestedEvents {
-            few,
-            stops: Some(stops),
-        }
+        self.breaks = breaks;
+        self.behind = behind;
+        self.sets_stops = false;
     }
 
-    /// Whether there are none. Where stops are set, there are some.
-    pub(crate) fn are_none(&self) -> bool
-        ensures { result ≡ true → self.now.items ≡ [] }
+    /// Keeps those of a break, if there is one, and behind it those that set these stops in place of
+    /// those in force.
+    pub(crate) fn keep_stops(&mut self, breaks: bool, stops: Stops)
+        ensures { self.new.items ≡ behind_break breaks (stops_set stops.items) }
     {
-        match self.stops {
-            None => self.few.is_empty(),
-            Some(_) => false,
+        self.breaks = breaks;
+        self.sets_stops = true;
+        self.stops = stops;
+    }
+
+    /// The events, unless those of stops are among them.
+    pub(crate) fn few(&self) -> Option<FewEvents>
+        ensures { IfSome result (λ few. few.items ≡ self.now.items) }
+    {
+        if self.sets_stops {
+            return None;
         }
+        Some(few_behind(self.breaks, self.behind))
     }
 
     /// All, one after another.
@@ -220,12 +236,65 @@ impl RequestedEvents {
         ensures { result.items ≡ self.now.items }
     {
         let mut all = AllEvents::new();
-        all.try_extend_from_slice(&self.few).unwrap();
-        if let Some(stops) = &self.stops {
+        if self.sets_stops {
+            all.try_extend_from_slice(&break_events(self.breaks))
+                .unwrap();
             all.push(PageEvent::Text(Event::Set(Param::NoStops)));
-            push_stops(&mut all, stops);
+            push_stops(&mut all, &self.stops);
+            return all;
         }
+        all.try_extend_from_slice(&few_behind(self.breaks, self.behind))
+            .unwrap();
         all
+    }
+}
+
+/// Whether there are neither those of a break nor others behind it.
+pub(crate) fn are_none(breaks: bool, behind: RequestEvents) -> bool
+    ensures { result ≡ true → behind_break breaks (request_events behind) ≡ [] }
+{
+    if breaks {
+        return false;
+    }
+    match behind {
+        RequestEvents::Nothing => true,
+        _ => false,
+    }
+}
+
+/// The events of a break, if there is one, and these behind it.
+fn few_behind(breaks: bool, behind: RequestEvents) -> FewEvents
+    ensures items { result.items ≡ behind_break breaks (request_events behind) }
+    ensures few { length result.items ≤ 4 }
+{
+    let mut few = break_events(breaks);
+    push_behind_break(&mut few, behind);
+    few
+}
+
+/// The events of a break, if there is one.
+fn break_events(breaks: bool) -> FewEvents
+    ensures items { result.items ≡ behind_break breaks [] }
+    ensures few { length result.items ≤ 2 }
+{
+    let mut events = FewEvents::new();
+    if breaks {
+        events.push(PageEvent::Text(Event::WordEnd));
+        events.push(PageEvent::Text(Event::Break));
+    }
+    events
+}
+
+/// Adds the events of a request behind its break.
+fn push_behind_break(events: &mut FewEvents, behind: RequestEvents)
+    requires { length events.old.items ≤ 2 }
+    ensures items { events.new.items ≡ events.old.items ++ request_events behind }
+    ensures few { length events.new.items ≤ 4 }
+{
+    match behind {
+        RequestEvents::Nothing => {}
+        RequestEvents::One(event) => push_all(events, &[event]),
+        RequestEvents::Two(first, second) => push_all(events, &[first, second]),
     }
 }
 

@@ -1,6 +1,6 @@
 //! Reading: what each item of the input means, before it is done.
 
-ghost use Rattle.std.specs.Prelude.{◌≡◌, None, IfOk, Ok};
+ghost use Rattle.std.specs.Prelude.{◌≡◌, None, IfOk, IfSome, Ok};
 ghost use Rattle.roff_run.specs.Events.Meant.{none_meant};
 ghost use Rattle.roff_run.specs.Clauses.{EnvironmentsOf, LineStart, PageUnread, TakesAs, fresh_reader};
 ghost use Rattle.roff_run.specs.Clauses.{interrupted, first_unread, taking, due, line_ends_first};
@@ -26,7 +26,7 @@ mod strings;
 mod text_lines;
 
 use crate::environments::Environments;
-use crate::event::{AllEvents, Events, PageEvent, RequestedEvents};
+use crate::event::{AllEvents, Events, FewEvents, PageEvent, RequestedEvents};
 use crate::message::Message;
 use crate::reading::{Due, Reading};
 use crate::registers::RunRegisters;
@@ -156,6 +156,14 @@ impl Reader {
             Reading::Calling { .. } => unread.settle(),
             _ => {}
         }
+    }
+
+    /// The events of the request that was obeyed last, if it had any, unless those of tab stops are
+    /// among them.
+    pub fn few_requested(&self) -> Option<FewEvents>
+        ensures { IfSome result (λ few. few.items ≡ self.now.requested) }
+    {
+        self.requested.few()
     }
 
     /// The events of the request that was obeyed last, if it had any.

@@ -1,7 +1,7 @@
 //! The number registers of a run: those that a document sets, the page number, and the read-only
 //! ones (manual, section 8).
 
-ghost use Rattle.std.specs.Prelude.{◌≡◌, [], ◌∷◌, IfOk, if◌then◌else◌};
+ghost use Rattle.std.specs.Prelude.{◌≡◌, [], ◌∷◌, IfOk, IfSome, if◌then◌else◌};
 ghost use Rattle.std.specs.Option.{option_to_list};
 ghost use Rattle.roff_num.specs.Ranges.{is_in_range};
 ghost use Rattle.roff_num.specs.RegisterText.{register_text};
@@ -112,6 +112,7 @@ impl RunRegisters {
     ghost use Rattle.roff_run.specs.Registers.{Remove, SetTo, FormatAs, StepBy, changed_by_all, is_page, is_page_odd, known_behind, no_registers, settable, step_changes, step_messages, text_of_register, value_in_force};
     ghost use Rattle.roff_run.specs.Registers.Capped.{admitted, after, with_change};
     ghost use Rattle.roff_run.specs.Registers.Coded.{change_of, known_of};
+    ghost use Rattle.roff_run.specs.Registers.{Known as KnownOfRun};
 
     /// No register is set, and the page number is 0; so many names may have one.
     pub(crate) fn new(alloc: Global, cap: u32) -> Result<Self, AllocError>
@@ -161,6 +162,17 @@ impl RunRegisters {
         match query_of(name) {
             Some(query) => Num(query.answer(facts) as i32),
             None => self.settable(name).value,
+        }
+    }
+
+    /// The value in force under a name that isn't that of a read-only register.
+    pub(crate) fn set_value(&self, name: &Name) -> Option<Num>
+        ensures { IfSome result (λ value. (k : KnownOfRun) → k.registers ≡ self.now.all
+            → value ≡ value_in_force k name.now) }
+    {
+        match query_of(name) {
+            Some(_) => None,
+            None => Some(self.settable(name).value),
         }
     }
 

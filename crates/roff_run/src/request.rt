@@ -20,7 +20,7 @@ use Request::{LeftOut, WithoutEffect};
 pub(crate) use effects::{Changes, Done, Effect, Known};
 pub(crate) use numbering::{name_given, register_named};
 use roff_lines::Param;
-use roff_scan::ArgumentList;
+pub(crate) use tabs::tab_stops;
 
 /// A request.
 #[derive(Clone, Copy, Debug, PartialEq, Eq)]
@@ -140,10 +140,9 @@ pub(crate) enum Called {
     Nothing,
 }
 
-/// The arguments of a request, and the first of them, as far as they are given.
+/// The first arguments of a request, as far as they are given.
 #[derive(Clone, Copy, Debug)]
 pub(crate) struct Given<'a> {
-    pub(crate) all: ArgumentList<'a>,
     pub(crate) first: Option<&'a [u8]>,
     pub(crate) second: Option<&'a [u8]>,
     pub(crate) third: Option<&'a [u8]>,
@@ -277,7 +276,7 @@ impl Request {
     /// What it means, called by a dot or not, as far as the run is known, with these arguments.
     pub(crate) fn effect(self, by_dot: bool, known: Known, given: Given<'_>) -> Effect
         ensures { (k : KnownOfRun) (as_given : List (List ℕ))
-            → KnowsOf k as_given known → GivesFirst as_given given.entry
+            → KnowsOf k self as_given known → GivesFirst as_given given.entry
             → effect_of as_given result ≡ request_effect k by_dot self as_given }
     {
         self.does(known, given).meaning(by_dot && self.row().breaks)
@@ -286,7 +285,7 @@ impl Request {
     /// What it does behind its break.
     fn does(self, known: Known, given: Given<'_>) -> Done
         ensures { (k : KnownOfRun) (as_given : List (List ℕ))
-            → KnowsOf k as_given known → GivesFirst as_given given.entry
+            → KnowsOf k self as_given known → GivesFirst as_given given.entry
             → done_of as_given result ≡ (row_of self).does k as_given }
     {
         match self {
@@ -316,7 +315,7 @@ impl Request {
             Request::Rename => naming::rename(given.first, given.second),
             Request::RemoveRegisters => Done::changing(Changes::RemoveGiven),
             Request::Space => spacing::space_down(given.first),
-            Request::TabStops => tabs::tab_stops(given.all),
+            Request::TabStops => Done::SetsStops,
             Request::TemporaryIndent => lengths::temporary_indent(known, given.first),
             Request::TellMessage => Done::nothing(),
             WithoutEffect(_) => Done::nothing(),

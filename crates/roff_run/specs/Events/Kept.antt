@@ -1,19 +1,16 @@
 -- What the code keeps of the events of a request.
-use Rattle.std.specs.Prelude.{ℕ, List, ◌++◌, Option, Some, None}
-use Rattle.arrayvec.specs.ArrayVec.{ArrayVec}
+use Rattle.std.specs.Prelude.{List, if◌then◌else◌}
 use Rattle.roff_run.specs.declared.event.RequestedEvents.TheInside.{Inside}
 use Rattle.roff_run.specs.declared.event.PageEvent.{PageEvent}
-use Rattle.roff_run.specs.Events.{stops_set}
+use Rattle.roff_run.specs.Events.{request_events, stops_set}
+use Rattle.roff_run.specs.Requests.Effects.{behind_break}
 
 -- the events, in order
 pub record Told : Type 0 where
   pub items : List PageEvent
 
--- a few, and those of stops, if they are set
-abbrev pub items_of : List PageEvent → Option (ArrayVec ℕ) → List PageEvent
-items_of few None = few
-items_of few (Some stops) = few ++ stops_set stops.items
-
--- what the fields keep
+-- what the fields keep: behind a break, if there is one, those of stops, or a few
 abbrev pub told_by : Inside → Told
-told_by e = record { items = items_of e.few.items e.stops }
+told_by e = record {
+  items = behind_break e.breaks (if e.sets_stops then stops_set e.stops.items else request_events e.behind);
+}

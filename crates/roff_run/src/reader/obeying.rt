@@ -1,20 +1,26 @@
 //! The end of a request's line: what it means, and what it changes.
 
-ghost use Rattle.std.specs.Prelude.{◌≡◌, ℕ, reverse, slice_get};
+ghost use Rattle.std.specs.Prelude.{◌≡◌, ℕ, List, IfSome, reverse, slice_get};
+ghost use Rattle.std.specs.Option.{option_copied, option_to_list};
 ghost use Rattle.roff_num.specs.declared.limits.Limits.{Limits};
 ghost use Rattle.roff_run.specs.Clauses.{Changed, calling_all, calls_of, name_in, removals};
 ghost use Rattle.roff_run.specs.Clauses.{PageHistory, StandFor, TakesAs, changes_of, effect_of};
+ghost use Rattle.roff_run.specs.Clauses.{listed, register_named, value_in_force};
+ghost use Rattle.roff_run.specs.Events.{request_events};
 ghost use Rattle.roff_run.specs.Events.Meant.{events_meant};
+ghost use Rattle.roff_run.specs.Requests.Effects.{behind_break, meant_by};
+ghost use Rattle.roff_run.specs.Requests.Tabs.{tab_stops};
 ghost use Rattle.roff_run.specs.Clauses.{known_at, line_ended, names_given, request_effect};
+ghost use Rattle.roff_run.specs.declared.request.Request.TheVariants.{NumberRegister};
 
-use super::registers::facts;
 use super::{Meaning, Reader};
 use crate::environments::Environments;
-use crate::event::{Events, PageEvent, RequestedEvents};
+use crate::event::{Events, PageEvent, RequestEvents, are_none};
+use crate::message::Message;
 use crate::reading::Reading;
-use crate::request::{Changes, Effect, Given, Known, Request, name_given};
-use roff_num::{Limit, Name};
-use roff_scan::Unread;
+use crate::request::{Changes, Effect, Given, Known, Request, name_given, tab_stops};
+use roff_num::{Limit, Name, Num};
+use roff_scan::{ArgumentList, Unread};
 
 impl Reader {
     /// The end of a request's line: it is obeyed with the arguments that were read.
@@ -30,26 +36,67 @@ impl Reader {
     {
         unread.finish_arguments();
         let effect = self.effect(breaks, request, environments, unread);
-        self.change(effect.changes, unread)?;
+        let meaning = self.keep(&effect, unread.arguments());
+        self.change(&effect.changes, unread)?;
         let behind = Reading::behind_line(request.row().line);
         unread.begin_arguments();
         self.reading = behind;
-        Ok(Meaning {
-            message: effect.message,
-            events: self.keep(effect.events),
-        })
+        Ok(meaning)
     }
 
-    /// Keeps the events of a request, if it has any.
-    fn keep(&mut self, events: RequestedEvents) -> Events
-        ensures kept { events_meant self.new.requested result ≡ events.items }
+    /// Keeps the events of a request that was given these arguments. What it says, and whether it has
+    /// any.
+    fn keep(&mut self, effect: &Effect, given: ArgumentList<'_>) -> Meaning
+        ensures says { option_to_list result.message
+            ≡ (effect_of (listed given.entry) effect.now).messages }
+        ensures kept { events_meant self.new.requested result.events
+            ≡ (effect_of (listed given.entry) effect.now).events }
         ensures others { self.new ≡ record self.old { requested = self.new.requested } }
     {
-        if events.are_none() {
+        if effect.sets_stops {
+            return self.keep_stops(effect.breaks, given);
+        }
+        Meaning {
+            message: effect.message,
+            events: self.keep_events(effect.breaks, effect.events),
+        }
+    }
+
+    /// Keeps the events of a break, if there is one, and these behind it, if there are any.
+    fn keep_events(&mut self, breaks: bool, events: RequestEvents) -> Events
+        ensures kept { events_meant self.new.requested result
+            ≡ behind_break breaks (request_events events) }
+        ensures others { self.new ≡ record self.old { requested = self.new.requested } }
+    {
+        if are_none(breaks, events) {
             return Events::new();
         }
-        self.requested = events;
+        self.requested.keep(breaks, events);
         Events::requested()
+    }
+
+    /// Keeps the events of a break, if there is one, and behind it those that set these stops, if they
+    /// are good.
+    fn keep_stops(&mut self, breaks: bool, given: ArgumentList<'_>) -> Meaning
+        ensures says { option_to_list result.message
+            ≡ (meant_by breaks (tab_stops (listed given.entry))).messages }
+        ensures kept { events_meant self.new.requested result.events
+            ≡ (meant_by breaks (tab_stops (listed given.entry))).events }
+        ensures others { self.new ≡ record self.old { requested = self.new.requested } }
+    {
+        match tab_stops(given) {
+            Some(stops) => {
+                self.requested.keep_stops(breaks, stops);
+                Meaning {
+                    message: None,
+                    events: Events::requested(),
+                }
+            }
+            None => Meaning {
+                message: Some(Message::BadNumber),
+                events: Events::new(),
+            },
+        }
     }
 
     /// What a request means with the arguments that were read.
@@ -68,18 +115,35 @@ impl Reader {
     {
         let arguments = unread.arguments();
         let given = Given {
-            all: arguments,
             first: arguments.get(0),
             second: arguments.get(1),
             third: arguments.get(2),
         };
-        let facts = facts(environments, unread);
         let known = Known {
-            settings: facts.settings,
-            in_force: self.in_force(given.first, facts),
-            has_left: facts.has_left,
+            settings: environments.in_force.lines.settings(),
+            in_force: self.in_force_for(request, given.first, environments, unread),
+            has_left: environments.has_left(),
         };
         request.effect(breaks, known, given)
+    }
+
+    /// The value in force of the register that a first argument names, if the request asks for it.
+    fn in_force_for(
+        &self,
+        request: Request,
+        first: Option<&[u8]>,
+        environments: &Environments,
+        unread: &Unread<PageEvent>,
+    ) -> Num
+        ensures { (l : Limits) (h : PageHistory) (as_given : List (List ℕ))
+            → StandFor l h environments.now → option_copied first.entry ≡ slice_get as_given 0
+            → request ≡ NumberRegister → IfSome (register_named as_given) (λ name. result
+            ≡ value_in_force (known_at h self.now.registers.all unread.now.input) name) }
+    {
+        match request {
+            Request::NumberRegister => self.in_force(first, environments, unread),
+            _ => Num(0),
+        }
     }
 
     /// Changes registers, or what names stand for.
@@ -87,18 +151,18 @@ impl Reader {
     /// # Errors
     ///
     /// The limit on names, if more would have a register.
-    fn change(&mut self, changes: Changes, unread: &mut Unread<PageEvent>) -> Result<(), Limit>
-        ensures changed { Changed (changes_of (reverse unread.old.input.arguments.whole) changes)
+    fn change(&mut self, changes: &Changes, unread: &mut Unread<PageEvent>) -> Result<(), Limit>
+        ensures changed { Changed (changes_of (reverse unread.old.input.arguments.whole) changes.now)
             self.old.registers self.new.registers result }
         ensures called { unread.new ≡ record unread.old {
-          input = calling_all (calls_of (reverse unread.old.input.arguments.whole) changes)
+          input = calling_all (calls_of (reverse unread.old.input.arguments.whole) changes.now)
               unread.old.input;
         } }
-        ensures reading { self.new.reading ≡ self.old.reading }
+        ensures others { self.new ≡ record self.old { registers = self.new.registers } }
     {
         match changes {
             Changes::Nothing => Ok(()),
-            Changes::One(change) => self.registers.apply(&change),
+            Changes::One(change) => self.registers.apply(change),
             Changes::RemoveGiven => {
                 self.remove_given(unread.arguments());
                 Ok(())
@@ -108,7 +172,7 @@ impl Reader {
                 Ok(())
             }
             Changes::Rename { from, to } => {
-                unread.rename(&from, &to);
+                unread.rename(from, to);
                 Ok(())
             }
         }

@@ -38,14 +38,40 @@ impl Reader {
     }
 
     /// The value in force of the register that a first argument names; 0 if it names none.
-    pub(super) fn in_force(&self, first: Option<&[u8]>, facts: Facts) -> Num
-        ensures { (as_given : List (List ℕ)) → option_copied first.entry ≡ slice_get as_given 0
-            → IfSome (register_named as_given)
-            (λ name. result ≡ value_in_force (known_of facts self.now.registers.all) name) }
+    pub(super) fn in_force(
+        &self,
+        first: Option<&[u8]>,
+        environments: &Environments,
+        unread: &Unread<PageEvent>,
+    ) -> Num
+        ensures { (l : Limits) (h : PageHistory) (as_given : List (List ℕ))
+            → StandFor l h environments.now → option_copied first.entry ≡ slice_get as_given 0
+            → IfSome (register_named as_given) (λ name. result
+            ≡ value_in_force (known_at h self.now.registers.all unread.now.input) name) }
     {
         match register_named(first) {
-            Some(name) => self.registers.value_in_force(&name, facts),
+            Some(name) => self.value_in_force(&name, environments, unread),
             None => Num(0),
+        }
+    }
+
+    /// The value in force under a name: what is known of the run is looked up for a read-only
+    /// register alone.
+    fn value_in_force(
+        &self,
+        name: &Name,
+        environments: &Environments,
+        unread: &Unread<PageEvent>,
+    ) -> Num
+        ensures { (l : Limits) (h : PageHistory) → StandFor l h environments.now → result
+            ≡ value_in_force (known_at h self.now.registers.all unread.now.input) name.now }
+    {
+        match self.registers.set_value(name) {
+            Some(value) => value,
+            None => {
+                let facts = facts(environments, unread);
+                self.registers.value_in_force(name, facts)
+            }
         }
     }
 

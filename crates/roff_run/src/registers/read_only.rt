@@ -3,6 +3,7 @@
 ghost use Rattle.std.specs.Prelude.{◌≡◌, ◌≤◌, bytes_eq, find, min};
 ghost use Rattle.std.specs.Option.{option_copied};
 ghost use Rattle.roff_run.specs.Registers.{AllRegisters, answer, greatest_number, in_units, is_read_only, query_of};
+ghost use Rattle.roff_run.specs.Registers.ReadOnly.{begins_read_only};
 ghost use Rattle.roff_run.specs.Registers.Coded.{known_of};
 
 use super::{Facts, Query};
@@ -63,7 +64,20 @@ pub(super) fn is_read_only(name: &Name) -> bool
 fn row_named(name: &[u8]) -> Option<&'static ReadOnly>
     ensures { option_copied result ≡ find (λ row. bytes_eq name.now row.name) READ_ONLY }
 {
+    if !begins_read_only(name) {
+        return None;
+    }
     READ_ONLY.iter().find(|row| name == row.name.as_slice())
+}
+
+/// Whether a name begins as one of those in the table does: of most, nothing more is looked at.
+fn begins_read_only(name: &[u8]) -> bool
+    ensures { result ≡ begins_read_only name.now }
+{
+    match name.first() {
+        Some(first) => *first == b'.' || *first == b'n' || *first == b'd',
+        None => false,
+    }
 }
 
 impl Query {

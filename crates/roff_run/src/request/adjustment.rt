@@ -5,7 +5,7 @@ ghost use Rattle.std.specs.Option.{option_copied};
 ghost use Rattle.roff_run.specs.Request.Coded.{done_of};
 ghost use Rattle.roff_run.specs.Requests.Adjustment.{adjust, centre, mode_named, mode_wanted};
 
-use crate::event::PageEvent;
+use crate::event::{PageEvent, RequestEvents};
 use crate::number::value_in;
 use crate::request::Done;
 use roff_lines::{AdjustMode, Event, Param};
@@ -20,10 +20,10 @@ pub(super) fn adjust(argument: Option<&[u8]>) -> Done
         None => Done::setting(Param::Adjusting(true)),
         Some(mode) => Done::doing(
             None,
-            &[
+            RequestEvents::Two(
                 PageEvent::Text(Event::Set(Param::Mode(mode))),
                 PageEvent::Text(Event::Set(Param::Adjusting(true))),
-            ],
+            ),
         ),
     }
 }

@@ -1,11 +1,12 @@
 //! What a request does, and what that means for the page.
 
-ghost use Rattle.std.specs.Prelude.{◌≡◌, ◌≤◌, ℕ, List, [], length};
+ghost use Rattle.std.specs.Prelude.{◌≡◌, ℕ, List, []};
 ghost use Rattle.std.specs.Option.{option_to_list};
+ghost use Rattle.roff_run.specs.Events.{request_events};
 ghost use Rattle.roff_run.specs.Request.Coded.{calls_of, changes_of, done_of, effect_of};
-ghost use Rattle.roff_run.specs.Requests.Effects.{Does, Ignored, bad_format, bad_number, behind_break, happens, left_out, meant_by, no_such_environment, nothing, setting};
+ghost use Rattle.roff_run.specs.Requests.Effects.{Does, Ignored, bad_format, bad_number, happens, left_out, meant_by, no_such_environment, nothing, setting};
 
-use crate::event::{FewEvents, PageEvent, RequestEvents, RequestedEvents, Stops};
+use crate::event::{PageEvent, RequestEvents};
 use crate::message::Message;
 use crate::registers::Change;
 use roff_lines::{Event, Param, Settings};
@@ -16,7 +17,8 @@ use roff_num::{Name, Num};
 pub(crate) struct Known {
     /// The settings in force.
     pub(crate) settings: Settings,
-    /// The value of the register that the first argument names, if it names one.
+    /// The value of the register that the first argument names, if it names one and the request asks
+    /// for it.
     pub(crate) in_force: Num,
     /// Whether an environment was left that may be gone back to.
     pub(crate) has_left: bool,
@@ -29,8 +31,8 @@ pub(crate) enum Done {
     Ignored(Option<Message>),
     /// It says this, registers or names change so, and this happens behind its break.
     Does(Option<Message>, Changes, RequestEvents),
-    /// These stops are set behind its break, in place of those in force.
-    SetsStops(Stops),
+    /// Its arguments are stops, which are set behind its break in place of those in force.
+    SetsStops,
 }
 
 /// What a request changes of the registers, or of what names stand for.
@@ -53,12 +55,15 @@ pub(crate) enum Changes {
     },
 }
 
-/// What a request means: a message, changes of registers or of names, and then events.
+/// What a request means: a message, changes of registers or of names, and then events. Where its
+/// arguments are stops, they are read when the events are kept.
 #[derive(Drop)]
 pub(crate) struct Effect {
     pub(crate) message: Option<Message>,
     pub(crate) changes: Changes,
-    pub(crate) events: RequestedEvents,
+    pub(crate) breaks: bool,
+    pub(crate) events: RequestEvents,
+    pub(crate) sets_stops: bool,
 }
 
 impl Done {
@@ -66,14 +71,14 @@ impl Done {
     pub(super) fn nothing() -> Done
         ensures { (as_given : List (List ℕ)) → done_of as_given result ≡ nothing }
     {
-        Done::doing(None, &[])
+        Done::doing(None, RequestEvents::Nothing)
     }
 
     /// A parameter is set.
     pub(super) fn setting(param: Param) -> Done
         ensures { (as_given : List (List ℕ)) → done_of as_given result ≡ setting param }
     {
-        Done::doing(None, &[PageEvent::Text(Event::Set(param))])
+        Done::doing(None, RequestEvents::One(PageEvent::Text(Event::Set(param))))
     }
 
     /// Registers change, or what names stand for.
@@ -82,7 +87,7 @@ impl Done {
             → done_of as_given result
             ≡ Does [] (changes_of as_given changes) (calls_of as_given changes) [] }
     {
-        Done::Does(None, changes, RequestEvents::new())
+        Done::Does(None, changes, RequestEvents::Nothing)
     }
 
     /// An argument that it can't do without is missing.
@@ -121,14 +126,11 @@ impl Done {
     }
 
     /// It says this, and these events happen.
-    pub(super) fn doing(message: Option<Message>, events: &[PageEvent]) -> Done
-        requires { length events.now ≤ 2 }
-        ensures { (as_given : List (List ℕ))
-            → done_of as_given result ≡ happens (option_to_list message) events.now }
+    pub(super) fn doing(message: Option<Message>, events: RequestEvents) -> Done
+        ensures { (as_given : List (List ℕ)) → done_of as_given result
+            ≡ happens (option_to_list message) (request_events events) }
     {
-        let mut behind_break = RequestEvents::new();
-        behind_break.try_extend_from_slice(events).unwrap();
-        Done::Does(message, Changes::Nothing, behind_break)
+        Done::Does(message, Changes::Nothing, events)
     }
 
     /// What it means, with a break or without: what is ignored doesn't break.
@@ -140,35 +142,24 @@ impl Done {
             Done::Ignored(message) => Effect {
                 message,
                 changes: Changes::Nothing,
-                events: RequestedEvents::new(),
+                breaks: false,
+                events: RequestEvents::Nothing,
+                sets_stops: false,
             },
-            Done::Does(message, changes, events) => {
-                let mut few = break_events(breaks);
-                few.try_extend_from_slice(&events).unwrap();
-                Effect {
-                    message,
-                    changes,
-                    events: RequestedEvents::few(few),
-                }
-            }
-            Done::SetsStops(stops) => Effect {
+            Done::Does(message, changes, events) => Effect {
+                message,
+                changes,
+                breaks,
+                events,
+                sets_stops: false,
+            },
+            Done::SetsStops => Effect {
                 message: None,
                 changes: Changes::Nothing,
-                events: RequestedEvents::setting_stops(break_events(breaks), stops),
+                breaks,
+                events: RequestEvents::Nothing,
+                sets_stops: true,
             },
         }
     }
-}
-
-/// The events of a break, if there is one.
-fn break_events(breaks: bool) -> FewEvents
-    ensures items { result.items ≡ behind_break breaks [] }
-    ensures few { length result.items ≤ 2 }
-{
-    let mut events = FewEvents::new();
-    if breaks {
-        events.push(PageEvent::Text(Event::WordEnd));
-        events.push(PageEvent::Text(Event::Break));
-    }
-    events
 }

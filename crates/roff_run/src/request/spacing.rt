@@ -6,7 +6,7 @@ ghost use Rattle.roff_run.specs.Request.Coded.{done_of};
 ghost use Rattle.roff_run.specs.Requests.Spacing.{line_spacing, space_down, spaced};
 ghost use Rattle.roff_run.specs.Registers.{Known as KnownOfRun};
 
-use crate::event::PageEvent;
+use crate::event::{PageEvent, RequestEvents};
 use crate::message::Message;
 use crate::number::{rounded_to_lines, value_in};
 use crate::request::{Done, Known};
@@ -22,7 +22,7 @@ pub(super) fn space_down(argument: Option<&[u8]>) -> Done
         → done_of as_given result ≡ space_down as_given }
 {
     match argument {
-        None => Done::doing(None, &[PageEvent::Space(1)]),
+        None => Done::doing(None, RequestEvents::One(PageEvent::Space(1))),
         Some(text) => match value_in(Scale::Lines, text) {
             Ok(height) => spaced(rounded_to_lines(height)),
             Err(_) => Done::bad_number(),
@@ -35,9 +35,13 @@ fn spaced(height: i32) -> Done
     ensures { (as_given : List (List ℕ)) → done_of as_given result ≡ spaced (Ok height) }
 {
     if height < 0 {
-        return Done::doing(Some(Message::BackwardMotion), &[PageEvent::Space(0)]);
+        let message = Some(Message::BackwardMotion);
+        return Done::doing(message, RequestEvents::One(PageEvent::Space(0)));
     }
-    Done::doing(None, &[PageEvent::Space(height as u32 / LINE)])
+    Done::doing(
+        None,
+        RequestEvents::One(PageEvent::Space(height as u32 / LINE)),
+    )
 }
 
 /// `ls`: the spacing of lines, the previous one where none is given.

@@ -7,7 +7,7 @@ ghost use Rattle.roff_run.specs.Request.Coded.{done_of};
 ghost use Rattle.roff_run.specs.Requests.Switching.{switch, switching_by, switching_to};
 
 use crate::environments::EnvironmentNumber;
-use crate::event::PageEvent;
+use crate::event::{PageEvent, RequestEvents};
 use crate::number::value_in;
 use crate::request::{Done, Known};
 use roff_num::Scale;
@@ -21,7 +21,7 @@ pub(super) fn switch(known: Known, argument: Option<&[u8]>) -> Done
     match argument {
         None => {
             if known.has_left {
-                Done::doing(None, &[PageEvent::Back])
+                Done::doing(None, RequestEvents::One(PageEvent::Back))
             } else {
                 Done::no_such_environment()
             }
@@ -48,7 +48,7 @@ fn switching_to(number: Option<EnvironmentNumber>) -> Done
     ensures { (as_given : List (List ℕ)) → done_of as_given result ≡ switching_to number }
 {
     match number {
-        Some(number) => Done::doing(None, &[PageEvent::Environment(number)]),
+        Some(number) => Done::doing(None, RequestEvents::One(PageEvent::Environment(number))),
         None => Done::no_such_environment(),
     }
 }

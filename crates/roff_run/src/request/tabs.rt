@@ -3,12 +3,11 @@
 ghost use Rattle.std.specs.Prelude.{◌≡◌, ◌/◌, ℕ, List};
 ghost use Rattle.roff_run.specs.Numbers.{at_least_zero};
 ghost use Rattle.roff_scan.specs.ArgumentList.{listed};
-ghost use Rattle.roff_run.specs.Request.Coded.{done_of};
+ghost use Rattle.roff_run.specs.Request.Coded.{stops_done};
 ghost use Rattle.roff_run.specs.Requests.Tabs.{stop_place, tab_stops};
 
 use crate::event::Stops;
 use crate::number::{rounded_to_columns, value_beside, value_in};
-use crate::request::Done;
 use roff_num::{NumFault, Scale};
 use roff_scan::ArgumentList;
 
@@ -18,9 +17,10 @@ const MOST_STOPS: usize = 32;
 /// The basic units of a column.
 const COLUMN: u32 = 24;
 
-/// `ta`: tab stops, none where none are given.
-pub(super) fn tab_stops(given: ArgumentList<'_>) -> Done
-    ensures { done_of (listed given.entry) result ≡ tab_stops (listed given.entry) }
+/// `ta`: the tab stops that these arguments are, none where none are given; `None` if one of them
+/// isn't a number, or is out of range.
+pub(crate) fn tab_stops(given: ArgumentList<'_>) -> Option<Stops>
+    ensures { stops_done result ≡ tab_stops (listed given.entry) }
 {
     let mut stops = Stops::new();
     let mut before = 0;
@@ -31,11 +31,11 @@ pub(super) fn tab_stops(given: ArgumentList<'_>) -> Done
                     before = rounded_to_columns(place);
                     stops.push(column_of(before));
                 }
-                Err(_) => return Done::bad_number(),
+                Err(_) => return None,
             }
         }
     }
-    Done::SetsStops(stops)
+    Some(stops)
 }
 
 /// Where a stop lies, in basic units before it is rounded: behind a `+` it counts from the one before.

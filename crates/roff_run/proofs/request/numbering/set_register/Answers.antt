@@ -1,4 +1,4 @@
-use Rattle.std.proofs.Common.{◌≡◌, ℤ, slice_get, Some, Result, arith, ap, sym, ◌∙◌}
+use Rattle.std.proofs.Common.{◌≡◌, ℤ, slice_get, Some, Result, arith, ap, refl, sym, ◌∙◌}
 use Rattle.std.proofs.lemmas.Int.{ints}
 use Rattle.roff_num.specs.declared.num.NumFault.{NumFault}
 use Rattle.roff_num.specs.declared.num.Scale.TheVariants.{Units}
@@ -18,4 +18,4 @@ returns-in-Some-Some c = λ k as_given knows gives.
     c.set_to.ensures as_given
     ∙ ap (λ (v : Result ℤ NumFault). set_to c.in-Some-Some.name v c.increment_given.result) value
     ∙ ap (λ (v : Result ℤ NumFault). set_to c.in-Some-Some.name (value_beside c.args.known.in_force.0 Units c.in-Some-Some.text.now) v) (c.increment_given.ensures as_given gives.third)
-    ∙ sym (set_register-named k as_given c.in-Some-Some.name c.in-Some-Some.text.now c.args.known.in_force named second knows.in_force)
+    ∙ sym (set_register-named k as_given c.in-Some-Some.name c.in-Some-Some.text.now c.args.known.in_force named second (knows.in_force refl))

@@ -42,8 +42,7 @@ returns-in-Err c =
     let texts = listed c.args.given in
     let given : slice_get texts n ≡ Some c.in-Some.text.now = search rules in
     let less : n < most_stops = search rules in
-    c.bad_number.ensures texts
-    ∙ nothing_read (take most_stops texts) n _ _ c.in-Some.text.now c.in-Err.field-0 c.loop-index.invariant (slice_get-take n most_stops texts less ∙ given) (sym c.in-Err.ensures)
+    nothing_read (take most_stops texts) n _ _ c.in-Some.text.now c.in-Err.field-0 c.loop-index.invariant (slice_get-take n most_stops texts less ∙ given) (sym c.in-Err.ensures)
 
 pub returns : goal.returns
 returns c =
