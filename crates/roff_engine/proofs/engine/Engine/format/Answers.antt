@@ -17,13 +17,13 @@ loop-status-init g c = record {
 pub returns-in-Err : goal.returns-in-Err
 returns-in-Err g c =
     let before = c.loop-status.invariant in
-    let past = c.pass_over.ensures _ _ in
+    let past = (c.pass_over.ensures _ _).past in
     settled_end _ _ _ _ _ (come-past _ _ _ _ _ _ _ before.come past) _ c.in-Err.status (past.limits ∙ before.limits) (c.in-Err.ensures _)
 
 pub returns-in-Err-turn : goal.returns-in-Err-turn
 returns-in-Err-turn g c =
     let before = c.loop-status.invariant in
-    let past = c.pass_over.ensures _ _ in
+    let past = (c.pass_over.ensures _ _).past in
     let settles = c.in_default.ensures _ in
     has_ended _ _ _ _ _ _ _ (settled _ _ _ _ _ (come-past _ _ _ _ _ _ _ before.come past) settles) _ c.in-Err-turn.status (settles.limits ∙ (past.limits ∙ before.limits)) c.in-Err-turn.ensures
 
@@ -33,7 +33,7 @@ turn-requires g c = (c.in_default.ensures 0).none_due
 pub loop-status-preserved : goal.loop-status-preserved
 loop-status-preserved g c =
     let before = c.loop-status.invariant in
-    let past = c.pass_over.ensures _ _ in
+    let past = (c.pass_over.ensures _ _).past in
     let settles = c.in_default.ensures _ in record {
       come = goes_on _ _ _ _ _ _ _ (settled _ _ _ _ _ (come-past _ _ _ _ _ _ _ before.come past) settles) c.in_default-turn.ensures;
       limits = c.in_default-turn.ensures.limits ∙ (settles.limits ∙ (past.limits ∙ before.limits));
@@ -41,7 +41,7 @@ loop-status-preserved g c =
 
 pub loop-status-smaller : goal.loop-status-smaller
 loop-status-smaller g c =
-    let past = c.pass_over.ensures _ _ in
+    let past = (c.pass_over.ensures _ _).past in
     let settles = c.in_default.ensures _ in
     let fewer = fewer_to_come _ _ _ _ _ _ _ (settled _ _ _ _ _ (come-past _ _ _ _ _ _ _ c.loop-status.invariant.come past) settles) c.in_default-turn.ensures in
     omega (arith, fewer, settles.turns, past.turns)
