@@ -16,5 +16,5 @@ pub returns-then-not-is_half_read : goal.returns-then-not-is_half_read
 returns-then-not-is_half_read g c = λ out err.
     goes_further_both _ _ _ _ _ _ _ _ _ _ _ _ _ (c.pass_plain.ensures.past out err) (c.end_dropped.ensures out err)
 
-pub returns-else : goal.returns-else
-returns-else g c = λ out err. goes_further_none _ _ _ _ _ _ _ _ (c.pass_plain.ensures.past out err)
+pub returns-else-not-within_block : goal.returns-else-not-within_block
+returns-else-not-within_block g c = λ out err. goes_further_none _ _ _ _ _ _ _ _ (c.pass_plain.ensures.past out err)
