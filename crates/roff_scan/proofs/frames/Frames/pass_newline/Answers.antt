@@ -1,5 +1,4 @@
-use Rattle.std.proofs.Common.{◌≡◌, ℕ, drop, arith, [], ◌∷◌, slice_index_or, subst}
-use Rattle.roff_scan.specs.Input.{ByteAhead}
+use Rattle.std.proofs.Common.{drop, arith, [], ◌∷◌, slice_index_or}
 use Rattle.roff_scan.proofs.BodyTaken.{with_body-first, IsSound-passed, given-byte, taken-passed}
 use Rattle.roff_scan.proofs.frames.Frames.pass_newline.Goals as goal
 
