@@ -1,12 +1,20 @@
 -- A run that goes past bytes, and then past more, goes past all of them; and one past the front of a control line.
-use Rattle.std.proofs.Common.{◌≡◌, ℕ, [], ◌++◌, refl, sym, subst, ◌∙◌, arith}
+use Rattle.std.proofs.Common.{◌≡◌, ℕ, ◌<◌, Bool, true, false, [], ◌∷◌, ◌++◌, None, refl, sym, ap, subst, ◌∙◌, arith}
+use Rattle.roff_scan.specs.Bytes.{newline}
 use Rattle.roff_scan.specs.Tape.{Tape, items_then}
+use Rattle.roff_scan.specs.Unread.{IsWithin}
+use Rattle.roff_scan.specs.Unread.Calls.{OfSource, OfTexts, PassesFront}
+use Rattle.roff_run.specs.Reader.State.{ReaderState}
 use Rattle.roff_run.specs.Reader.Taken.{PageUnread}
-use Rattle.roff_run.specs.Stages.{ReadsPast}
+use Rattle.roff_run.specs.Reading.{due}
+use Rattle.roff_run.specs.Stages.{EndsLine, ReadsPast}
+use Rattle.roff_run.specs.TurnsToCome.{begun, free_ahead, turns_to_come}
+use Rattle.roff_run.specs.declared.reading.Reading.TheVariants.{LineStart}
+use Rattle.roff_run.proofs.LineEnds.{reads-ended}
 use Rattle.roff_engine.specs.declared.formatter.Formatter.{Formatter}
 use Rattle.roff_engine.specs.declared.running.Running.{Running as Coded}
 use Rattle.roff_engine.specs.Engine.Outcome.{Seen, seen}
-use Rattle.roff_engine.specs.Running.Turning.{GoesPast, IsAt}
+use Rattle.roff_engine.specs.Running.Turning.{GoesFurther, GoesPast, IsAt}
 use Rattle.roff_engine.specs.Sinks.{Sunk}
 use Rattle.roff_engine.proofs.Turned.{goes_past_turned}
 use Rattle.roff_engine.proofs.Waiting.{items_then-append}
@@ -54,3 +62,43 @@ pub goes_past_read : (gave gives : Tape → Type 0) (noted notes failed failures
 goes_past_read gave gives noted notes failed failures out err old after f same past same_notes same_failures =
     subst (λ (there : Formatter). GoesPast gave gives noted notes old (record old { unread = after; formatter = there }) (seen failed out err) (seen failures out err)) (sym same)
     (goes_past_turned gave gives noted notes failed failures out err old after f.reader past same_notes same_failures)
+
+-- past some bytes behind which no line begins, as far as is known
+pub goes_further_none : (gave gives : Tape → Type 0) (noted notes : ℕ) (old new : Coded) (now behind : Seen) → GoesPast gave gives noted notes old new now behind
+    → GoesFurther false gave gives noted notes old new now behind
+goes_further_none gave gives noted notes old new now behind past = record { past = past; fewer = λ begins. absurd (cc) }
+
+-- past some bytes, and then further
+pub goes_further_both : (begins : Bool) (gave mid gives : Tape → Type 0) (noted kept notes : ℕ) (old between new : Coded) (now halfway behind : Seen)
+    → GoesPast gave mid noted kept old between now halfway → GoesFurther begins mid gives kept notes between new halfway behind
+    → GoesFurther begins gave gives noted notes old new now behind
+goes_further_both begins gave mid gives noted kept notes old between new now halfway behind first second = record {
+  past = goes_past_both gave mid gives noted kept notes old between new now halfway behind first second.past;
+  fewer = λ is. let less = second.fewer is in omega (arith, first.turns, less);
+}
+
+-- fewer turns are to come behind a newline that was taken
+fewer-newline : (gave gives : Tape → Type 0) (before after : PageUnread) → PassesFront gave gives (newline ∷ []) before after → turns_to_come after < turns_to_come before
+fewer-newline gave gives before after (OfSource passes) =
+    subst (λ (u : PageUnread). turns_to_come u < turns_to_come before) (sym passes.input) (omega (arith, passes.within))
+fewer-newline gave gives before after (OfTexts passes) =
+    let free = ap free_ahead passes.in_front in
+    subst (λ (u : PageUnread). turns_to_come u < turns_to_come before) (sym passes.input) (omega (arith, passes.within, free))
+
+-- past a newline behind which a line begins
+pub goes_further_ended : (gave gives : Tape → Type 0) (noted notes failed failures : ℕ) (out err : Sunk) (old : Coded) (after : PageUnread) (f : Formatter)
+    → f ≡ record old.formatter { reader = record old.formatter.reader { reading = LineStart } } → due old.formatter.reader.reading ≡ None
+    → EndsLine old.formatter.reader.reading → old.unread.input.half ≡ [] → PassesFront gave gives (newline ∷ []) old.unread after → IsWithin after
+    → notes ≡ noted → failures ≡ failed
+    → GoesFurther true gave gives noted notes old (record old { unread = after; formatter = f }) (seen failed out err) (seen failures out err)
+goes_further_ended gave gives noted notes failed failures out err old after f is none_due ends none_half passes within same_notes same_failures =
+    let read : f.reader ≡ record old.formatter.reader { reading = LineStart } = ap (λ (g : Formatter). g.reader) is in
+    let same : f ≡ record old.formatter { reader = f.reader } = is ∙ ap (λ (r : ReaderState). record old.formatter { reader = r }) (sym read) in
+    let past : ReadsPast gave gives old.formatter.reader f.reader old.unread after =
+    reads-ended gave gives old.formatter.reader f.reader old.unread after none_due ends none_half passes within read in
+    let less : turns_to_come after < turns_to_come old.unread = fewer-newline gave gives old.unread after passes in
+    let none : begun f.reader.reading ≡ 0 = ap (λ (r : ReaderState). begun r.reading) read in
+    record {
+      past = goes_past_read gave gives noted notes failed failures out err old after f same past same_notes same_failures;
+      fewer = λ begins. omega (arith, less, none, same_notes);
+    }

@@ -73,7 +73,9 @@ impl Engine {
             unread,
         };
         loop {
-            running.pass_over(source);
+            if running.pass_over(source) {
+                continue;
+            }
             if let Err(status) = running.settle(out, err) {
                 return status;
             }

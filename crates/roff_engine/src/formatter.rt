@@ -6,7 +6,8 @@ ghost use Rattle.roff_scan.specs.Arguments.{is_argument_byte};
 ghost use Rattle.roff_scan.specs.Bytes.{is_passed, is_text_byte};
 ghost use Rattle.roff_run.specs.Events.Meant.{events_meant};
 ghost use Rattle.roff_run.specs.ControlFronts.{BeginsControl};
-ghost use Rattle.roff_run.specs.Stages.{Holds, ReadsHalves, ReadsPast, TakesHalf, TurnsFront};
+ghost use Rattle.roff_run.specs.Stages.{EndsLine, Holds, ReadsHalves, ReadsPast, TakesHalf};
+ghost use Rattle.roff_run.specs.Stages.{TurnsFront};
 ghost use Rattle.roff_run.specs.Stages.{counts_blanks};
 ghost use Rattle.roff_run.specs.Reading.{Passes, Taking, blank_line, leading_blank_events};
 ghost use Rattle.roff_run.specs.Reading.{leading_glyph};
@@ -69,11 +70,13 @@ impl Formatter {
     }
 
     /// Whether bytes change nothing but backslashes and perhaps newlines; then, whether newlines
-    /// change nothing either.
+    /// change nothing either. Elsewhere a newline ends the line.
     #[inline(always)]
     pub(crate) fn passes_over(&self) -> Option<bool>
         ensures passes { IfSome result (λ within_block. (b : ℕ) → is_passed within_block b ≡ true
             → Passes self.now.reader.reading b) }
+        ensures ends { IfSome result (λ within_block. within_block ≡ false
+            → EndsLine self.now.reader.reading) }
         ensures none_due { IfSome result (λ within_block. due self.now.reader.reading ≡ None) }
     {
         self.reader.passes_over()

@@ -5,10 +5,11 @@ ghost use Rattle.std.specs.Prelude.{OnOk};
 ghost use Rattle.roff_run.specs.Run.{ahead_taken, awaited, byte_taken, end_met, half_ends};
 ghost use Rattle.roff_run.specs.Run.{in_front_taken, input_ended, step, waiting};
 ghost use Rattle.roff_run.specs.ControlFronts.{BeginsControl};
-ghost use Rattle.roff_run.specs.Stages.{Holds, ReadsHalves, TakesHalf, counts_blanks};
+ghost use Rattle.roff_run.specs.Reading.{Passes};
+ghost use Rattle.roff_run.specs.Stages.{EndsLine, Holds, ReadsHalves, TakesHalf, counts_blanks};
 ghost use Rattle.roff_run.specs.Telling.{Prints};
 ghost use Rattle.roff_scan.specs.Arguments.{is_argument_byte};
-ghost use Rattle.roff_scan.specs.Bytes.{is_text_byte};
+ghost use Rattle.roff_scan.specs.Bytes.{is_passed, is_text_byte};
 ghost use Rattle.roff_scan.specs.Halves.{newline_stays};
 ghost use Rattle.roff_scan.specs.Input.{DoAhead};
 ghost use Rattle.roff_scan.specs.Unread.{seen_ahead};
@@ -32,38 +33,42 @@ pub(crate) struct Running {
 }
 
 impl Running {
-    ghost use Rattle.roff_engine.specs.Running.Turning.{Acts, GoesPast, Halts, IsEnded, MayEnd};
+    ghost use Rattle.roff_engine.specs.Running.Turning.{Acts, GoesFurther, GoesPast, Halts};
+    ghost use Rattle.roff_engine.specs.Running.Turning.{IsEnded, MayEnd};
     ghost use Rattle.roff_engine.specs.Running.Turning.{Settles, TurnsBy, input_ends, line_told};
 
     /// Takes bytes at once that stand in front: those of a control line's front, and those that
-    /// [`pass_front`](Running::pass_front) takes.
+    /// [`pass_line`](Running::pass_line) takes. Returns whether a line begins behind them.
     #[inline(always)]
-    pub(crate) fn pass_over<S: ByteSource>(&mut self, source: &mut S)
-        ensures { (out err : Sunk) → GoesPast
+    pub(crate) fn pass_over<S: ByteSource>(&mut self, source: &mut S) -> bool
+        ensures { (out err : Sunk) → GoesFurther result
             (S.gives source.old) (S.gives source.new) (S.notes source.old) (S.notes source.new)
             self.old self.new
             (seen (S.failures source.old) out err) (seen (S.failures source.new) out err) }
     {
         if self.formatter.begins_control_line() && !self.unread.is_half_read() {
-            self.pass_control_line(source);
+            self.pass_control_line(source)
         } else {
-            self.pass_front(source);
+            self.pass_line(source)
         }
     }
 
     /// Takes the front of a control line at once, if it stands in front, and then bytes behind it.
+    /// Returns whether a line begins behind them.
     #[inline(never)]
-    fn pass_control_line<S: ByteSource>(&mut self, source: &mut S)
+    fn pass_control_line<S: ByteSource>(&mut self, source: &mut S) -> bool
         requires begins { BeginsControl self.old.formatter.reader.reading }
         requires none_due { due self.old.formatter.reader.reading ≡ None }
         requires none_half { self.old.unread.input.half ≡ [] }
-        ensures { (out err : Sunk) → GoesPast
+        ensures { (out err : Sunk) → GoesFurther result
             (S.gives source.old) (S.gives source.new) (S.notes source.old) (S.notes source.new)
             self.old self.new
             (seen (S.failures source.old) out err) (seen (S.failures source.new) out err) }
     {
         if self.read_control_front(source) {
-            self.pass_front(source);
+            self.pass_line(source)
+        } else {
+            false
         }
     }
 
@@ -82,9 +87,86 @@ impl Running {
         self.formatter.read_control_front(&mut self.unread, source)
     }
 
+    /// Passes over bytes that change nothing, and takes the newline behind them if it ends the line,
+    /// or takes those that [`pass_front`](Running::pass_front) takes. Returns whether a line begins
+    /// behind them.
+    #[inline(always)]
+    fn pass_line<S: ByteSource>(&mut self, source: &mut S) -> bool
+        ensures { (out err : Sunk) → GoesFurther result
+            (S.gives source.old) (S.gives source.new) (S.notes source.old) (S.notes source.new)
+            self.old self.new
+            (seen (S.failures source.old) out err) (seen (S.failures source.new) out err) }
+    {
+        match self.formatter.passes_over() {
+            Some(within_block) => self.pass_dropped(source, within_block),
+            None => {
+                self.pass_front(source);
+                false
+            }
+        }
+    }
+
+    /// Passes over bytes that change nothing, and takes the newline behind them if it ends the line.
+    /// Returns whether it did.
+    #[inline(never)]
+    fn pass_dropped<S: ByteSource>(&mut self, source: &mut S, within_block: bool) -> bool
+        requires passes { (b : ℕ) → is_passed within_block b ≡ true
+            → Passes self.old.formatter.reader.reading b }
+        requires ends { within_block ≡ false → EndsLine self.old.formatter.reader.reading }
+        requires none_due { due self.old.formatter.reader.reading ≡ None }
+        ensures { (out err : Sunk) → GoesFurther result
+            (S.gives source.old) (S.gives source.new) (S.notes source.old) (S.notes source.new)
+            self.old self.new
+            (seen (S.failures source.old) out err) (seen (S.failures source.new) out err) }
+    {
+        self.pass_plain(source, within_block);
+        if !within_block && !self.unread.is_half_read() {
+            self.end_dropped(source)
+        } else {
+            false
+        }
+    }
+
     /// Passes over bytes of the source that stand ready, or of a body ahead, and change nothing, if
-    /// there are some, or tells those of a text line, or counts its leading blanks, or holds those of
-    /// arguments.
+    /// there are some.
+    #[inline(always)]
+    fn pass_plain<S: ByteSource>(&mut self, source: &mut S, within_block: bool)
+        requires passes { (b : ℕ) → is_passed within_block b ≡ true
+            → Passes self.old.formatter.reader.reading b }
+        requires none_due { due self.old.formatter.reader.reading ≡ None }
+        ensures past { (out err : Sunk) → GoesPast
+            (S.gives source.old) (S.gives source.new) (S.notes source.old) (S.notes source.new)
+            self.old self.new
+            (seen (S.failures source.old) out err) (seen (S.failures source.new) out err) }
+        ensures kept { self.new.formatter ≡ self.old.formatter }
+    {
+        if self.unread.is_none_ahead() {
+            self.unread.pass_over(source, within_block);
+        } else {
+            self.unread.pass_over_ahead(within_block);
+        }
+    }
+
+    /// Takes a newline at once that ends the line, if it stands in front. Returns whether it did.
+    #[inline(always)]
+    fn end_dropped<S: ByteSource>(&mut self, source: &mut S) -> bool
+        requires ends { EndsLine self.old.formatter.reader.reading }
+        requires none_due { due self.old.formatter.reader.reading ≡ None }
+        requires none_half { self.old.unread.input.half ≡ [] }
+        ensures { (out err : Sunk) → GoesFurther result
+            (S.gives source.old) (S.gives source.new) (S.notes source.old) (S.notes source.new)
+            self.old self.new
+            (seen (S.failures source.old) out err) (seen (S.failures source.new) out err) }
+    {
+        if !self.unread.pass_newline(source) {
+            return false;
+        }
+        self.formatter.begin_next_line();
+        true
+    }
+
+    /// Tells bytes of a text line that stand in front, or counts its leading blanks, or holds those
+    /// of arguments, or reads a name or a condition.
     #[inline(always)]
     fn pass_front<S: ByteSource>(&mut self, source: &mut S)
         ensures { (out err : Sunk) → GoesPast
@@ -92,13 +174,7 @@ impl Running {
             self.old self.new
             (seen (S.failures source.old) out err) (seen (S.failures source.new) out err) }
     {
-        if let Some(within_block) = self.formatter.passes_over() {
-            if self.unread.is_none_ahead() {
-                self.unread.pass_over(source, within_block);
-            } else {
-                self.unread.pass_over_ahead(within_block);
-            }
-        } else if self.formatter.prints() && !self.unread.is_half_read() {
+        if self.formatter.prints() && !self.unread.is_half_read() {
             self.tell_front(source);
         } else if self.formatter.counts_blanks() && !self.unread.is_half_read() {
             self.count_blanks(source);

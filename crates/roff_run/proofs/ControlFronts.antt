@@ -78,7 +78,7 @@ ready-two breaks first second ready u is stands =
     (ready-some (control_byte breaks ∷ first ∷ []) (second ∷ []) ready u stands)
 
 -- a stage
-abbrev stage_with : Reading → List Half → Arguments → List (List ℕ) → Stage
+abbrev pub stage_with : Reading → List Half → Arguments → List (List ℕ) → Stage
 stage_with reading half a texts = record { reading = reading; half = half; arguments = a; texts = texts }
 
 -- behind a name no text is held
@@ -125,7 +125,7 @@ turned-dropped names reading breaks a texts none_due begins =
     (Onward control q q backslash [] refl refl (λ k i. refl) refl (omega arith) (omega arith) (Here q))
 
 -- bytes that were taken at once, and then what is half read changed, and this is read: they were read past
-reads-front : (gave gives : Tape → Type 0) (r : ReaderState) (there : Reading) (bytes : List ℕ) (before passed : PageUnread) → before.input.half ≡ []
+pub reads-front : (gave gives : Tape → Type 0) (r : ReaderState) (there : Reading) (bytes : List ℕ) (before passed : PageUnread) → before.input.half ≡ []
     → Turned before.input.names (stage_with r.reading [] before.input.arguments before.input.open_texts) bytes
     (stage_with there (half_begun (is_deciding there) []) before.input.arguments before.input.open_texts)
     → PassesFront gave gives bytes before passed → IsWithin (record passed { input = input_begun there passed.input })

@@ -64,4 +64,5 @@ pub mod NameFronts
 pub mod ConditionRuns
 pub mod CallLaws
 pub mod ControlFronts
+pub mod LineEnds
 pub mod DefinitionLaws

@@ -1,7 +1,7 @@
 -- Stages of the reading: what bytes change that change only what is read.
 use Rattle.std.specs.Prelude.{◌≡◌, ℕ, ◌+◌, ◌≤◌, ◌==◌, ◌&&◌, Bool, false, if◌then◌else◌, List, [], ◌∷◌, length, min, nat_lt, not, take, None, Some}
 use Rattle.roff_scan.specs.Arguments.{Arguments, held}
-use Rattle.roff_scan.specs.Bytes.{is_dropped}
+use Rattle.roff_scan.specs.Bytes.{is_dropped, newline}
 use Rattle.roff_scan.specs.ConditionFronts.{TakesOn}
 use Rattle.roff_scan.specs.Half.{Half, texts_held}
 use Rattle.roff_scan.specs.Halves.{byte_read, seen_stays}
@@ -18,7 +18,7 @@ use Rattle.roff_run.specs.Reader.Taken.{PageUnread}
 use Rattle.roff_run.specs.Reading.{PageInput, due, going_on, holding, most_leading, taking}
 use Rattle.roff_run.specs.Registers.{Known}
 use Rattle.roff_run.specs.declared.reading.Reading.{Reading}
-use Rattle.roff_run.specs.declared.reading.Reading.TheVariants.{Text as InText}
+use Rattle.roff_run.specs.declared.reading.Reading.TheVariants.{LineStart, Text as InText}
 
 -- what bytes change: what is read, what is half read, the arguments of the line, and the texts in the making
 pub record Stage : Type 0 where
@@ -38,6 +38,10 @@ stage_of reading i = record { reading = reading; half = i.half; arguments = i.ar
 -- a byte leads from one stage to another, whatever else is known
 abbrev pub Turns : Named Entry → Stage → ℕ → Stage → Type 0
 Turns names p b q = (k : Known) (i : PageInput) → taking k p.reading (input_at names p i) b ≡ going_on (input_at names q i) q.reading
+
+-- where this is read, a newline changes nothing else, and a line begins behind it
+abbrev pub EndsLine : Reading → Type 0
+EndsLine reading = (k : Known) (i : PageInput) → taking k reading i newline ≡ going_on i LineStart
 
 -- a byte is held in the arguments of the line where nothing is half read, and this is read on
 abbrev pub Holds : Reading → ℕ → Type 0

@@ -41,3 +41,4 @@ pub mod HeldFronts
 pub mod HalfFronts
 pub mod ConditionFronts
 pub mod PushedFronts
+pub mod Newlines

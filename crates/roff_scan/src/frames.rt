@@ -11,7 +11,7 @@ ghost use Rattle.roff_scan.specs.Input.{bytes_ahead, ends_ahead, events_ahead, f
 ghost use Rattle.roff_scan.specs.Input.{leading, most_events, most_frees};
 ghost use Rattle.roff_scan.specs.Frames.Bodies.{with_bodies};
 ghost use Rattle.roff_scan.specs.Frames.Calls.{PutsBytes};
-ghost use Rattle.roff_scan.specs.Bytes.{is_passed};
+ghost use Rattle.roff_scan.specs.Bytes.{is_passed, newline};
 ghost use Rattle.roff_scan.specs.Frames.Kept.{is_end_next, IsSound};
 ghost use Rattle.roff_scan.specs.declared.frames.Frame.TheVariants.{Body};
 ghost use Rattle.roff_store.specs.Named.{entry_of};
@@ -306,6 +306,34 @@ impl<E: Copy> Frames<E> {
             Some(Front::End) => 0,
             Some(Front::Return) => 0,
             None => 0,
+        }
+    }
+
+    /// Takes a newline in front, if it is one of a body that goes on behind it. Returns whether it
+    /// did.
+    #[inline(always)]
+    pub(crate) fn pass_newline(&mut self) -> bool
+        ensures taken { result ≡ true
+            → self.old ≡ record self.new { ahead = ByteAhead newline ∷ self.new.ahead } }
+        ensures kept { result ≡ false → self.new ≡ self.old }
+    {
+        match self.slots.front() {
+            Some(Front::Do(Frame::Body(lease))) => {
+                if self.texts.lease_rest(lease) < 2 {
+                    return false;
+                }
+                if self.texts.lease_front(lease)[0] != b'\n' {
+                    return false;
+                }
+                self.texts.lease_pass(lease, 1);
+                true
+            }
+            Some(Front::Do(Frame::Event(_))) => false,
+            Some(Front::Byte(_)) => false,
+            Some(Front::Free(_)) => false,
+            Some(Front::End) => false,
+            Some(Front::Return) => false,
+            None => false,
         }
     }
 

@@ -8,7 +8,8 @@ ghost use Rattle.roff_scan.specs.Halves.{byte_read, decides_now, reading_ended, 
 ghost use Rattle.roff_scan.specs.Halves.{seen_stays};
 ghost use Rattle.std.specs.Prelude.{vec_capacity, reverse, true, false, not, ◌≡◌, ◌==◌, ◌+◌, ◌<◌};
 ghost use Rattle.std.specs.Prelude.{◌≤◌, ◌^◌, [], drop, get_or, length, None, option_map, IfOk};
-ghost use Rattle.std.specs.Prelude.{IfSome, take};
+ghost use Rattle.std.specs.Prelude.{IfSome, take, ◌∷◌};
+ghost use Rattle.roff_scan.specs.Bytes.{newline};
 ghost use Rattle.roff_scan.specs.Unread.Calls.{next_bytes};
 ghost use Rattle.roff_scan.specs.Tape.{Answer, OneByte, OneNote, Gives, Failed, Rises};
 ghost use Rattle.roff_scan.specs.Input.{is_none_ahead, counting, choosing, keeping, kept_last};
@@ -112,7 +113,7 @@ impl<E: Copy> Unread<E> {
     ghost use Rattle.roff_scan.specs.Unread.Calls.{Takes, Looks, PassesAhead, PassesOver};
     ghost use Rattle.roff_scan.specs.Unread.Calls.{front_bytes, IsFront, NoNewline, PassesFront};
     ghost use Rattle.roff_scan.specs.Unread.Calls.{HoldsFront, PassesSource, ReadsNames};
-    ghost use Rattle.roff_scan.specs.Unread.Calls.{TakesHalves, TakesPushed};
+    ghost use Rattle.roff_scan.specs.Unread.Calls.{PassesNewline, TakesHalves, TakesPushed};
     ghost use Rattle.roff_store.specs.TextCalls.{Open, Remove, Rename, Set};
 
     /// The input before anything is read. So many names stand for something then: they are to be
@@ -356,6 +357,67 @@ impl<E: Copy> Unread<E> {
             let most = (self.limits.bytes - self.charge) as usize;
             let passed = self.frames.pass_over(within_block, most);
             self.charge += passed as u32;
+        }
+    }
+
+    /// Takes a newline at once that stands in front, of the source or of a body that goes on behind
+    /// it, if the limit on bytes allows it. Whether anything is half read isn't looked at. Returns
+    /// whether it did.
+    #[inline(always)]
+    pub fn pass_newline<S: ByteSource>(&mut self, source: &mut S) -> bool
+        ensures passes { result ≡ true → PassesFront (S.gives source.old) (S.gives source.new)
+            (newline ∷ []) self.old self.new }
+        ensures kept { result ≡ false → (self.new ≡ self.old) × (source.new ≡ source.old) }
+        ensures notes { S.notes source.new ≡ S.notes source.old }
+        ensures failures { S.failures source.new ≡ S.failures source.old }
+        ensures within { IsWithin self.new }
+    {
+        if self.limits.bytes == self.charge {
+            return false;
+        }
+        if !self.frames.is_empty() {
+            return self.pass_newline_ahead();
+        }
+        self.pass_newline_ready(source)
+    }
+
+    /// The same of one of a body.
+    #[inline(always)]
+    fn pass_newline_ahead(&mut self) -> bool
+        requires room { self.old.input.charge < self.old.limits.bytes }
+        ensures passes { result ≡ true → PassesNewline self.old self.new }
+        ensures kept { result ≡ false → self.new ≡ self.old }
+        ensures within { IsWithin self.new }
+    {
+        if !self.frames.pass_newline() {
+            return false;
+        }
+        self.charge += 1;
+        true
+    }
+
+    /// The same of one of the source, where nothing is ahead.
+    #[inline(always)]
+    fn pass_newline_ready<S: ByteSource>(&mut self, source: &mut S) -> bool
+        requires room { self.old.input.charge < self.old.limits.bytes }
+        requires none_ahead { is_none_ahead self.old.input.ahead ≡ true }
+        ensures passes { result ≡ true → PassesFront (S.gives source.old) (S.gives source.new)
+            (newline ∷ []) self.old self.new }
+        ensures kept { result ≡ false → (self.new ≡ self.old) × (source.new ≡ source.old) }
+        ensures notes { S.notes source.new ≡ S.notes source.old }
+        ensures failures { S.failures source.new ≡ S.failures source.old }
+        ensures within { IsWithin self.new }
+    {
+        if self.looked.is_some() {
+            return false;
+        }
+        match source.buffered() {
+            [b'\n', ..] => {
+                self.count(b'\n');
+                source.pass(1);
+                true
+            }
+            _ => false,
         }
     }
 

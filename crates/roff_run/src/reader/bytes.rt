@@ -1,6 +1,6 @@
 //! A byte that was taken: what it means, and whether it means little.
 
-ghost use Rattle.std.specs.Prelude.{◌≡◌, ℕ, [], ◌∷◌, None, true, IfSome};
+ghost use Rattle.std.specs.Prelude.{◌≡◌, ℕ, [], ◌∷◌, None, false, true, IfSome};
 ghost use Rattle.roff_lines.specs.declared.event.Event.TheVariants.{Gap, Print, WordEnd};
 ghost use Rattle.roff_lines.specs.declared.glyph.Glyph.TheVariants.{Printed};
 ghost use Rattle.roff_run.specs.Requests.{Text};
@@ -9,7 +9,7 @@ ghost use Rattle.roff_run.specs.Clauses.{Passes, TakesAs, meaning_events, is_pas
 ghost use Rattle.roff_run.specs.Clauses.{taking, due};
 ghost use Rattle.roff_run.specs.Reader.Found.{has_place};
 ghost use Rattle.roff_run.specs.Telling.{Prints};
-ghost use Rattle.roff_run.specs.Stages.{Holds, ReadsHalves, TakesHalf};
+ghost use Rattle.roff_run.specs.Stages.{EndsLine, Holds, ReadsHalves, TakesHalf};
 ghost use Rattle.roff_scan.specs.Arguments.{is_argument_byte};
 ghost use Rattle.roff_scan.specs.Bytes.{is_text_byte};
 
@@ -48,11 +48,14 @@ impl Reader {
 
     /// Whether bytes change nothing but backslashes and perhaps newlines: in a line that is
     /// dropped, and in a branch that is skipped. Then, whether newlines change nothing either:
-    /// within a block of the branch.
+    /// within a block of the branch. Elsewhere a newline ends the line.
     #[inline(always)]
+    #[tactic(auto, using(crate::proofs::LineEnds::ends_dropped, crate::proofs::LineEnds::ends_skipped))]
     pub fn passes_over(&self) -> Option<bool>
         ensures passes { IfSome result (λ within_block. (b : ℕ) → is_passed within_block b ≡ true
             → Passes self.now.reading b) }
+        ensures ends { IfSome result (λ within_block. within_block ≡ false
+            → EndsLine self.now.reading) }
         ensures none_due { IfSome result (λ within_block. due self.now.reading ≡ None) }
     {
         match self.reading {

@@ -97,6 +97,13 @@ pub data PassesFront {E : Type 0} (old new : Tape → Type 0) (bytes : List ℕ)
   OfSource : PassesSource old new bytes before after → PassesFront old new bytes before after
   OfTexts : PassesTexts old new bytes before after → PassesFront old new bytes before after
 
+-- a newline that stands ahead was taken at its cost, and the source wasn't asked
+pub record PassesNewline {E : Type 0} (before after : Unread E) : Type 0 where
+  pub behind : List (Ahead E)
+  pub in_front : before.input.ahead ≡ ByteAhead newline ∷ behind
+  pub input : after ≡ record before { input = record before.input { ahead = behind; charge = before.input.charge + 1 } }
+  pub within : before.input.charge + 1 ≤ before.limits.bytes
+
 -- Bytes that came next were taken at once and held in the arguments of the line, each as it is read; nothing else changed but
 -- what is counted.
 pub record HoldsFront {E : Type 0} (old new : Tape → Type 0) (before after : Unread E) : Type 0 where

@@ -3,13 +3,13 @@ use Rattle.roff_engine.specs.Engine.Outcome.{seen}
 use Rattle.roff_engine.specs.Running.Turning.{HasCome, turns_left}
 use Rattle.roff_engine.proofs.engine.Engine.format.Given as goal
 
-abbrev pub invariant-loop-status : goal.invariant-loop-status
-invariant-loop-status g l = record {
+abbrev pub invariant-loop-running : goal.invariant-loop-running
+invariant-loop-running g l = record {
   come : HasCome (g.S.ByteSource.gives l.initial.source) (g.S.ByteSource.gives l.source)
       (seen (g.S.ByteSource.failures l.initial.source) (g.O.ByteSink.sunk l.initial.out) (g.E.ByteSink.sunk l.initial.err))
       (seen (g.S.ByteSource.failures l.source) (g.O.ByteSink.sunk l.out) (g.E.ByteSink.sunk l.err)) l.running;
   limits : l.running.limits ≡ l.fn.self;
 }
 
-abbrev pub decreases-loop-status : goal.decreases-loop-status
-decreases-loop-status g l = turns_left l.running + g.S.ByteSource.notes l.source
+abbrev pub decreases-loop-running : goal.decreases-loop-running
+decreases-loop-running g l = turns_left l.running + g.S.ByteSource.notes l.source
