@@ -50,7 +50,7 @@ pub begins-none : (bytes : List ℕ) (most : ℕ) → Begins [] bytes most
 begins-none bytes most = record { same = refl; among = omega arith; few = omega arith }
 
 -- what begins a beginning begins the whole
-begins-further : (front given bytes : List ℕ) (most : ℕ) → Begins front given most → given ≡ take (length given) bytes → Begins front bytes most
+pub begins-further : (front given bytes : List ℕ) (most : ℕ) → Begins front given most → given ≡ take (length given) bytes → Begins front bytes most
 begins-further front given bytes most front_begins is =
     let given_begins : Begins given bytes (length given) = begins given bytes (length given) is in
     record {
@@ -126,7 +126,7 @@ module _ {E : Type 0} where
   next-ahead (item ∷ items) looked ready some = refl
 
   -- those that stand ready do, where nothing is ahead and none was looked at
-  next-ready : (items : List (Ahead E)) (looked : Option ℕ) (ready : List ℕ) → is_none_ahead items ≡ true → looked ≡ None → next_bytes items looked ready ≡ ready
+  pub next-ready : (items : List (Ahead E)) (looked : Option ℕ) (ready : List ℕ) → is_none_ahead items ≡ true → looked ≡ None → next_bytes items looked ready ≡ ready
   next-ready [] None ready none unlooked = refl
   next-ready [] (Some b) ready none unlooked = cc
   next-ready (item ∷ items) looked ready none unlooked = cc
