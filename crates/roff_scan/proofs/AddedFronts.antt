@@ -1,6 +1,6 @@
 -- Bytes of plain text of the source that are put behind the newest text in the making at once.
-use Rattle.std.proofs.Common.{◌≡◌, ℕ, ◌+◌, ◌==◌, ◌≤◌, ◌<◌, Bool, true, false, if◌then◌else◌, List, [], ◌∷◌, ◌++◌, length, take, take_while, get_or, Option, Some, None, Ok, Err, refl, sym, ap, subst, ◌∙◌, append_assoc, arith}
-use Rattle.std.specs.Prelude.{Result, not, nat_lt, set, sum_by, ◌||◌}
+use Rattle.std.proofs.Common.{◌≡◌, ℕ, ◌+◌, ◌==◌, ◌≤◌, ◌<◌, Bool, true, false, List, [], ◌∷◌, ◌++◌, length, take, take_while, get_or, Option, Some, None, Ok, Err, refl, sym, ap, subst, ◌∙◌, append_assoc, arith}
+use Rattle.std.specs.Prelude.{Result, set, sum_by}
 use Rattle.std.specs.List.{AllByRecursion, prefix_len}
 use Rattle.std.proofs.lemmas.Bool.{eqb-true}
 use Rattle.std.proofs.lemmas.List.Folds.{length-prefix_len}
@@ -11,7 +11,7 @@ use Rattle.roff_scan.specs.Bytes.{is_text_byte, newline}
 use Rattle.roff_scan.specs.Input.{Input, adding, calling_on, counting, is_none_ahead, lines_taken}
 use Rattle.roff_scan.specs.Tape.{Tape}
 use Rattle.roff_scan.specs.Unread.{Unread, changing, input_refusal, unless_passed}
-use Rattle.roff_scan.specs.Unread.Calls.{AddsFront, IsFront, NoNewline, OfSource, OfTexts, PassesSource, front_bytes, next_bytes}
+use Rattle.roff_scan.specs.Unread.Calls.{AddsFront, IsFront, NoNewline, OfSource, OfTexts, PassesSource, front_bytes}
 use Rattle.roff_scan.proofs.Fronts.{Begins, begins, begins-further, next-ready}
 use Rattle.roff_scan.proofs.Passing.{take_while-plain}
 use Rattle.roff_store.specs.TextCalls.{PushOpen}
