@@ -12,7 +12,7 @@ use Rattle.roff_scan.specs.Input.{Input, adding, calling_on, counting, is_none_a
 use Rattle.roff_scan.specs.Tape.{Tape}
 use Rattle.roff_scan.specs.Unread.{Unread, changing, input_refusal, unless_passed}
 use Rattle.roff_scan.specs.Unread.Calls.{AddsFront, IsFront, NoNewline, OfSource, OfTexts, PassesSource, front_bytes}
-use Rattle.roff_scan.proofs.Fronts.{Begins, begins, begins-further, next-ready}
+use Rattle.roff_scan.proofs.Fronts.{next-ready}
 use Rattle.roff_scan.proofs.Passing.{take_while-plain}
 use Rattle.roff_store.specs.TextCalls.{PushOpen}
 use Rattle.roff_store.specs.Texts.{newest}
@@ -69,7 +69,7 @@ pub newest-added : (bytes : List ℕ) (id : Option ℕ) (texts : List (List ℕ)
 newest-added bytes id texts = newest-same (texts_added bytes id texts) texts (length-texts_added bytes id texts)
 
 -- a byte that isn't one of text
-pub not_text : (b c : ℕ) → is_text_byte b ≡ true → is_text_byte c ≡ false → (b == c) ≡ true → ⊥
+not_text : (b c : ℕ) → is_text_byte b ≡ true → is_text_byte c ≡ false → (b == c) ≡ true → ⊥
 not_text b c text other same = let is : is_text_byte c ≡ true = subst (λ (d : ℕ). is_text_byte d ≡ true) (eqb-true b c same) text in cc
 
 -- so no newline is among bytes of text
@@ -88,14 +88,6 @@ plain_in_front front text count cut counted =
     let are : count ≡ prefix_len is_text_byte front = counted ∙ length-prefix_len is_text_byte front in
     subst (λ (xs : List ℕ). AllByRecursion (λ b. is_text_byte b ≡ true) xs) (sym cut)
     (subst (λ (n : ℕ). AllByRecursion (λ b. is_text_byte b ≡ true) (take n front)) (sym are) (take_while-plain is_text_byte front))
-
--- they begin those that stand ready
-pub text_begins : (ready front text : List ℕ) (most count : ℕ) → front ≡ take most ready → text ≡ take count front → Begins text ready most
-text_begins ready front text most count cut taken =
-    let lent : Begins front ready most = begins front ready most cut in
-    let of : Begins text front count = begins text front count taken in
-    let all : Begins text ready count = begins-further text front ready count of lent.same in
-    record { same = all.same; among = all.among; few = omega (arith, lent.few, of.among) }
 
 module _ {E : Type 0} where
   -- bytes that are added change the texts in the making alone

@@ -50,7 +50,7 @@ pub begins-none : (bytes : List ℕ) (most : ℕ) → Begins [] bytes most
 begins-none bytes most = record { same = refl; among = omega arith; few = omega arith }
 
 -- what begins a beginning begins the whole
-pub begins-further : (front given bytes : List ℕ) (most : ℕ) → Begins front given most → given ≡ take (length given) bytes → Begins front bytes most
+begins-further : (front given bytes : List ℕ) (most : ℕ) → Begins front given most → given ≡ take (length given) bytes → Begins front bytes most
 begins-further front given bytes most front_begins is =
     let given_begins : Begins given bytes (length given) = begins given bytes (length given) is in
     record {
