@@ -6,9 +6,8 @@ ghost use Rattle.roff_scan.specs.Arguments.{is_argument_byte};
 ghost use Rattle.roff_scan.specs.Bytes.{is_passed, is_text_byte};
 ghost use Rattle.roff_run.specs.Events.Meant.{events_meant};
 ghost use Rattle.roff_run.specs.ControlFronts.{BeginsControl};
-ghost use Rattle.roff_run.specs.Stages.{EndsLine, Holds, ReadsHalves, ReadsPast, TakesHalf};
-ghost use Rattle.roff_run.specs.Stages.{TurnsFront};
-ghost use Rattle.roff_run.specs.Stages.{counts_blanks};
+ghost use Rattle.roff_run.specs.Stages.{Adds, EndsLine, Holds, Ignores, ReadsHalves, ReadsPast};
+ghost use Rattle.roff_run.specs.Stages.{TakesHalf, TurnsFront, counts_blanks};
 ghost use Rattle.roff_run.specs.Reading.{Passes, Taking, blank_line, leading_blank_events};
 ghost use Rattle.roff_run.specs.Reading.{leading_glyph};
 ghost use Rattle.roff_run.specs.Reader.AtOnce.{IsReadAbove, text_byte_events};
@@ -121,6 +120,38 @@ impl Formatter {
         ensures none_due { result ≡ true → due self.now.reader.reading ≡ None }
     {
         self.reader.reads_condition()
+    }
+
+    /// Whether bytes of plain text are put behind the newest text in the making where nothing is
+    /// half read, and what is read stays.
+    #[inline(always)]
+    pub(crate) fn adds_text(&self) -> bool
+        ensures adds { result ≡ true → (b : ℕ) → is_text_byte b ≡ true
+            → Adds self.now.reader.reading b }
+        ensures none_due { result ≡ true → due self.now.reader.reading ≡ None }
+    {
+        self.reader.adds_text()
+    }
+
+    /// Whether bytes of plain text change nothing where nothing is half read, and what is read
+    /// stays.
+    #[inline(always)]
+    pub(crate) fn ignores_text(&self) -> bool
+        ensures ignores { result ≡ true → (b : ℕ) → is_text_byte b ≡ true
+            → Ignores self.now.reader.reading b }
+        ensures none_due { result ≡ true → due self.now.reader.reading ≡ None }
+    {
+        self.reader.ignores_text()
+    }
+
+    /// How many of these bytes, from the first on, are plain text, which changes nothing.
+    #[inline(always)]
+    pub(crate) fn ignored_front(&self, front: &[u8]) -> usize
+        requires ignores { (b : ℕ) → is_text_byte b ≡ true → Ignores self.now.reader.reading b }
+        requires none_due { due self.now.reader.reading ≡ None }
+        ensures { TurnsFront front.now result self.now.reader self.now.reader }
+    {
+        text_in_front(front)
     }
 
     /// Whether blanks only count where nothing is half read: in front of the first glyph of a text

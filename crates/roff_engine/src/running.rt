@@ -6,7 +6,8 @@ ghost use Rattle.roff_run.specs.Run.{ahead_taken, awaited, byte_taken, end_met, 
 ghost use Rattle.roff_run.specs.Run.{in_front_taken, input_ended, step, waiting};
 ghost use Rattle.roff_run.specs.ControlFronts.{BeginsControl};
 ghost use Rattle.roff_run.specs.Reading.{Passes};
-ghost use Rattle.roff_run.specs.Stages.{EndsLine, Holds, ReadsHalves, TakesHalf, counts_blanks};
+ghost use Rattle.roff_run.specs.Stages.{Adds, EndsLine, Holds, Ignores, ReadsHalves, TakesHalf};
+ghost use Rattle.roff_run.specs.Stages.{counts_blanks};
 ghost use Rattle.roff_run.specs.Telling.{Prints};
 ghost use Rattle.roff_scan.specs.Arguments.{is_argument_byte};
 ghost use Rattle.roff_scan.specs.Bytes.{is_passed, is_text_byte};
@@ -184,6 +185,10 @@ impl Running {
             self.read_name(source);
         } else if self.formatter.reads_condition() {
             self.read_condition(source);
+        } else if self.formatter.adds_text() && !self.unread.is_half_read() {
+            self.add_text(source);
+        } else if self.formatter.ignores_text() && !self.unread.is_half_read() {
+            self.ignore_text(source);
         }
     }
 
@@ -234,6 +239,39 @@ impl Running {
             (seen (S.failures source.old) out err) (seen (S.failures source.new) out err) }
     {
         self.unread.hold_front(source);
+    }
+
+    /// Takes bytes of plain text at once that stand in front, and puts them behind the newest text in
+    /// the making: no more than the limits have room for.
+    #[inline(always)]
+    fn add_text<S: ByteSource>(&mut self, source: &mut S)
+        requires adds { (b : ℕ) → is_text_byte b ≡ true
+            → Adds self.old.formatter.reader.reading b }
+        requires none_due { due self.old.formatter.reader.reading ≡ None }
+        requires none_half { self.old.unread.input.half ≡ [] }
+        ensures { (out err : Sunk) → GoesPast
+            (S.gives source.old) (S.gives source.new) (S.notes source.old) (S.notes source.new)
+            self.old self.new
+            (seen (S.failures source.old) out err) (seen (S.failures source.new) out err) }
+    {
+        self.unread.add_front(source);
+    }
+
+    /// Takes bytes of plain text at once that stand in front and change nothing.
+    #[inline(never)]
+    fn ignore_text<S: ByteSource>(&mut self, source: &mut S)
+        requires ignores { (b : ℕ) → is_text_byte b ≡ true
+            → Ignores self.old.formatter.reader.reading b }
+        requires none_due { due self.old.formatter.reader.reading ≡ None }
+        requires none_half { self.old.unread.input.half ≡ [] }
+        ensures { (out err : Sunk) → GoesPast
+            (S.gives source.old) (S.gives source.new) (S.notes source.old) (S.notes source.new)
+            self.old self.new
+            (seen (S.failures source.old) out err) (seen (S.failures source.new) out err) }
+    {
+        let front = self.unread.front(source);
+        let ignored = self.formatter.ignored_front(front);
+        self.unread.pass(source, ignored);
     }
 
     /// Takes bytes at once that stand in front and change only what is half read, as long as they are

@@ -216,6 +216,38 @@ first_passed-no_more l rs now before less none =
     let names = neither Names (input_refusal l before) (nat_lt l.names (length rs.named)) none in
     first_not Names (input_refusal l now) _ names.0 (input_refusal-no_more l now before less names.1)
 
+-- the limits behind that on the store, and behind that on the texts in the making
+abbrev behind_store : Limits → PageInput → Option Limit
+behind_store l i =
+    if nat_lt l.names (names_added i) then Some Names
+    else if nat_lt l.stack (pushed i) then Some Stack
+    else if nat_lt l.depth (depth i) then Some Depth
+    else if nat_lt l.conditions (results i) then Some Conditions
+    else None
+
+abbrev behind_making : Limits → PageInput → Option Limit
+behind_making l i = if nat_lt l.store (stored i) then Some Store else behind_store l i
+
+-- where no limit refuses an input, that on the store doesn't
+stored_few : (l : Limits) (i : PageInput) → input_refusal l i ≡ None → nat_lt l.store (stored i) ≡ false
+stored_few l i none =
+    let making = neither Diversions (behind_making l i) (nat_lt l.diversions (length i.open_texts - 1)) none in
+    (neither Store (behind_store l i) (nat_lt l.store (stored i)) making.1).0
+
+-- where as many texts are in the making, and they have no more bytes than where no limit is passed, none is passed
+pub first_passed-texts : (l : Limits) (rs : AllRegisters) (i there : PageInput) (texts : List (List ℕ)) → length texts ≡ length i.open_texts
+    → stored (record i { open_texts = texts }) ≤ stored there → first_passed l (counts_in rs i) ≡ None → first_passed l (counts_in rs there) ≡ None
+    → first_passed l (counts_in rs (record i { open_texts = texts })) ≡ None
+first_passed-texts l rs i there texts same few none none_there =
+    let now : PageInput = record i { open_texts = texts } in
+    let names = neither Names (input_refusal l i) (nat_lt l.names (length rs.named)) none in
+    let names_there = neither Names (input_refusal l there) (nat_lt l.names (length rs.named)) none_there in
+    let making = neither Diversions (behind_making l i) (nat_lt l.diversions (length i.open_texts - 1)) names.1 in
+    let store = neither Store (behind_store l i) (nat_lt l.store (stored i)) making.1 in
+    first_not Names (input_refusal l now) _ names.0
+    (first_not Diversions (behind_making l now) _ (ap (λ (n : ℕ). nat_lt l.diversions (n - 1)) same ∙ making.0)
+    (first_not Store (behind_store l now) _ (not_above l.store (stored there) (stored now) few (stored_few l there names_there.1)) store.1))
+
 -- taking an item raises no count
 pub input_refusal-taking : (l : Limits) (a : Answer) (u : Unread PageEvent) → input_refusal l u.input ≡ None → input_refusal l (taking a u).1.input ≡ None
 input_refusal-taking l a u none = input_refusal-no_more l (taking a u).1.input u.input (NoMore-taking a u) none

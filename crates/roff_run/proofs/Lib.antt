@@ -59,6 +59,7 @@ pub mod BegunDefinitions
 pub mod PlainRuns
 pub mod TurnedRuns
 pub mod HeldRuns
+pub mod AddedRuns
 pub mod BlankRuns
 pub mod NameFronts
 pub mod ConditionRuns

@@ -25,7 +25,7 @@ is_other b c text other = elim (cases_Bool (b == c)) [
 ]
 
 -- it isn't dropped
-kept-text : (below is_del is_escape meant : Bool) → not (below || (is_del || is_escape)) ≡ true → ((below || is_del) && meant) ≡ false
+pub kept-text : (below is_del is_escape meant : Bool) → not (below || (is_del || is_escape)) ≡ true → ((below || is_del) && meant) ≡ false
 kept-text true is_del is_escape meant text = cc
 kept-text false true is_escape meant text = cc
 kept-text false false is_escape meant text = refl

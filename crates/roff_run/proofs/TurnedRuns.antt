@@ -10,7 +10,7 @@ use Rattle.roff_scan.specs.Input.{Ahead, ByteAhead, bytes_taken}
 use Rattle.roff_scan.specs.Tape.{Tape}
 use Rattle.roff_store.specs.Named.{Named}
 use Rattle.roff_store.specs.Texts.{Entry}
-use Rattle.roff_run.proofs.InputCounts.{NoMore, first_passed-no_more}
+use Rattle.roff_run.proofs.InputCounts.{NoMore, first_passed-no_more, first_passed-texts}
 use Rattle.roff_run.proofs.Interpolation.{FromAhead, FromSource, Origin, ahead_at, bytes_ahead_are_taken, bytes_of_the_source_are_taken, taken_as-going_on}
 use Rattle.roff_run.proofs.PlainRuns.{behind_byte, behind_bytes, behind_bytes-counts, counted, counted-ahead, run_at}
 use Rattle.roff_run.proofs.TurnsToCome.{turns_within-byte}
@@ -18,7 +18,7 @@ use Rattle.roff_run.specs.Reading.{PageInput, Taking, due, taking}
 use Rattle.roff_run.specs.Registers.{AllRegisters, Known}
 use Rattle.roff_run.specs.Requests.{PageEvent}
 use Rattle.roff_run.specs.Run.{State, after, counts_in, first_passed, known, made, step, taken_as, unless_refused}
-use Rattle.roff_run.specs.Stages.{Here, Onward, Stage, Turned, Turns, held_at, input_at, stage_of, with_stage_of}
+use Rattle.roff_run.specs.Stages.{Growing, Here, Onward, Stage, TextsGrow, Turned, Turns, held_at, input_at, stage_of, with_stage_of}
 use Rattle.roff_run.specs.TurnsToCome.{begun, free_ahead, turns_within}
 use Rattle.roff_run.specs.declared.reading.Reading.{Reading}
 
@@ -36,42 +36,51 @@ pub record IsGoing (s : State) : Type 0 where
   pub not_closing : s.is_closing ≡ false
   pub idle : s.to_do ≡ []
 
--- behind a byte that stood ahead no more is counted than in front of it
-NoMore-ahead : (names : Named Entry) (p q : Stage) (rest : List (Ahead PageEvent)) (b : ℕ) (bytes : List ℕ) (i : PageInput)
-    → q.texts ≡ p.texts → held_at q ≤ held_at p + 1
-    → NoMore (stage_input names q (FromAhead rest) bytes (behind_byte (FromAhead rest) b i)) (stage_input names p (FromAhead rest) (b ∷ bytes) i)
-NoMore-ahead names p q rest b bytes i same grows =
-    let stored : sum_by length q.texts ≡ sum_by length p.texts = ap (λ (texts : List (List ℕ)). sum_by length texts) same in
-    let making : length q.texts ≡ length p.texts = ap (λ (texts : List (List ℕ)). length texts) same in
+-- behind a byte that stood ahead no more is counted than in front of it, but for the bytes of texts in the making
+NoMore-ahead : (names : Named Entry) (p q : Stage) (rest : List (Ahead PageEvent)) (b : ℕ) (bytes : List ℕ) (i : PageInput) → held_at q ≤ held_at p + 1
+    → NoMore (record (stage_input names q (FromAhead rest) bytes (behind_byte (FromAhead rest) b i)) { open_texts = p.texts }) (stage_input names p (FromAhead rest) (b ∷ bytes) i)
+NoMore-ahead names p q rest b bytes i grows =
     record {
       bytes = omega (arith, grows);
       texts = omega arith;
       results = omega arith;
-      stored = omega (arith, stored);
+      stored = omega arith;
       names = omega arith;
-      open_texts = omega (arith, making);
+      open_texts = omega arith;
     }
 
--- what is held only grows on the way, and the texts in the making stay
-Turned-grows : (names : Named Entry) (p q : Stage) (bytes : List ℕ) → Turned names p bytes q → (held_at p ≤ held_at q) × (p.texts ≡ q.texts)
-Turned-grows names _ q _ (Here p) = (omega arith, refl)
+-- texts in the making that stay
+TextsGrow-same : (texts more : List (List ℕ)) → more ≡ texts → TextsGrow texts more
+TextsGrow-same texts more same =
+    let bytes : sum_by length more ≡ sum_by length texts = ap (λ (all : List (List ℕ)). sum_by length all) same in
+    record { count = ap (λ (all : List (List ℕ)). length all) same; bytes = omega (arith, bytes) }
+
+-- and that grow further
+TextsGrow-trans : (texts more most : List (List ℕ)) → TextsGrow texts more → TextsGrow more most → TextsGrow texts most
+TextsGrow-trans texts more most first second = record { count = second.count ∙ first.count; bytes = omega (arith, first.bytes, second.bytes) }
+
+-- what is held only grows on the way, and so do the texts in the making
+Turned-grows : (names : Named Entry) (p q : Stage) (bytes : List ℕ) → Turned names p bytes q → (held_at p ≤ held_at q) × TextsGrow p.texts q.texts
+Turned-grows names _ q _ (Here p) = (omega arith, TextsGrow-same p.texts p.texts refl)
 Turned-grows names p _ _ (Onward _ next q b bytes none_due stays turns same least most others) =
-    let there = Turned-grows names next q bytes others in (omega (arith, least, there.0), sym same ∙ there.1)
+    let there = Turned-grows names next q bytes others in
+    (omega (arith, least, there.0), TextsGrow-trans p.texts next.texts q.texts (TextsGrow-same p.texts next.texts same) there.1)
+Turned-grows names p _ _ (Growing _ next q b bytes none_due stays turns grow least most others) =
+    let there = Turned-grows names next q bytes others in
+    (omega (arith, least, there.0), TextsGrow-trans p.texts next.texts q.texts grow there.1)
 
 -- so of bytes of the source no more is counted in front of them than behind them
 NoMore-source : (names : Named Entry) (p q : Stage) (tape : Tape) (bytes : List ℕ) (i : PageInput) (charge newlines line : ℕ)
-    → held_at p ≤ held_at q → p.texts ≡ q.texts
+    → held_at p ≤ held_at q → TextsGrow p.texts q.texts
     → NoMore (stage_input names p (FromSource tape) bytes i) (stage_input names q (FromSource tape) [] (record i { charge = charge; newlines = newlines; line = line }))
-NoMore-source names p q tape bytes i charge newlines line grows same =
-    let stored : sum_by length p.texts ≡ sum_by length q.texts = ap (λ (texts : List (List ℕ)). sum_by length texts) same in
-    let making : length p.texts ≡ length q.texts = ap (λ (texts : List (List ℕ)). length texts) same in
+NoMore-source names p q tape bytes i charge newlines line grows grow =
     record {
       bytes = omega (arith, grows);
       texts = omega arith;
       results = omega arith;
-      stored = omega (arith, stored);
+      stored = omega (arith, grow.bytes);
       names = omega arith;
-      open_texts = omega (arith, making);
+      open_texts = omega (arith, grow.count);
     }
 
 fits-source : (l : Limits) (rs : AllRegisters) (names : Named Entry) (p q : Stage) (tape : Tape) (bytes : List ℕ) (i : PageInput) → Turned names p bytes q
@@ -86,12 +95,16 @@ fits-source l rs names p q tape bytes i turned behind =
 
 -- where no count is above its limit in front of bytes and behind them, none is behind the first of them
 fits-next : (l : Limits) (rs : AllRegisters) (names : Named Entry) (from : Origin) (p next q : Stage) (b : ℕ) (bytes : List ℕ) (i : PageInput)
-    → next.texts ≡ p.texts → held_at next ≤ held_at p + 1 → Turned names next bytes q → FitsAt l rs names p from (b ∷ bytes) i
+    → TextsGrow p.texts next.texts → held_at next ≤ held_at p + 1 → Turned names next bytes q → FitsAt l rs names p from (b ∷ bytes) i
     → FitsAt l rs names q from [] (behind_bytes from (b ∷ bytes) i) → FitsAt l rs names next from bytes (behind_byte from b i)
-fits-next l rs names (FromAhead rest) p next q b bytes i same grows others before behind =
-    first_passed-no_more l rs (stage_input names next (FromAhead rest) bytes (behind_byte (FromAhead rest) b i)) (stage_input names p (FromAhead rest) (b ∷ bytes) i)
-    (NoMore-ahead names p next rest b bytes i same grows) before
-fits-next l rs names (FromSource tape) p next q b bytes i same grows others before behind =
+fits-next l rs names (FromAhead rest) p next q b bytes i grow grows others before behind =
+    let now : PageInput = stage_input names next (FromAhead rest) bytes (behind_byte (FromAhead rest) b i) in
+    let there : PageInput = stage_input names q (FromAhead rest) [] (behind_bytes (FromAhead rest) (b ∷ bytes) i) in
+    let later = Turned-grows names next q bytes others in
+    let as_before : PageInput = record now { open_texts = p.texts } in
+    first_passed-texts l rs as_before there next.texts grow.count (omega (arith, later.1.bytes))
+    (first_passed-no_more l rs as_before (stage_input names p (FromAhead rest) (b ∷ bytes) i) (NoMore-ahead names p next rest b bytes i grows) before) behind
+fits-next l rs names (FromSource tape) p next q b bytes i grow grows others before behind =
     fits-source l rs names next q tape bytes (behind_byte (FromSource tape) b i) others behind
 
 -- a step at a byte, where no count is above its limit behind it
@@ -130,7 +143,12 @@ pub after-Turned : (l : Limits) (s : State) (names : Named Entry) (from : Origin
 after-Turned l s names from _ q _ i on (Here p) within before behind = refl
 after-Turned l s names from p _ _ i on (Onward _ next q b bytes none_due stays turns same least most others) within before behind =
     let there : FitsAt l s.registers names next from bytes (behind_byte from b i) =
-    fits-next l s.registers names from p next q b bytes i same most others before behind in
+    fits-next l s.registers names from p next q b bytes i (TextsGrow-same p.texts next.texts same) most others before behind in
+    ap (after l (length bytes)) (step-turned l s names from p next b bytes i on none_due stays (omega (arith, within)) turns there)
+    ∙ after-Turned l s names from next q bytes (behind_byte from b i) on others (omega (arith, within)) there behind
+after-Turned l s names from p _ _ i on (Growing _ next q b bytes none_due stays turns grow least most others) within before behind =
+    let there : FitsAt l s.registers names next from bytes (behind_byte from b i) =
+    fits-next l s.registers names from p next q b bytes i grow most others before behind in
     ap (after l (length bytes)) (step-turned l s names from p next b bytes i on none_due stays (omega (arith, within)) turns there)
     ∙ after-Turned l s names from next q bytes (behind_byte from b i) on others (omega (arith, within)) there behind
 
@@ -162,11 +180,16 @@ turns_left-turned most k names from p _ _ i (Onward _ next q b bytes none_due st
     let first = turns-turned most k names from p next b bytes i turns (omega (arith, within)) in
     let behind = turns_left-turned most k names from next q bytes (behind_byte from b i) others (omega (arith, within)) in
     omega (arith, first, behind)
+turns_left-turned most k names from p _ _ i (Growing _ next q b bytes none_due stays turns grow least most_held others) within =
+    let first = turns-turned most k names from p next b bytes i turns (omega (arith, within)) in
+    let behind = turns_left-turned most k names from next q bytes (behind_byte from b i) others (omega (arith, within)) in
+    omega (arith, first, behind)
 
 -- no bytes lead nowhere
 pub Turned-none : (names : Named Entry) (p q : Stage) (bytes : List ℕ) → bytes ≡ [] → Turned names p bytes q → p ≡ q
 Turned-none names _ q _ none (Here p) = refl
 Turned-none names p _ _ none (Onward _ next q b bytes none_due stays turns same least most others) = absurd (omega (arith, ap (λ (xs : List ℕ). length xs) none))
+Turned-none names p _ _ none (Growing _ next q b bytes none_due stays turns grow least most others) = absurd (omega (arith, ap (λ (xs : List ℕ). length xs) none))
 
 -- the input behind bytes, with nothing of them left
 pub stage_input-counted : (names : Named Entry) (q : Stage) (from : Origin) (bytes : List ℕ) (i : PageInput)

@@ -1,10 +1,11 @@
 -- Stages of the reading: what bytes change that change only what is read.
-use Rattle.std.specs.Prelude.{◌≡◌, ℕ, ◌+◌, ◌≤◌, ◌==◌, ◌&&◌, Bool, false, if◌then◌else◌, List, [], ◌∷◌, length, min, nat_lt, not, take, None, Some}
+use Rattle.std.specs.Prelude.{◌≡◌, ℕ, ◌+◌, ◌≤◌, ◌==◌, ◌&&◌, Bool, false, if◌then◌else◌, List, [], ◌∷◌, length, min, nat_lt, not, sum_by, take, None, Some}
 use Rattle.roff_scan.specs.Arguments.{Arguments, held}
 use Rattle.roff_scan.specs.Bytes.{is_dropped, newline}
 use Rattle.roff_scan.specs.ConditionFronts.{TakesOn}
 use Rattle.roff_scan.specs.Half.{Half, texts_held}
 use Rattle.roff_scan.specs.Halves.{byte_read, seen_stays}
+use Rattle.roff_scan.specs.Input.{adding}
 use Rattle.roff_scan.specs.Tape.{Tape}
 use Rattle.roff_scan.specs.Unread.{IsWithin}
 use Rattle.roff_scan.specs.Unread.Calls.{NoNewline, PassesFront}
@@ -47,6 +48,14 @@ EndsLine reading = (k : Known) (i : PageInput) → taking k reading i newline �
 abbrev pub Holds : Reading → ℕ → Type 0
 Holds reading b = (k : Known) (i : PageInput) → i.half ≡ [] → taking k reading i b ≡ going_on (holding (Byte b) i) reading
 
+-- a byte is put behind the newest text in the making where nothing is half read, and this is read on
+abbrev pub Adds : Reading → ℕ → Type 0
+Adds reading b = (k : Known) (i : PageInput) → i.half ≡ [] → taking k reading i b ≡ going_on (adding (b ∷ []) i) reading
+
+-- a byte changes nothing where nothing is half read, and this is read on
+abbrev pub Ignores : Reading → ℕ → Type 0
+Ignores reading b = (k : Known) (i : PageInput) → i.half ≡ [] → taking k reading i b ≡ going_on i reading
+
 -- where this is read, bytes may change only what is half read: what gives nothing yet changes nothing else
 abbrev pub ReadsHalves : Reading → Type 0
 ReadsHalves reading =
@@ -61,12 +70,19 @@ TakesHalf reading = (k : Known) (i : PageInput) (b : ℕ) (next : List Half) →
 abbrev pub held_at : Stage → ℕ
 held_at p = held p.arguments + texts_held p.half
 
--- Bytes lead from one stage to another, one after another: nothing is due before one, none ends what is half read, and none
--- changes the texts in the making. Of each one byte more is held at the most, and what is held stays.
+-- texts in the making that may have grown: none has begun or ended
+pub record TextsGrow (texts grown : List (List ℕ)) : Type 0 where
+  pub count : length grown ≡ length texts
+  pub bytes : sum_by length texts ≤ sum_by length grown
+
+-- Bytes lead from one stage to another, one after another: nothing is due before one, none ends what is half read, and the
+-- texts in the making stay, or grow. Of each one byte more is held at the most, and what is held stays.
 pub data Turned (names : Named Entry) : Stage → List ℕ → Stage → Type 0 where
   Here : (p : Stage) → Turned names p [] p
   Onward : (p q r : Stage) (b : ℕ) (bytes : List ℕ) → due p.reading ≡ None → seen_stays p.half (Some b) ≡ false → Turns names p b q
       → q.texts ≡ p.texts → held_at p ≤ held_at q → held_at q ≤ held_at p + 1 → Turned names q bytes r → Turned names p (b ∷ bytes) r
+  Growing : (p q r : Stage) (b : ℕ) (bytes : List ℕ) → due p.reading ≡ None → seen_stays p.half (Some b) ≡ false → Turns names p b q
+      → TextsGrow p.texts q.texts → held_at p ≤ held_at q → held_at q ≤ held_at p + 1 → Turned names q bytes r → Turned names p (b ∷ bytes) r
 
 -- an input with the stage of another one
 abbrev pub with_stage_of : PageInput → PageInput → PageInput

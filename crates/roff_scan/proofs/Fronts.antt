@@ -126,7 +126,7 @@ module _ {E : Type 0} where
   next-ahead (item ∷ items) looked ready some = refl
 
   -- those that stand ready do, where nothing is ahead and none was looked at
-  next-ready : (items : List (Ahead E)) (looked : Option ℕ) (ready : List ℕ) → is_none_ahead items ≡ true → looked ≡ None → next_bytes items looked ready ≡ ready
+  pub next-ready : (items : List (Ahead E)) (looked : Option ℕ) (ready : List ℕ) → is_none_ahead items ≡ true → looked ≡ None → next_bytes items looked ready ≡ ready
   next-ready [] None ready none unlooked = refl
   next-ready [] (Some b) ready none unlooked = cc
   next-ready (item ∷ items) looked ready none unlooked = cc

@@ -9,6 +9,7 @@ pub mod KeptTexts
 pub mod KeptArguments
 pub mod Settling
 pub mod Ends
+pub mod AddedFronts
 pub mod ArgumentBlock
 pub mod CallStack
 pub mod QuotedArguments

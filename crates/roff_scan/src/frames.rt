@@ -15,7 +15,7 @@ ghost use Rattle.roff_scan.specs.Bytes.{is_passed, newline};
 ghost use Rattle.roff_scan.specs.Frames.Kept.{is_end_next, IsSound};
 ghost use Rattle.roff_scan.specs.declared.frames.Frame.TheVariants.{Body};
 ghost use Rattle.roff_store.specs.Named.{entry_of};
-ghost use Rattle.roff_store.specs.Texts.{body_of, entry_given, kind_given, kind_of, newest};
+ghost use Rattle.roff_store.specs.Texts.{body_of, entry_given, kind_given, kind_of, newest, used};
 
 use crate::bytes::passed_len;
 use crate::halves::Halves;
@@ -533,6 +533,14 @@ impl<E: Copy> Frames<E> {
         ensures texts { self.new ≡ record self.old { texts = after Open self.old.texts } }
     {
         self.texts.open()
+    }
+
+    /// How many bytes bodies and texts in the making have.
+    #[inline(always)]
+    pub(crate) fn stored(&self) -> usize
+        ensures { result ≡ used self.now.texts }
+    {
+        self.texts.used()
     }
 
     /// Puts bytes behind a text in the making.

@@ -9,7 +9,8 @@ ghost use Rattle.roff_scan.specs.Halves.{seen_stays};
 ghost use Rattle.std.specs.Prelude.{vec_capacity, reverse, true, false, not, ◌≡◌, ◌==◌, ◌+◌, ◌<◌};
 ghost use Rattle.std.specs.Prelude.{◌≤◌, ◌^◌, [], drop, get_or, length, None, option_map, IfOk};
 ghost use Rattle.std.specs.Prelude.{IfSome, take, ◌∷◌};
-ghost use Rattle.roff_scan.specs.Bytes.{newline};
+ghost use Rattle.std.specs.List.{AllByRecursion};
+ghost use Rattle.roff_scan.specs.Bytes.{is_text_byte, newline};
 ghost use Rattle.roff_scan.specs.Unread.Calls.{next_bytes};
 ghost use Rattle.roff_scan.specs.Tape.{Answer, OneByte, OneNote, Gives, Failed, Rises};
 ghost use Rattle.roff_scan.specs.Input.{is_none_ahead, counting, choosing, keeping, kept_last};
@@ -21,7 +22,7 @@ ghost use Rattle.roff_scan.specs.Input.{calling, dropping, entering, kept_below,
 ghost use Rattle.roff_scan.specs.Input.{argument_live, beginning_line, calling_body};
 
 use crate::arguments::{ArgumentList, ArgumentTexts, bytes_of};
-use crate::bytes::{at_most, newlines_among, passed_len};
+use crate::bytes::{at_most, newlines_among, passed_len, text_in_front};
 use crate::calls::Calls;
 use crate::frames::Frames;
 use crate::half::{CopyUnit, Read, Surroundings};
@@ -112,7 +113,7 @@ impl<E: Copy> Unread<E> {
     ghost use Rattle.roff_scan.specs.Unread.{SeesEnding, taking, taking_answer, changing, reading};
     ghost use Rattle.roff_scan.specs.Unread.Calls.{Takes, Looks, PassesAhead, PassesOver};
     ghost use Rattle.roff_scan.specs.Unread.Calls.{front_bytes, IsFront, NoNewline, PassesFront};
-    ghost use Rattle.roff_scan.specs.Unread.Calls.{HoldsFront, PassesSource, ReadsNames};
+    ghost use Rattle.roff_scan.specs.Unread.Calls.{AddsFront, HoldsFront, PassesSource, ReadsNames};
     ghost use Rattle.roff_scan.specs.Unread.Calls.{PassesNewline, TakesHalves, TakesPushed};
     ghost use Rattle.roff_store.specs.TextCalls.{Open, Remove, Rename, Set};
 
@@ -1010,6 +1011,45 @@ impl<E: Copy> Unread<E> {
         }
     }
 
+    /// Takes at once bytes of plain text of the source that stand ready, and puts them behind the
+    /// newest text in the making, if there is one: no more than the limits on bytes and on the store
+    /// have room for. Nothing happens where anything is ahead or looked at; whether anything is half
+    /// read isn't looked at.
+    #[inline(always)]
+    pub fn add_front<S: ByteSource>(&mut self, source: &mut S)
+        ensures adds { AddsFront (S.gives source.old) (S.gives source.new) self.old self.new }
+        ensures notes { S.notes source.new ≡ S.notes source.old }
+        ensures failures { S.failures source.new ≡ S.failures source.old }
+        ensures within { IsWithin self.new }
+    {
+        if self.frames.is_empty() && self.looked.is_none() {
+            self.add_ready(source);
+        }
+    }
+
+    /// The same where the source's next byte is the next one.
+    #[inline(never)]
+    fn add_ready<S: ByteSource>(&mut self, source: &mut S)
+        requires none_ahead { is_none_ahead self.old.input.ahead ≡ true }
+        requires none_looked { self.old.looked ≡ None }
+        ensures adds { AddsFront (S.gives source.old) (S.gives source.new) self.old self.new }
+        ensures notes { S.notes source.new ≡ S.notes source.old }
+        ensures failures { S.failures source.new ≡ S.failures source.old }
+        ensures within { IsWithin self.new }
+    {
+        let room = self.limits.store as usize - self.frames.stored();
+        let allowed = self.limits.bytes - self.charge;
+        let text = text_ready(source, room.min(allowed as usize));
+        let count = text.len();
+        if count == 0 {
+            return;
+        }
+        match self.add(text) {
+            Ok(()) => self.pass_source(source, count),
+            Err(_) => {}
+        }
+    }
+
     /// Ends the newest text in the making, if there is one: it is put behind the body of a name, or
     /// is its body from now on.
     ///
@@ -1060,6 +1100,18 @@ fn front_of<'a, E: Copy, S: ByteSource>(
         return &[];
     }
     at_most(source.buffered(), most)
+}
+
+/// Bytes of plain text of the source that stand ready, so many at the most.
+#[inline(always)]
+fn text_ready<S: ByteSource>(source: &S, most: usize) -> &[u8]
+    ensures bytes { result.now ≡ take (length result.now) (S.ready source.now) }
+    ensures among { length result.now ≤ length (S.ready source.now) }
+    ensures few { length result.now ≤ most }
+    ensures plain { AllByRecursion (λ b. is_text_byte b ≡ true) result.now }
+{
+    let front = at_most(source.buffered(), most);
+    at_most(front, text_in_front(front))
 }
 
 /// The argument at an index, from 0 on; one that isn't there is empty.

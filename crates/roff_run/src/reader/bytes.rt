@@ -9,7 +9,7 @@ ghost use Rattle.roff_run.specs.Clauses.{Passes, TakesAs, meaning_events, is_pas
 ghost use Rattle.roff_run.specs.Clauses.{taking, due};
 ghost use Rattle.roff_run.specs.Reader.Found.{has_place};
 ghost use Rattle.roff_run.specs.Telling.{Prints};
-ghost use Rattle.roff_run.specs.Stages.{EndsLine, Holds, ReadsHalves, TakesHalf};
+ghost use Rattle.roff_run.specs.Stages.{Adds, EndsLine, Holds, Ignores, ReadsHalves, TakesHalf};
 ghost use Rattle.roff_scan.specs.Arguments.{is_argument_byte};
 ghost use Rattle.roff_scan.specs.Bytes.{is_text_byte};
 
@@ -124,6 +124,43 @@ impl Reader {
     {
         match self.reading {
             Reading::Deciding { .. } => true,
+            _ => false,
+        }
+    }
+
+    /// Whether bytes of plain text are put behind the newest text in the making where nothing is
+    /// half read, and what is read stays: in a line of a definition that isn't the last one.
+    #[inline(always)]
+    #[tactic(auto, using(crate::proofs::AddedRuns::adds_where))]
+    pub fn adds_text(&self) -> bool
+        ensures adds { result ≡ true → (b : ℕ) → is_text_byte b ≡ true → Adds self.now.reading b }
+        ensures none_due { result ≡ true → due self.now.reading ≡ None }
+    {
+        match self.reading {
+            Reading::Defining {
+                name: Some(_),
+                matched: None,
+                ..
+            } => true,
+            _ => false,
+        }
+    }
+
+    /// Whether bytes of plain text change nothing where nothing is half read, and what is read
+    /// stays: in an ignored line that isn't the last one.
+    #[inline(always)]
+    #[tactic(auto, using(crate::proofs::AddedRuns::ignores_where))]
+    pub fn ignores_text(&self) -> bool
+        ensures ignores { result ≡ true → (b : ℕ) → is_text_byte b ≡ true
+            → Ignores self.now.reading b }
+        ensures none_due { result ≡ true → due self.now.reading ≡ None }
+    {
+        match self.reading {
+            Reading::Defining {
+                name: None,
+                matched: None,
+                ..
+            } => true,
             _ => false,
         }
     }

@@ -2,10 +2,10 @@
 use Rattle.std.specs.Prelude.{◌≡◌, ◌⊎◌, ℕ, ◌+◌, ◌≤◌, ◌==◌, Bool, true, false, List, [], ◌∷◌, ◌++◌, length, map, take, Option, Some, None}
 use Rattle.std.specs.List.{AllByRecursion}
 use Rattle.roff_scan.specs.Arguments.{bytes_held, is_argument_byte}
-use Rattle.roff_scan.specs.Bytes.{is_passed, newline}
+use Rattle.roff_scan.specs.Bytes.{is_passed, is_text_byte, newline}
 use Rattle.roff_scan.specs.ConditionFronts.{HalvesTaken}
 use Rattle.roff_scan.specs.HalfFronts.{HalvesRead}
-use Rattle.roff_scan.specs.Input.{Ahead, ByteAhead, bytes_taken, leading, lines_taken}
+use Rattle.roff_scan.specs.Input.{Ahead, ByteAhead, adding, bytes_taken, leading, lines_taken}
 use Rattle.roff_scan.specs.Tape.{Tape, Answer, OneByte, items_then}
 use Rattle.roff_scan.specs.Unread.{Unread, Asked, Stays, Shown, Sighted, asks_to_take, asks_to_look, passed_over, taking, looking}
 
@@ -111,6 +111,14 @@ pub record HoldsFront {E : Type 0} (old new : Tape → Type 0) (before after : U
   pub plain : AllByRecursion (λ b. is_argument_byte b ≡ true) bytes
   pub passes : PassesFront old new bytes before (record after { input = record after.input { arguments = before.input.arguments } })
   pub arguments : after.input.arguments ≡ bytes_held bytes before.input.arguments
+
+-- Bytes of plain text that came next were taken at once and put behind the newest text in the making, if there is one; nothing
+-- else changed but what is counted.
+pub record AddsFront {E : Type 0} (old new : Tape → Type 0) (before after : Unread E) : Type 0 where
+  pub bytes : List ℕ
+  pub plain : AllByRecursion (λ b. is_text_byte b ≡ true) bytes
+  pub passes : PassesFront old new bytes before (record after { input = record after.input { open_texts = before.input.open_texts } })
+  pub texts : after.input.open_texts ≡ (adding bytes before.input).open_texts
 
 -- Bytes that came next were taken at once, and changed only what is half read; nothing else changed but what is counted.
 pub record ReadsNames {E : Type 0} (old new : Tape → Type 0) (before after : Unread E) : Type 0 where

@@ -1,0 +1,209 @@
+-- Bytes of plain text of the source that are put behind the newest text in the making at once.
+use Rattle.std.proofs.Common.{◌≡◌, ℕ, ◌+◌, ◌==◌, ◌≤◌, ◌<◌, Bool, true, false, List, [], ◌∷◌, ◌++◌, length, take, take_while, get_or, Option, Some, None, Ok, Err, refl, sym, ap, subst, ◌∙◌, append_assoc, arith}
+use Rattle.std.specs.Prelude.{Result, set, sum_by}
+use Rattle.std.specs.List.{AllByRecursion, prefix_len}
+use Rattle.std.proofs.lemmas.Bool.{eqb-true}
+use Rattle.std.proofs.lemmas.List.Folds.{length-prefix_len}
+use Rattle.std.proofs.lemmas.List.{append-nil, get_or-set_same, length-append, length-set, set-get_or, set-set}
+use Rattle.std.proofs.lemmas.List.Sums.{sum_by-set}
+use Rattle.roff_num.specs.declared.limit.Limit.{Limit}
+use Rattle.roff_scan.specs.Bytes.{is_text_byte, newline}
+use Rattle.roff_scan.specs.Input.{Input, adding, calling_on, counting, is_none_ahead, lines_taken}
+use Rattle.roff_scan.specs.Tape.{Tape}
+use Rattle.roff_scan.specs.Unread.{Unread, changing, input_refusal, unless_passed}
+use Rattle.roff_scan.specs.Unread.Calls.{AddsFront, IsFront, NoNewline, OfSource, OfTexts, PassesSource, front_bytes}
+use Rattle.roff_scan.proofs.Fronts.{next-ready}
+use Rattle.roff_scan.proofs.Passing.{take_while-plain}
+use Rattle.roff_store.specs.TextCalls.{PushOpen}
+use Rattle.roff_store.specs.Texts.{newest}
+
+-- these texts, where bytes are put behind the one with this number
+abbrev pub texts_added : List ℕ → Option ℕ → List (List ℕ) → List (List ℕ)
+texts_added bytes None texts = texts
+texts_added bytes (Some id) texts = set texts id (get_or texts id [] ++ bytes)
+
+-- no bytes change nothing
+pub texts_added-none : (id : Option ℕ) (texts : List (List ℕ)) → texts_added [] id texts ≡ texts
+texts_added-none None texts = refl
+texts_added-none (Some id) texts = ap (λ (text : List ℕ). set texts id text) (append-nil (get_or texts id [])) ∙ set-get_or texts id []
+
+-- one, and then others
+added-again : (b : ℕ) (bytes : List ℕ) (id : ℕ) (texts : List (List ℕ)) → id < length texts
+    → texts_added bytes (Some id) (texts_added (b ∷ []) (Some id) texts) ≡ texts_added (b ∷ bytes) (Some id) texts
+added-again b bytes id texts inside =
+    let text : List ℕ = get_or texts id [] in
+    let one : List (List ℕ) = set texts id (text ++ b ∷ []) in
+    set-set texts id (text ++ b ∷ []) (get_or one id [] ++ bytes)
+    ∙ ap (λ (grown : List ℕ). set texts id (grown ++ bytes)) (get_or-set_same texts id (text ++ b ∷ []) [] inside)
+    ∙ ap (set texts id) (append_assoc text (b ∷ []) bytes)
+
+pub texts_added-again : (b : ℕ) (bytes : List ℕ) (texts : List (List ℕ))
+    → texts_added bytes (newest texts) (texts_added (b ∷ []) (newest texts) texts) ≡ texts_added (b ∷ bytes) (newest texts) texts
+texts_added-again b bytes [] = refl
+texts_added-again b bytes (text ∷ texts) = added-again b bytes (length texts) (text ∷ texts) (omega arith)
+
+-- as many texts are in the making
+pub length-texts_added : (bytes : List ℕ) (id : Option ℕ) (texts : List (List ℕ)) → length (texts_added bytes id texts) ≡ length texts
+length-texts_added bytes None texts = refl
+length-texts_added bytes (Some id) texts = length-set texts id (get_or texts id [] ++ bytes)
+
+-- and none of them is shorter
+stored-added : (bytes : List ℕ) (id : ℕ) (texts : List (List ℕ)) → id < length texts → sum_by length texts ≤ sum_by length (texts_added bytes (Some id) texts)
+stored-added bytes id texts inside =
+    let text : List ℕ = get_or texts id [] in
+    let size : List ℕ → ℕ = length in
+    omega (arith, sum_by-set size texts id (text ++ bytes) [] inside, length-append text bytes)
+
+pub stored-texts_added : (bytes : List ℕ) (texts : List (List ℕ)) → sum_by length texts ≤ sum_by length (texts_added bytes (newest texts) texts)
+stored-texts_added bytes [] = omega arith
+stored-texts_added bytes (text ∷ texts) = stored-added bytes (length texts) (text ∷ texts) (omega arith)
+
+-- so the newest stays the newest
+newest-same : (texts others : List (List ℕ)) → length texts ≡ length others → newest texts ≡ newest others
+newest-same [] [] same = refl
+newest-same [] (other ∷ others) same = absurd (omega (arith, same))
+newest-same (text ∷ texts) [] same = absurd (omega (arith, same))
+newest-same (text ∷ texts) (other ∷ others) same = let fewer : length texts ≡ length others = omega (arith, same) in ap (λ (n : ℕ). Some n) fewer
+
+pub newest-added : (bytes : List ℕ) (id : Option ℕ) (texts : List (List ℕ)) → newest (texts_added bytes id texts) ≡ newest texts
+newest-added bytes id texts = newest-same (texts_added bytes id texts) texts (length-texts_added bytes id texts)
+
+-- a byte that isn't one of text
+not_text : (b c : ℕ) → is_text_byte b ≡ true → is_text_byte c ≡ false → (b == c) ≡ true → ⊥
+not_text b c text other same = let is : is_text_byte c ≡ true = subst (λ (d : ℕ). is_text_byte d ≡ true) (eqb-true b c same) text in cc
+
+-- so no newline is among bytes of text
+no_newline_at : (b : ℕ) (is : Bool) → (b == newline) ≡ is → is_text_byte b ≡ true → is ≡ false
+no_newline_at b true is text = absurd (not_text b newline text refl is)
+no_newline_at b false is text = refl
+
+pub text_no_newline : (bytes : List ℕ) → AllByRecursion (λ b. is_text_byte b ≡ true) bytes → NoNewline bytes
+text_no_newline [] plain = tt
+text_no_newline (b ∷ bytes) plain = (no_newline_at b (b == newline) refl plain.0, text_no_newline bytes plain.1)
+
+-- bytes of text in front
+pub plain_in_front : (front text : List ℕ) (count : ℕ) → text ≡ take count front → count ≡ length (take_while is_text_byte front)
+    → AllByRecursion (λ b. is_text_byte b ≡ true) text
+plain_in_front front text count cut counted =
+    let are : count ≡ prefix_len is_text_byte front = counted ∙ length-prefix_len is_text_byte front in
+    subst (λ (xs : List ℕ). AllByRecursion (λ b. is_text_byte b ≡ true) xs) (sym cut)
+    (subst (λ (n : ℕ). AllByRecursion (λ b. is_text_byte b ≡ true) (take n front)) (sym are) (take_while-plain is_text_byte front))
+
+module _ {E : Type 0} where
+  -- bytes that are added change the texts in the making alone
+  adding_on-texts : (bytes : List ℕ) (id : Option ℕ) (i : Input E)
+      → calling_on (λ n. PushOpen n bytes) id i ≡ record i { open_texts = texts_added bytes id i.open_texts }
+  adding_on-texts bytes None i = refl
+  adding_on-texts bytes (Some id) i = refl
+
+  pub adding-texts : (bytes : List ℕ) (i : Input E) → adding bytes i ≡ record i { open_texts = texts_added bytes (newest i.open_texts) i.open_texts }
+  adding-texts bytes i = adding_on-texts bytes (newest i.open_texts) i
+
+  -- an unread input with these texts in the making
+  abbrev pub with_open : List (List ℕ) → Unread E → Unread E
+  with_open texts u = record u { input = record u.input { open_texts = texts } }
+
+  -- a change that isn't refused is made, and one that is refused changes nothing
+  made-allowed : (refusal : Option Limit) (i : Input E) (u new : Unread E) (r : Result (Unit {0}) Limit) → (r, new) ≡ unless_passed refusal i u → r ≡ Ok tt
+      → new ≡ record u { input = i }
+  made-allowed None i u new r made allowed = ap (λ (p : Result (Unit {0}) Limit × Unread E). p.1) made
+  made-allowed (Some limit) i u new r made allowed = let refused = ap (λ (p : Result (Unit {0}) Limit × Unread E). p.0) made in cc
+
+  made-refused : (refusal : Option Limit) (i : Input E) (u new : Unread E) (r : Result (Unit {0}) Limit) (limit : Limit) → (r, new) ≡ unless_passed refusal i u → r ≡ Err limit
+      → new ≡ u
+  made-refused None i u new r limit made refused = let allowed = ap (λ (p : Result (Unit {0}) Limit × Unread E). p.0) made in cc
+  made-refused (Some other) i u new r limit made refused = ap (λ (p : Result (Unit {0}) Limit × Unread E). p.1) made
+
+  module _ (u new : Unread E) (bytes : List ℕ) (r : Result (Unit {0}) Limit) (made : (r, new) ≡ changing (adding bytes u.input) u) where
+    -- the texts behind bytes that were added
+    abbrev pub grown : List (List ℕ)
+    grown = texts_added bytes (newest u.input.open_texts) u.input.open_texts
+
+    added-allowed : r ≡ Ok tt → new ≡ with_open grown u
+    added-allowed allowed =
+        made-allowed (input_refusal u.limits (adding bytes u.input)) (adding bytes u.input) u new r made allowed
+        ∙ ap (λ (i : Input E). record u { input = i }) (adding-texts bytes u.input)
+
+    pub added-refused : (limit : Limit) → r ≡ Err limit → new ≡ u
+    added-refused limit refused = made-refused (input_refusal u.limits (adding bytes u.input)) (adding bytes u.input) u new r limit made refused
+
+  -- what is counted of bytes doesn't depend on texts
+  lines_taken-texts : (bytes : List ℕ) (texts : List (List ℕ)) (i : Input E) → lines_taken bytes (record i { open_texts = texts }) ≡ record (lines_taken bytes i) { open_texts = texts }
+  lines_taken-texts [] texts i = refl
+  lines_taken-texts (b ∷ bytes) texts i = lines_taken-texts bytes texts (counting b i)
+
+  -- bytes that were taken behind a change of texts in the making alone were taken without it
+  passes-texts : (old new : Tape → Type 0) (bytes : List ℕ) (texts : List (List ℕ)) (before after : Unread E) → PassesSource old new bytes (with_open texts before) after
+      → PassesSource old new bytes before (with_open before.input.open_texts after)
+  passes-texts old new bytes texts before after passes =
+      let i : Input E = before.input in
+      record {
+        ahead = passes.ahead;
+        looked = passes.looked;
+        in_front = passes.in_front;
+        some = passes.some;
+        input =
+            ap (with_open i.open_texts) passes.input
+            ∙ ap (λ (j : Input E). record before { input = record j { open_texts = i.open_texts } }) (lines_taken-texts bytes texts i)
+            ∙ ap (λ (j : Input E). record before { input = j }) (sym (lines_taken-texts bytes i.open_texts i));
+        within = passes.within;
+      }
+
+  -- and the texts stay
+  texts-behind : (old new : Tape → Type 0) (bytes : List ℕ) (texts : List (List ℕ)) (before after : Unread E) → PassesSource old new bytes (with_open texts before) after
+      → after.input.open_texts ≡ texts
+  texts-behind old new bytes texts before after passes =
+      ap (λ (u : Unread E). u.input.open_texts) passes.input ∙ ap (λ (j : Input E). j.open_texts) (lines_taken-texts bytes texts before.input)
+
+  -- nothing was added
+  pub adds_nothing : (gives : Tape → Type 0) (u : Unread E) → u.input.charge ≤ u.limits.bytes → AddsFront gives gives u u
+  adds_nothing gives u within = record {
+    bytes = [];
+    plain = tt;
+    passes = OfTexts (record {
+      behind = u.input.ahead;
+      in_front = refl;
+      stays = record { before = λ t may. may; after = λ t may. may };
+      input = refl;
+      within = omega (arith, within);
+    });
+    texts = sym (ap (λ (i : Input E). i.open_texts) (adding-texts [] u.input) ∙ texts_added-none (newest u.input.open_texts) u.input.open_texts);
+  }
+
+  module _ (u new : Unread E) (ready text : List ℕ) (r : Result (Unit {0}) Limit) (made : (r, new) ≡ changing (adding text u.input) u) (allowed : r ≡ Ok tt)
+      (ahead : is_none_ahead u.input.ahead ≡ true) (looked : u.looked ≡ None) (same : text ≡ take (length text) ready) where
+    -- the texts in the making behind them
+    abbrev texts : List (List ℕ)
+    texts = grown u new text r made
+
+    is_grown : new ≡ with_open texts u
+    is_grown = added-allowed u new text r made allowed
+
+    -- the bytes that were added stand in front
+    pub added_in_front : length text ≤ length ready → u.input.charge + length text ≤ u.limits.bytes → IsFront (length text) ready new
+    added_in_front among within =
+        subst (IsFront (length text) ready) (sym is_grown)
+        (record { among = omega (arith, among, ap length (next-ready u.input.ahead u.looked ready ahead looked)); within = within })
+
+    first_added : text ≡ front_bytes (length text) ready new
+    first_added =
+        same ∙ ap (take (length text)) (sym (next-ready u.input.ahead u.looked ready ahead looked))
+        ∙ sym (ap (front_bytes (length text) ready) is_grown)
+
+    -- none of them is a newline
+    pub added_no_newline : AllByRecursion (λ b. is_text_byte b ≡ true) text → NoNewline (front_bytes (length text) ready new)
+    added_no_newline plain = subst NoNewline first_added (text_no_newline text plain)
+
+    -- and they were added, and taken
+    pub adds_front : (old gives : Tape → Type 0) (after : Unread E) → AllByRecursion (λ b. is_text_byte b ≡ true) text
+        → PassesSource old gives (front_bytes (length text) ready new) new after → AddsFront old gives u after
+    adds_front old gives after plain passed =
+        let passes : PassesSource old gives text (with_open texts u) after =
+        subst (λ (v : Unread E). PassesSource old gives text v after) is_grown
+        (subst (λ (xs : List ℕ). PassesSource old gives xs new after) (sym first_added) passed) in
+        record {
+          bytes = text;
+          plain = plain;
+          passes = OfSource (passes-texts old gives text texts u after passes);
+          texts = texts-behind old gives text texts u after passes ∙ sym (ap (λ (i : Input E). i.open_texts) (adding-texts text u.input));
+        }
