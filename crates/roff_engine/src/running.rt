@@ -176,7 +176,7 @@ impl Running {
             (seen (S.failures source.old) out err) (seen (S.failures source.new) out err) }
     {
         if self.formatter.prints() && !self.unread.is_half_read() {
-            self.tell_front(source);
+            self.tell_line(source);
         } else if self.formatter.counts_blanks() && !self.unread.is_half_read() {
             self.count_blanks(source);
         } else if self.formatter.holds_arguments() && !self.unread.is_half_read() {
@@ -192,10 +192,30 @@ impl Running {
         }
     }
 
+    /// Takes bytes of plain text at once that stand in front, and tells them, and then reads the front
+    /// of an escape behind them.
+    #[inline(always)]
+    fn tell_line<S: ByteSource>(&mut self, source: &mut S)
+        requires prints { (b : ℕ) → is_text_byte b ≡ true
+            → Prints self.old.formatter.reader.reading b }
+        requires none_due { due self.old.formatter.reader.reading ≡ None }
+        requires none_half { self.old.unread.input.half ≡ [] }
+        ensures { (out err : Sunk) → GoesPast
+            (S.gives source.old) (S.gives source.new) (S.notes source.old) (S.notes source.new)
+            self.old self.new
+            (seen (S.failures source.old) out err) (seen (S.failures source.new) out err) }
+    {
+        let meets_escape = self.tell_front(source);
+        if meets_escape && self.formatter.reads_names() {
+            self.read_name(source);
+        }
+    }
+
     /// Takes bytes of plain text at once that stand in front, and tells them: as many as no limit
-    /// refuses, and none that finishes a line.
+    /// refuses, and none that finishes a line. Returns whether a backslash lies behind them, as far as
+    /// is seen.
     #[inline(never)]
-    fn tell_front<S: ByteSource>(&mut self, source: &mut S)
+    fn tell_front<S: ByteSource>(&mut self, source: &mut S) -> bool
         requires prints { (b : ℕ) → is_text_byte b ≡ true
             → Prints self.old.formatter.reader.reading b }
         requires none_due { due self.old.formatter.reader.reading ≡ None }
@@ -207,7 +227,9 @@ impl Running {
     {
         let front = self.unread.front(source);
         let count = self.formatter.text_front(front);
+        let meets_escape = matches!(front.get(count), Some(b'\\'));
         self.unread.pass(source, count);
+        meets_escape
     }
 
     /// Takes blanks at once that stand in front, where they only count.
