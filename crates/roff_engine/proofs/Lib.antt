@@ -15,6 +15,7 @@ pub mod Passing
 pub mod PassingAhead
 pub mod Turned
 pub mod PassingOn
+pub mod PassingEnds
 pub mod Telling
 pub mod Fronts
 pub mod Settling

@@ -35,7 +35,7 @@ goes_past_both gave mid gives noted kept notes old between new now halfway behin
 }
 
 -- past none
-goes_past_none : (gave : Tape → Type 0) (notes : ℕ) (old : Coded) (now : Seen) → GoesPast gave gave notes notes old old now now
+pub goes_past_none : (gave : Tape → Type 0) (notes : ℕ) (old : Coded) (now : Seen) → GoesPast gave gave notes notes old old now now
 goes_past_none gave notes old now = record {
   limits = refl;
   taken = [];

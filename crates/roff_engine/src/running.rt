@@ -102,9 +102,22 @@ impl Running {
             Some(within_block) => self.pass_dropped(source, within_block),
             None => {
                 self.pass_front(source);
-                false
+                self.pass_end()
             }
         }
+    }
+
+    /// Takes the end of a text at once, if it stands in front, and nothing is due or waits for what
+    /// follows. Returns whether it did.
+    #[inline(always)]
+    fn pass_end(&mut self) -> bool
+        ensures { (gave : Tape → Type 0) (notes : ℕ) (now : Seen)
+            → GoesFurther result gave gave notes notes self.old self.new now now }
+    {
+        if self.unread.newline_stays() || self.formatter.due().is_some() {
+            return false;
+        }
+        self.unread.pass_end()
     }
 
     /// Passes over bytes that change nothing, and takes the newline behind them if it ends the line.

@@ -43,3 +43,4 @@ pub mod HalfFronts
 pub mod ConditionFronts
 pub mod PushedFronts
 pub mod Newlines
+pub mod TextEnds

@@ -114,7 +114,7 @@ impl<E: Copy> Unread<E> {
     ghost use Rattle.roff_scan.specs.Unread.Calls.{Takes, Looks, PassesAhead, PassesOver};
     ghost use Rattle.roff_scan.specs.Unread.Calls.{front_bytes, IsFront, NoNewline, PassesFront};
     ghost use Rattle.roff_scan.specs.Unread.Calls.{AddsFront, HoldsFront, PassesSource, ReadsNames};
-    ghost use Rattle.roff_scan.specs.Unread.Calls.{PassesNewline, TakesHalves, TakesPushed};
+    ghost use Rattle.roff_scan.specs.Unread.Calls.{PassesEnd, PassesNewline, TakesHalves, TakesPushed};
     ghost use Rattle.roff_store.specs.TextCalls.{Open, Remove, Rename, Set};
 
     /// The input before anything is read. So many names stand for something then: they are to be
@@ -420,6 +420,24 @@ impl<E: Copy> Unread<E> {
             }
             _ => false,
         }
+    }
+
+    /// Takes the end of a text at once that stands in front, if the limit on bytes allows it. What is
+    /// half read isn't looked at. Returns whether it did.
+    #[inline(always)]
+    pub fn pass_end(&mut self) -> bool
+        ensures passes { result ≡ true → PassesEnd self.old self.new }
+        ensures kept { result ≡ false → self.new ≡ self.old }
+        ensures within { IsWithin self.new }
+    {
+        if self.limits.bytes == self.charge {
+            return false;
+        }
+        if !self.frames.pass_end() {
+            return false;
+        }
+        self.charge += 1;
+        true
     }
 
     /// Bytes that stand in front, as they lie together: of a body ahead, or where nothing is ahead

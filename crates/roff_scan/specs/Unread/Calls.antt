@@ -5,7 +5,7 @@ use Rattle.roff_scan.specs.Arguments.{bytes_held, is_argument_byte}
 use Rattle.roff_scan.specs.Bytes.{is_passed, is_text_byte, newline}
 use Rattle.roff_scan.specs.ConditionFronts.{HalvesTaken}
 use Rattle.roff_scan.specs.HalfFronts.{HalvesRead}
-use Rattle.roff_scan.specs.Input.{Ahead, ByteAhead, adding, bytes_taken, leading, lines_taken}
+use Rattle.roff_scan.specs.Input.{Ahead, ByteAhead, EndAhead, adding, bytes_taken, leading, lines_taken}
 use Rattle.roff_scan.specs.Tape.{Tape, Answer, OneByte, items_then}
 use Rattle.roff_scan.specs.Unread.{Unread, Asked, Stays, Shown, Sighted, asks_to_take, asks_to_look, passed_over, taking, looking}
 
@@ -101,6 +101,13 @@ pub data PassesFront {E : Type 0} (old new : Tape → Type 0) (bytes : List ℕ)
 pub record PassesNewline {E : Type 0} (before after : Unread E) : Type 0 where
   pub behind : List (Ahead E)
   pub in_front : before.input.ahead ≡ ByteAhead newline ∷ behind
+  pub input : after ≡ record before { input = record before.input { ahead = behind; charge = before.input.charge + 1 } }
+  pub within : before.input.charge + 1 ≤ before.limits.bytes
+
+-- the end of a text that stands ahead was taken at its cost
+pub record PassesEnd {E : Type 0} (before after : Unread E) : Type 0 where
+  pub behind : List (Ahead E)
+  pub in_front : before.input.ahead ≡ EndAhead ∷ behind
   pub input : after ≡ record before { input = record before.input { ahead = behind; charge = before.input.charge + 1 } }
   pub within : before.input.charge + 1 ≤ before.limits.bytes
 

@@ -1,0 +1,102 @@
+-- A run that goes past the end of a text ahead.
+use Rattle.std.proofs.Common.{◌≡◌, ℕ, suc, zero, ◌+◌, ◌<◌, ◌&&◌, Bool, true, false, List, [], ◌∷◌, Option, None, inl, inr, refl, sym, ap, subst, ◌∙◌, arith}
+use Rattle.std.specs.Prelude.{if◌then◌else◌, is_none}
+use Rattle.std.proofs.lemmas.Bool.{le-ltb}
+use Rattle.roff_num.specs.declared.limit.Limit.{Limit}
+use Rattle.roff_num.specs.declared.limit.Limit.TheVariants.{Bytes}
+use Rattle.roff_num.specs.declared.limits.Limits.{Limits}
+use Rattle.roff_scan.specs.Halves.{newline_stays}
+use Rattle.roff_scan.specs.Input.{Ahead, EndAhead, is_none_ahead, item_taken}
+use Rattle.roff_scan.specs.Tape.{Tape}
+use Rattle.roff_scan.specs.Unread.{IsWithin}
+use Rattle.roff_scan.specs.Unread.Calls.{PassesEnd}
+use Rattle.roff_run.specs.Reader.Taken.{PageUnread}
+use Rattle.roff_run.specs.Reading.{PageInput, due}
+use Rattle.roff_run.specs.Registers.{AllRegisters}
+use Rattle.roff_run.specs.Run.{Leads, State, counts_in, first_passed, in_front_taken, made, step, stopped_by, unless_refused, waiting}
+use Rattle.roff_run.specs.InterpolationLaws.{TakesItems}
+use Rattle.roff_run.specs.TurnsToCome.{free_ahead, turns_to_come}
+use Rattle.roff_run.specs.declared.event.PageEvent.{PageEvent}
+use Rattle.roff_run.proofs.InputCounts.{IsWithin-allowed, first_passed-few_names}
+use Rattle.roff_run.proofs.Interpolation.{step-TakesItems}
+use Rattle.roff_run.proofs.TakesAs.{few_names}
+use Rattle.roff_engine.specs.declared.running.Running.{Running as Coded}
+use Rattle.roff_engine.specs.Engine.Outcome.{Seen}
+use Rattle.roff_engine.specs.Running.Turning.{GoesFurther, GoesPast, HasTape, IsAt, state_at}
+use Rattle.roff_engine.proofs.Passing.{IsAt-leads}
+use Rattle.roff_engine.proofs.PassingOn.{goes_further_none, goes_past_none}
+
+-- the end in front is taken in a step, where nothing is due or waits for what follows
+step-end : (l : Limits) (s : State) (behind : List (Ahead PageEvent)) → TakesItems s → s.input.ahead ≡ EndAhead ∷ behind
+    → newline_stays s.input.half ≡ false → s.input.charge < l.bytes
+    → first_passed l (counts_in s.registers (item_taken EndAhead behind s.input)) ≡ None
+    → step l s ≡ record s { input = item_taken EndAhead behind s.input }
+step-end l s behind takes front stays within fits =
+    let there : State = record s { input = item_taken EndAhead behind s.input } in
+    step-TakesItems l s takes
+    ∙ ap (λ (c : Bool). if c then waiting l s else in_front_taken l s.input.ahead s) stays
+    ∙ ap (λ (items : List (Ahead PageEvent)). in_front_taken l items s) front
+    ∙ ap (λ (c : Bool). if c then stopped_by l Bytes s else made l s there) (le-ltb l.bytes (s.input.charge + 1) (omega (arith, within)))
+    ∙ ap (λ (r : Option Limit). unless_refused l r s there) fits
+
+module _ (old : Coded) (after : PageUnread) (behind : List (Ahead PageEvent)) (none_due : due old.formatter.reader.reading ≡ None)
+    (front : old.unread.input.ahead ≡ EndAhead ∷ behind) (stays : newline_stays old.unread.input.half ≡ false)
+    (allowed : old.unread.input.charge < old.unread.limits.bytes)
+    (is : after ≡ record old.unread { input = item_taken EndAhead behind old.unread.input }) (within : IsWithin after) where
+  -- so the run is at its place behind it
+  IsAt-end : (whole tape : Tape) (start now : Seen) → IsAt whole tape start now old → IsAt whole tape start now (record old { unread = after })
+  IsAt-end whole tape start now at =
+      let l : Limits = old.unread.limits in
+      let rs : AllRegisters = old.formatter.reader.registers.all in
+      let i : PageInput = item_taken EndAhead behind old.unread.input in
+      let there : PageUnread = record old.unread { input = i } in
+      let s : State = state_at tape old at.history at.messages in
+      let inside : IsWithin there = subst IsWithin is within in
+      let fits : first_passed l (counts_in rs i) ≡ None =
+      first_passed-few_names l rs i (few_names old.formatter.reader.registers old.unread at.ready) ∙ IsWithin-allowed there inside in
+      let leads : Leads l s (record s { input = i }) = record {
+        steps = suc zero;
+        there = step-end l s behind (record { going = refl; not_closing = refl; idle = refl; none_due = none_due }) front stays allowed fits;
+      } in
+      subst (λ (u : PageUnread). IsAt whole tape start now (record old { unread = u })) (sym is)
+      (IsAt-leads whole tape tape start now old old.formatter there at.history at
+      (subst (λ (k : Limits). Leads k s (record s { input = i })) at.limits leads) refl at.stands (record { cap = at.ready.cap; within = fits }) at.limits)
+
+  -- the source isn't asked where it stands in front
+  HasTape-end : (gave : Tape → Type 0) → HasTape old gave → HasTape (record old { unread = after }) gave
+  HasTape-end gave known = elim known [
+    | inl asks ↦
+        let not_asked : false ≡ true = sym (ap (λ (items : List (Ahead PageEvent)). is_none_ahead items && is_none old.unread.looked) front) ∙ asks.0.1 in
+        absurd (cc)
+    | inr given ↦ inr given
+  ]
+
+  -- fewer turns are to come
+  fewer-end : turns_to_come after < turns_to_come old.unread
+  fewer-end =
+      let free = ap free_ahead front in
+      subst (λ (u : PageUnread). turns_to_come u < turns_to_come old.unread) (sym is) (omega (arith, allowed, free))
+
+  pub goes_further_end : (gave : Tape → Type 0) (notes : ℕ) (now : Seen) → GoesFurther true gave gave notes notes old (record old { unread = after }) now now
+  goes_further_end gave notes now = record {
+    past = record {
+      limits = refl;
+      taken = [];
+      before = λ t given. given;
+      some = HasTape-end gave;
+      past = λ t tape start given at. IsAt-end t tape start now at;
+      turns = omega (arith, fewer-end);
+    };
+    fewer = λ begins. omega (arith, fewer-end);
+  }
+
+-- past the end of a text, or past nothing
+pub goes_further_passed : (old : Coded) (after : PageUnread) (is_passed : Bool) → due old.formatter.reader.reading ≡ None → newline_stays old.unread.input.half ≡ false
+    → (is_passed ≡ true → PassesEnd old.unread after) → (is_passed ≡ false → after ≡ old.unread) → IsWithin after
+    → (gave : Tape → Type 0) (notes : ℕ) (now : Seen) → GoesFurther is_passed gave gave notes notes old (record old { unread = after }) now now
+goes_further_passed old after true none_due stays passed kept within gave notes now =
+    let p = passed refl in
+    goes_further_end old after p.behind none_due p.in_front stays (omega (arith, p.within)) p.input within gave notes now
+goes_further_passed old after false none_due stays passed kept within gave notes now =
+    subst (λ (u : PageUnread). GoesFurther false gave gave notes notes old (record old { unread = u }) now now) (sym (kept refl))
+    (goes_further_none gave gave notes notes old old now now (goes_past_none gave notes old now))
