@@ -37,7 +37,7 @@ fn run_in_front(bytes: &[u8], end: usize) -> (usize, u64)
         return (0, 0);
     }
     let (mut count, mut words) = run_by_steps(bytes, end);
-    while count < end && goes_on(bytes[count - 1], bytes[count]) {
+    while count < end && follows(bytes[count - 1], bytes[count]) {
         words += u64::from(bytes[count] == b' ');
         count += 1;
     }
@@ -103,4 +103,15 @@ fn goes_on(before: u8, byte: u8) -> bool
     ensures { result ≡ true → GoesOn before byte }
 {
     (byte >= b' ') & (byte < 0x80) & ((byte != b' ') | (before != b' '))
+}
+
+/// The same for a byte by itself, by as few comparisons as it takes.
+#[inline(always)]
+fn follows(before: u8, byte: u8) -> bool
+    ensures { result ≡ true → GoesOn before byte }
+{
+    if byte > b' ' {
+        return byte < 0x80;
+    }
+    byte == b' ' && before != b' '
 }
