@@ -91,12 +91,14 @@ module _ (old : Coded) (after : PageUnread) (behind : List (Ahead PageEvent)) (n
   }
 
 -- past the end of a text, or past nothing
-pub goes_further_passed : (old : Coded) (after : PageUnread) (is_passed : Bool) → due old.formatter.reader.reading ≡ None → newline_stays old.unread.input.half ≡ false
-    → (is_passed ≡ true → PassesEnd old.unread after) → (is_passed ≡ false → after ≡ old.unread) → IsWithin after
-    → (gave : Tape → Type 0) (notes : ℕ) (now : Seen) → GoesFurther is_passed gave gave notes notes old (record old { unread = after }) now now
-goes_further_passed old after true none_due stays passed kept within gave notes now =
+pub goes_further_passed : (old new : Coded) (is_passed : Bool) → (is_passed ≡ true → due old.formatter.reader.reading ≡ None)
+    → (is_passed ≡ true → newline_stays old.unread.input.half ≡ false) → (is_passed ≡ true → PassesEnd old.unread new.unread)
+    → (is_passed ≡ true → IsWithin new.unread) → (is_passed ≡ false → new ≡ old) → new ≡ record old { unread = new.unread }
+    → (gave : Tape → Type 0) (notes : ℕ) (now : Seen) → GoesFurther is_passed gave gave notes notes old new now now
+goes_further_passed old new true none_due stays passed within kept others gave notes now =
     let p = passed refl in
-    goes_further_end old after p.behind none_due p.in_front stays (omega (arith, p.within)) p.input within gave notes now
-goes_further_passed old after false none_due stays passed kept within gave notes now =
-    subst (λ (u : PageUnread). GoesFurther false gave gave notes notes old (record old { unread = u }) now now) (sym (kept refl))
+    subst (λ (run : Coded). GoesFurther true gave gave notes notes old run now now) (sym others)
+    (goes_further_end old new.unread p.behind (none_due refl) p.in_front (stays refl) (omega (arith, p.within)) p.input (within refl) gave notes now)
+goes_further_passed old new false none_due stays passed within kept others gave notes now =
+    subst (λ (run : Coded). GoesFurther false gave gave notes notes old run now now) (sym (kept refl))
     (goes_further_none gave gave notes notes old old now now (goes_past_none gave notes old now))

@@ -1,7 +1,7 @@
 //! A run under way: what each item of the input does.
 
 ghost use Rattle.std.specs.Prelude.{◌≡◌, ◌≤◌, ℕ, [], length, true, false, None, Some, Result, Err, IsOkUnless};
-ghost use Rattle.std.specs.Prelude.{OnOk};
+ghost use Rattle.std.specs.Prelude.{OnOk, slice_index_or};
 ghost use Rattle.roff_run.specs.Run.{ahead_taken, awaited, byte_taken, end_met, half_ends};
 ghost use Rattle.roff_run.specs.Run.{in_front_taken, input_ended, step, waiting};
 ghost use Rattle.roff_run.specs.ControlFronts.{BeginsControl};
@@ -13,7 +13,8 @@ ghost use Rattle.roff_scan.specs.Arguments.{is_argument_byte};
 ghost use Rattle.roff_scan.specs.Bytes.{is_passed, is_text_byte};
 ghost use Rattle.roff_scan.specs.Halves.{newline_stays};
 ghost use Rattle.roff_scan.specs.Input.{DoAhead};
-ghost use Rattle.roff_scan.specs.Unread.{seen_ahead};
+ghost use Rattle.roff_scan.specs.Unread.{IsWithin, seen_ahead};
+ghost use Rattle.roff_scan.specs.Unread.Calls.{PassesEnd};
 ghost use Rattle.roff_engine.specs.Clauses.{Outcome, Sunk, Tape, Puts, Seen, seen, due};
 ghost use Rattle.roff_engine.specs.Clauses.{message_line, ReadFailed, Device, Tells};
 
@@ -111,8 +112,12 @@ impl Running {
     /// follows. Returns whether it did.
     #[inline(always)]
     fn pass_end(&mut self) -> bool
-        ensures { (gave : Tape → Type 0) (notes : ℕ) (now : Seen)
-            → GoesFurther result gave gave notes notes self.old self.new now now }
+        ensures none_due { result ≡ true → due self.old.formatter.reader.reading ≡ None }
+        ensures stays { result ≡ true → newline_stays self.old.unread.input.half ≡ false }
+        ensures passes { result ≡ true → PassesEnd self.old.unread self.new.unread }
+        ensures within { result ≡ true → IsWithin self.new.unread }
+        ensures kept { result ≡ false → self.new ≡ self.old }
+        ensures others { self.new ≡ record self.old { unread = self.new.unread } }
     {
         if self.unread.newline_stays() || self.formatter.due().is_some() {
             return false;
@@ -240,7 +245,7 @@ impl Running {
     {
         let front = self.unread.front(source);
         let count = self.formatter.text_front(front);
-        let meets_escape = matches!(front.get(count), Some(b'\\'));
+        let meets_escape = has_backslash_at(front, count);
         self.unread.pass(source, count);
         meets_escape
     }
@@ -703,4 +708,12 @@ fn tell_note<E: ByteSink>(note: &Note, err: &mut E) -> Result<(), Status>
         Ok(()) => Ok(()),
         Err(_) => Err(Status::Device),
     }
+}
+
+/// Whether a backslash stands at this place of some bytes.
+#[inline(always)]
+fn has_backslash_at(bytes: &[u8], place: usize) -> bool
+    ensures { result ≡ true → slice_index_or bytes.now place 0 ≡ 92 }
+{
+    place < bytes.len() && bytes[place] == b'\\'
 }

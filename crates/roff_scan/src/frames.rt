@@ -345,7 +345,7 @@ impl<E: Copy> Frames<E> {
     {
         match self.slots.front() {
             Some(Front::End) => {
-                let _ = self.slots.take();
+                let _end = self.slots.take();
                 true
             }
             Some(Front::Do(_)) => false,

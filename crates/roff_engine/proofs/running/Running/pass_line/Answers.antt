@@ -1,5 +1,9 @@
+use Rattle.roff_engine.proofs.PassingEnds.{goes_further_passed}
 use Rattle.roff_engine.proofs.PassingOn.{goes_further_both}
 use Rattle.roff_engine.proofs.running.Running.pass_line.Goals as goal
 
 pub returns-in-None : goal.returns-in-None
-returns-in-None g c = λ out err. goes_further_both _ _ _ _ _ _ _ _ _ _ _ _ _ (c.pass_front.ensures out err) (c.pass_end.ensures _ _ _)
+returns-in-None g c = λ out err.
+    let ends = c.pass_end.ensures in
+    goes_further_both _ _ _ _ _ _ _ _ _ _ _ _ _ (c.pass_front.ensures out err)
+    (goes_further_passed _ _ _ ends.none_due ends.stays ends.passes ends.within ends.kept ends.others _ _ _)
