@@ -254,9 +254,29 @@ impl Formatter {
         self.take_at_once(byte, unread, out, err)
     }
 
-    /// Takes another byte: most mean nothing, or begin or end a text line.
+    /// Takes another byte: most begin or end a text line, or mean nothing.
     #[inline(never)]
     fn take_at_once<O: ByteSink, E: ByteSink>(
+        &mut self,
+        byte: u8,
+        unread: &mut Unread<PageEvent>,
+        out: &mut O,
+        err: &mut E,
+    ) -> Result<(), Halt>
+        ensures { DoesTaking (λ k. taking k self.old.reader.reading unread.old.input byte) []
+            self.old self.new unread.old unread.new
+            (sinks (O.sunk out.old) (E.sunk err.old))
+            (sinks (O.sunk out.new) (E.sunk err.new)) result }
+    {
+        match self.reader.take_text(byte, &self.environments, unread) {
+            Some(means) => self.perform_text_byte(byte, means, out),
+            None => self.take_beside_text(byte, unread, out, err),
+        }
+    }
+
+    /// Takes a byte that isn't one of a text line's: most mean nothing.
+    #[inline(always)]
+    fn take_beside_text<O: ByteSink, E: ByteSink>(
         &mut self,
         byte: u8,
         unread: &mut Unread<PageEvent>,
@@ -271,10 +291,7 @@ impl Formatter {
         if self.reader.reads_on(byte, unread) {
             return Ok(());
         }
-        match self.reader.take_text(byte, &self.environments, unread) {
-            Some(means) => self.perform_text_byte(byte, means, out),
-            None => self.take_above(byte, unread, out, err),
-        }
+        self.take_above(byte, unread, out, err)
     }
 
     /// Takes a byte, whatever is half read: most mean nothing there.

@@ -1,46 +1,25 @@
-use Rattle.std.proofs.Common.{◌∙◌, [], Ok, refl, ap}
+use Rattle.std.proofs.Common.{refl, ap}
 use Rattle.roff_run.specs.Reader.AtOnce.{text_byte_events}
 use Rattle.roff_run.specs.Reader.State.{ReaderState}
-use Rattle.roff_run.specs.Reading.{Taking, taking}
-use Rattle.roff_run.specs.Registers.{Known}
-use Rattle.roff_engine.specs.declared.formatter.Formatter.{Formatter}
-use Rattle.roff_engine.proofs.TakenAtOnce.{at_once_done, not_at_once, performs_nothing, taken_at_once, taken_behind_nothing}
+use Rattle.roff_run.specs.Reading.{taking}
+use Rattle.roff_engine.proofs.TakenAtOnce.{at_once_done, taken_behind_nothing}
 use Rattle.roff_engine.proofs.formatter.Formatter.take_at_once.Goals as goal
-
-pub returns-then-reads_on : goal.returns-then-reads_on
-returns-then-reads_on g c =
-    let old = c.args.self.now in
-    let u = c.args.unread.now in
-    let t : Known → Taking = λ k. taking k old.reader.reading u.input c.args.byte in
-    let read = c.reads_on in
-    let done : Formatter = record old { reader = read.new.self } in
-    at_once_done t [] old done done u read.new.unread _ _ _ (Ok tt)
-    (taken_at_once t [] old.reader read.new.self u read.new.unread read.result c.if-reads_on.true read.ensures old.environments) refl (performs_nothing done _)
 
 pub returns-in-Some : goal.returns-in-Some
 returns-in-Some g c =
     let old = c.args.self.now in
     let u = c.args.unread.now in
     let b = c.args.byte in
-    let read = c.reads_on in
-    let mid = read.new.self in
-    let now = read.new.unread in
     let done = c.perform_text_byte in
-    let kept = not_at_once (λ k. taking k old.reader.reading u.input b) [] old.reader mid u now read.result c.if-reads_on.false read.ensures in
-    taken_behind_nothing (λ f v k. taking k f.reader.reading v.input b) old (record old { reader = mid }) done.new.self u now now _ _ done.result
-    (ap (λ (r : ReaderState). record old { reader = r }) kept.0) kept.1
-    (at_once_done (λ k. taking k mid.reading now.input b) (text_byte_events b c.in-Some.means) (record old { reader = mid }) (record old { reader = c.take_text.new.self }) done.new.self now now _ _ _ done.result
-    c.in-Some.ensures.takes refl done.ensures)
+    at_once_done (λ k. taking k old.reader.reading u.input b) (text_byte_events b c.in-Some.means) old (record old { reader = c.take_text.new.self }) done.new.self u u _ _ _ done.result
+    c.in-Some.ensures.takes refl done.ensures
 
 pub returns-in-None : goal.returns-in-None
 returns-in-None g c =
     let old = c.args.self.now in
     let u = c.args.unread.now in
     let b = c.args.byte in
-    let read = c.reads_on in
-    let mid = read.new.self in
-    let now = read.new.unread in
     let text = c.take_text.new.self in
-    let kept = not_at_once (λ k. taking k old.reader.reading u.input b) [] old.reader mid u now read.result c.if-reads_on.false read.ensures in
-    taken_behind_nothing (λ f v k. taking k f.reader.reading v.input b) old (record old { reader = text }) c.take_above.new.self u now c.take_above.new.unread _ _
-    c.take_above.result (ap (λ (r : ReaderState). record old { reader = r }) (c.in-None.ensures.kept refl ∙ kept.0)) kept.1 c.take_above.ensures
+    let other = c.take_beside_text in
+    taken_behind_nothing (λ f v k. taking k f.reader.reading v.input b) old (record old { reader = text }) other.new.self u u other.new.unread _ _
+    other.result (ap (λ (r : ReaderState). record old { reader = r }) (c.in-None.ensures.kept refl)) refl other.ensures
