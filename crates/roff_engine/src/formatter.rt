@@ -274,9 +274,31 @@ impl Formatter {
         }
     }
 
-    /// Takes a byte that isn't one of a text line's: most mean nothing.
+    /// Takes a byte that isn't one of a text line's: one that ends a request's line, or most often one
+    /// that means nothing.
     #[inline(always)]
     fn take_beside_text<O: ByteSink, E: ByteSink>(
+        &mut self,
+        byte: u8,
+        unread: &mut Unread<PageEvent>,
+        out: &mut O,
+        err: &mut E,
+    ) -> Result<(), Halt>
+        ensures { DoesTaking (λ k. taking k self.old.reader.reading unread.old.input byte) []
+            self.old self.new unread.old unread.new
+            (sinks (O.sunk out.old) (E.sunk err.old))
+            (sinks (O.sunk out.new) (E.sunk err.new)) result }
+    {
+        match self.reader.end_request(byte, &self.environments, unread) {
+            Some(Ok(meaning)) => self.act(&meaning, unread.line(), out, err),
+            Some(Err(limit)) => Err(Halt::Refused(limit)),
+            None => self.take_little(byte, unread, out, err),
+        }
+    }
+
+    /// Takes a byte that ends no request's line either: most mean nothing.
+    #[inline(always)]
+    fn take_little<O: ByteSink, E: ByteSink>(
         &mut self,
         byte: u8,
         unread: &mut Unread<PageEvent>,

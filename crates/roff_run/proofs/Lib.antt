@@ -22,6 +22,7 @@ pub mod ResultsOnlyCut
 pub mod Taking
 pub mod StatusesTell
 pub mod RunsAppend
+pub mod RequestEnds
 pub mod RequestNames
 pub mod RegisterTables
 pub mod RegisterLaws

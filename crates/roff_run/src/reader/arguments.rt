@@ -1,8 +1,8 @@
 //! The arguments of requests, and the names that they give.
 
-ghost use Rattle.std.specs.Prelude.{◌≡◌};
+ghost use Rattle.std.specs.Prelude.{◌≡◌, None, IfSome};
 ghost use Rattle.roff_run.specs.Clauses.{EnvironmentsOf, TakesAs, arguments_found, going_on, holding, listed};
-ghost use Rattle.roff_run.specs.Clauses.{row_of, no_unit_found, unit_found, arguments_ended};
+ghost use Rattle.roff_run.specs.Clauses.{row_of, no_unit_found, unit_found, arguments_ended, taking};
 ghost use Rattle.roff_run.specs.Clauses.{name_at as name_given_at};
 
 use super::{Meaning, Reader};
@@ -14,6 +14,38 @@ use roff_num::Limit;
 use roff_scan::{ArgumentList, CopyUnit, Read, Unread};
 
 impl Reader {
+    /// Takes a newline that ends a request's line, with nothing half read: the request is obeyed, or
+    /// its lines begin. Another byte does nothing.
+    ///
+    /// # Errors
+    ///
+    /// A limit that it would pass; what was changed then is of no more use.
+    #[inline(always)]
+    pub fn end_request(
+        &mut self,
+        byte: u8,
+        environments: &Environments,
+        unread: &mut Unread<PageEvent>,
+    ) -> Option<Result<Meaning, Limit>>
+        ensures takes { IfSome result (λ read.
+            TakesAs (λ k. taking k self.old.reading unread.old.input byte) environments.now
+            self.old self.new unread.old unread.new read) }
+        ensures kept { result ≡ None → (self.new ≡ self.old) × (unread.new ≡ unread.old) }
+    {
+        if byte != b'\n' {
+            return None;
+        }
+        if unread.is_half_read() {
+            return None;
+        }
+        match self.reading {
+            Reading::Arguments { breaks, request } => {
+                Some(self.end_arguments(breaks, request, environments, unread))
+            }
+            _ => None,
+        }
+    }
+
     /// Something behind a request's name.
     pub(super) fn read_arguments(
         &mut self,

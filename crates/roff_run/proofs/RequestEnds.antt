@@ -1,0 +1,18 @@
+-- A newline behind the arguments of a request ends its line.
+use Rattle.std.proofs.Common.{◌≡◌, ◌∙◌, Bool, List, [], ap, sym}
+use Rattle.roff_scan.specs.Bytes.{newline}
+use Rattle.roff_scan.specs.Half.{Half}
+use Rattle.roff_scan.specs.Halves.{byte_read}
+use Rattle.roff_scan.specs.declared.half.Surroundings.TheVariants.{Arguments as AboveArguments}
+use Rattle.roff_run.specs.Reading.{PageInput, arguments_ended, arguments_read_on, taking}
+use Rattle.roff_run.specs.Registers.{Known}
+use Rattle.roff_run.specs.Requests.{row_of}
+use Rattle.roff_run.specs.declared.reading.Reading.TheVariants.{Arguments as InArguments}
+use Rattle.roff_run.specs.declared.request.Request.{Request}
+
+-- where nothing is half read
+pub ends-request : (k : Known) (i : PageInput) (breaks : Bool) (request : Request) → i.half ≡ []
+    → arguments_ended k i breaks request (row_of request).line ≡ taking k (InArguments breaks request) i newline
+ends-request k i breaks request none =
+    ap (λ (half : List Half). arguments_ended k (record i { half = half }) breaks request (row_of request).line) none
+    ∙ sym (ap (λ (half : List Half). arguments_read_on k i breaks request (byte_read AboveArguments half newline)) none)
