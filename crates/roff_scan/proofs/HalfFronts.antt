@@ -102,23 +102,17 @@ HalvesRead-last half _ next _ b (ByteRead _ second there c bytes first others) r
     ByteRead half second next c (bytes ++ b ∷ []) first (HalvesRead-last second there next bytes b others reads)
 
 -- one more was read
-pub ReadsFront-more : (bytes : List ℕ) (count : ℕ) (old now new : KeptHalves) (r : Read) → ReadsFront bytes count old now → count < length bytes
-    → reads_on now.half (get_or bytes count 0) ≡ true → (r, new) ≡ leaving (byte_read AboveArguments now.half (get_or bytes count 0)) now
-    → ReadsFront bytes (count + 1) old new
-ReadsFront-more bytes count old now new r reads inside is read =
+pub ReadsFront-more : (bytes : List ℕ) (count : ℕ) (old now new : KeptHalves) → ReadsFront bytes count old now → count < length bytes
+    → ReadsByte (get_or bytes count 0) true now new → ReadsFront bytes (count + 1) old new
+ReadsFront-more bytes count old now new reads inside is =
     let b : ℕ = get_or bytes count 0 in
-    let does : Reads now.half b = reads_on-reads now.half b is in
     let next : count + 1 ≡ suc count = omega arith in
     let more : take (count + 1) bytes ≡ take count bytes ++ b ∷ [] = ap (λ (n : ℕ). take n bytes) next ∙ take-suc bytes count 0 inside in
-    let there : new ≡ record now { half = does.0 } =
-    ap (λ (p : Read × KeptHalves). p.1) read ∙ ap (λ (p : Read × List Half). record now { half = p.1 }) (does.1.goes_on AboveArguments) in
-    let half : new.half ≡ does.0 = ap (λ (k : KeptHalves). k.half) there in
-    let room : new.room ≡ now.room = ap (λ (k : KeptHalves). k.room) there in
     record {
       few = omega (arith, inside);
       read = subst (λ (xs : List ℕ). HalvesRead old.half xs new.half) (sym more)
-          (subst (λ (h : List Half). HalvesRead old.half (take count bytes ++ b ∷ []) h) (sym half) (HalvesRead-last old.half now.half does.0 (take count bytes) b reads.read does.1));
-      room = room ∙ reads.room;
+          (HalvesRead-last old.half now.half new.half (take count bytes) b reads.read (is.read refl));
+      room = is.room ∙ reads.room;
     }
 
 -- none was read yet

@@ -48,6 +48,12 @@ pub record ReadsOn (half : List Half) (b : ℕ) (next : List Half) : Type 0 wher
   pub goes_on : (base : Surroundings) → byte_read base half b ≡ (GoesOn, next)
   pub held : texts_held next ≡ texts_held half
 
+-- a byte was read so, or nothing changed
+pub record ReadsByte (b : ℕ) (is_read : Bool) (old new : KeptHalves) : Type 0 where
+  pub read : is_read ≡ true → ReadsOn old.half b new.half
+  pub kept : is_read ≡ false → new ≡ old
+  pub room : new.room ≡ old.room
+
 -- bytes do so, one after another
 pub data HalvesRead : List Half → List ℕ → List Half → Type 0 where
   NothingRead : (half : List Half) → HalvesRead half [] half

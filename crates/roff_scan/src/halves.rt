@@ -2,7 +2,7 @@
 //! behind escapes.
 
 ghost use Rattle.std.specs.Prelude.{◌≡◌, ◌≤◌, ◌<◌, ◌+◌, ◌==◌, ℕ, true, false, List, Option};
-ghost use Rattle.std.specs.Prelude.{Some, None, [], ◌∷◌, drop, length, IfOk, MatchOption, pos};
+ghost use Rattle.std.specs.Prelude.{Some, None, [], ◌∷◌, drop, length, IfOk, IfSome, MatchOption, pos};
 ghost use Rattle.roff_scan.specs.ConditionFronts.{TakesByte, TakesFront, holds_first, holds_more};
 ghost use Rattle.roff_scan.specs.ConditionFronts.{is_condition, is_first_of, is_more_of};
 ghost use Rattle.roff_scan.specs.ConditionFronts.{is_of_expression, is_read_of, reads_next};
@@ -10,8 +10,8 @@ ghost use Rattle.roff_scan.specs.Half.{Half, Backslash as BackslashHalf};
 ghost use Rattle.roff_scan.specs.Half.{Delimited as DelimitedHalf, Name as NameHalf};
 ghost use Rattle.roff_scan.specs.Half.{Size as SizeHalf, Condition as ConditionHalf, names_in};
 ghost use Rattle.roff_scan.specs.Half.{text_held, texts_held, widths_in};
-ghost use Rattle.roff_scan.specs.HalfFronts.{ReadsFront, begins_name, is_in_front, is_none_half};
-ghost use Rattle.roff_scan.specs.HalfFronts.{may_open, reads_on};
+ghost use Rattle.roff_scan.specs.HalfFronts.{ReadsByte, ReadsFront, ReadsOn, begins_name};
+ghost use Rattle.roff_scan.specs.HalfFronts.{is_in_front, is_none_half, may_open};
 ghost use Rattle.roff_scan.specs.HalfTexts.{BeginsBehind, IsOnTop, begun, holds_text, leaving};
 ghost use Rattle.roff_scan.specs.HalfTexts.{names_among, text_on_top, widths_among, IsSound};
 ghost use Rattle.roff_scan.specs.HalfTexts.{KeptHalves, kept_by};
@@ -212,14 +212,69 @@ impl Halves {
     {
         let mut count = 0;
         while count < bytes.len() {
-            let byte = bytes[count];
-            if !self.reads_on(byte) {
+            if !self.read_on(bytes[count]) {
                 return count;
             }
-            let _ = self.read_byte(Surroundings::Arguments, byte);
             count += 1;
         }
         count
+    }
+
+    /// The same of one byte. Returns whether it was read.
+    #[inline(always)]
+    fn read_on(&mut self, byte: u8) -> bool
+        ensures { ReadsByte byte result self.old self.new }
+    {
+        match self.top() {
+            None => self.open_escape(byte),
+            Some(HalfRead::Backslash) => self.name_escape(byte),
+            Some(HalfRead::Name(purpose, part)) => self.read_on_in_name(purpose, part, byte),
+            Some(_) => false,
+        }
+    }
+
+    /// The same where nothing is half read.
+    #[inline(always)]
+    fn open_escape(&mut self, byte: u8) -> bool
+        requires { self.old.half ≡ [] }
+        ensures { ReadsByte byte result self.old self.new }
+    {
+        if byte != b'\\' {
+            return false;
+        }
+        self.push(HalfRead::Backslash);
+        true
+    }
+
+    /// The same behind a backslash.
+    #[inline(always)]
+    fn name_escape(&mut self, byte: u8) -> bool
+        requires { IsOnTop HalfRead.Backslash self.old.half }
+        ensures { ReadsByte byte result self.old self.new }
+    {
+        if !self.is_alone() {
+            return false;
+        }
+        let Some(purpose) = use_of_name(byte) else {
+            return false;
+        };
+        self.pop();
+        self.push(HalfRead::Name(purpose, NamePart::Nothing));
+        true
+    }
+
+    /// The same in a name of which so much is read.
+    #[inline(always)]
+    fn read_on_in_name(&mut self, purpose: NameUse, part: NamePart, byte: u8) -> bool
+        requires { IsOnTop (HalfRead.Name purpose part) self.old.half }
+        ensures { ReadsByte byte result self.old self.new }
+    {
+        let Some(more) = front_behind(purpose, part, byte) else {
+            return false;
+        };
+        self.pop();
+        self.push(HalfRead::Name(purpose, more));
+        true
     }
 
     /// Takes bytes one after another where a condition is half read: those that its expression
@@ -1120,6 +1175,34 @@ fn begins_name(byte: u8) -> bool
     ensures { result ≡ begins_name byte }
 {
     byte == b'n' || (byte == b'*' || byte == b'$')
+}
+
+/// What the name is read for that a byte behind a backslash begins, if it begins one that is read
+/// everywhere.
+#[inline(always)]
+fn use_of_name(byte: u8) -> Option<NameUse>
+    ensures { IfSome result
+        (λ purpose. ReadsOn (BackslashHalf ∷ []) byte (NameHalf purpose NamePart.Nothing ∷ [])) }
+{
+    match byte {
+        b'n' => Some(NameUse::Register(None)),
+        b'*' => Some(NameUse::Text),
+        b'$' => Some(NameUse::Argument),
+        _ => None,
+    }
+}
+
+/// How much of a name is read behind a byte that belongs to its front.
+#[inline(always)]
+fn front_behind(purpose: NameUse, part: NamePart, byte: u8) -> Option<NamePart>
+    ensures { IfSome result (λ more. (rest : List Half)
+        → ReadsOn (NameHalf purpose part ∷ rest) byte (NameHalf purpose more ∷ rest)) }
+{
+    match part {
+        NamePart::Nothing if may_open(purpose) && byte == b'(' => Some(NamePart::Opened),
+        NamePart::Opened if is_argument_byte(byte) => Some(NamePart::First(byte)),
+        _ => None,
+    }
 }
 
 /// Whether a parenthesis opens a name of two bytes: that of a register or a string.
