@@ -1,8 +1,8 @@
 -- Bytes that change only what is half read: the fronts of escapes that read a name (manual, sections 7.2, 8 and 10.1).
 use Rattle.std.specs.Prelude.{◌≡◌, ℕ, ◌≤◌, Bool, true, false, ◌&&◌, ◌||◌, List, [], ◌∷◌, length, take, Some, ◌==◌}
 use Rattle.roff_scan.specs.Arguments.{is_argument_byte}
-use Rattle.roff_scan.specs.Bytes.{backslash, is_dropped, newline}
-use Rattle.roff_scan.specs.Half.{Half, Backslash, Name, texts_held}
+use Rattle.roff_scan.specs.Bytes.{is_dropped, newline}
+use Rattle.roff_scan.specs.Half.{Half, texts_held}
 use Rattle.roff_scan.specs.Halves.{byte_read, seen_stays}
 use Rattle.roff_scan.specs.HalfTexts.{KeptHalves}
 use Rattle.roff_scan.specs.declared.escapes.NameUse.{NameUse}
@@ -11,11 +11,6 @@ use Rattle.roff_scan.specs.declared.half.NamePart.{NamePart}
 use Rattle.roff_scan.specs.declared.half.NamePart.TheVariants.{Nothing, Opened, First}
 use Rattle.roff_scan.specs.declared.half.Read.TheVariants.{GoesOn}
 use Rattle.roff_scan.specs.declared.half.Surroundings.{Surroundings}
-
--- whether nothing is half read
-abbrev pub is_none_half : List Half → Bool
-is_none_half [] = true
-is_none_half (half ∷ rest) = false
 
 -- whether a byte behind a backslash begins a name that is read everywhere: of a register, a string or an argument
 abbrev pub begins_name : ℕ → Bool
@@ -32,13 +27,6 @@ abbrev pub is_in_front : NameUse → NamePart → ℕ → Bool
 is_in_front purpose Nothing b = may_open purpose && b == 40
 is_in_front purpose Opened b = is_argument_byte b
 is_in_front purpose (First a) b = false
-
--- whether a byte is in the front of an escape that reads a name, where this is half read
-abbrev pub reads_on : List Half → ℕ → Bool
-reads_on [] b = b == backslash
-reads_on (Backslash ∷ rest) b = is_none_half rest && begins_name b
-reads_on (Name purpose part ∷ rest) b = is_in_front purpose part b
-reads_on (_) b = false
 
 -- a byte changes only what is half read, above whatever that stands: it isn't dropped, ends nothing, and gives nothing yet
 pub record ReadsOn (half : List Half) (b : ℕ) (next : List Half) : Type 0 where

@@ -11,7 +11,7 @@ ghost use Rattle.roff_scan.specs.Half.{Delimited as DelimitedHalf, Name as NameH
 ghost use Rattle.roff_scan.specs.Half.{Size as SizeHalf, Condition as ConditionHalf, names_in};
 ghost use Rattle.roff_scan.specs.Half.{text_held, texts_held, widths_in};
 ghost use Rattle.roff_scan.specs.HalfFronts.{ReadsByte, ReadsFront, ReadsOn, begins_name};
-ghost use Rattle.roff_scan.specs.HalfFronts.{is_in_front, is_none_half, may_open};
+ghost use Rattle.roff_scan.specs.HalfFronts.{is_in_front, may_open};
 ghost use Rattle.roff_scan.specs.HalfTexts.{BeginsBehind, IsOnTop, begun, holds_text, leaving};
 ghost use Rattle.roff_scan.specs.HalfTexts.{names_among, text_on_top, widths_among, IsSound};
 ghost use Rattle.roff_scan.specs.HalfTexts.{KeptHalves, kept_by};
@@ -183,28 +183,6 @@ impl Halves {
         }
     }
 
-    /// Whether a byte is in the front of an escape that reads a name, behind what is half read.
-    fn reads_on(&self, byte: u8) -> bool
-        ensures { result ≡ reads_on self.now.half byte }
-    {
-        match self.top() {
-            None => byte == b'\\',
-            Some(HalfRead::Backslash) => self.is_alone() && begins_name(byte),
-            Some(HalfRead::Name(purpose, part)) => is_in_front(purpose, part, byte),
-            Some(_) => false,
-        }
-    }
-
-    /// Whether nothing is half read below the top.
-    fn is_alone(&self) -> bool
-        ensures { result ≡ is_none_half (drop 1 self.now.half) }
-    {
-        match self.below() {
-            None => true,
-            Some(_) => false,
-        }
-    }
-
     /// Reads bytes one after another, as long as they are in the front of an escape that reads a
     /// name. Returns how many.
     pub(crate) fn read_front(&mut self, bytes: &[u8]) -> usize
@@ -226,17 +204,18 @@ impl Halves {
         ensures { ReadsByte byte result self.old self.new }
     {
         match self.top() {
-            None => self.open_escape(byte),
+            None => self.begin_escape(byte),
             Some(HalfRead::Backslash) => self.name_escape(byte),
             Some(HalfRead::Name(purpose, part)) => self.read_on_in_name(purpose, part, byte),
             Some(_) => false,
         }
     }
 
-    /// The same where nothing is half read.
+    /// The same where a backslash begins an escape, and nothing else is read.
     #[inline(always)]
-    fn open_escape(&mut self, byte: u8) -> bool
-        requires { self.old.half ≡ [] }
+    fn begin_escape(&mut self, byte: u8) -> bool
+        requires nested { IsNested (BackslashHalf ∷ self.old.half) }
+        requires reads { ReadsOn self.old.half 92 (BackslashHalf ∷ self.old.half) }
         ensures { ReadsByte byte result self.old self.new }
     {
         if byte != b'\\' {
@@ -249,10 +228,11 @@ impl Halves {
     /// The same behind a backslash.
     #[inline(always)]
     fn name_escape(&mut self, byte: u8) -> bool
-        requires { IsOnTop HalfRead.Backslash self.old.half }
+        requires nested { IsNested self.old.half }
+        requires on_top { IsOnTop HalfRead.Backslash self.old.half }
         ensures { ReadsByte byte result self.old self.new }
     {
-        if !self.is_alone() {
+        if !self.is_shallow() {
             return false;
         }
         let Some(purpose) = use_of_name(byte) else {
@@ -263,10 +243,19 @@ impl Halves {
         true
     }
 
+    /// Whether a name may be read below the top: there are fewer things than there may be names.
+    #[inline(always)]
+    fn is_shallow(&self) -> bool
+        ensures { result ≡ true → length self.now.half ≤ 8 }
+    {
+        self.items.len() <= MOST_NAMES
+    }
+
     /// The same in a name of which so much is read.
     #[inline(always)]
     fn read_on_in_name(&mut self, purpose: NameUse, part: NamePart, byte: u8) -> bool
-        requires { IsOnTop (HalfRead.Name purpose part) self.old.half }
+        requires nested { IsNested self.old.half }
+        requires on_top { IsOnTop (HalfRead.Name purpose part) self.old.half }
         ensures { ReadsByte byte result self.old self.new }
     {
         let Some(more) = front_behind(purpose, part, byte) else {
@@ -1178,11 +1167,11 @@ fn begins_name(byte: u8) -> bool
 }
 
 /// What the name is read for that a byte behind a backslash begins, if it begins one that is read
-/// everywhere.
+/// everywhere: of a register, a string or an argument.
 #[inline(always)]
 fn use_of_name(byte: u8) -> Option<NameUse>
-    ensures { IfSome result
-        (λ purpose. ReadsOn (BackslashHalf ∷ []) byte (NameHalf purpose NamePart.Nothing ∷ [])) }
+    ensures { IfSome result (λ purpose. (rest : List Half) → names_in rest < 8
+        → ReadsOn (BackslashHalf ∷ rest) byte (NameHalf purpose NamePart.Nothing ∷ rest)) }
 {
     match byte {
         b'n' => Some(NameUse::Register(None)),
@@ -1192,16 +1181,29 @@ fn use_of_name(byte: u8) -> Option<NameUse>
     }
 }
 
-/// How much of a name is read behind a byte that belongs to its front.
+/// How much of a name is read behind a byte that belongs to its front, if it does.
 #[inline(always)]
 fn front_behind(purpose: NameUse, part: NamePart, byte: u8) -> Option<NamePart>
     ensures { IfSome result (λ more. (rest : List Half)
         → ReadsOn (NameHalf purpose part ∷ rest) byte (NameHalf purpose more ∷ rest)) }
 {
     match part {
-        NamePart::Nothing if may_open(purpose) && byte == b'(' => Some(NamePart::Opened),
-        NamePart::Opened if is_argument_byte(byte) => Some(NamePart::First(byte)),
-        _ => None,
+        NamePart::Nothing => {
+            if byte != b'(' {
+                return None;
+            }
+            if !may_open(purpose) {
+                return None;
+            }
+            Some(NamePart::Opened)
+        }
+        NamePart::Opened => {
+            if !is_argument_byte(byte) {
+                return None;
+            }
+            Some(NamePart::First(byte))
+        }
+        NamePart::First(_) => None,
     }
 }
 
