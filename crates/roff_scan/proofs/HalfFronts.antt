@@ -1,88 +1,15 @@
 -- Fronts of escapes that read a name: what is half read behind them.
-use Rattle.std.proofs.Common.{◌≡◌, ◌⊎◌, ℕ, suc, ◌+◌, ◌==◌, ◌≤◌, ◌<◌, Bool, true, false, ◌||◌, if◌then◌else◌, List, [], ◌∷◌, ◌++◌, length, map, drop, take, get_or, Some, None, inl, inr, refl, sym, ap, subst, ◌∙◌, arith}
-use Rattle.std.specs.Prelude.{nat_le}
-use Rattle.std.proofs.Math.Bool.{and-false}
+use Rattle.std.proofs.Common.{◌≡◌, ℕ, suc, ◌+◌, ◌≤◌, ◌<◌, true, List, [], ◌∷◌, ◌++◌, length, map, drop, take, get_or, refl, sym, ap, subst, ◌∙◌, arith}
 use Rattle.std.proofs.Math.Seq.{take-suc}
-use Rattle.std.proofs.lemmas.Bool.{and_parts, eqb-true, lt-leb}
 use Rattle.std.proofs.lemmas.List.{take-take}
-use Rattle.roff_scan.specs.Bytes.{backslash, is_dropped, newline}
-use Rattle.roff_scan.specs.Half.{Half, Backslash, Name, names_in, texts_held}
-use Rattle.roff_scan.specs.HalfFronts.{ByteRead, HalvesRead, NothingRead, ReadsByte, ReadsFront, ReadsOn, is_in_front, may_open}
+use Rattle.roff_scan.specs.Half.{Half, texts_held}
+use Rattle.roff_scan.specs.HalfFronts.{ByteRead, HalvesRead, NothingRead, ReadsByte, ReadsFront, ReadsOn}
 use Rattle.roff_scan.specs.HalfTexts.{KeptHalves}
-use Rattle.roff_scan.specs.Halves.{most_names, part_at_first, takes_backslash_alone, unit_of_name}
 use Rattle.roff_scan.specs.Input.{Ahead, ByteAhead, Input, bytes_taken, counting, item_taken, lines_taken}
 use Rattle.roff_scan.specs.Tape.{Tape}
 use Rattle.roff_scan.specs.Unread.{Unread, IsWithin}
 use Rattle.roff_scan.specs.Unread.Calls.{IsFront, NoNewline, OfSource, OfTexts, PassesFront, ReadsNames, front_bytes, next_bytes}
-use Rattle.roff_scan.specs.declared.escapes.NameUse.{NameUse}
-use Rattle.roff_scan.specs.declared.escapes.NameUse.TheVariants.{Register, Text, Argument, Character, Font, LeftOut}
-use Rattle.roff_scan.specs.declared.half.CopyUnit.TheVariants.{Byte}
-use Rattle.roff_scan.specs.declared.half.NamePart.{NamePart}
-use Rattle.roff_scan.specs.declared.half.NamePart.TheVariants.{Nothing, Opened, First}
-use Rattle.roff_scan.specs.declared.half.Read.TheVariants.{GoesOn}
 use Rattle.roff_scan.proofs.Fronts.{passes_none}
-use Rattle.roff_scan.proofs.HeldFronts.{none_of_three}
-
--- a byte that changes only what is half read, and what is half read behind it
-abbrev pub Reads : List Half → ℕ → Type 0
-Reads half b = (next : List Half) × ReadsOn half b next
-
--- one of three tests holds
-pub one_of_three : (first second third : Bool) → (first || (second || third)) ≡ true → (first ≡ true) ⊎ ((second ≡ true) ⊎ (third ≡ true))
-one_of_three true second third some = inl refl
-one_of_three false true third some = inr (inl refl)
-one_of_three false false third some = inr (inr some)
-
--- a backslash begins an escape
-pub reads-escape : ReadsOn [] 92 (Backslash ∷ [])
-reads-escape = record { stands = refl; no_newline = refl; stays = refl; goes_on = λ base. refl; held = refl }
-
--- the byte behind it begins a name, where fewer names are half read than may be
-module _ (rest : List Half) (few : names_in rest < 8) where
-  -- a name begins
-  began : (purpose : NameUse) → part_at_first purpose ≡ Nothing → (GoesOn, (if nat_le most_names (names_in rest) then rest else Name purpose (part_at_first purpose) ∷ rest)) ≡ (GoesOn, Name purpose Nothing ∷ rest)
-  began purpose is =
-      ap (λ (many : Bool). (GoesOn, (if many then rest else Name purpose (part_at_first purpose) ∷ rest))) (lt-leb most_names (names_in rest) few)
-      ∙ ap (λ (part : NamePart). (GoesOn, Name purpose part ∷ rest)) is
-
-  pub reads-register : ReadsOn (Backslash ∷ rest) 110 (Name (Register None) Nothing ∷ rest)
-  reads-register =
-      record { stands = refl; no_newline = refl; stays = and-false (takes_backslash_alone rest); goes_on = λ base. began (Register None) refl; held = refl }
-
-  pub reads-string : ReadsOn (Backslash ∷ rest) 42 (Name Text Nothing ∷ rest)
-  reads-string = record { stands = refl; no_newline = refl; stays = and-false (takes_backslash_alone rest); goes_on = λ base. began Text refl; held = refl }
-
-  pub reads-argument : ReadsOn (Backslash ∷ rest) 36 (Name Argument Nothing ∷ rest)
-  reads-argument = record { stands = refl; no_newline = refl; stays = and-false (takes_backslash_alone rest); goes_on = λ base. began Argument refl; held = refl }
-
--- a parenthesis opens a name of two bytes
-pub reads-opening : (purpose : NameUse) (rest : List Half) → may_open purpose ≡ true → ReadsOn (Name purpose Nothing ∷ rest) 40 (Name purpose Opened ∷ rest)
-reads-opening (Register None) rest is = record { stands = refl; no_newline = refl; stays = refl; goes_on = λ base. refl; held = refl }
-reads-opening (Register (Some step)) rest is = record { stands = refl; no_newline = refl; stays = refl; goes_on = λ base. refl; held = refl }
-reads-opening Text rest is = record { stands = refl; no_newline = refl; stays = refl; goes_on = λ base. refl; held = refl }
-reads-opening Argument rest is = absurd (cc)
-reads-opening Character rest is = absurd (cc)
-reads-opening Font rest is = absurd (cc)
-reads-opening (LeftOut a) rest is = absurd (cc)
-
--- the first of two bytes
-pub reads-first : (purpose : NameUse) (rest : List Half) (b : ℕ) → is_argument_byte b ≡ true → ReadsOn (Name purpose Opened ∷ rest) b (Name purpose (First b) ∷ rest)
-reads-first purpose rest b is =
-    let none = none_of_three (b == backslash) (is_dropped b) (b == newline) is in
-    record {
-      stands = none.1.0;
-      no_newline = none.1.1;
-      stays = none.1.1;
-      goes_on = λ base. ap (λ (c : Bool). if c then (GoesOn, Backslash ∷ Name purpose Opened ∷ rest) else unit_of_name rest purpose Opened (Byte b)) none.0;
-      held = refl;
-    }
-
-pub reads-in_front : (purpose : NameUse) (part : NamePart) (rest : List Half) (b : ℕ) → is_in_front purpose part b ≡ true → Reads (Name purpose part ∷ rest) b
-reads-in_front purpose Nothing rest b is =
-    let parts = and_parts (may_open purpose) (b == 40) is in
-    subst (λ (c : ℕ). Reads (Name purpose Nothing ∷ rest) c) (sym (eqb-true b 40 parts.1)) (Name purpose Opened ∷ rest, reads-opening purpose rest parts.0)
-reads-in_front purpose Opened rest b is = (Name purpose (First b) ∷ rest, reads-first purpose rest b is)
-reads-in_front purpose (First a) rest b is = absurd (cc)
 
 -- a byte was read
 pub was_read : (b : ℕ) (old new : KeptHalves) (next : List Half) → ReadsOn old.half b next → new ≡ record old { half = next } → ReadsByte b true old new
@@ -98,10 +25,6 @@ pub read_in_place : (b : ℕ) (top next : Half) (rest : List Half) (old new : Ke
 read_in_place b top next rest old new same reads is =
     was_read b old new (next ∷ rest) (subst (λ (half : List Half). ReadsOn half b (next ∷ rest)) (sym same) reads)
     (is ∙ ap (λ (half : List Half). record old { half = next ∷ drop 1 half }) same)
-
--- none was read
-pub not_read : (b : ℕ) (k : KeptHalves) → ReadsByte b false k k
-not_read b k = record { read = λ is_so. absurd (cc); kept = λ isnt. refl; room = refl }
 
 -- the last byte is read behind the others
 HalvesRead-last : (half there next : List Half) (bytes : List ℕ) (b : ℕ) → HalvesRead half bytes there → ReadsOn there b next → HalvesRead half (bytes ++ b ∷ []) next

@@ -10,7 +10,7 @@ use Rattle.roff_scan.proofs.HalfTexts.{with_delimiter, with_part}
 use Rattle.roff_scan.specs.declared.escapes.NameUse.{NameUse}
 use Rattle.roff_scan.specs.declared.half.ConditionPart.{ConditionPart}
 use Rattle.roff_scan.specs.declared.half.CopyUnit.{CopyUnit}
-use Rattle.roff_scan.specs.declared.half.HalfRead.TheVariants.{Backslash as BackslashRead, Name as NameRead}
+use Rattle.roff_scan.specs.declared.half.HalfRead.TheVariants.{Backslash as BackslashRead}
 use Rattle.roff_scan.specs.declared.half.HalfRead.{HalfRead}
 use Rattle.roff_scan.specs.declared.half.NamePart.{NamePart}
 use Rattle.roff_scan.specs.declared.half.Surroundings.{Surroundings}
@@ -200,12 +200,6 @@ IsNested-named purpose part half nested top few =
     (ap (λ (c : Bool). c && not (nat_le most_names (names_in rest)) && is_nested rest) (open-rest Backslash rest within)
     ∙ ap (λ (c : Bool). not c && is_nested rest) (lt-leb most_names (names_in rest) few)
     ∙ IsNested-rest Backslash rest within)
-
--- and one of which more is read where a name stands
-pub IsNested-name : (purpose : NameUse) (part more : NamePart) (half : List Half) → IsNested half → IsOnTop (NameRead purpose part) half
-    → IsNested (Name purpose more ∷ drop 1 half)
-IsNested-name purpose part more half nested top =
-    subst (λ (h : List Half). IsNested (Name purpose more ∷ drop 1 h)) (sym top.same) (subst IsNested top.same nested)
 
 -- a unit more of a text
 pub IsNested-text_held : (unit : CopyUnit) (half : List Half) → IsNested half → IsNested (text_held unit half)

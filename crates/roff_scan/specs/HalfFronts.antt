@@ -1,32 +1,19 @@
 -- Bytes that change only what is half read: the fronts of escapes that read a name (manual, sections 7.2, 8 and 10.1).
-use Rattle.std.specs.Prelude.{◌≡◌, ℕ, ◌≤◌, Bool, true, false, ◌&&◌, ◌||◌, List, [], ◌∷◌, length, take, Some, ◌==◌}
-use Rattle.roff_scan.specs.Arguments.{is_argument_byte}
+use Rattle.std.specs.Prelude.{◌≡◌, ℕ, ◌≤◌, Bool, true, false, List, [], ◌∷◌, length, take, Some, ◌==◌}
 use Rattle.roff_scan.specs.Bytes.{is_dropped, newline}
 use Rattle.roff_scan.specs.Half.{Half, texts_held}
 use Rattle.roff_scan.specs.Halves.{byte_read, seen_stays}
 use Rattle.roff_scan.specs.HalfTexts.{KeptHalves}
 use Rattle.roff_scan.specs.declared.escapes.NameUse.{NameUse}
 use Rattle.roff_scan.specs.declared.escapes.NameUse.TheVariants.{Register, Text}
-use Rattle.roff_scan.specs.declared.half.NamePart.{NamePart}
-use Rattle.roff_scan.specs.declared.half.NamePart.TheVariants.{Nothing, Opened, First}
 use Rattle.roff_scan.specs.declared.half.Read.TheVariants.{GoesOn}
 use Rattle.roff_scan.specs.declared.half.Surroundings.{Surroundings}
-
--- whether a byte behind a backslash begins a name that is read everywhere: of a register, a string or an argument
-abbrev pub begins_name : ℕ → Bool
-begins_name b = b == 110 || (b == 42 || b == 36)
 
 -- whether a parenthesis opens a name of two bytes: that of a register or a string
 abbrev pub may_open : NameUse → Bool
 may_open (Register step) = true
 may_open Text = true
 may_open (_) = false
-
--- whether a byte belongs to the front of a name of which so much is read: the parenthesis, or the first of two bytes
-abbrev pub is_in_front : NameUse → NamePart → ℕ → Bool
-is_in_front purpose Nothing b = may_open purpose && b == 40
-is_in_front purpose Opened b = is_argument_byte b
-is_in_front purpose (First a) b = false
 
 -- a byte changes only what is half read, above whatever that stands: it isn't dropped, ends nothing, and gives nothing yet
 pub record ReadsOn (half : List Half) (b : ℕ) (next : List Half) : Type 0 where

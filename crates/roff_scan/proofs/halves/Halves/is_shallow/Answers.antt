@@ -1,4 +1,4 @@
-use Rattle.std.proofs.Common.{◌∙◌, ◌≤◌, length, reverse, ap, arith}
+use Rattle.std.proofs.Common.{◌∙◌, reverse, arith}
 use Rattle.std.proofs.lemmas.Bool.{leb-true}
 use Rattle.std.proofs.lemmas.List.{length-reverse}
 use Rattle.roff_scan.proofs.HalfTexts.{length-joined}

@@ -1,4 +1,3 @@
-use Rattle.std.proofs.Common.{sym, subst, ◌∙◌}
 use Rattle.roff_scan.proofs.HalfFronts.{ReadsFront-more, ReadsFront-none}
 use Rattle.roff_scan.proofs.halves.Halves.read_front.Goals as goal
 
