@@ -1,4 +1,4 @@
-use Rattle.std.proofs.Common.{◌≡◌, ℕ, ◌+◌, ◌<◌, List, false, true, None, arith, map, take, refl, rules, subst, sym}
+use Rattle.std.proofs.Common.{◌≡◌, ℕ, ◌+◌, List, false, true, None, arith, map, take, refl, rules, subst, sym}
 use Rattle.std.specs.Prelude.{get_or, nat_lt}
 use Rattle.std.proofs.lemmas.Bool.{le-ltb}
 use Rattle.roff_scan.specs.Input.{is_none_ahead}
