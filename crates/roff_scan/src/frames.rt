@@ -13,6 +13,7 @@ ghost use Rattle.roff_scan.specs.Frames.Bodies.{with_bodies};
 ghost use Rattle.roff_scan.specs.Frames.Calls.{PutsBytes};
 ghost use Rattle.roff_scan.specs.Bytes.{is_passed, newline};
 ghost use Rattle.roff_scan.specs.Frames.Kept.{is_end_next, IsSound};
+ghost use Rattle.roff_scan.specs.Waiting.{WaitsFor};
 ghost use Rattle.roff_scan.specs.declared.frames.Frame.TheVariants.{Body};
 ghost use Rattle.roff_store.specs.Named.{entry_of};
 ghost use Rattle.roff_store.specs.Texts.{body_of, entry_given, kind_given, kind_of, newest, used};
@@ -277,6 +278,41 @@ impl<E: Copy> Frames<E> {
                     return None;
                 }
                 let byte = self.texts.lease_front(lease)[0];
+                self.texts.lease_pass(lease, 1);
+                Some(byte)
+            }
+            Some(Front::Do(Frame::Event(_))) => None,
+            Some(Front::Free(_)) => None,
+            Some(Front::End) => None,
+            Some(Front::Return) => None,
+            None => None,
+        }
+    }
+
+    /// The same, if what is half read waits for the byte.
+    #[inline(always)]
+    pub(crate) fn take_waiting(&mut self, half: &Halves) -> Option<u8>
+        ensures taken { IfSome result (λ b.
+            self.old ≡ record self.new { ahead = ByteAhead b ∷ self.new.ahead }) }
+        ensures waits { IfSome result (λ b. WaitsFor half.now.half b) }
+        ensures kept { result ≡ None → self.new ≡ self.old }
+    {
+        match self.slots.front() {
+            Some(Front::Byte(byte)) => {
+                if !half.waits_for(byte) {
+                    return None;
+                }
+                self.slots.take();
+                Some(byte)
+            }
+            Some(Front::Do(Frame::Body(lease))) => {
+                if self.texts.lease_rest(lease) < 2 {
+                    return None;
+                }
+                let byte = self.texts.lease_front(lease)[0];
+                if !half.waits_for(byte) {
+                    return None;
+                }
                 self.texts.lease_pass(lease, 1);
                 Some(byte)
             }

@@ -24,6 +24,7 @@ ghost use Rattle.roff_scan.specs.Conditions.{byte_of_condition, byte_or_backslas
 ghost use Rattle.roff_scan.specs.Conditions.{condition_ended, delimiter_met, expression_over};
 ghost use Rattle.roff_scan.specs.Conditions.{to_decide, texts_compared, unit_of_condition};
 ghost use Rattle.roff_scan.specs.Nesting.{IsNested};
+ghost use Rattle.roff_scan.specs.Waiting.{WaitsFor};
 ghost use Rattle.roff_scan.specs.declared.escapes.NameUse.{NameUse as UseOf};
 ghost use Rattle.roff_scan.specs.declared.escapes.TextUse.{TextUse as PurposeOf};
 ghost use Rattle.roff_scan.specs.declared.half.ConditionPart.{ConditionPart as PartOf};
@@ -132,6 +133,21 @@ impl Halves {
             },
             Some(HalfRead::Condition(part, _)) => ends_condition(part, seen),
             Some(_) => seen == Some(b'\n'),
+        }
+    }
+
+    /// Whether what is half read waits for a byte, and goes on or is whole behind it: it doesn't decide
+    /// first, and the byte doesn't stay. It isn't said of a backslash.
+    #[inline(always)]
+    pub(crate) fn waits_for(&self, byte: u8) -> bool
+        ensures { result ≡ true → WaitsFor self.now.half byte }
+    {
+        match self.top() {
+            None => false,
+            Some(HalfRead::Backslash) => false,
+            Some(HalfRead::Size(part)) => is_of_size(part, byte),
+            Some(HalfRead::Condition(part, _)) => !ends_condition(part, Some(byte)),
+            Some(_) => byte != b'\n',
         }
     }
 

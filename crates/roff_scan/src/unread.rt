@@ -12,6 +12,7 @@ ghost use Rattle.std.specs.Prelude.{IfSome, take, ◌∷◌};
 ghost use Rattle.std.specs.List.{AllByRecursion};
 ghost use Rattle.roff_scan.specs.Bytes.{is_text_byte, newline};
 ghost use Rattle.roff_scan.specs.Unread.Calls.{next_bytes};
+ghost use Rattle.roff_scan.specs.Waiting.{WaitsFor};
 ghost use Rattle.roff_scan.specs.Tape.{Answer, OneByte, OneNote, Gives, Failed, Rises};
 ghost use Rattle.roff_scan.specs.Input.{is_none_ahead, counting, choosing, keeping, kept_last};
 ghost use Rattle.roff_scan.specs.Input.{leaving, without_last, events_ahead, frees_ahead};
@@ -274,6 +275,78 @@ impl<E: Copy> Unread<E> {
                 self.charge += 1;
                 Some(byte)
             }
+        }
+    }
+
+    /// Takes a byte that stands ready, ahead or in the source, if what is half read waits for it and
+    /// the limit on bytes allows it. Otherwise nothing happens, and [`look`](Unread::look) tells what
+    /// is in front. Most bytes that end a name are taken so.
+    #[inline(always)]
+    pub fn take_waiting<S: ByteSource>(&mut self, source: &mut S) -> Option<u8>
+        ensures takes { IfSome result (λ b.
+            Takes (S.gives source.old) (S.gives source.new) self.old self.new (ShowsByte b)) }
+        ensures waits { IfSome result (λ b. WaitsFor self.old.input.half b) }
+        ensures kept { result ≡ None → (self.new ≡ self.old) × (source.new ≡ source.old) }
+        ensures notes { S.notes source.new ≤ S.notes source.old }
+        ensures failures { S.failures source.old ≤ S.failures source.new }
+        ensures within { IsWithin self.new }
+    {
+        if self.limits.bytes == self.charge {
+            return None;
+        }
+        if !self.frames.is_empty() {
+            return self.take_waiting_ahead();
+        }
+        self.take_waiting_ready(source)
+    }
+
+    /// The same of a byte ahead.
+    #[inline(always)]
+    fn take_waiting_ahead(&mut self) -> Option<u8>
+        requires room { self.old.input.charge < self.old.limits.bytes }
+        requires some { is_none_ahead self.old.input.ahead ≡ false }
+        ensures takes { IfSome result (λ b.
+            (a : Answer) → (ShowsByte b, self.new) ≡ taking a self.old) }
+        ensures waits { IfSome result (λ b. WaitsFor self.old.input.half b) }
+        ensures kept { result ≡ None → self.new ≡ self.old }
+        ensures within { IsWithin self.new }
+    {
+        match self.frames.take_waiting(&self.half) {
+            None => None,
+            Some(byte) => {
+                self.charge += 1;
+                Some(byte)
+            }
+        }
+    }
+
+    /// The same of one of the source, where nothing is ahead.
+    #[inline(always)]
+    fn take_waiting_ready<S: ByteSource>(&mut self, source: &mut S) -> Option<u8>
+        requires room { self.old.input.charge < self.old.limits.bytes }
+        requires none_ahead { is_none_ahead self.old.input.ahead ≡ true }
+        ensures takes { IfSome result (λ b.
+            Takes (S.gives source.old) (S.gives source.new) self.old self.new (ShowsByte b)) }
+        ensures waits { IfSome result (λ b. WaitsFor self.old.input.half b) }
+        ensures kept { result ≡ None → (self.new ≡ self.old) × (source.new ≡ source.old) }
+        ensures notes { S.notes source.new ≡ S.notes source.old }
+        ensures failures { S.failures source.new ≡ S.failures source.old }
+        ensures within { IsWithin self.new }
+    {
+        if self.looked.is_some() {
+            return None;
+        }
+        match source.buffered() {
+            [first, ..] => {
+                let byte = *first;
+                if !self.half.waits_for(byte) {
+                    return None;
+                }
+                self.count(byte);
+                source.pass(1);
+                Some(byte)
+            }
+            [] => None,
         }
     }
 
