@@ -131,6 +131,16 @@ impl<E: Copy> Slots<E> {
         put_reversed(&mut self.bytes, text);
     }
 
+    /// Puts the end of a text in front.
+    #[inline]
+    pub(crate) fn push_end(&mut self)
+        requires { ends_ahead self.old.ahead < self.old.most_texts }
+        ensures { self.new ≡ record self.old { ahead = EndAhead ∷ self.old.ahead } }
+    {
+        put_end(&mut self.slots, self.bytes.as_slice());
+        self.ends += 1;
+    }
+
     /// Puts the end of a called body in front.
     pub(crate) fn push_return(&mut self)
         requires { ends_ahead self.old.ahead < self.old.most_texts }

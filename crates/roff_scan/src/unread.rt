@@ -662,14 +662,16 @@ impl<E: Copy> Unread<E> {
             ≡ changing (pushing (body_named name.now self.old.input) self.old.input) self.old }
         ensures within { IsWithin self.new }
     {
-        let len = self.frames.body_len(name);
-        if len > self.limits.stack as usize - self.pushed() {
-            return Err(Limit::Stack);
-        }
+        let room = self.limits.stack as usize - self.pushed();
         if self.is_deep() {
+            if self.frames.body_len(name) > room {
+                return Err(Limit::Stack);
+            }
             return Err(Limit::Depth);
         }
-        self.frames.push_body(name, len);
+        if !self.frames.push_body(name, room) {
+            return Err(Limit::Stack);
+        }
         Ok(())
     }
 
@@ -685,17 +687,19 @@ impl<E: Copy> Unread<E> {
             ≡ changing (calling_body (body_named name.now self.old.input) self.old.input) self.old }
         ensures within { IsWithin self.new }
     {
-        let called = self.frames.called(name);
-        if called.len > self.limits.stack as usize - self.pushed() {
-            return Err(Limit::Stack);
-        }
+        let room = self.limits.stack as usize - self.pushed();
         if self.is_deep() {
+            if self.frames.called(name).len > room {
+                return Err(Limit::Stack);
+            }
             return Err(Limit::Depth);
+        }
+        if !self.frames.call(name, room) {
+            return Err(Limit::Stack);
         }
         self.arguments.finish();
         self.calls.push(self.arguments.list());
         self.arguments.clear();
-        self.frames.push_call(name, called);
         Ok(())
     }
 
