@@ -208,7 +208,9 @@ impl Running {
         } else if self.formatter.ignores_text() && !self.unread.is_half_read() {
             self.ignore_text(source);
         } else if let Some(most) = self.formatter.holds_fewer() {
-            self.hold_fewer(source, most);
+            if !self.unread.is_half_read() {
+                self.hold_fewer(source, most);
+            }
         }
     }
 
@@ -283,20 +285,18 @@ impl Running {
         self.unread.hold_front(source);
     }
 
-    /// The same as long as fewer than so many arguments are whole, if nothing is half read.
+    /// The same as long as fewer than so many arguments are whole.
     #[inline(always)]
     fn hold_fewer<S: ByteSource>(&mut self, source: &mut S, most: usize)
         requires holds { (b : ℕ) → is_argument_byte b ≡ true
             → HoldsIfFewer (Some most) self.old.formatter.reader.reading b }
         requires none_due { due self.old.formatter.reader.reading ≡ None }
+        requires none_half { self.old.unread.input.half ≡ [] }
         ensures { (out err : Sunk) → GoesPast
             (S.gives source.old) (S.gives source.new) (S.notes source.old) (S.notes source.new)
             self.old self.new
             (seen (S.failures source.old) out err) (seen (S.failures source.new) out err) }
     {
-        if self.unread.is_half_read() {
-            return;
-        }
         self.unread.hold_fewer(source, most);
     }
 

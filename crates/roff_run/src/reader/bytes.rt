@@ -104,7 +104,6 @@ impl Reader {
     /// whole, where nothing is half read, and what is read stays, how many: behind the name of a body
     /// that a line calls.
     #[inline(always)]
-    #[tactic(auto, using(crate::proofs::HeldRuns::holds_call_where))]
     pub fn holds_fewer(&self) -> Option<usize>
         ensures holds { IfSome result (λ most. (b : ℕ) → is_argument_byte b ≡ true
             → HoldsIfFewer (Some most) self.now.reading b) }
