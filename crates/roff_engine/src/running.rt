@@ -6,8 +6,8 @@ ghost use Rattle.roff_run.specs.Run.{ahead_taken, awaited, byte_taken, end_met, 
 ghost use Rattle.roff_run.specs.Run.{in_front_taken, input_ended, step, waiting};
 ghost use Rattle.roff_run.specs.ControlFronts.{BeginsControl};
 ghost use Rattle.roff_run.specs.Reading.{Passes};
-ghost use Rattle.roff_run.specs.Stages.{Adds, EndsLine, Holds, Ignores, ReadsHalves, TakesHalf};
-ghost use Rattle.roff_run.specs.Stages.{counts_blanks};
+ghost use Rattle.roff_run.specs.Stages.{Adds, EndsLine, Holds, HoldsIfFewer, Ignores, ReadsHalves};
+ghost use Rattle.roff_run.specs.Stages.{TakesHalf, counts_blanks};
 ghost use Rattle.roff_run.specs.Telling.{Prints};
 ghost use Rattle.roff_scan.specs.Arguments.{is_argument_byte};
 ghost use Rattle.roff_scan.specs.Bytes.{is_passed, is_text_byte};
@@ -207,6 +207,10 @@ impl Running {
             self.add_text(source);
         } else if self.formatter.ignores_text() && !self.unread.is_half_read() {
             self.ignore_text(source);
+        } else if let Some(most) = self.formatter.holds_fewer() {
+            if !self.unread.is_half_read() {
+                self.hold_fewer(source, most);
+            }
         }
     }
 
@@ -279,6 +283,21 @@ impl Running {
             (seen (S.failures source.old) out err) (seen (S.failures source.new) out err) }
     {
         self.unread.hold_front(source);
+    }
+
+    /// The same as long as fewer than so many arguments are whole.
+    #[inline(always)]
+    fn hold_fewer<S: ByteSource>(&mut self, source: &mut S, most: usize)
+        requires holds { (b : ℕ) → is_argument_byte b ≡ true
+            → HoldsIfFewer (Some most) self.old.formatter.reader.reading b }
+        requires none_due { due self.old.formatter.reader.reading ≡ None }
+        requires none_half { self.old.unread.input.half ≡ [] }
+        ensures { (out err : Sunk) → GoesPast
+            (S.gives source.old) (S.gives source.new) (S.notes source.old) (S.notes source.new)
+            self.old self.new
+            (seen (S.failures source.old) out err) (seen (S.failures source.new) out err) }
+    {
+        self.unread.hold_fewer(source, most);
     }
 
     /// Takes bytes of plain text at once that stand in front, and puts them behind the newest text in

@@ -114,7 +114,7 @@ impl<E: Copy> Unread<E> {
     ghost use Rattle.roff_scan.specs.Unread.{SeesEnding, taking, taking_answer, changing, reading};
     ghost use Rattle.roff_scan.specs.Unread.Calls.{Takes, Looks, PassesAhead, PassesOver};
     ghost use Rattle.roff_scan.specs.Unread.Calls.{front_bytes, IsFront, NoNewline, PassesFront};
-    ghost use Rattle.roff_scan.specs.Unread.Calls.{AddsFront, HoldsFront, PassesSource, ReadsNames};
+    ghost use Rattle.roff_scan.specs.Unread.Calls.{AddsFront, HoldsFewer, HoldsFront, PassesSource, ReadsNames};
     ghost use Rattle.roff_scan.specs.Unread.Calls.{PassesEnd, PassesNewline, TakesHalves, TakesPushed};
     ghost use Rattle.roff_store.specs.TextCalls.{Open, Remove, Rename, Set};
 
@@ -1032,13 +1032,38 @@ impl<E: Copy> Unread<E> {
         ensures failures { S.failures source.new ≡ S.failures source.old }
         ensures within { IsWithin self.new }
     {
+        self.hold_bounded(source, None);
+    }
+
+    /// The same as [`hold_front`](Unread::hold_front), but as long as fewer than so many arguments
+    /// are whole.
+    #[inline(never)]
+    pub fn hold_fewer<S: ByteSource>(&mut self, source: &mut S, most: usize)
+        ensures holds { HoldsFewer (Some most)
+            (S.gives source.old) (S.gives source.new) self.old self.new }
+        ensures notes { S.notes source.new ≡ S.notes source.old }
+        ensures failures { S.failures source.new ≡ S.failures source.old }
+        ensures within { IsWithin self.new }
+    {
+        self.hold_bounded(source, Some(most));
+    }
+
+    /// The same, where there is a bound.
+    #[inline(always)]
+    fn hold_bounded<S: ByteSource>(&mut self, source: &mut S, most: Option<usize>)
+        ensures holds { HoldsFewer most
+            (S.gives source.old) (S.gives source.new) self.old self.new }
+        ensures notes { S.notes source.new ≡ S.notes source.old }
+        ensures failures { S.failures source.new ≡ S.failures source.old }
+        ensures within { IsWithin self.new }
+    {
         let room = self.limits.stack as usize - self.pushed();
-        let most = room.min((self.limits.bytes - self.charge) as usize);
-        let front = front_of(&self.frames, self.looked, source, most);
+        let allowed = room.min((self.limits.bytes - self.charge) as usize);
+        let front = front_of(&self.frames, self.looked, source, allowed);
         if front.is_empty() {
             return;
         }
-        let count = self.arguments.take_front(front);
+        let count = self.arguments.take_front(front, most);
         self.pass(source, count);
     }
 
