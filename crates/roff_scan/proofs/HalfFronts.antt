@@ -1,14 +1,18 @@
 -- Fronts of escapes that read a name: what is half read behind them.
-use Rattle.std.proofs.Common.{◌≡◌, ℕ, suc, ◌+◌, ◌≤◌, ◌<◌, true, List, [], ◌∷◌, ◌++◌, length, map, drop, take, get_or, refl, sym, ap, subst, ◌∙◌, arith}
+use Rattle.std.proofs.Common.{◌≡◌, ℕ, suc, ◌+◌, ◌≤◌, ◌<◌, Bool, true, List, [], ◌∷◌, ◌++◌, length, map, drop, take, get_or, refl, sym, ap, subst, ◌∙◌, arith}
 use Rattle.std.proofs.Math.Seq.{take-suc}
 use Rattle.std.proofs.lemmas.List.{take-take}
 use Rattle.roff_scan.specs.Half.{Half, texts_held}
 use Rattle.roff_scan.specs.HalfFronts.{ByteRead, HalvesRead, NothingRead, ReadsByte, ReadsFront, ReadsOn}
-use Rattle.roff_scan.specs.HalfTexts.{KeptHalves}
+use Rattle.roff_scan.specs.HalfTexts.{KeptHalves, leaving}
 use Rattle.roff_scan.specs.Input.{Ahead, ByteAhead, Input, bytes_taken, counting, item_taken, lines_taken}
 use Rattle.roff_scan.specs.Tape.{Tape}
 use Rattle.roff_scan.specs.Unread.{Unread, IsWithin}
 use Rattle.roff_scan.specs.Unread.Calls.{IsFront, NoNewline, OfSource, OfTexts, PassesFront, ReadsNames, front_bytes, next_bytes}
+use Rattle.roff_scan.specs.Halves.{byte_read}
+use Rattle.roff_scan.specs.declared.half.Read.{Read}
+use Rattle.roff_scan.specs.declared.half.Read.TheVariants.{GoesOn}
+use Rattle.roff_scan.specs.declared.half.Surroundings.{Surroundings}
 use Rattle.roff_scan.proofs.Fronts.{passes_none}
 
 -- a byte was read
@@ -25,6 +29,13 @@ pub read_in_place : (b : ℕ) (top next : Half) (rest : List Half) (old new : Ke
 read_in_place b top next rest old new same reads is =
     was_read b old new (next ∷ rest) (subst (λ (half : List Half). ReadsOn half b (next ∷ rest)) (sym same) reads)
     (is ∙ ap (λ (half : List Half). record old { half = next ∷ drop 1 half }) same)
+
+-- where one was read nothing is given yet
+pub gives_nothing : (base : Surroundings) (b : ℕ) (old new : KeptHalves) (is_read : Bool) → is_read ≡ true → ReadsByte b is_read old new
+    → (GoesOn, new) ≡ leaving (byte_read base old.half b) old
+gives_nothing base b old new is_read is reads =
+    ap (λ (room : ℕ). let k : KeptHalves = record { half = new.half; room = room } in (GoesOn, k)) reads.room
+    ∙ ap (λ (r : Read × List Half). leaving r old) (sym ((reads.read is).goes_on base))
 
 -- the last byte is read behind the others
 HalvesRead-last : (half there next : List Half) (bytes : List ℕ) (b : ℕ) → HalvesRead half bytes there → ReadsOn there b next → HalvesRead half (bytes ++ b ∷ []) next

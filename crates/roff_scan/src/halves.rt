@@ -152,6 +152,7 @@ impl Halves {
     }
 
     /// Whether the backslash on top is taken alone where its escape would be kept.
+    #[inline(always)]
     fn takes_backslash_alone(&self) -> bool
         ensures { result ≡ takes_backslash_alone (drop 1 self.now.half) }
     {
@@ -343,7 +344,8 @@ impl Halves {
     fn take_first(&mut self, negated: bool, begin: usize, byte: u8) -> bool
         requires room { texts_held self.old.half < self.old.room }
         requires nested { IsNested self.old.half }
-        requires on_top { IsOnTop (HalfRead.Condition (ConditionPart.Choice negated) begin) self.old.half }
+        requires on_top { IsOnTop
+            (HalfRead.Condition (ConditionPart.Choice negated) begin) self.old.half }
         ensures { TakesByte byte result self.old self.new }
     {
         if !byte.is_ascii_digit() {
@@ -358,7 +360,8 @@ impl Halves {
     #[inline(always)]
     fn pass_first(&mut self, negated: bool, begin: usize, byte: u8) -> bool
         requires nested { IsNested self.old.half }
-        requires on_top { IsOnTop (HalfRead.Condition (ConditionPart.Choice negated) begin) self.old.half }
+        requires on_top { IsOnTop
+            (HalfRead.Condition (ConditionPart.Choice negated) begin) self.old.half }
         ensures { ReadsByte byte result self.old self.new }
     {
         if negated {
@@ -383,10 +386,7 @@ impl Halves {
                     Read::Unit(CopyUnit::Byte(byte))
                 }
             }
-            Some(HalfRead::Backslash) => {
-                self.pop();
-                self.read_escape(base, byte)
-            }
+            Some(HalfRead::Backslash) => self.read_behind_backslash(base, byte),
             Some(HalfRead::Comment) => Read::GoesOn,
             Some(HalfRead::Name(purpose, part)) => {
                 if byte == b'\\' {
@@ -464,6 +464,20 @@ impl Halves {
             Some(HalfRead::Width(_, _, false)) => Surroundings::Text(base.place()),
             Some(_) => Surroundings::Copy,
         }
+    }
+
+    /// The byte behind the backslash on top: most begin a name.
+    #[inline(always)]
+    fn read_behind_backslash(&mut self, base: Surroundings, byte: u8) -> Read
+        requires nested { IsNested self.old.half }
+        requires on_top { IsOnTop HalfRead.Backslash self.old.half }
+        ensures { (result, self.new) ≡ leaving (byte_read base self.old.half byte) self.old }
+    {
+        if self.name_escape(byte) {
+            return Read::GoesOn;
+        }
+        self.pop();
+        self.read_escape(base, byte)
     }
 
     /// The byte behind a backslash, which is off already.
@@ -600,6 +614,7 @@ impl Halves {
     }
 
     /// A unit of a name, which is off already.
+    #[inline(always)]
     fn read_unit_of_name(&mut self, purpose: NameUse, part: NamePart, unit: CopyUnit) -> Read
         requires { IsNested (NameHalf purpose part ∷ self.old.half) }
         ensures { (result, self.new)
@@ -989,6 +1004,7 @@ impl Halves {
     }
 
     /// A name: a text that is measured grows by what isn't read in the escape's place.
+    #[inline(always)]
     fn give_name(&mut self, purpose: NameUse, name: Option<Name>) -> Read
         ensures { (result, self.new) ≡ leaving (name_given self.old.half purpose name) self.old }
     {
@@ -1027,6 +1043,7 @@ impl Halves {
     }
 
     /// What stands below the top.
+    #[inline(always)]
     fn below(&self) -> Option<HalfRead>
         ensures { MatchOption result (drop 1 self.now.half ≡ [])
             (λ item. IsOnTop item (drop 1 self.now.half)) }
@@ -1151,6 +1168,7 @@ fn is_of_size(part: SizePart, byte: u8) -> bool
 }
 
 /// A name of one or two bytes.
+#[inline(always)]
 fn short_name(bytes: &[u8]) -> Name
     requires some { 1 ≤ length bytes.now }
     requires few { length bytes.now ≤ 2 }
