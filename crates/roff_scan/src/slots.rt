@@ -18,6 +18,9 @@ const EVENTS: usize = 4;
 /// How many bytes may stand in front again.
 const FREES: usize = 21;
 
+/// A text of fewer bytes, such as a number, is put in front byte by byte.
+const SHORT: usize = 8;
+
 /// An item taken from the front.
 #[derive(Clone, Copy)]
 pub(crate) enum Front<E> {
@@ -322,7 +325,22 @@ fn put_reversed(bytes: &mut Vec<u8>, text: &[u8])
     ensures items { bytes.new.items ≡ bytes.old.items ++ reverse text.now }
     ensures capacity { vec_capacity bytes.old ≤ vec_capacity bytes.new }
 {
+    if text.len() < SHORT {
+        put_few(bytes, text);
+        return;
+    }
     let below = bytes.len();
     bytes.extend_from_slice(text).unwrap();
     bytes.as_mut_slice()[below..].reverse();
+}
+
+/// The same, one by one.
+fn put_few(bytes: &mut Vec<u8>, text: &[u8])
+    requires { vec_len bytes.old + length text.now ≤ vec_capacity bytes.old }
+    ensures items { bytes.new.items ≡ bytes.old.items ++ reverse text.now }
+    ensures capacity { vec_capacity bytes.old ≤ vec_capacity bytes.new }
+{
+    for byte in text.iter().rev() {
+        bytes.push_reserved(*byte);
+    }
 }
