@@ -140,11 +140,11 @@ module _ {gave gives : Tape → Type 0} {left : PageUnread} {item : Shown PageEv
   ends_front : IsEnding item → EndsThere old.unread left taken
   ends_front = subst (λ (c : Shown PageEvent × PageUnread). IsEnding c.0 → EndsThere old.unread c.1 taken) left_is (EndsThere-takes old.unread call.answer)
 
-  falls_front : IsTaken item → turns_to_come left + 5 ≤ turns_to_come old.unread
+  pub falls_front : IsTaken item → turns_to_come left + 5 ≤ turns_to_come old.unread
   falls_front = subst (λ (c : Shown PageEvent × PageUnread). IsTaken c.0 → turns_to_come c.1 + 5 ≤ turns_to_come old.unread) left_is (turns_to_come-taking call.answer old.unread)
 
   -- the step that takes the item is what the call shows
-  shown_front : old.unread.limits ≡ old.limits → (tape : Tape) → gives tape → (h : PageHistory) (ms : List ℕ)
+  pub shown_front : old.unread.limits ≡ old.limits → (tape : Tape) → gives tape → (h : PageHistory) (ms : List ℕ)
       → let from : State = state_at (items_then taken tape) old h ms in
       in_front_taken old.limits old.unread.input.ahead from ≡ shown_step old.limits item from (state_at tape (moved old left) h ms)
   shown_front limits tape may h ms =

@@ -5,9 +5,12 @@ use Rattle.std.specs.Prelude.{IsOkUnless, if◌then◌else◌}
 use Rattle.roff_num.specs.declared.limit.Limit.{Limit}
 use Rattle.roff_num.specs.declared.limits.Limits.{Limits}
 use Rattle.roff_scan.specs.Halves.{newline_stays, seen_stays, decides_now}
-use Rattle.roff_scan.specs.Tape.{Tape, Item, Ended, Failed, Stopped, Rises, items_then}
-use Rattle.roff_scan.specs.Unread.{Sighted, SeesByte, SeesNothing, SeesNote, SeesEnding, asks_to_look, looking, seen_ahead}
-use Rattle.roff_scan.specs.Unread.Calls.{Looks}
+use Rattle.roff_scan.specs.Input.{Ahead, ByteAhead, FreeAhead, EndAhead, ReturnAhead, DoAhead}
+use Rattle.roff_scan.specs.Tape.{Tape, Item, Answer, Gives, Ends, OneByte, OneNote, Ended, Failed, Stopped, Rises, items_then}
+use Rattle.roff_scan.specs.Unread.{Shown, ShowsByte, ShowsDo, ShowsEnd, ShowsRefusal, ShowsReturn, Sighted, SeesByte, SeesNothing, SeesNote, SeesEnding, asks_to_look, asks_to_take, looking, seen_ahead, taking}
+use Rattle.roff_scan.specs.Unread.Calls.{Looks, Takes}
+use Rattle.roff_scan.specs.Waiting.{WaitsFor}
+use Rattle.roff_run.specs.declared.event.PageEvent.{PageEvent}
 use Rattle.roff_run.specs.declared.message.Message.TheVariants.{ReadFailed}
 use Rattle.roff_run.specs.declared.status.Status.{Status}
 use Rattle.roff_run.specs.declared.status.Status.TheVariants.{Device, Limit as Limited}
@@ -15,16 +18,16 @@ use Rattle.roff_run.specs.Messages.{message_line}
 use Rattle.roff_run.specs.Output.{PageHistory}
 use Rattle.roff_run.specs.Reader.Taken.{PageUnread}
 use Rattle.roff_run.specs.Reading.{PageInput}
-use Rattle.roff_run.specs.Run.{State, awaited, half_ends, in_front_taken, known, made, step, waiting}
+use Rattle.roff_run.specs.Run.{State, awaited, awaited_of_source, byte_taken, front_seen, half_ends, in_front_taken, known, made, step, waiting}
 use Rattle.roff_engine.specs.declared.running.Running.{Running as Coded}
 use Rattle.roff_engine.specs.Engine.Outcome.{Seen, seen}
 use Rattle.roff_engine.specs.Running.Turning.{Acts, IsAt, StepDoes, TurnsBy, state_at, turns_left}
 use Rattle.roff_engine.specs.Sinks.{Sunk, Puts}
 use Rattle.roff_engine.proofs.Calls.{EndsThere, EndsThere-looks, IsEndingSeen, Leaves, Leaves-looks, Leaves-deciding}
 use Rattle.roff_engine.proofs.Items.{looked_at, moved, note_told, source_failed, source_stopped}
-use Rattle.roff_engine.proofs.Turns.{LeavesFewer, acted, asks_or_given, on_ok, on_ok-then, turned, turns_of}
-use Rattle.roff_run.proofs.InFront.{Given-asked, IsNoNote, Looks-looking, items_asked, over_unread, over_unread-looking, front_step, seen as seen_step, sighted_step}
-use Rattle.roff_run.proofs.TurnsToCome.{length-newline_stays, turns_within-half_ended}
+use Rattle.roff_engine.proofs.Turns.{LeavesFewer, acted, asks_or_given, falls_front, leaves_front, on_ok, on_ok-then, shown_front, turned, turns_of}
+use Rattle.roff_run.proofs.InFront.{Given, WasAsked, WasNot, Given-asked, IsNoNote, Looks-looking, items_asked, over_unread, over_unread-looking, front_step, seen as seen_step, sighted_step}
+use Rattle.roff_run.proofs.TurnsToCome.{length-newline_stays, turns_within-byte, turns_within-half_ended}
 
 -- a look shows this in front, a byte or nothing that can be read: no message, fault or limit of the source's
 abbrev pub ShowsFront : Option ℕ → Sighted → Type 0
@@ -236,3 +239,65 @@ module _ {gave mid gives : Tape → Type 0} {left : PageUnread} {sight : Sighted
         on_ok-then r (λ (falls : turns_left new + notes < turns_left (moved old left) + kept). omega (arith, falls, less, (leaves_look old call).turns))
         (turn.falls t tape start may behind.0 behind.1);
   }
+
+-- an item is shown, or refused by a limit: what is shown then is this byte alone
+shows_byte : (refuses : Bool) (limit : Limit) (u left : PageUnread) (item : Shown PageEvent) (b : ℕ)
+    → let call : Shown PageEvent × PageUnread = if refuses then (ShowsRefusal limit, u) else (item, left) in
+    call.0 ≡ ShowsByte b → item ≡ ShowsByte b
+shows_byte true limit u left item b is = cc
+shows_byte false limit u left item b is = is
+
+-- what is half read waits for this byte: where it is seen, the item in front is taken
+front_seen-taken : (l : Limits) (b seen_byte : ℕ) (s : State) → seen_stays s.input.half (Some b) ≡ false
+    → (item : Shown PageEvent) → item ≡ ShowsByte seen_byte → item ≡ ShowsByte b → front_seen l (Some seen_byte) s ≡ in_front_taken l s.input.ahead s
+front_seen-taken l b seen_byte s goes_on item shows is =
+    let same : b ≡ seen_byte = cc in
+    ap (λ (stays : Bool). if stays then made l s (half_ends s) else in_front_taken l s.input.ahead s)
+    (subst (λ (n : ℕ). seen_stays s.input.half (Some n) ≡ false) same goes_on)
+
+-- the call that takes the item in front shows the byte that is waited for: the step in which it is seen takes the item
+awaited_byte : (l limits : Limits) (i : PageInput) (s : State) (b : ℕ) → seen_stays i.half (Some b) ≡ false
+    → (ahead : List (Ahead PageEvent)) (looked : Option ℕ) (a : Answer) (tape behind : Tape)
+    → let u : PageUnread = record { input = record i { ahead = ahead }; looked = looked; limits = limits } in
+    Given a (asks_to_take u) tape behind → (taking a u).0 ≡ ShowsByte b
+    → awaited l (seen_ahead ahead) (over_unread u tape s) ≡ in_front_taken l ahead (over_unread u tape s)
+awaited_byte l limits i s b goes_on [] None (Gives (OneByte c)) tape behind (WasAsked t gives) shows =
+    let from : State = over_unread (record { input = record i { ahead = [] }; looked = None; limits = limits }) t s in
+    ap (λ (a : Answer). awaited_of_source l a from) gives ∙ front_seen-taken l b c from goes_on (ShowsByte c) refl (shows_byte _ _ _ _ _ b shows)
+awaited_byte l limits i s b goes_on [] None (Gives (OneNote message)) tape behind given shows = cc
+awaited_byte l limits i s b goes_on [] None (Ends ending) tape behind given shows = cc
+awaited_byte l limits i s b goes_on [] (Some c) a tape behind (WasNot t) shows =
+    let from : State = over_unread (record { input = record i { ahead = [] }; looked = Some c; limits = limits }) t s in
+    front_seen-taken l b c from goes_on (ShowsByte c) refl (shows_byte _ _ _ _ _ b shows)
+awaited_byte l limits i s b goes_on (ByteAhead c ∷ items) looked a tape behind given shows =
+    let from : State = over_unread (record { input = record i { ahead = ByteAhead c ∷ items }; looked = looked; limits = limits }) tape s in
+    front_seen-taken l b c from goes_on (ShowsByte c) refl (shows_byte _ _ _ _ _ b shows)
+awaited_byte l limits i s b goes_on (FreeAhead c ∷ items) looked a tape behind given shows =
+    let from : State = over_unread (record { input = record i { ahead = FreeAhead c ∷ items }; looked = looked; limits = limits }) tape s in
+    front_seen-taken l b c from goes_on (ShowsByte c) refl (shows_byte _ _ _ _ _ b shows)
+awaited_byte l limits i s b goes_on (EndAhead ∷ items) looked a tape behind given shows =
+    let wrong : ShowsEnd ≡ ShowsByte b = shows_byte _ _ _ _ _ b shows in cc
+awaited_byte l limits i s b goes_on (ReturnAhead ∷ items) looked a tape behind given shows =
+    let wrong : ShowsReturn ≡ ShowsByte b = shows_byte _ _ _ _ _ b shows in cc
+awaited_byte l limits i s b goes_on (DoAhead event ∷ items) looked a tape behind given shows =
+    let wrong : ShowsDo event ≡ ShowsByte b = shows_byte _ _ _ _ _ b shows in cc
+
+-- a byte was taken that what is half read waits for
+module _ {gave gives : Tape → Type 0} {left : PageUnread} (old : Coded) (failed failures : ℕ) (out err : Sunk) (noted notes : ℕ) (more : failed ≤ failures) (less : notes ≤ noted) where
+  pub waiting_byte : (b line : ℕ) (new : Coded) (after : Seen) (r : Result (Unit {0}) Status) → Takes gave gives old.unread left (ShowsByte b)
+      → WaitsFor old.unread.input.half b → line ≡ old.unread.input.line → Acts line (byte_taken b) (moved old left) new (seen failures out err) after r
+      → TurnsBy (λ s. waiting old.limits s) gave gives noted notes old new (seen failed out err) after r
+  waiting_byte b line new after r call waits line_is acts =
+      let u : PageUnread = old.unread in
+      let leaves = leaves_front old call in
+      let asked : List Item = items_asked (asks_to_take u) call.answer in
+      let fewer : LeavesFewer (byte_taken b) old left = λ s is same.
+      omega (arith, turns_within-byte u.limits.bytes (known s) s.reading s.input b, turns_of left u.limits s.input leaves.limits (sym is), falls_front old call tt) in
+      acted leaves _ noted notes (byte_taken b) line new failed failures out err after r more less line_is
+      (λ limits tape may h ms.
+      let from : State = state_at (items_then asked tape) old h ms in
+      ap (λ (c : Bool). if c then made old.limits from (half_ends from) else awaited old.limits (seen_ahead u.input.ahead) from) waits.undecided
+      ∙ awaited_byte old.limits u.limits u.input from b waits.goes_on u.input.ahead u.looked call.answer (items_then asked tape) tape
+      (Given-asked gave gives (asks_to_take u) call.answer call.asked tape may) (ap (λ (c : Shown PageEvent × PageUnread). c.0) (sym call.taken))
+      ∙ shown_front old call limits tape may h ms)
+      (on_ok r fewer) acts

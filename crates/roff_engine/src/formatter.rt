@@ -1,13 +1,13 @@
 //! The formatter: what each item of the input does.
 
-ghost use Rattle.std.specs.Prelude.{◌≡◌, ℕ, true, None, [], ◌∷◌, ◌++◌, IfOk, IfSome, IsOkUnless, option_map};
+ghost use Rattle.std.specs.Prelude.{◌≡◌, ℕ, true, None, Some, [], ◌∷◌, ◌++◌, IfOk, IfSome, IsOkUnless, option_map};
 ghost use Rattle.std.specs.Prelude.{take, false};
 ghost use Rattle.roff_scan.specs.Arguments.{is_argument_byte};
 ghost use Rattle.roff_scan.specs.Bytes.{is_passed, is_text_byte};
 ghost use Rattle.roff_run.specs.Events.Meant.{events_meant};
 ghost use Rattle.roff_run.specs.ControlFronts.{BeginsControl};
-ghost use Rattle.roff_run.specs.Stages.{Adds, EndsLine, Holds, Ignores, ReadsHalves, ReadsPast};
-ghost use Rattle.roff_run.specs.Stages.{TakesHalf, TurnsFront, counts_blanks};
+ghost use Rattle.roff_run.specs.Stages.{Adds, EndsLine, Holds, HoldsIfFewer, Ignores, ReadsHalves};
+ghost use Rattle.roff_run.specs.Stages.{ReadsPast, TakesHalf, TurnsFront, counts_blanks};
 ghost use Rattle.roff_run.specs.Reading.{Passes, Taking, blank_line, leading_blank_events};
 ghost use Rattle.roff_run.specs.Reading.{leading_glyph};
 ghost use Rattle.roff_run.specs.Reader.AtOnce.{IsReadAbove, text_byte_events};
@@ -101,6 +101,17 @@ impl Formatter {
         ensures none_due { result ≡ true → due self.now.reader.reading ≡ None }
     {
         self.reader.holds_arguments()
+    }
+
+    /// Where bytes of the line are held in its arguments as long as fewer than so many of these are
+    /// whole, where nothing is half read, and what is read stays, how many.
+    #[inline(always)]
+    pub(crate) fn holds_fewer(&self) -> Option<usize>
+        ensures holds { IfSome result (λ most. (b : ℕ) → is_argument_byte b ≡ true
+            → HoldsIfFewer (Some most) self.now.reader.reading b) }
+        ensures none_due { IfSome result (λ most. due self.now.reader.reading ≡ None) }
+    {
+        self.reader.holds_fewer()
     }
 
     /// Whether bytes may change only what is half read, and what is read stays.

@@ -6,8 +6,8 @@ ghost use Rattle.roff_run.specs.Run.{ahead_taken, awaited, byte_taken, end_met, 
 ghost use Rattle.roff_run.specs.Run.{in_front_taken, input_ended, step, waiting};
 ghost use Rattle.roff_run.specs.ControlFronts.{BeginsControl};
 ghost use Rattle.roff_run.specs.Reading.{Passes};
-ghost use Rattle.roff_run.specs.Stages.{Adds, EndsLine, Holds, Ignores, ReadsHalves, TakesHalf};
-ghost use Rattle.roff_run.specs.Stages.{counts_blanks};
+ghost use Rattle.roff_run.specs.Stages.{Adds, EndsLine, Holds, HoldsIfFewer, Ignores, ReadsHalves};
+ghost use Rattle.roff_run.specs.Stages.{TakesHalf, counts_blanks};
 ghost use Rattle.roff_run.specs.Telling.{Prints};
 ghost use Rattle.roff_scan.specs.Arguments.{is_argument_byte};
 ghost use Rattle.roff_scan.specs.Bytes.{is_passed, is_text_byte};
@@ -207,6 +207,10 @@ impl Running {
             self.add_text(source);
         } else if self.formatter.ignores_text() && !self.unread.is_half_read() {
             self.ignore_text(source);
+        } else if let Some(most) = self.formatter.holds_fewer() {
+            if !self.unread.is_half_read() {
+                self.hold_fewer(source, most);
+            }
         }
     }
 
@@ -279,6 +283,21 @@ impl Running {
             (seen (S.failures source.old) out err) (seen (S.failures source.new) out err) }
     {
         self.unread.hold_front(source);
+    }
+
+    /// The same as long as fewer than so many arguments are whole.
+    #[inline(always)]
+    fn hold_fewer<S: ByteSource>(&mut self, source: &mut S, most: usize)
+        requires holds { (b : ℕ) → is_argument_byte b ≡ true
+            → HoldsIfFewer (Some most) self.old.formatter.reader.reading b }
+        requires none_due { due self.old.formatter.reader.reading ≡ None }
+        requires none_half { self.old.unread.input.half ≡ [] }
+        ensures { (out err : Sunk) → GoesPast
+            (S.gives source.old) (S.gives source.new) (S.notes source.old) (S.notes source.new)
+            self.old self.new
+            (seen (S.failures source.old) out err) (seen (S.failures source.new) out err) }
+    {
+        self.unread.hold_fewer(source, most);
     }
 
     /// Takes bytes of plain text at once that stand in front, and puts them behind the newest text in
@@ -422,9 +441,31 @@ impl Running {
     }
 
     /// The same where what is half read waits: a condition that is read decides, and else what
-    /// stands in front stays, and ends it, or is taken.
+    /// stands in front stays, and ends it, or is taken. Most often it is a byte that is taken.
     #[inline(never)]
     fn turn_waiting<S: ByteSource, O: ByteSink, E: ByteSink>(
+        &mut self,
+        source: &mut S,
+        out: &mut O,
+        err: &mut E,
+    ) -> Result<(), Status>
+        requires { newline_stays self.old.unread.input.half ≡ true }
+        ensures { TurnsBy (λ s. waiting self.old.limits s)
+            (S.gives source.old) (S.gives source.new) (S.notes source.old) (S.notes source.new)
+            self.old self.new
+            (seen (S.failures source.old) (O.sunk out.old) (E.sunk err.old))
+            (seen (S.failures source.new) (O.sunk out.new) (E.sunk err.new)) result }
+    {
+        let line = self.unread.line();
+        match self.unread.take_waiting(source) {
+            Some(byte) => self.take_above(byte, line, out, err),
+            None => self.turn_deciding(source, out, err),
+        }
+    }
+
+    /// The same where no byte that it takes stands ready.
+    #[inline(never)]
+    fn turn_deciding<S: ByteSource, O: ByteSink, E: ByteSink>(
         &mut self,
         source: &mut S,
         out: &mut O,

@@ -1,6 +1,6 @@
 -- Stages of the reading: what bytes change that change only what is read.
-use Rattle.std.specs.Prelude.{◌≡◌, ℕ, ◌+◌, ◌≤◌, ◌==◌, ◌&&◌, Bool, false, if◌then◌else◌, List, [], ◌∷◌, length, min, nat_lt, not, sum_by, take, None, Some}
-use Rattle.roff_scan.specs.Arguments.{Arguments, held}
+use Rattle.std.specs.Prelude.{◌≡◌, ℕ, ◌+◌, ◌≤◌, ◌==◌, ◌&&◌, Bool, false, if◌then◌else◌, List, [], ◌∷◌, length, min, nat_lt, not, sum_by, take, Option, None, Some}
+use Rattle.roff_scan.specs.Arguments.{AreFewer, Arguments, held}
 use Rattle.roff_scan.specs.Bytes.{is_dropped, newline}
 use Rattle.roff_scan.specs.ConditionFronts.{TakesOn}
 use Rattle.roff_scan.specs.Half.{Half, texts_held}
@@ -47,6 +47,11 @@ EndsLine reading = (k : Known) (i : PageInput) → taking k reading i newline �
 -- a byte is held in the arguments of the line where nothing is half read, and this is read on
 abbrev pub Holds : Reading → ℕ → Type 0
 Holds reading b = (k : Known) (i : PageInput) → i.half ≡ [] → taking k reading i b ≡ going_on (holding (Byte b) i) reading
+
+-- the same where fewer than so many arguments are whole
+abbrev pub HoldsIfFewer : Option ℕ → Reading → ℕ → Type 0
+HoldsIfFewer most reading b =
+    (k : Known) (i : PageInput) → i.half ≡ [] → AreFewer most i.arguments → taking k reading i b ≡ going_on (holding (Byte b) i) reading
 
 -- a byte is put behind the newest text in the making where nothing is half read, and this is read on
 abbrev pub Adds : Reading → ℕ → Type 0

@@ -1,8 +1,8 @@
 -- Calls that are lent the source, by what they find.
-use Rattle.std.proofs.Common.{Bool, true, false, ◌&&◌, ◌≡◌, ℕ, List, [], ◌∷◌, Option, Some, None, refl, sym, ap, ◌∙◌}
-use Rattle.std.specs.Prelude.{IfSome, is_none}
+use Rattle.std.proofs.Common.{Bool, true, false, ◌&&◌, ◌≡◌, ℕ, ◌≤◌, List, [], ◌∷◌, length, map, take, Option, Some, None, refl, sym, ap, ◌∙◌, arith}
+use Rattle.std.specs.Prelude.{IfSome, get_or, is_none}
 use Rattle.roff_scan.specs.Input.{Ahead, ByteAhead, FreeAhead, EndAhead, ReturnAhead, DoAhead, is_none_ahead}
-use Rattle.roff_scan.specs.Tape.{Tape, Answer, Answers, Gives, Ends, OneByte, Ending, Ended}
+use Rattle.roff_scan.specs.Tape.{Tape, Answer, Answers, Took, Gives, Ends, OneByte, Ending, Ended}
 use Rattle.roff_scan.specs.Unread.{Unread, Asked, Stays, Shown, ShowsByte, Sighted, SeesByte, SeesNote, SeesEnding, answer_behind, taking, taking_first, taking_answer, asks_to_take, looking, looking_past, looking_at, asks_to_look, seen_ahead}
 use Rattle.roff_scan.specs.Unread.Calls.{Takes, Looks}
 
@@ -64,6 +64,13 @@ module _ {E : Type 0} (tapes : Tape → Type 0) (kept before after : Unread E) (
     asked = asked_by tapes new a (asks_to_take before) (asks_by None none looked) answers;
     taken = taken ∙ sym (taken_by None a none looked);
   }
+
+-- a source gave the first of the bytes that stood ready
+pub answers_first : (old new : Tape → Type 0) (bytes : List ℕ) → 1 ≤ length bytes → Took old new (map OneByte (take 1 bytes))
+    → Answers old new (Gives (OneByte (get_or bytes 0 0)))
+answers_first old new [] some took = absurd (omega (arith, some))
+answers_first old new (b ∷ bytes) some took =
+    record { before = took.before; final = λ ending is. cc; some = took.some; some_given = took.some_given }
 
 -- a byte ahead is taken, if one is
 pub takes_ready : {E : Type 0} (tapes : Tape → Type 0) (kept before after : Unread E) → kept ≡ before → is_none_ahead kept.input.ahead ≡ false

@@ -1,37 +1,26 @@
 -- Bytes of a condition that are taken at once: what is half read behind them.
-use Rattle.std.proofs.Common.{◌≡◌, ◌⊎◌, ℕ, suc, ◌+◌, ◌==◌, ◌≤◌, ◌<◌, Bool, true, false, not, ◌&&◌, ◌||◌, if◌then◌else◌, List, [], ◌∷◌, ◌++◌, length, take, get_or, Some, None, inl, inr, refl, sym, ap, subst, ◌∙◌, arith, length-append}
+use Rattle.std.proofs.Common.{◌≡◌, ℕ, suc, ◌+◌, ◌==◌, ◌≤◌, ◌<◌, Bool, true, false, not, ◌&&◌, ◌||◌, if◌then◌else◌, List, [], ◌∷◌, ◌++◌, length, take, get_or, Some, None, refl, sym, ap, subst, ◌∙◌, arith, length-append}
 use Rattle.std.specs.Prelude.{codes, nat_le}
-use Rattle.std.proofs.Math.Bool.{and-false}
 use Rattle.std.proofs.Math.Seq.{take-suc}
-use Rattle.std.proofs.lemmas.Bool.{and_parts, eqb-true, leb-true, lt-leb, ne_eqb}
+use Rattle.std.proofs.lemmas.Bool.{and_parts, leb-true, lt-leb, ne_eqb}
 use Rattle.std.proofs.lemmas.List.{take-take}
 use Rattle.roff_scan.specs.Bytes.{backslash, blank, is_digit, is_dropped, is_silent, newline, tab}
-use Rattle.roff_scan.specs.ConditionFronts.{ByteTaken, HalvesTaken, HoldsOn, IsHeld, IsRead, NothingTaken, TakesByte, TakesFront, TakesOn, holds_first, holds_more, is_condition, is_of_expression, reads_next}
-use Rattle.roff_scan.specs.Conditions.{begins_expression, ends_at_backslash, expression_over, is_among, to_decide}
-use Rattle.roff_scan.specs.Half.{Half, Backslash, Comment, Condition, Delimited, Name, Reads as ReadsOf, Size, Width, names_in, text_held, texts_held}
-use Rattle.roff_scan.specs.HalfFronts.{ReadsOn, begins_name}
-use Rattle.roff_scan.specs.HalfTexts.{KeptHalves, leaving}
-use Rattle.roff_scan.specs.Halves.{byte_read, most_names, part_at_first, seen_stays}
+use Rattle.roff_scan.specs.ConditionFronts.{ByteTaken, HalvesTaken, HoldsOn, IsHeld, IsRead, NothingTaken, TakesByte, TakesFront, TakesOn, is_of_expression}
+use Rattle.roff_scan.specs.Conditions.{begins_expression, expression_over, is_among, to_decide}
+use Rattle.roff_scan.specs.Half.{Half, Backslash, Condition, Reads as ReadsOf, text_held, texts_held}
+use Rattle.roff_scan.specs.HalfTexts.{IsOnTop, KeptHalves}
 use Rattle.roff_scan.specs.Input.{pushed}
 use Rattle.roff_scan.specs.Tape.{Tape}
 use Rattle.roff_scan.specs.Unread.{Unread, IsWithin}
 use Rattle.roff_scan.specs.Unread.Calls.{IsFront, NoNewline, PassesFront, TakesHalves, front_bytes, next_bytes}
-use Rattle.roff_scan.specs.declared.escapes.NameUse.{NameUse}
-use Rattle.roff_scan.specs.declared.escapes.NameUse.TheVariants.{Register, Text, Argument}
 use Rattle.roff_scan.specs.declared.half.ConditionPart.{ConditionPart}
-use Rattle.roff_scan.specs.declared.half.ConditionPart.TheVariants.{Choice, Compared, Decided, Expression}
+use Rattle.roff_scan.specs.declared.half.ConditionPart.TheVariants.{Choice, Compared, Expression}
 use Rattle.roff_scan.specs.declared.half.CopyUnit.TheVariants.{Byte}
 use Rattle.roff_scan.specs.declared.half.Decision.TheVariants.{Is, OnPages}
-use Rattle.roff_scan.specs.declared.half.Read.{Read}
+use Rattle.roff_scan.specs.declared.half.HalfRead.TheVariants.{Condition as ConditionRead}
 use Rattle.roff_scan.specs.declared.half.Read.TheVariants.{GoesOn, Holds}
-use Rattle.roff_scan.specs.declared.half.Surroundings.{Surroundings}
-use Rattle.roff_scan.specs.declared.half.Surroundings.TheVariants.{Arguments as AboveArguments}
 use Rattle.roff_scan.proofs.Fronts.{passes_none}
-use Rattle.roff_scan.proofs.HalfFronts.{Reads, half-behind, one_of_three, passes-half, reads-in_front, with_read}
-
--- a byte that is held, and the text on top in which it is
-abbrev HoldsFrom : List Half → ℕ → Type 0
-HoldsFrom half b = (top : List Half) × HoldsOn half b top
+use Rattle.roff_scan.proofs.HalfFronts.{half-behind, passes-half, with_read}
 
 -- one byte more is held of a condition
 held-one : (part later : ConditionPart) (text : List ℕ) (rest : List Half) (b : ℕ)
@@ -66,11 +55,6 @@ holds-expression negated text rest b is =
           ∙ ap (λ (c : Bool). if c then expression_over rest negated (Some b) text else (Holds (Byte b), half)) none.1.1.1.1;
       held = held-one (Expression negated) (Expression negated) text rest b;
     }
-
--- one of two tests holds
-one_of_two : (first second : Bool) → (first || second) ≡ true → (first ≡ true) ⊎ (second ≡ true)
-one_of_two true second some = inl refl
-one_of_two false second some = inr some
 
 -- a byte below another, and one above it, is another one
 below : (b c : ℕ) → b < c → (b == c) ≡ false
@@ -119,201 +103,32 @@ holds-digit negated text rest b is =
       held = held-one (Choice negated) (Expression negated) text rest b;
     }
 
--- a backslash begins an escape
-reads-backslash : (half : List Half) → byte_read AboveArguments half 92 ≡ (GoesOn, Backslash ∷ half) → seen_stays half (Some 92) ≡ false
-    → ((base : Surroundings) → byte_read base half 92 ≡ byte_read AboveArguments half 92) → Reads half 92
-reads-backslash half is stays same =
-    (Backslash ∷ half, record { stands = refl; no_newline = refl; stays = stays; goes_on = λ base. same base ∙ is; held = refl })
-
-reads-escape : (half : List Half) (b : ℕ) → (b == backslash) ≡ true → Reads half 92 → Reads half b
-reads-escape half b is reads = subst (λ (c : ℕ). Reads half c) (sym (eqb-true b 92 is)) reads
-
--- a blank in front of what is asked
-reads-blank : (negated : Bool) (text : List ℕ) (rest : List Half) → not negated ≡ true → Reads (Condition (Choice negated) text ∷ rest) 32
-reads-blank false text rest is =
-    (Condition (Choice false) text ∷ rest, record { stands = refl; no_newline = refl; stays = refl; goes_on = λ base. refl; held = refl })
-reads-blank true text rest is = absurd (cc)
-
-reads-choice : (negated : Bool) (text : List ℕ) (rest : List Half) (b : ℕ) → (b == backslash || (b == blank && not negated)) ≡ true
-    → Reads (Condition (Choice negated) text ∷ rest) b
-reads-choice negated text rest b is =
-    let half : List Half = Condition (Choice negated) text ∷ rest in
-    elim (one_of_two (b == backslash) (b == blank && not negated) is) [
-      | inl same ↦ reads-escape half b same (reads-backslash half refl refl (λ base. refl))
-      | inr blanks ↦
-          let parts = and_parts (b == blank) (not negated) blanks in
-          subst (λ (c : ℕ). Reads half c) (sym (eqb-true b 32 parts.0)) (reads-blank negated text rest parts.1)
-    ]
-
--- as many bytes are held where a name begins, or would be one too many
-held-beginning : (many : Bool) (purpose : NameUse) (rest : List Half)
-    → texts_held (if many then rest else Name purpose (part_at_first purpose) ∷ rest) ≡ texts_held rest
-held-beginning true purpose rest = refl
-held-beginning false purpose rest = refl
-
--- the byte behind a backslash of a condition begins a name
-module _ (part : ConditionPart) (text : List ℕ) (rest : List Half) where
-  abbrev within : List Half
-  within = Condition part text ∷ rest
-
-  abbrev named : NameUse → List Half
-  named purpose = if nat_le most_names (names_in within) then within else Name purpose (part_at_first purpose) ∷ within
-
-  reads-register : Reads (Backslash ∷ within) 110
-  reads-register = (
-    named (Register None),
-    record {
-      stands = refl;
-      no_newline = refl;
-      stays = and-false (ends_at_backslash part);
-      goes_on = λ base. refl;
-      held = held-beginning (nat_le most_names (names_in within)) (Register None) within;
-    },
-  )
-
-  reads-string : Reads (Backslash ∷ within) 42
-  reads-string = (
-    named Text,
-    record {
-      stands = refl;
-      no_newline = refl;
-      stays = and-false (ends_at_backslash part);
-      goes_on = λ base. refl;
-      held = held-beginning (nat_le most_names (names_in within)) Text within;
-    },
-  )
-
-  reads-argument : Reads (Backslash ∷ within) 36
-  reads-argument = (
-    named Argument,
-    record {
-      stands = refl;
-      no_newline = refl;
-      stays = and-false (ends_at_backslash part);
-      goes_on = λ base. refl;
-      held = held-beginning (nat_le most_names (names_in within)) Argument within;
-    },
-  )
-
-  reads-beginning : (b : ℕ) → begins_name b ≡ true → Reads (Backslash ∷ within) b
-  reads-beginning b is = elim (one_of_three (b == 110) (b == 42) (b == 36) is) [
-    | inl same ↦ subst (λ (c : ℕ). Reads (Backslash ∷ within) c) (sym (eqb-true b 110 same)) reads-register
-    | inr others ↦ elim others [
-      | inl same ↦ subst (λ (c : ℕ). Reads (Backslash ∷ within) c) (sym (eqb-true b 42 same)) reads-string
-      | inr same ↦ subst (λ (c : ℕ). Reads (Backslash ∷ within) c) (sym (eqb-true b 36 same)) reads-argument
-    ]
-  ]
-
-reads-condition : (part : ConditionPart) (text : List ℕ) (rest : List Half) (b : ℕ) → reads_next (Condition part text ∷ rest) b ≡ true
-    → Reads (Condition part text ∷ rest) b
-reads-condition (Choice negated) text rest b is = reads-choice negated text rest b is
-reads-condition (Expression negated) text rest b is =
-    reads-escape (Condition (Expression negated) text ∷ rest) b is (reads-backslash (Condition (Expression negated) text ∷ rest) refl refl (λ base. refl))
-reads-condition (Compared negated d first) text rest b is = absurd (cc)
-reads-condition (Decided decision freed) text rest b is = absurd (cc)
-
-reads-escaped : (rest : List Half) (b : ℕ) → (is_condition rest && begins_name b) ≡ true → Reads (Backslash ∷ rest) b
-reads-escaped [] b is = absurd (cc)
-reads-escaped (Condition part text ∷ rest) b is = reads-beginning part text rest b is
-reads-escaped (Backslash ∷ rest) b is = absurd (cc)
-reads-escaped (Comment ∷ rest) b is = absurd (cc)
-reads-escaped (Name purpose part ∷ rest) b is = absurd (cc)
-reads-escaped (Size part ∷ rest) b is = absurd (cc)
-reads-escaped (Delimited purpose d text ∷ rest) b is = absurd (cc)
-reads-escaped (Width d width is_deep ∷ rest) b is = absurd (cc)
-
-reads_next-reads : (half : List Half) (b : ℕ) → reads_next half b ≡ true → Reads half b
-reads_next-reads [] b is = absurd (cc)
-reads_next-reads (Backslash ∷ rest) b is = reads-escaped rest b is
-reads_next-reads (Comment ∷ rest) b is = absurd (cc)
-reads_next-reads (Name purpose part ∷ rest) b is = reads-in_front purpose part rest b is
-reads_next-reads (Size part ∷ rest) b is = absurd (cc)
-reads_next-reads (Delimited purpose d text ∷ rest) b is = absurd (cc)
-reads_next-reads (Width d width is_deep ∷ rest) b is = absurd (cc)
-reads_next-reads (Condition part text ∷ rest) b is = reads-condition part text rest b is
-
--- a byte that is held in an expression
-holds_more-part : (part : ConditionPart) (text : List ℕ) (rest : List Half) (b : ℕ) → holds_more (Condition part text ∷ rest) b ≡ true
-    → HoldsOn (Condition part text ∷ rest) b (Condition part text ∷ rest)
-holds_more-part (Choice negated) text rest b is = absurd (cc)
-holds_more-part (Expression negated) text rest b is = holds-expression negated text rest b is
-holds_more-part (Compared negated d first) text rest b is = absurd (cc)
-holds_more-part (Decided decision freed) text rest b is = absurd (cc)
-
-holds_more-holds : (half : List Half) (b : ℕ) → holds_more half b ≡ true → HoldsOn half b half
-holds_more-holds [] b is = absurd (cc)
-holds_more-holds (Backslash ∷ rest) b is = absurd (cc)
-holds_more-holds (Comment ∷ rest) b is = absurd (cc)
-holds_more-holds (Name purpose part ∷ rest) b is = absurd (cc)
-holds_more-holds (Size part ∷ rest) b is = absurd (cc)
-holds_more-holds (Delimited purpose d text ∷ rest) b is = absurd (cc)
-holds_more-holds (Width d width is_deep ∷ rest) b is = absurd (cc)
-holds_more-holds (Condition part text ∷ rest) b is = holds_more-part part text rest b is
-
--- and one that begins it
-holds_first-part : (part : ConditionPart) (text : List ℕ) (rest : List Half) (b : ℕ) → holds_first (Condition part text ∷ rest) b ≡ true
-    → HoldsFrom (Condition part text ∷ rest) b
-holds_first-part (Choice negated) text rest b is = (Condition (Expression negated) text ∷ rest, holds-digit negated text rest b is)
-holds_first-part (Expression negated) text rest b is = absurd (cc)
-holds_first-part (Compared negated d first) text rest b is = absurd (cc)
-holds_first-part (Decided decision freed) text rest b is = absurd (cc)
-
-holds_first-holds : (half : List Half) (b : ℕ) → holds_first half b ≡ true → HoldsFrom half b
-holds_first-holds [] b is = absurd (cc)
-holds_first-holds (Backslash ∷ rest) b is = absurd (cc)
-holds_first-holds (Comment ∷ rest) b is = absurd (cc)
-holds_first-holds (Name purpose part ∷ rest) b is = absurd (cc)
-holds_first-holds (Size part ∷ rest) b is = absurd (cc)
-holds_first-holds (Delimited purpose d text ∷ rest) b is = absurd (cc)
-holds_first-holds (Width d width is_deep ∷ rest) b is = absurd (cc)
-holds_first-holds (Condition part text ∷ rest) b is = holds_first-part part text rest b is
-
--- a byte was taken that is one more of an expression
-pub takes-more : (b : ℕ) (old new : KeptHalves) → holds_more old.half b ≡ true → new ≡ record old { half = text_held (Byte b) old.half } → TakesByte b true old new
-takes-more b old new is held = record {
-  taken = λ is_so. IsHeld old.half (holds_more-holds old.half b is) (ap (λ (k : KeptHalves). k.half) held);
+-- a byte was taken that is held
+takes-held : (b : ℕ) (old new : KeptHalves) (top : List Half) → HoldsOn old.half b top → new ≡ record old { half = text_held (Byte b) top } → TakesByte b true old new
+takes-held b old new top holds is = record {
+  taken = λ is_so. IsHeld top holds (ap (λ (k : KeptHalves). k.half) is);
   kept = λ isnt. absurd (cc);
-  room = ap (λ (k : KeptHalves). k.room) held;
+  room = ap (λ (k : KeptHalves). k.room) is;
 }
 
--- what is half read where a first byte was read that is held
-first-read : (b : ℕ) (old now : KeptHalves) (r : Read) (on : HoldsFrom old.half b) → (r, now) ≡ leaving (byte_read AboveArguments old.half b) old
-    → now ≡ record old { half = on.0 }
-first-read b old now r on read =
-    ap (λ (p : Read × KeptHalves). p.1) read ∙ ap (λ (p : Read × List Half). record old { half = p.1 }) (on.1.holds AboveArguments)
+-- a byte was taken that is one more of an expression
+pub takes-more : (negated : Bool) (begin b : ℕ) (old new : KeptHalves) → IsOnTop (ConditionRead (Expression negated) begin) old.half → is_of_expression b ≡ true
+    → new ≡ record old { half = text_held (Byte b) old.half } → TakesByte b true old new
+takes-more negated begin b old new top is held =
+    takes-held b old new old.half (subst (λ (half : List Half). HoldsOn half b half) (sym top.same) (holds-expression negated top.text top.rest b is)) held
 
--- there is room for it
-pub room-for_first : (b : ℕ) (old now : KeptHalves) (r : Read) → holds_first old.half b ≡ true → texts_held old.half < old.room
-    → (r, now) ≡ leaving (byte_read AboveArguments old.half b) old → texts_held (text_held (Byte b) now.half) ≤ now.room
-room-for_first b old now r is room read =
-    let on = holds_first-holds old.half b is in
-    let there = first-read b old now r on read in
-    subst (λ (k : KeptHalves). texts_held (text_held (Byte b) k.half) ≤ k.room) (sym there) (omega (arith, on.1.held, room))
+-- what a choice becomes as a digit begins its expression
+abbrev pub choice_over : (negated : Bool) (begin : ℕ) (old : KeptHalves) → IsOnTop (ConditionRead (Choice negated) begin) old.half → KeptHalves
+choice_over negated begin old top = record old { half = Condition (Expression negated) top.text ∷ top.rest }
 
--- it was taken
-pub takes-first : (b : ℕ) (old now new : KeptHalves) (r : Read) → holds_first old.half b ≡ true → (r, now) ≡ leaving (byte_read AboveArguments old.half b) old
-    → new ≡ record now { half = text_held (Byte b) now.half } → TakesByte b true old new
-takes-first b old now new r is read held =
-    let on = holds_first-holds old.half b is in
-    let there = first-read b old now r on read in
-    let is_new : new ≡ record old { half = text_held (Byte b) on.0 } = held ∙ ap (λ (k : KeptHalves). record k { half = text_held (Byte b) k.half }) there in
-    record {
-      taken = λ is_so. IsHeld on.0 on.1 (ap (λ (k : KeptHalves). k.half) is_new);
-      kept = λ isnt. absurd (cc);
-      room = ap (λ (k : KeptHalves). k.room) is_new;
-    }
-
--- a byte was taken that changes only what is half read
-pub takes-read : (b : ℕ) (old new : KeptHalves) (r : Read) → reads_next old.half b ≡ true → (r, new) ≡ leaving (byte_read AboveArguments old.half b) old → TakesByte b true old new
-takes-read b old new r is read =
-    let does : Reads old.half b = reads_next-reads old.half b is in
-    let is_new : new ≡ record old { half = does.0 } =
-    ap (λ (p : Read × KeptHalves). p.1) read ∙ ap (λ (p : Read × List Half). record old { half = p.1 }) (does.1.goes_on AboveArguments) in
-    record {
-      taken = λ is_so. IsRead (subst (ReadsOn old.half b) (sym (ap (λ (k : KeptHalves). k.half) is_new)) does.1);
-      kept = λ isnt. absurd (cc);
-      room = ap (λ (k : KeptHalves). k.room) is_new;
-    }
+-- the digit was taken
+pub takes-digit : (negated : Bool) (begin b : ℕ) (old now new : KeptHalves) (top : IsOnTop (ConditionRead (Choice negated) begin) old.half) → is_digit b ≡ true
+    → now ≡ choice_over negated begin old top → new ≡ record now { half = text_held (Byte b) now.half } → TakesByte b true old new
+takes-digit negated begin b old now new top digit is held =
+    let there : List Half = Condition (Expression negated) top.text ∷ top.rest in
+    takes-held b old new there
+    (subst (λ (half : List Half). HoldsOn half b there) (sym top.same) (holds-digit negated top.text top.rest b digit))
+    (held ∙ ap (λ (k : KeptHalves). record k { half = text_held (Byte b) k.half }) is)
 
 -- one byte more is held at the most
 pub taken-held : (half next : List Half) (b : ℕ) → TakesOn half b next → texts_held next ≤ texts_held half + 1

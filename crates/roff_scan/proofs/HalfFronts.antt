@@ -1,99 +1,41 @@
 -- Fronts of escapes that read a name: what is half read behind them.
-use Rattle.std.proofs.Common.{◌≡◌, ◌⊎◌, ℕ, suc, ◌+◌, ◌==◌, ◌≤◌, ◌<◌, Bool, true, false, ◌||◌, if◌then◌else◌, List, [], ◌∷◌, ◌++◌, length, map, take, get_or, Some, None, inl, inr, refl, sym, ap, subst, ◌∙◌, arith}
+use Rattle.std.proofs.Common.{◌≡◌, ℕ, suc, ◌+◌, ◌≤◌, ◌<◌, Bool, true, List, [], ◌∷◌, ◌++◌, length, map, drop, take, get_or, refl, sym, ap, subst, ◌∙◌, arith}
 use Rattle.std.proofs.Math.Seq.{take-suc}
-use Rattle.std.proofs.lemmas.Bool.{eqb-true}
 use Rattle.std.proofs.lemmas.List.{take-take}
-use Rattle.roff_scan.specs.Bytes.{backslash, is_dropped, newline}
-use Rattle.roff_scan.specs.Half.{Half, Backslash, Comment, Condition, Delimited, Name, Size, Width, texts_held}
-use Rattle.roff_scan.specs.HalfFronts.{ByteRead, HalvesRead, NothingRead, ReadsFront, ReadsOn, begins_name, is_in_front, reads_on}
+use Rattle.roff_scan.specs.Half.{Half, texts_held}
+use Rattle.roff_scan.specs.HalfFronts.{ByteRead, HalvesRead, NothingRead, ReadsByte, ReadsFront, ReadsOn}
 use Rattle.roff_scan.specs.HalfTexts.{KeptHalves, leaving}
-use Rattle.roff_scan.specs.Halves.{byte_read, unit_of_name}
 use Rattle.roff_scan.specs.Input.{Ahead, ByteAhead, Input, bytes_taken, counting, item_taken, lines_taken}
 use Rattle.roff_scan.specs.Tape.{Tape}
 use Rattle.roff_scan.specs.Unread.{Unread, IsWithin}
 use Rattle.roff_scan.specs.Unread.Calls.{IsFront, NoNewline, OfSource, OfTexts, PassesFront, ReadsNames, front_bytes, next_bytes}
-use Rattle.roff_scan.specs.declared.escapes.NameUse.{NameUse}
-use Rattle.roff_scan.specs.declared.escapes.NameUse.TheVariants.{Register, Text, Argument, Character, Font, LeftOut}
-use Rattle.roff_scan.specs.declared.half.CopyUnit.TheVariants.{Byte}
-use Rattle.roff_scan.specs.declared.half.NamePart.{NamePart}
-use Rattle.roff_scan.specs.declared.half.NamePart.TheVariants.{Nothing, Opened, First}
+use Rattle.roff_scan.specs.Halves.{byte_read}
 use Rattle.roff_scan.specs.declared.half.Read.{Read}
 use Rattle.roff_scan.specs.declared.half.Read.TheVariants.{GoesOn}
-use Rattle.roff_scan.specs.declared.half.Surroundings.TheVariants.{Arguments as AboveArguments}
+use Rattle.roff_scan.specs.declared.half.Surroundings.{Surroundings}
 use Rattle.roff_scan.proofs.Fronts.{passes_none}
-use Rattle.roff_scan.proofs.HeldFronts.{none_of_three}
 
--- a byte that changes only what is half read, and what is half read behind it
-abbrev pub Reads : List Half → ℕ → Type 0
-Reads half b = (next : List Half) × ReadsOn half b next
+-- a byte was read
+pub was_read : (b : ℕ) (old new : KeptHalves) (next : List Half) → ReadsOn old.half b next → new ≡ record old { half = next } → ReadsByte b true old new
+was_read b old new next reads is = record {
+  read = λ is_so. subst (ReadsOn old.half b) (sym (ap (λ (k : KeptHalves). k.half) is)) reads;
+  kept = λ isnt. absurd (cc);
+  room = ap (λ (k : KeptHalves). k.room) is;
+}
 
--- one of three tests holds
-pub one_of_three : (first second third : Bool) → (first || (second || third)) ≡ true → (first ≡ true) ⊎ ((second ≡ true) ⊎ (third ≡ true))
-one_of_three true second third some = inl refl
-one_of_three false true third some = inr (inl refl)
-one_of_three false false third some = inr (inr some)
+-- one was read where this stands on top, and something else stands in its place
+pub read_in_place : (b : ℕ) (top next : Half) (rest : List Half) (old new : KeptHalves) → old.half ≡ top ∷ rest → ReadsOn (top ∷ rest) b (next ∷ rest)
+    → new ≡ record old { half = next ∷ drop 1 old.half } → ReadsByte b true old new
+read_in_place b top next rest old new same reads is =
+    was_read b old new (next ∷ rest) (subst (λ (half : List Half). ReadsOn half b (next ∷ rest)) (sym same) reads)
+    (is ∙ ap (λ (half : List Half). record old { half = next ∷ drop 1 half }) same)
 
--- a backslash begins an escape
-reads-backslash : Reads [] 92
-reads-backslash = (Backslash ∷ [], record { stands = refl; no_newline = refl; stays = refl; goes_on = λ base. refl; held = refl })
-
--- the byte behind it begins a name
-reads-register : Reads (Backslash ∷ []) 110
-reads-register = (Name (Register None) Nothing ∷ [], record { stands = refl; no_newline = refl; stays = refl; goes_on = λ base. refl; held = refl })
-
-reads-string : Reads (Backslash ∷ []) 42
-reads-string = (Name Text Nothing ∷ [], record { stands = refl; no_newline = refl; stays = refl; goes_on = λ base. refl; held = refl })
-
-reads-argument : Reads (Backslash ∷ []) 36
-reads-argument = (Name Argument Nothing ∷ [], record { stands = refl; no_newline = refl; stays = refl; goes_on = λ base. refl; held = refl })
-
-reads-beginning : (b : ℕ) → begins_name b ≡ true → Reads (Backslash ∷ []) b
-reads-beginning b is = elim (one_of_three (b == 110) (b == 42) (b == 36) is) [
-  | inl same ↦ subst (λ (c : ℕ). Reads (Backslash ∷ []) c) (sym (eqb-true b 110 same)) reads-register
-  | inr others ↦ elim others [
-    | inl same ↦ subst (λ (c : ℕ). Reads (Backslash ∷ []) c) (sym (eqb-true b 42 same)) reads-string
-    | inr same ↦ subst (λ (c : ℕ). Reads (Backslash ∷ []) c) (sym (eqb-true b 36 same)) reads-argument
-  ]
-]
-
--- a parenthesis opens a name of two bytes
-reads-opening : (purpose : NameUse) (rest : List Half) → byte_read AboveArguments (Name purpose Nothing ∷ rest) 40 ≡ (GoesOn, Name purpose Opened ∷ rest)
-    → Reads (Name purpose Nothing ∷ rest) 40
-reads-opening purpose rest is = (Name purpose Opened ∷ rest, record { stands = refl; no_newline = refl; stays = refl; goes_on = λ base. is; held = refl })
-
-pub reads-in_front : (purpose : NameUse) (part : NamePart) (rest : List Half) (b : ℕ) → is_in_front purpose part b ≡ true → Reads (Name purpose part ∷ rest) b
-reads-in_front (Register None) Nothing rest b is = subst (λ (c : ℕ). Reads (Name (Register None) Nothing ∷ rest) c) (sym (eqb-true b 40 is)) (reads-opening (Register None) rest refl)
-reads-in_front (Register (Some step)) Nothing rest b is =
-    subst (λ (c : ℕ). Reads (Name (Register (Some step)) Nothing ∷ rest) c) (sym (eqb-true b 40 is)) (reads-opening (Register (Some step)) rest refl)
-reads-in_front Text Nothing rest b is = subst (λ (c : ℕ). Reads (Name Text Nothing ∷ rest) c) (sym (eqb-true b 40 is)) (reads-opening Text rest refl)
-reads-in_front Argument Nothing rest b is = absurd (cc)
-reads-in_front Character Nothing rest b is = absurd (cc)
-reads-in_front Font Nothing rest b is = absurd (cc)
-reads-in_front (LeftOut a) Nothing rest b is = absurd (cc)
-reads-in_front purpose Opened rest b is =
-    let none = none_of_three (b == backslash) (is_dropped b) (b == newline) is in (
-      Name purpose (First b) ∷ rest,
-      record {
-        stands = none.1.0;
-        no_newline = none.1.1;
-        stays = none.1.1;
-        goes_on = λ base. ap (λ (c : Bool). if c then (GoesOn, Backslash ∷ Name purpose Opened ∷ rest) else unit_of_name rest purpose Opened (Byte b)) none.0;
-        held = refl;
-      },
-    )
-reads-in_front purpose (First a) rest b is = absurd (cc)
-
--- a byte in the front of an escape changes only what is half read
-reads_on-reads : (half : List Half) (b : ℕ) → reads_on half b ≡ true → Reads half b
-reads_on-reads [] b is = subst (λ (c : ℕ). Reads [] c) (sym (eqb-true b backslash is)) reads-backslash
-reads_on-reads (Backslash ∷ []) b is = reads-beginning b is
-reads_on-reads (Backslash ∷ (below ∷ rest)) b is = absurd (cc)
-reads_on-reads (Name purpose part ∷ rest) b is = reads-in_front purpose part rest b is
-reads_on-reads (Comment ∷ rest) b is = absurd (cc)
-reads_on-reads (Size part ∷ rest) b is = absurd (cc)
-reads_on-reads (Delimited purpose d text ∷ rest) b is = absurd (cc)
-reads_on-reads (Width d width is_deep ∷ rest) b is = absurd (cc)
-reads_on-reads (Condition part text ∷ rest) b is = absurd (cc)
+-- where one was read nothing is given yet
+pub gives_nothing : (base : Surroundings) (b : ℕ) (old new : KeptHalves) (is_read : Bool) → is_read ≡ true → ReadsByte b is_read old new
+    → (GoesOn, new) ≡ leaving (byte_read base old.half b) old
+gives_nothing base b old new is_read is reads =
+    ap (λ (room : ℕ). let k : KeptHalves = record { half = new.half; room = room } in (GoesOn, k)) reads.room
+    ∙ ap (λ (r : Read × List Half). leaving r old) (sym ((reads.read is).goes_on base))
 
 -- the last byte is read behind the others
 HalvesRead-last : (half there next : List Half) (bytes : List ℕ) (b : ℕ) → HalvesRead half bytes there → ReadsOn there b next → HalvesRead half (bytes ++ b ∷ []) next
@@ -102,23 +44,17 @@ HalvesRead-last half _ next _ b (ByteRead _ second there c bytes first others) r
     ByteRead half second next c (bytes ++ b ∷ []) first (HalvesRead-last second there next bytes b others reads)
 
 -- one more was read
-pub ReadsFront-more : (bytes : List ℕ) (count : ℕ) (old now new : KeptHalves) (r : Read) → ReadsFront bytes count old now → count < length bytes
-    → reads_on now.half (get_or bytes count 0) ≡ true → (r, new) ≡ leaving (byte_read AboveArguments now.half (get_or bytes count 0)) now
-    → ReadsFront bytes (count + 1) old new
-ReadsFront-more bytes count old now new r reads inside is read =
+pub ReadsFront-more : (bytes : List ℕ) (count : ℕ) (old now new : KeptHalves) → ReadsFront bytes count old now → count < length bytes
+    → ReadsByte (get_or bytes count 0) true now new → ReadsFront bytes (count + 1) old new
+ReadsFront-more bytes count old now new reads inside is =
     let b : ℕ = get_or bytes count 0 in
-    let does : Reads now.half b = reads_on-reads now.half b is in
     let next : count + 1 ≡ suc count = omega arith in
     let more : take (count + 1) bytes ≡ take count bytes ++ b ∷ [] = ap (λ (n : ℕ). take n bytes) next ∙ take-suc bytes count 0 inside in
-    let there : new ≡ record now { half = does.0 } =
-    ap (λ (p : Read × KeptHalves). p.1) read ∙ ap (λ (p : Read × List Half). record now { half = p.1 }) (does.1.goes_on AboveArguments) in
-    let half : new.half ≡ does.0 = ap (λ (k : KeptHalves). k.half) there in
-    let room : new.room ≡ now.room = ap (λ (k : KeptHalves). k.room) there in
     record {
       few = omega (arith, inside);
       read = subst (λ (xs : List ℕ). HalvesRead old.half xs new.half) (sym more)
-          (subst (λ (h : List Half). HalvesRead old.half (take count bytes ++ b ∷ []) h) (sym half) (HalvesRead-last old.half now.half does.0 (take count bytes) b reads.read does.1));
-      room = room ∙ reads.room;
+          (HalvesRead-last old.half now.half new.half (take count bytes) b reads.read (is.read refl));
+      room = is.room ∙ reads.room;
     }
 
 -- none was read yet

@@ -1,15 +1,15 @@
 -- Bytes in front that are held in the arguments of a line at once.
-use Rattle.std.proofs.Common.{◌≡◌, ℕ, suc, ◌+◌, ◌==◌, ◌≤◌, ◌<◌, Bool, true, false, not, ◌||◌, if◌then◌else◌, List, [], ◌∷◌, ◌++◌, length, map, take, get_or, refl, sym, ap, subst, ◌∙◌, arith}
+use Rattle.std.proofs.Common.{◌≡◌, ℕ, suc, ◌+◌, ◌==◌, ◌≤◌, ◌<◌, Bool, true, false, not, ◌||◌, if◌then◌else◌, List, [], ◌∷◌, ◌++◌, length, map, take, get_or, Option, refl, sym, ap, subst, ◌∙◌, arith}
 use Rattle.std.specs.List.{AllByRecursion}
 use Rattle.std.proofs.Math.Seq.{take-suc}
 use Rattle.std.proofs.lemmas.List.{take-take}
-use Rattle.roff_scan.specs.Arguments.{Arguments, bytes_held, held, is_argument_byte, only_kept, with_argument_byte}
+use Rattle.roff_scan.specs.Arguments.{AreFewer, Arguments, HeldFewer, bytes_held, held, is_argument_byte, only_kept, with_argument_byte}
 use Rattle.roff_scan.specs.ArgumentTexts.Kept.{KeptArguments, TakesFront, is_held, keeping}
 use Rattle.roff_scan.specs.Bytes.{backslash, is_dropped, newline}
 use Rattle.roff_scan.specs.Input.{Ahead, ByteAhead, Input, bytes_taken, counting, item_taken, lines_taken, pushed}
 use Rattle.roff_scan.specs.Tape.{Tape}
 use Rattle.roff_scan.specs.Unread.{Unread, IsWithin}
-use Rattle.roff_scan.specs.Unread.Calls.{HoldsFront, IsFront, NoNewline, OfSource, OfTexts, PassesFront, front_bytes, next_bytes}
+use Rattle.roff_scan.specs.Unread.Calls.{HoldsFewer, IsFront, NoNewline, OfSource, OfTexts, PassesFront, front_bytes, next_bytes}
 use Rattle.roff_scan.specs.Unread.Kept.{NoneBegun}
 use Rattle.roff_scan.specs.declared.half.CopyUnit.TheVariants.{Byte}
 use Rattle.roff_scan.proofs.Fronts.{passes_none}
@@ -46,24 +46,29 @@ all-last : (P : ℕ → Type 0) (bytes : List ℕ) (b : ℕ) → AllByRecursion 
 all-last P [] b all last = (last, tt)
 all-last P (c ∷ bytes) b all last = (all.0, all-last P bytes b all.1 last)
 
+-- few enough arguments are whole before each of them where they are before the last
+fewer-last : (most : Option ℕ) (bytes : List ℕ) (b : ℕ) (a : Arguments) → HeldFewer most bytes a → AreFewer most (bytes_held bytes a) → HeldFewer most (bytes ++ b ∷ []) a
+fewer-last most [] b a fewer last = (last, tt)
+fewer-last most (c ∷ bytes) b a fewer last = (fewer.0, fewer-last most bytes b (only_kept (with_argument_byte a c)) fewer.1 last)
+
 -- none was taken yet
-pub TakesFront-none : (bytes : List ℕ) (k : KeptArguments) → TakesFront bytes 0 k k
-TakesFront-none bytes k = record { few = omega arith; plain = tt; taken = refl }
+pub TakesFront-none : (most : Option ℕ) (bytes : List ℕ) (k : KeptArguments) → TakesFront most bytes 0 k k
+TakesFront-none most bytes k = record { few = omega arith; plain = tt; fewer = tt; taken = refl }
 
 -- there is room for one more, where there was for all
-pub room-more : (bytes : List ℕ) (count : ℕ) (old now : KeptArguments) (b : ℕ) → TakesFront bytes count old now → count < length bytes
+pub room-more : (most : Option ℕ) (bytes : List ℕ) (count : ℕ) (old now : KeptArguments) (b : ℕ) → TakesFront most bytes count old now → count < length bytes
     → held old.arguments + length bytes ≤ old.room → length (take count bytes) ≡ count → held (with_argument_byte now.arguments b) ≤ now.room
-room-more bytes count old now b takes inside room counted =
+room-more most bytes count old now b takes inside room counted =
     let few : held now.arguments ≤ held old.arguments + length (take count bytes) =
     subst (λ (k : KeptArguments). held k.arguments ≤ held old.arguments + length (take count bytes)) (sym takes.taken) (held-bytes_held (take count bytes) old.arguments) in
     let same : now.room ≡ old.room = ap (λ (k : KeptArguments). k.room) takes.taken in
     omega (arith, few, same, room, inside, counted, held-with_argument_byte now.arguments b, one_at_most (is_held now.arguments.place b))
 
 -- one more was taken
-pub TakesFront-more : (bytes : List ℕ) (count : ℕ) (old now new : KeptArguments) → TakesFront bytes count old now → count < length bytes
-    → is_argument_byte (get_or bytes count 0) ≡ true → new ≡ keeping now (with_argument_byte now.arguments (get_or bytes count 0))
-    → TakesFront bytes (count + 1) old new
-TakesFront-more bytes count old now new takes inside is taken =
+pub TakesFront-more : (most : Option ℕ) (bytes : List ℕ) (count : ℕ) (old now new : KeptArguments) → TakesFront most bytes count old now → count < length bytes
+    → is_argument_byte (get_or bytes count 0) ≡ true → AreFewer most now.arguments → new ≡ keeping now (with_argument_byte now.arguments (get_or bytes count 0))
+    → TakesFront most bytes (count + 1) old new
+TakesFront-more most bytes count old now new takes inside is are_fewer taken =
     let b : ℕ = get_or bytes count 0 in
     let front : List ℕ = take count bytes in
     let next : count + 1 ≡ suc count = omega arith in
@@ -71,6 +76,9 @@ TakesFront-more bytes count old now new takes inside is taken =
     record {
       few = omega (arith, inside);
       plain = subst (λ (xs : List ℕ). AllByRecursion (λ c. is_argument_byte c ≡ true) xs) (sym more) (all-last (λ c. is_argument_byte c ≡ true) front b takes.plain is);
+      fewer =
+          subst (λ (xs : List ℕ). HeldFewer most xs old.arguments) (sym more)
+          (fewer-last most front b old.arguments takes.fewer (subst (λ (k : KeptArguments). AreFewer most k.arguments) takes.taken are_fewer));
       taken =
           taken
           ∙ ap (λ (k : KeptArguments). keeping k (with_argument_byte k.arguments b)) takes.taken
@@ -169,20 +177,27 @@ module _ {E : Type 0} where
     held_no_newline plain = subst NoNewline first_in_front (all_no_newline (take count front) plain)
 
     -- and they were held, and taken
-    pub holds_front : (old new : Tape → Type 0) (after : Unread E) → AllByRecursion (λ b. is_argument_byte b ≡ true) (take count front)
-        → PassesFront old new (front_bytes count ready u) (with_these (bytes_held (take count front) u.input.arguments) u) after → HoldsFront old new u after
-    holds_front old new after plain passed =
+    pub holds_front : (most : Option ℕ) (old new : Tape → Type 0) (after : Unread E) → AllByRecursion (λ b. is_argument_byte b ≡ true) (take count front)
+        → HeldFewer most (take count front) u.input.arguments
+        → PassesFront old new (front_bytes count ready u) (with_these (bytes_held (take count front) u.input.arguments) u) after → HoldsFewer most old new u after
+    holds_front most old new after plain fewer passed =
         let bytes : List ℕ = take count front in
         let a : Arguments = bytes_held bytes u.input.arguments in
         let passes : PassesFront old new bytes (with_these a u) after =
         subst (λ (xs : List ℕ). PassesFront old new xs (with_these a u) after) (sym first_in_front) passed in
         record {
-          bytes = bytes;
-          plain = plain;
-          passes = passes-arguments old new bytes a u after passes;
-          arguments = arguments-behind old new bytes a u after passes;
+          held = record {
+            bytes = bytes;
+            plain = plain;
+            passes = passes-arguments old new bytes a u after passes;
+            arguments = arguments-behind old new bytes a u after passes;
+          };
+          fewer = fewer;
         }
 
   -- where none are in front, none are held
-  pub holds_none : (gives : Tape → Type 0) (u : Unread E) → u.input.charge ≤ u.limits.bytes → HoldsFront gives gives u u
-  holds_none gives u within = record { bytes = []; plain = tt; passes = passes_none [] u gives 0 refl within; arguments = refl }
+  pub holds_none : (most : Option ℕ) (gives : Tape → Type 0) (u : Unread E) → u.input.charge ≤ u.limits.bytes → HoldsFewer most gives gives u u
+  holds_none most gives u within = record {
+    held = record { bytes = []; plain = tt; passes = passes_none [] u gives 0 refl within; arguments = refl };
+    fewer = tt;
+  }

@@ -1,13 +1,18 @@
 -- How many things may be half read within each other.
-use Rattle.std.proofs.Common.{◌≡◌, ℕ, ◌+◌, ◌*◌, ◌<◌, ◌≤◌, Bool, true, false, ◌&&◌, not, List, [], ◌∷◌, length, Option, refl, ap, arith, rules}
+use Rattle.std.proofs.Common.{◌≡◌, ℕ, ◌+◌, ◌*◌, ◌<◌, ◌≤◌, Bool, true, false, ◌&&◌, not, List, [], ◌∷◌, drop, length, Option, refl, sym, ap, subst, ◌∙◌, arith, rules}
 use Rattle.std.specs.Prelude.{pos, nat_le, if◌then◌else◌}
-use Rattle.std.proofs.lemmas.Bool.{leb-false}
+use Rattle.std.proofs.lemmas.Bool.{leb-false, lt-leb}
 use Rattle.roff_scan.specs.Half.{Half, Backslash, Comment, Name, Size, Delimited, Width, Condition, names_in, text_held, widths_in}
+use Rattle.roff_scan.specs.HalfTexts.{IsOnTop}
 use Rattle.roff_scan.specs.Halves.{most_names, most_widths, surroundings, reads_text, reads_widths}
 use Rattle.roff_scan.specs.Nesting.{IsNested, is_nested, is_nothing, is_open, may_stand}
 use Rattle.roff_scan.proofs.HalfTexts.{with_delimiter, with_part}
+use Rattle.roff_scan.specs.declared.escapes.NameUse.{NameUse}
 use Rattle.roff_scan.specs.declared.half.ConditionPart.{ConditionPart}
 use Rattle.roff_scan.specs.declared.half.CopyUnit.{CopyUnit}
+use Rattle.roff_scan.specs.declared.half.HalfRead.TheVariants.{Backslash as BackslashRead}
+use Rattle.roff_scan.specs.declared.half.HalfRead.{HalfRead}
+use Rattle.roff_scan.specs.declared.half.NamePart.{NamePart}
 use Rattle.roff_scan.specs.declared.half.Surroundings.{Surroundings}
 use Rattle.roff_scan.specs.declared.half.Surroundings.TheVariants.{Text as InText, Arguments as InArguments, Copy as InCopy}
 
@@ -169,6 +174,32 @@ length-spare (Condition part text ∷ rest) nested = omega (arith, ap length (no
 pub length-nested : (half : List Half) → IsNested half → length half ≤ 28
 length-nested half nested =
     omega (arith, length-spare half nested, spare-few half, names-nested half nested, widths-nested half nested)
+
+-- of these no more are names
+names_in-length : (half : List Half) → names_in half ≤ length half
+names_in-length [] = omega arith
+names_in-length (Backslash ∷ rest) = omega (arith, names_in-length rest)
+names_in-length (Comment ∷ rest) = omega (arith, names_in-length rest)
+names_in-length (Name purpose part ∷ rest) = omega (arith, names_in-length rest)
+names_in-length (Size part ∷ rest) = omega (arith, names_in-length rest)
+names_in-length (Delimited purpose delimiter text ∷ rest) = omega (arith, names_in-length rest)
+names_in-length (Width delimiter width is_deep ∷ rest) = omega (arith, names_in-length rest)
+names_in-length (Condition part text ∷ rest) = omega (arith, names_in-length rest)
+
+-- below the top of a few there are fewer names than may be
+pub names-below : (item : HalfRead) (half : List Half) (top : IsOnTop item half) → length half ≤ 8 → names_in top.rest < 8
+names-below item half top few = omega (arith, names_in-length top.rest, ap length top.same, few)
+
+-- so a name may stand where a backslash stands
+pub IsNested-named : (purpose : NameUse) (part : NamePart) (half : List Half) → IsNested half → (top : IsOnTop BackslashRead half) → names_in top.rest < 8
+    → IsNested (Name purpose part ∷ drop 1 half)
+IsNested-named purpose part half nested top few =
+    let rest : List Half = top.rest in
+    let within : IsNested (Backslash ∷ rest) = subst IsNested top.same nested in
+    subst (λ (h : List Half). IsNested (Name purpose part ∷ drop 1 h)) (sym top.same)
+    (ap (λ (c : Bool). c && not (nat_le most_names (names_in rest)) && is_nested rest) (open-rest Backslash rest within)
+    ∙ ap (λ (c : Bool). not c && is_nested rest) (lt-leb most_names (names_in rest) few)
+    ∙ IsNested-rest Backslash rest within)
 
 -- a unit more of a text
 pub IsNested-text_held : (unit : CopyUnit) (half : List Half) → IsNested half → IsNested (text_held unit half)

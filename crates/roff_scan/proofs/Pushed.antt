@@ -4,19 +4,20 @@ use Rattle.std.specs.Prelude.{Option, AllPairs, set, sum_by, ◌==◌, if◌then
 use Rattle.std.proofs.lemmas.Bool.Decides.{nat_tests}
 use Rattle.std.proofs.lemmas.List.{get_or_append_left, get_or_push, get_or-set_same, get_or-set_other}
 use Rattle.std.proofs.lemmas.List.Sums.{sum_by-cons, sum_by-set, sum_by_push}
-use Rattle.roff_scan.specs.Input.{Ahead, ByteAhead, DoAhead, bytes_ahead, events_ahead}
+use Rattle.roff_scan.specs.Input.{Ahead, ByteAhead, DoAhead, bytes_ahead, ends_ahead, events_ahead}
 use Rattle.roff_scan.specs.Frames.Bodies.{leases_in, with_bodies}
 use Rattle.roff_scan.specs.Frames.Calls.{PutsBytes}
 use Rattle.roff_scan.specs.Frames.Kept.{Gives, IsSound, is_end_next, kept_by}
 use Rattle.roff_scan.specs.declared.frames.Frame.{Frame}
 use Rattle.roff_scan.specs.declared.frames.Frame.TheVariants.{Body}
 use Rattle.roff_scan.specs.declared.frames.Frames.TheInside.{Inside}
-use Rattle.roff_scan.proofs.Bodies.{bodies-fewer, bytes-with_bodies, ends-with_bodies, events-with_bodies}
+use Rattle.roff_scan.proofs.Bodies.{bodies-few, bodies-fewer, bytes-with_bodies, ends-with_bodies, events-with_bodies}
 use Rattle.roff_scan.proofs.Counts.{bytes_ahead-bytes, ends_ahead-bytes, events_ahead-bytes, frees_ahead-bytes}
 use Rattle.roff_scan.proofs.Leased.{with_bodies-same}
 use Rattle.roff_store.proofs.LyingSums.{sum_by-same}
 use Rattle.roff_store.specs.declared.text.LeaseId.{LeaseId}
-use Rattle.roff_store.specs.Texts.{IsFree, Texts, body_of, kept, lease_bytes, lease_of, live, rest_of}
+use Rattle.roff_store.specs.Texts.{Entry, Body as BodyOf, Request as RequestOf}
+use Rattle.roff_store.specs.Texts.{IsFree, Texts, body_if_any, body_of, is_body, kept, lease_bytes, lease_of, live, rest_of}
 use Rattle.roff_store.specs.TextCalls.{Lease, after}
 
 module _ {X : Type 0} (leases : List (Option X)) (id : ℕ) (known : id ≤ length leases) (free : get_or leases id None ≡ None)
@@ -47,6 +48,31 @@ inside-giving : (leases : List (Option (List ℕ))) (id : ℕ) → 0 < rest_of (
 inside-giving [] id gives = absurd (omega (arith, gives))
 inside-giving (lease ∷ leases) zero gives = omega arith
 inside-giving (lease ∷ leases) (suc id) gives = let n = inside-giving leases id gives in omega arith
+
+module _ {E : Type 0} (a : Inside E) (sound : IsSound a) where
+  -- where one more end has room, one more body may be leased
+  pub room-for-one : ends_ahead (kept_by a).ahead < a.slots.most_texts → live a.texts < a.texts.cap_leases
+  room-for-one few =
+      omega (
+        arith,
+        few,
+        ends-with_bodies a.texts a.slots.ahead,
+        bodies-few a.slots.ahead sound.ended,
+        sound.live,
+        sound.cap_leases,
+      )
+
+  -- of so many bytes, where these have room
+  pub room-for-most : (most : ℕ) → most + bytes_ahead (kept_by a).ahead ≤ a.slots.most_bytes
+      → kept a.texts + most ≤ a.texts.cap_kept
+  room-for-most most fits = omega (arith, fits, bytes-with_bodies a.texts a.slots.ahead, sound.sum, sound.cap_kept)
+
+-- a name without a body, or with one of no bytes, reads as an empty one
+pub body-empty : (entry : Option Entry) → (is_body entry ≡ true → length (body_if_any entry) < 1) → body_if_any entry ≡ []
+body-empty None few = refl
+body-empty (Some (BodyOf [])) few = refl
+body-empty (Some (BodyOf (b ∷ bytes))) few = absurd (omega (arith, few refl))
+body-empty (Some (RequestOf number)) few = refl
 
 module _ {E : Type 0} (a : Inside E) (sound : IsSound a) (name : List ℕ) (ended : is_end_next a.slots.ahead ≡ true)
     (fits : length (body_of name a.texts) + bytes_ahead (kept_by a).ahead ≤ a.slots.most_bytes) where

@@ -1,5 +1,5 @@
 -- The arguments of a control line (manual, section 7.3).
-use Rattle.std.specs.Prelude.{◌≡◌, ℕ, ◌+◌, ◌<◌, Bool, true, false, not, ◌||◌, List, [], ◌∷◌, ◌++◌, length, reverse, take, drop, filter, slice_get, if◌then◌else◌, ◌==◌}
+use Rattle.std.specs.Prelude.{◌≡◌, ℕ, ◌+◌, ◌<◌, Bool, true, false, not, ◌||◌, List, [], ◌∷◌, ◌++◌, length, reverse, take, drop, filter, slice_get, if◌then◌else◌, ◌==◌, Option, None, Some, ⊤}
 use Rattle.roff_scan.specs.Bytes.{blank, quote, backslash, newline, is_dropped}
 use Rattle.roff_scan.specs.declared.arguments.Place.{Place}
 use Rattle.roff_scan.specs.declared.arguments.Place.TheVariants.{Between, InPlain, InQuotes, BehindQuote}
@@ -131,6 +131,16 @@ is_argument_byte b = not (b == backslash || (is_dropped b || b == newline))
 abbrev pub bytes_held : List ℕ → Arguments → Arguments
 bytes_held [] a = a
 bytes_held (b ∷ bytes) a = bytes_held bytes (only_kept (with_argument_byte a b))
+
+-- fewer than so many arguments are whole, or any number of them where there is no bound
+abbrev pub AreFewer : Option ℕ → Arguments → Type 0
+AreFewer None a = ⊤
+AreFewer (Some most) a = length a.whole < most
+
+-- that is so before each of these bytes is held
+abbrev pub HeldFewer : Option ℕ → List ℕ → Arguments → Type 0
+HeldFewer most [] a = ⊤
+HeldFewer most (b ∷ bytes) a = AreFewer most a × HeldFewer most bytes (only_kept (with_argument_byte a b))
 
 -- those that are kept by place are at their places
 abbrev pub FirstArgumentsAreKept : Type 0

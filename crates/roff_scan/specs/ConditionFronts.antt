@@ -2,13 +2,11 @@
 -- sections 7.2 and 16).
 use Rattle.std.specs.Prelude.{◌≡◌, ℕ, ◌+◌, ◌≤◌, Bool, true, false, ◌&&◌, ◌||◌, not, List, [], ◌∷◌, length, take, Some, ◌==◌}
 use Rattle.roff_scan.specs.Arguments.{is_argument_byte}
-use Rattle.roff_scan.specs.Bytes.{backslash, blank, is_digit, is_dropped, newline, tab}
-use Rattle.roff_scan.specs.Half.{Half, Backslash, Condition, Name, text_held, texts_held}
-use Rattle.roff_scan.specs.HalfFronts.{ReadsOn, begins_name, is_in_front}
+use Rattle.roff_scan.specs.Bytes.{blank, is_dropped, newline, tab}
+use Rattle.roff_scan.specs.Half.{Half, text_held, texts_held}
+use Rattle.roff_scan.specs.HalfFronts.{ReadsOn}
 use Rattle.roff_scan.specs.HalfTexts.{KeptHalves}
 use Rattle.roff_scan.specs.Halves.{byte_read, seen_stays}
-use Rattle.roff_scan.specs.declared.half.ConditionPart.{ConditionPart}
-use Rattle.roff_scan.specs.declared.half.ConditionPart.TheVariants.{Choice, Expression}
 use Rattle.roff_scan.specs.declared.half.CopyUnit.TheVariants.{Byte}
 use Rattle.roff_scan.specs.declared.half.Read.TheVariants.{Holds}
 use Rattle.roff_scan.specs.declared.half.Surroundings.{Surroundings}
@@ -16,44 +14,6 @@ use Rattle.roff_scan.specs.declared.half.Surroundings.{Surroundings}
 -- whether a byte is held where an expression is read: neither a backslash nor one that ends it or is dropped
 abbrev pub is_of_expression : ℕ → Bool
 is_of_expression b = is_argument_byte b && not (b == blank || b == tab)
-
--- whether a byte is one more of an expression, where so much of a condition is read
-abbrev pub is_more_of : ConditionPart → ℕ → Bool
-is_more_of (Expression negated) b = is_of_expression b
-is_more_of (_) b = false
-
--- whether a byte is held in the expression on top
-abbrev pub holds_more : List Half → ℕ → Bool
-holds_more (Condition part text ∷ rest) b = is_more_of part b
-holds_more (_) b = false
-
--- whether a byte begins an expression with a digit, where so much of a condition is read
-abbrev pub is_first_of : ConditionPart → ℕ → Bool
-is_first_of (Choice negated) b = is_digit b
-is_first_of (_) b = false
-
--- whether a byte is the first that is held in the condition on top
-abbrev pub holds_first : List Half → ℕ → Bool
-holds_first (Condition part text ∷ rest) b = is_first_of part b
-holds_first (_) b = false
-
--- whether a byte is passed over where so much of a condition is read, or is a backslash: a blank in front of what is asked
-abbrev pub is_read_of : ConditionPart → ℕ → Bool
-is_read_of (Choice negated) b = b == backslash || (b == blank && not negated)
-is_read_of (Expression negated) b = b == backslash
-is_read_of (_) b = false
-
--- whether a condition is on top
-abbrev pub is_condition : List Half → Bool
-is_condition (Condition part text ∷ rest) = true
-is_condition (_) = false
-
--- whether a byte changes only what is half read, in a condition or in the front of a name
-abbrev pub reads_next : List Half → ℕ → Bool
-reads_next (Condition part text ∷ rest) b = is_read_of part b
-reads_next (Backslash ∷ rest) b = is_condition rest && begins_name b
-reads_next (Name purpose part ∷ rest) b = is_in_front purpose part b
-reads_next (_) b = false
 
 -- A byte is held in the text on top of these, above whatever that stands: it isn't dropped, ends nothing, and is one of the
 -- text. One byte more is held behind it.

@@ -1,44 +1,19 @@
 -- Bytes that change only what is half read: the fronts of escapes that read a name (manual, sections 7.2, 8 and 10.1).
-use Rattle.std.specs.Prelude.{◌≡◌, ℕ, ◌≤◌, Bool, true, false, ◌&&◌, ◌||◌, List, [], ◌∷◌, length, take, Some, ◌==◌}
-use Rattle.roff_scan.specs.Arguments.{is_argument_byte}
-use Rattle.roff_scan.specs.Bytes.{backslash, is_dropped, newline}
-use Rattle.roff_scan.specs.Half.{Half, Backslash, Name, texts_held}
+use Rattle.std.specs.Prelude.{◌≡◌, ℕ, ◌≤◌, Bool, true, false, List, [], ◌∷◌, length, take, Some, ◌==◌}
+use Rattle.roff_scan.specs.Bytes.{is_dropped, newline}
+use Rattle.roff_scan.specs.Half.{Half, texts_held}
 use Rattle.roff_scan.specs.Halves.{byte_read, seen_stays}
 use Rattle.roff_scan.specs.HalfTexts.{KeptHalves}
 use Rattle.roff_scan.specs.declared.escapes.NameUse.{NameUse}
 use Rattle.roff_scan.specs.declared.escapes.NameUse.TheVariants.{Register, Text}
-use Rattle.roff_scan.specs.declared.half.NamePart.{NamePart}
-use Rattle.roff_scan.specs.declared.half.NamePart.TheVariants.{Nothing, Opened, First}
 use Rattle.roff_scan.specs.declared.half.Read.TheVariants.{GoesOn}
 use Rattle.roff_scan.specs.declared.half.Surroundings.{Surroundings}
-
--- whether nothing is half read
-abbrev pub is_none_half : List Half → Bool
-is_none_half [] = true
-is_none_half (half ∷ rest) = false
-
--- whether a byte behind a backslash begins a name that is read everywhere: of a register, a string or an argument
-abbrev pub begins_name : ℕ → Bool
-begins_name b = b == 110 || (b == 42 || b == 36)
 
 -- whether a parenthesis opens a name of two bytes: that of a register or a string
 abbrev pub may_open : NameUse → Bool
 may_open (Register step) = true
 may_open Text = true
 may_open (_) = false
-
--- whether a byte belongs to the front of a name of which so much is read: the parenthesis, or the first of two bytes
-abbrev pub is_in_front : NameUse → NamePart → ℕ → Bool
-is_in_front purpose Nothing b = may_open purpose && b == 40
-is_in_front purpose Opened b = is_argument_byte b
-is_in_front purpose (First a) b = false
-
--- whether a byte is in the front of an escape that reads a name, where this is half read
-abbrev pub reads_on : List Half → ℕ → Bool
-reads_on [] b = b == backslash
-reads_on (Backslash ∷ rest) b = is_none_half rest && begins_name b
-reads_on (Name purpose part ∷ rest) b = is_in_front purpose part b
-reads_on (_) b = false
 
 -- a byte changes only what is half read, above whatever that stands: it isn't dropped, ends nothing, and gives nothing yet
 pub record ReadsOn (half : List Half) (b : ℕ) (next : List Half) : Type 0 where
@@ -47,6 +22,12 @@ pub record ReadsOn (half : List Half) (b : ℕ) (next : List Half) : Type 0 wher
   pub stays : seen_stays half (Some b) ≡ false
   pub goes_on : (base : Surroundings) → byte_read base half b ≡ (GoesOn, next)
   pub held : texts_held next ≡ texts_held half
+
+-- a byte was read so, or nothing changed
+pub record ReadsByte (b : ℕ) (is_read : Bool) (old new : KeptHalves) : Type 0 where
+  pub read : is_read ≡ true → ReadsOn old.half b new.half
+  pub kept : is_read ≡ false → new ≡ old
+  pub room : new.room ≡ old.room
 
 -- bytes do so, one after another
 pub data HalvesRead : List Half → List ℕ → List Half → Type 0 where

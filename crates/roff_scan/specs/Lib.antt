@@ -16,6 +16,7 @@ pub mod HalfFronts
 pub mod ConditionFronts
 pub mod ArgumentList
 pub mod Quoting
+pub mod Waiting
 pub mod Input
 pub mod Calls
 pub mod Slots

@@ -1,9 +1,9 @@
 //! The arguments of a control line, held while they are read.
 
 ghost use Rattle.std.specs.Prelude.{◌≡◌, ℕ, ◌+◌, ◌<◌, ◌≤◌, ◌∷◌, ◌++◌, length, reverse, slice_get};
-ghost use Rattle.std.specs.Prelude.{IfOk, ◌==◌};
+ghost use Rattle.std.specs.Prelude.{IfOk, ◌==◌, true};
 ghost use Rattle.std.specs.Option.{option_copied};
-ghost use Rattle.roff_scan.specs.Arguments.{Arguments, no_arguments, with_unit, with_argument_byte};
+ghost use Rattle.roff_scan.specs.Arguments.{AreFewer, Arguments, no_arguments, with_unit, with_argument_byte};
 ghost use Rattle.roff_scan.specs.Arguments.{with_kept, with_plain, with_byte, with_whole, settled};
 ghost use Rattle.roff_scan.specs.Arguments.{finished, held, kept, in_argument, total_length};
 ghost use Rattle.roff_scan.specs.ArgumentTexts.Ends.{is_kept, last_end, EndWithin, EndWithin-prop};
@@ -147,11 +147,12 @@ impl ArgumentTexts {
         }
     }
 
-    /// Takes bytes of the line one after another, up to the first that isn't held as it is read.
-    /// Returns how many.
-    pub(crate) fn take_front(&mut self, bytes: &[u8]) -> usize
+    /// Takes bytes of the line one after another, up to the first that isn't held as it is read, and
+    /// where there is a bound as long as fewer arguments than that are whole. Returns how many.
+    #[inline(always)]
+    pub(crate) fn take_front(&mut self, bytes: &[u8], most: Option<usize>) -> usize
         requires { held self.old.arguments + length bytes.now ≤ self.old.room }
-        ensures { TakesFront bytes.now result self.old self.new }
+        ensures { TakesFront most bytes.now result self.old self.new }
     {
         let mut count = 0;
         while count < bytes.len() {
@@ -159,10 +160,24 @@ impl ArgumentTexts {
             if !is_argument_byte(byte) {
                 return count;
             }
+            if !self.are_fewer(most) {
+                return count;
+            }
             self.take_byte(byte);
             count += 1;
         }
         count
+    }
+
+    /// Whether fewer than so many arguments are whole, where there is a bound.
+    #[inline(always)]
+    fn are_fewer(&self, most: Option<usize>) -> bool
+        ensures { result ≡ true → AreFewer most self.now.arguments }
+    {
+        match most {
+            None => true,
+            Some(most) => self.list().len() < most,
+        }
     }
 
     /// One unit more of a text in which nothing separates or quotes.

@@ -13,6 +13,7 @@ ghost use Rattle.roff_scan.specs.Frames.Bodies.{with_bodies};
 ghost use Rattle.roff_scan.specs.Frames.Calls.{PutsBytes};
 ghost use Rattle.roff_scan.specs.Bytes.{is_passed, newline};
 ghost use Rattle.roff_scan.specs.Frames.Kept.{is_end_next, IsSound};
+ghost use Rattle.roff_scan.specs.Waiting.{WaitsFor};
 ghost use Rattle.roff_scan.specs.declared.frames.Frame.TheVariants.{Body};
 ghost use Rattle.roff_store.specs.Named.{entry_of};
 ghost use Rattle.roff_store.specs.Texts.{body_of, entry_given, kind_given, kind_of, newest, used};
@@ -22,7 +23,7 @@ use crate::halves::Halves;
 use crate::slots::{Front, Slots};
 use crate::unread::{Item, Sight};
 use roff_num::{Limit, Limits, Name};
-use roff_store::{Entry, Kind, LeaseId, OpenId, TextStore};
+use roff_store::{Entry, Kind, LeaseId, Leased, OpenId, TextStore};
 use std::alloc::{AllocError, Global};
 use std::marker::Model;
 
@@ -66,7 +67,8 @@ impl<E> Model for Frames<E> {
 
 impl<E: Copy> Frames<E> {
     ghost use Rattle.roff_scan.specs.Unread.{shown, sighted, seen_ahead, no_texts};
-    ghost use Rattle.roff_scan.specs.Frames.Calls.{GivesByte, GivesFront, PassesFront, TakesFront};
+    ghost use Rattle.roff_scan.specs.Frames.Calls.{GivesByte, GivesFront, PassesFront, PutsWithin};
+    ghost use Rattle.roff_scan.specs.Frames.Calls.{TakesFront};
     ghost use Rattle.roff_scan.specs.Half.{texts_held};
     ghost use Rattle.roff_store.specs.TextCalls.{DropOpen, Enter, Open, PushOpen, Remove, Rename};
     ghost use Rattle.roff_store.specs.TextCalls.{Set, after, answered};
@@ -141,19 +143,70 @@ impl<E: Copy> Frames<E> {
         body_len(&self.texts, name)
     }
 
-    /// Puts the body of a name, which has so many bytes, and its end in front; it is read where it
-    /// lies.
-    pub(crate) fn push_body(&mut self, name: &Name, len: usize)
-        requires len { len ≡ length (body_of name.now self.old.texts) }
-        requires bytes { length (body_of name.now self.old.texts) + bytes_ahead self.old.ahead
-            ≤ self.old.most_bytes }
+    /// Puts the body of a name, if it has so many bytes at the most, and its end in front; it is
+    /// read where it lies. Returns whether it did.
+    pub(crate) fn push_body(&mut self, name: &Name, most: usize) -> bool
+        requires bytes { most + bytes_ahead self.old.ahead ≤ self.old.most_bytes }
         requires ends { ends_ahead self.old.ahead < self.old.most_texts }
-        ensures { self.new ≡ record self.old {
-          ahead = map ByteAhead (body_of name.now self.old.texts) ++ EndAhead ∷ self.old.ahead;
-        } }
+        ensures { PutsWithin self.old self.new (body_of name.now self.old.texts) EndAhead most
+            result }
     {
-        self.slots.push(&[]);
-        put_body(&mut self.slots, &mut self.texts, name, len);
+        match self.texts.lease_within(name, 1, most) {
+            Leased::Body(lease, _) => {
+                self.slots.push_end();
+                self.slots.put_back(Frame::Body(lease));
+                true
+            }
+            Leased::Nothing => {
+                self.slots.push_end();
+                true
+            }
+            Leased::Long => false,
+        }
+    }
+
+    /// Puts the body of a name as a line calls it in front, if it then has so many bytes at the
+    /// most, and the end of the call; it is read where it lies. Returns whether it did.
+    pub(crate) fn call(&mut self, name: &Name, most: usize) -> bool
+        requires bytes { most + bytes_ahead self.old.ahead ≤ self.old.most_bytes }
+        requires ends { ends_ahead self.old.ahead < self.old.most_texts }
+        ensures { PutsWithin self.old self.new (called_text (body_of name.now self.old.texts))
+            ReturnAhead most result }
+    {
+        // There is room for a newline behind it, whether it lacks one or not.
+        match self.texts.lease_within(name, 1, most.saturating_sub(1)) {
+            Leased::Body(lease, last) => {
+                self.slots.push_return();
+                if lacks_newline(last) {
+                    self.slots.push_byte(b'\n');
+                    self.slots.put_back(Frame::Body(lease));
+                    return true;
+                }
+                self.slots.put_back(Frame::Body(lease));
+                true
+            }
+            Leased::Nothing => {
+                self.slots.push_return();
+                true
+            }
+            Leased::Long => self.call_long(name, most),
+        }
+    }
+
+    /// The same, where no byte may be left.
+    #[inline(never)]
+    fn call_long(&mut self, name: &Name, most: usize) -> bool
+        requires bytes { most + bytes_ahead self.old.ahead ≤ self.old.most_bytes }
+        requires ends { ends_ahead self.old.ahead < self.old.most_texts }
+        ensures { PutsWithin self.old self.new (called_text (body_of name.now self.old.texts))
+            ReturnAhead most result }
+    {
+        let called = self.called(name);
+        if called.len > most {
+            return false;
+        }
+        self.push_call(name, called);
+        true
     }
 
     /// How a line calls the body of a name.
@@ -179,7 +232,7 @@ impl<E: Copy> Frames<E> {
 
     /// Puts the body of a name that a line calls so in front, and the end of the call; it is read
     /// where it lies.
-    pub(crate) fn push_call(&mut self, name: &Name, called: Called)
+    fn push_call(&mut self, name: &Name, called: Called)
         requires len { called.len ≡ length (called_text (body_of name.now self.old.texts)) }
         requires lacks { called.lacks_newline ≡ lacks_newline (body_of name.now self.old.texts) }
         requires bytes { length (called_text (body_of name.now self.old.texts))
@@ -277,6 +330,41 @@ impl<E: Copy> Frames<E> {
                     return None;
                 }
                 let byte = self.texts.lease_front(lease)[0];
+                self.texts.lease_pass(lease, 1);
+                Some(byte)
+            }
+            Some(Front::Do(Frame::Event(_))) => None,
+            Some(Front::Free(_)) => None,
+            Some(Front::End) => None,
+            Some(Front::Return) => None,
+            None => None,
+        }
+    }
+
+    /// The same, if what is half read waits for the byte.
+    #[inline(always)]
+    pub(crate) fn take_waiting(&mut self, half: &Halves) -> Option<u8>
+        ensures taken { IfSome result (λ b.
+            self.old ≡ record self.new { ahead = ByteAhead b ∷ self.new.ahead }) }
+        ensures waits { IfSome result (λ b. WaitsFor half.now.half b) }
+        ensures kept { result ≡ None → self.new ≡ self.old }
+    {
+        match self.slots.front() {
+            Some(Front::Byte(byte)) => {
+                if !half.waits_for(byte) {
+                    return None;
+                }
+                self.slots.take();
+                Some(byte)
+            }
+            Some(Front::Do(Frame::Body(lease))) => {
+                if self.texts.lease_rest(lease) < 2 {
+                    return None;
+                }
+                let byte = self.texts.lease_front(lease)[0];
+                if !half.waits_for(byte) {
+                    return None;
+                }
                 self.texts.lease_pass(lease, 1);
                 Some(byte)
             }

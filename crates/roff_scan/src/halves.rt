@@ -2,16 +2,13 @@
 //! behind escapes.
 
 ghost use Rattle.std.specs.Prelude.{◌≡◌, ◌≤◌, ◌<◌, ◌+◌, ◌==◌, ℕ, true, false, List, Option};
-ghost use Rattle.std.specs.Prelude.{Some, None, [], ◌∷◌, drop, length, IfOk, MatchOption, pos};
-ghost use Rattle.roff_scan.specs.ConditionFronts.{TakesByte, TakesFront, holds_first, holds_more};
-ghost use Rattle.roff_scan.specs.ConditionFronts.{is_condition, is_first_of, is_more_of};
-ghost use Rattle.roff_scan.specs.ConditionFronts.{is_of_expression, is_read_of, reads_next};
+ghost use Rattle.std.specs.Prelude.{Some, None, [], ◌∷◌, drop, length, IfOk, IfSome, MatchOption, pos};
+ghost use Rattle.roff_scan.specs.ConditionFronts.{TakesByte, TakesFront, is_of_expression};
 ghost use Rattle.roff_scan.specs.Half.{Half, Backslash as BackslashHalf};
 ghost use Rattle.roff_scan.specs.Half.{Delimited as DelimitedHalf, Name as NameHalf};
 ghost use Rattle.roff_scan.specs.Half.{Size as SizeHalf, Condition as ConditionHalf, names_in};
 ghost use Rattle.roff_scan.specs.Half.{text_held, texts_held, widths_in};
-ghost use Rattle.roff_scan.specs.HalfFronts.{ReadsFront, begins_name, is_in_front, is_none_half};
-ghost use Rattle.roff_scan.specs.HalfFronts.{may_open, reads_on};
+ghost use Rattle.roff_scan.specs.HalfFronts.{ReadsByte, ReadsFront, ReadsOn, may_open};
 ghost use Rattle.roff_scan.specs.HalfTexts.{BeginsBehind, IsOnTop, begun, holds_text, leaving};
 ghost use Rattle.roff_scan.specs.HalfTexts.{names_among, text_on_top, widths_among, IsSound};
 ghost use Rattle.roff_scan.specs.HalfTexts.{KeptHalves, kept_by};
@@ -27,6 +24,7 @@ ghost use Rattle.roff_scan.specs.Conditions.{byte_of_condition, byte_or_backslas
 ghost use Rattle.roff_scan.specs.Conditions.{condition_ended, delimiter_met, expression_over};
 ghost use Rattle.roff_scan.specs.Conditions.{to_decide, texts_compared, unit_of_condition};
 ghost use Rattle.roff_scan.specs.Nesting.{IsNested};
+ghost use Rattle.roff_scan.specs.Waiting.{WaitsFor};
 ghost use Rattle.roff_scan.specs.declared.escapes.NameUse.{NameUse as UseOf};
 ghost use Rattle.roff_scan.specs.declared.escapes.TextUse.{TextUse as PurposeOf};
 ghost use Rattle.roff_scan.specs.declared.half.ConditionPart.{ConditionPart as PartOf};
@@ -99,6 +97,7 @@ impl Halves {
     }
 
     /// Whether a condition decides, before anything is taken or seen.
+    #[inline(always)]
     pub(crate) fn decides_now(&self) -> bool
         ensures { result ≡ decides_now self.now.half }
     {
@@ -110,6 +109,7 @@ impl Halves {
 
     /// Whether the reading on top looks at what stands in front before it is taken: a newline stays
     /// then, and ends most.
+    #[inline(always)]
     pub(crate) fn newline_stays(&self) -> bool
         ensures { result ≡ newline_stays self.now.half }
     {
@@ -136,7 +136,23 @@ impl Halves {
         }
     }
 
+    /// Whether what is half read waits for a byte, and goes on or is whole behind it: it doesn't decide
+    /// first, and the byte doesn't stay. It isn't said of a backslash.
+    #[inline(always)]
+    pub(crate) fn waits_for(&self, byte: u8) -> bool
+        ensures { result ≡ true → WaitsFor self.now.half byte }
+    {
+        match self.top() {
+            None => false,
+            Some(HalfRead::Backslash) => false,
+            Some(HalfRead::Size(part)) => is_of_size(part, byte),
+            Some(HalfRead::Condition(part, _)) => !ends_condition(part, Some(byte)),
+            Some(_) => byte != b'\n',
+        }
+    }
+
     /// Whether the backslash on top is taken alone where its escape would be kept.
+    #[inline(always)]
     fn takes_backslash_alone(&self) -> bool
         ensures { result ≡ takes_backslash_alone (drop 1 self.now.half) }
     {
@@ -154,6 +170,7 @@ impl Halves {
     }
 
     /// How many bytes more would be held behind a unit of the text that is being read.
+    #[inline(always)]
     pub(crate) fn bytes_more(&self, unit: CopyUnit) -> usize
         ensures { texts_held (text_held unit self.now.half) ≡ texts_held self.now.half + result }
     {
@@ -167,6 +184,7 @@ impl Halves {
     }
 
     /// Holds one unit more of the text that is being read.
+    #[inline(always)]
     pub(crate) fn hold(&mut self, unit: CopyUnit)
         requires { texts_held (text_held unit self.old.half) ≤ self.old.room }
         ensures { self.new ≡ record self.old { half = text_held unit self.old.half } }
@@ -183,28 +201,6 @@ impl Halves {
         }
     }
 
-    /// Whether a byte is in the front of an escape that reads a name, behind what is half read.
-    fn reads_on(&self, byte: u8) -> bool
-        ensures { result ≡ reads_on self.now.half byte }
-    {
-        match self.top() {
-            None => byte == b'\\',
-            Some(HalfRead::Backslash) => self.is_alone() && begins_name(byte),
-            Some(HalfRead::Name(purpose, part)) => is_in_front(purpose, part, byte),
-            Some(_) => false,
-        }
-    }
-
-    /// Whether nothing is half read below the top.
-    fn is_alone(&self) -> bool
-        ensures { result ≡ is_none_half (drop 1 self.now.half) }
-    {
-        match self.below() {
-            None => true,
-            Some(_) => false,
-        }
-    }
-
     /// Reads bytes one after another, as long as they are in the front of an escape that reads a
     /// name. Returns how many.
     pub(crate) fn read_front(&mut self, bytes: &[u8]) -> usize
@@ -212,14 +208,80 @@ impl Halves {
     {
         let mut count = 0;
         while count < bytes.len() {
-            let byte = bytes[count];
-            if !self.reads_on(byte) {
+            if !self.read_on(bytes[count]) {
                 return count;
             }
-            let _ = self.read_byte(Surroundings::Arguments, byte);
             count += 1;
         }
         count
+    }
+
+    /// The same of one byte. Returns whether it was read.
+    #[inline(always)]
+    fn read_on(&mut self, byte: u8) -> bool
+        ensures { ReadsByte byte result self.old self.new }
+    {
+        match self.top() {
+            None => self.begin_escape(byte),
+            Some(HalfRead::Backslash) => self.name_escape(byte),
+            Some(HalfRead::Name(purpose, part)) => self.read_on_in_name(purpose, part, byte),
+            Some(_) => false,
+        }
+    }
+
+    /// The same where a backslash begins an escape, and nothing else is read.
+    #[inline(always)]
+    fn begin_escape(&mut self, byte: u8) -> bool
+        requires nested { IsNested (BackslashHalf ∷ self.old.half) }
+        requires reads { ReadsOn self.old.half 92 (BackslashHalf ∷ self.old.half) }
+        ensures { ReadsByte byte result self.old self.new }
+    {
+        if byte != b'\\' {
+            return false;
+        }
+        self.push(HalfRead::Backslash);
+        true
+    }
+
+    /// The same behind a backslash.
+    #[inline(always)]
+    fn name_escape(&mut self, byte: u8) -> bool
+        requires nested { IsNested self.old.half }
+        requires on_top { IsOnTop HalfRead.Backslash self.old.half }
+        ensures { ReadsByte byte result self.old self.new }
+    {
+        if !self.is_shallow() {
+            return false;
+        }
+        let Some(purpose) = use_of_name(byte) else {
+            return false;
+        };
+        self.pop();
+        self.push(HalfRead::Name(purpose, NamePart::Nothing));
+        true
+    }
+
+    /// Whether a name may be read below the top: there are fewer things than there may be names.
+    #[inline(always)]
+    fn is_shallow(&self) -> bool
+        ensures { result ≡ true → length self.now.half ≤ 8 }
+    {
+        self.items.len() <= MOST_NAMES
+    }
+
+    /// The same in a name of which so much is read.
+    #[inline(always)]
+    fn read_on_in_name(&mut self, purpose: NameUse, part: NamePart, byte: u8) -> bool
+        requires nested { IsNested self.old.half }
+        requires on_top { IsOnTop (HalfRead.Name purpose part) self.old.half }
+        ensures { ReadsByte byte result self.old self.new }
+    {
+        let Some(more) = front_behind(purpose, part, byte) else {
+            return false;
+        };
+        self.pop();
+        self.push(HalfRead::Name(purpose, more));
+        true
     }
 
     /// Takes bytes one after another where a condition is half read: those that its expression
@@ -244,67 +306,71 @@ impl Halves {
         requires { texts_held self.old.half < self.old.room }
         ensures { TakesByte byte result self.old self.new }
     {
-        if self.holds_more(byte) {
-            self.hold(CopyUnit::Byte(byte));
-            return true;
+        match self.top() {
+            None => false,
+            Some(HalfRead::Condition(part, begin)) => {
+                self.take_on_in_condition(part, begin, byte)
+            }
+            Some(HalfRead::Name(purpose, part)) => self.read_on_in_name(purpose, part, byte),
+            Some(HalfRead::Backslash) => self.name_escape(byte),
+            Some(_) => false,
         }
-        if self.holds_first(byte) {
-            let _ = self.read_byte(Surroundings::Arguments, byte);
-            self.hold(CopyUnit::Byte(byte));
-            return true;
-        }
-        if self.reads_next(byte) {
-            let _ = self.read_byte(Surroundings::Arguments, byte);
-            return true;
-        }
-        false
     }
 
-    /// Whether a byte is held in the expression on top.
+    /// The same in a condition of which so much is read.
     #[inline(always)]
-    fn holds_more(&self, byte: u8) -> bool
-        ensures { result ≡ holds_more self.now.half byte }
+    fn take_on_in_condition(&mut self, part: ConditionPart, begin: usize, byte: u8) -> bool
+        requires room { texts_held self.old.half < self.old.room }
+        requires nested { IsNested self.old.half }
+        requires on_top { IsOnTop (HalfRead.Condition part begin) self.old.half }
+        ensures { TakesByte byte result self.old self.new }
     {
-        match self.top() {
-            None => false,
-            Some(HalfRead::Condition(part, _)) => is_more_of(part, byte),
-            Some(_) => false,
+        match part {
+            ConditionPart::Expression { .. } => {
+                if !is_of_expression(byte) {
+                    return self.begin_escape(byte);
+                }
+                self.hold(CopyUnit::Byte(byte));
+                true
+            }
+            ConditionPart::Choice { negated } => self.take_first(negated, begin, byte),
+            ConditionPart::Compared { .. } => false,
+            ConditionPart::Decided { .. } => false,
         }
     }
 
-    /// Whether a byte is the first that is held in the condition on top.
-    fn holds_first(&self, byte: u8) -> bool
-        ensures { result ≡ holds_first self.now.half byte }
+    /// The same where nothing of the condition is read but blanks and a `!`: a digit begins an
+    /// expression.
+    fn take_first(&mut self, negated: bool, begin: usize, byte: u8) -> bool
+        requires room { texts_held self.old.half < self.old.room }
+        requires nested { IsNested self.old.half }
+        requires on_top { IsOnTop
+            (HalfRead.Condition (ConditionPart.Choice negated) begin) self.old.half }
+        ensures { TakesByte byte result self.old self.new }
     {
-        match self.top() {
-            None => false,
-            Some(HalfRead::Condition(part, _)) => is_first_of(part, byte),
-            Some(_) => false,
+        if !byte.is_ascii_digit() {
+            return self.pass_first(negated, begin, byte);
         }
+        let _ = self.turn(ConditionPart::Expression { negated });
+        self.hold(CopyUnit::Byte(byte));
+        true
     }
 
-    /// Whether a byte changes only what is half read, in a condition or in the front of a name.
-    fn reads_next(&self, byte: u8) -> bool
-        ensures { result ≡ reads_next self.now.half byte }
+    /// The same of a byte that is no digit: a blank in front of what is asked is passed over.
+    #[inline(always)]
+    fn pass_first(&mut self, negated: bool, begin: usize, byte: u8) -> bool
+        requires nested { IsNested self.old.half }
+        requires on_top { IsOnTop
+            (HalfRead.Condition (ConditionPart.Choice negated) begin) self.old.half }
+        ensures { ReadsByte byte result self.old self.new }
     {
-        match self.top() {
-            None => false,
-            Some(HalfRead::Condition(part, _)) => is_read_of(part, byte),
-            Some(HalfRead::Backslash) => self.is_on_condition() && begins_name(byte),
-            Some(HalfRead::Name(purpose, part)) => is_in_front(purpose, part, byte),
-            Some(_) => false,
+        if negated {
+            return self.begin_escape(byte);
         }
-    }
-
-    /// Whether a condition is below the top.
-    fn is_on_condition(&self) -> bool
-        ensures { result ≡ is_condition (drop 1 self.now.half) }
-    {
-        match self.below() {
-            None => false,
-            Some(HalfRead::Condition(..)) => true,
-            Some(_) => false,
+        if byte != b' ' {
+            return self.begin_escape(byte);
         }
+        true
     }
 
     /// Reads a byte that isn't dropped; above a text line, above arguments, or in copy mode.
@@ -320,10 +386,7 @@ impl Halves {
                     Read::Unit(CopyUnit::Byte(byte))
                 }
             }
-            Some(HalfRead::Backslash) => {
-                self.pop();
-                self.read_escape(base, byte)
-            }
+            Some(HalfRead::Backslash) => self.read_behind_backslash(base, byte),
             Some(HalfRead::Comment) => Read::GoesOn,
             Some(HalfRead::Name(purpose, part)) => {
                 if byte == b'\\' {
@@ -401,6 +464,20 @@ impl Halves {
             Some(HalfRead::Width(_, _, false)) => Surroundings::Text(base.place()),
             Some(_) => Surroundings::Copy,
         }
+    }
+
+    /// The byte behind the backslash on top: most begin a name.
+    #[inline(always)]
+    fn read_behind_backslash(&mut self, base: Surroundings, byte: u8) -> Read
+        requires nested { IsNested self.old.half }
+        requires on_top { IsOnTop HalfRead.Backslash self.old.half }
+        ensures { (result, self.new) ≡ leaving (byte_read base self.old.half byte) self.old }
+    {
+        if self.name_escape(byte) {
+            return Read::GoesOn;
+        }
+        self.pop();
+        self.read_escape(base, byte)
     }
 
     /// The byte behind a backslash, which is off already.
@@ -537,6 +614,7 @@ impl Halves {
     }
 
     /// A unit of a name, which is off already.
+    #[inline(always)]
     fn read_unit_of_name(&mut self, purpose: NameUse, part: NamePart, unit: CopyUnit) -> Read
         requires { IsNested (NameHalf purpose part ∷ self.old.half) }
         ensures { (result, self.new)
@@ -926,6 +1004,7 @@ impl Halves {
     }
 
     /// A name: a text that is measured grows by what isn't read in the escape's place.
+    #[inline(always)]
     fn give_name(&mut self, purpose: NameUse, name: Option<Name>) -> Read
         ensures { (result, self.new) ≡ leaving (name_given self.old.half purpose name) self.old }
     {
@@ -954,6 +1033,7 @@ impl Halves {
     }
 
     /// What is on top; the text that it has there stays.
+    #[inline(always)]
     fn top(&self) -> Option<HalfRead>
         ensures top { MatchOption result (self.now.half ≡ [])
             (λ item. IsOnTop item self.now.half) }
@@ -963,6 +1043,7 @@ impl Halves {
     }
 
     /// What stands below the top.
+    #[inline(always)]
     fn below(&self) -> Option<HalfRead>
         ensures { MatchOption result (drop 1 self.now.half ≡ [])
             (λ item. IsOnTop item (drop 1 self.now.half)) }
@@ -975,6 +1056,7 @@ impl Halves {
     }
 
     /// Puts something on top, which may stand there.
+    #[inline(always)]
     fn push(&mut self, half: HalfRead)
         requires stands { IsNested (begun half ∷ self.old.half) }
         requires begins { BeginsBehind (texts_held self.old.half) half }
@@ -999,6 +1081,7 @@ impl Halves {
     }
 
     /// Takes off what is on top, and its text.
+    #[inline(always)]
     fn pop(&mut self)
         ensures { self.new ≡ record self.old { half = drop 1 self.old.half } }
     {
@@ -1085,6 +1168,7 @@ fn is_of_size(part: SizePart, byte: u8) -> bool
 }
 
 /// A name of one or two bytes.
+#[inline(always)]
 fn short_name(bytes: &[u8]) -> Name
     requires some { 1 ≤ length bytes.now }
     requires few { length bytes.now ≤ 2 }
@@ -1114,12 +1198,45 @@ fn part_at_first(purpose: NameUse) -> NamePart
     }
 }
 
-/// Whether a byte behind a backslash begins a name that is read everywhere: of a register, a string
-/// or an argument.
-fn begins_name(byte: u8) -> bool
-    ensures { result ≡ begins_name byte }
+/// What the name is read for that a byte behind a backslash begins, if it begins one that is read
+/// everywhere: of a register, a string or an argument.
+#[inline(always)]
+fn use_of_name(byte: u8) -> Option<NameUse>
+    ensures { IfSome result (λ purpose. (rest : List Half) → names_in rest < 8
+        → ReadsOn (BackslashHalf ∷ rest) byte (NameHalf purpose NamePart.Nothing ∷ rest)) }
 {
-    byte == b'n' || (byte == b'*' || byte == b'$')
+    match byte {
+        b'n' => Some(NameUse::Register(None)),
+        b'*' => Some(NameUse::Text),
+        b'$' => Some(NameUse::Argument),
+        _ => None,
+    }
+}
+
+/// How much of a name is read behind a byte that belongs to its front, if it does.
+#[inline(always)]
+fn front_behind(purpose: NameUse, part: NamePart, byte: u8) -> Option<NamePart>
+    ensures { IfSome result (λ more. (rest : List Half)
+        → ReadsOn (NameHalf purpose part ∷ rest) byte (NameHalf purpose more ∷ rest)) }
+{
+    match part {
+        NamePart::Nothing => {
+            if byte != b'(' {
+                return None;
+            }
+            if !may_open(purpose) {
+                return None;
+            }
+            Some(NamePart::Opened)
+        }
+        NamePart::Opened => {
+            if !is_argument_byte(byte) {
+                return None;
+            }
+            Some(NamePart::First(byte))
+        }
+        NamePart::First(_) => None,
+    }
 }
 
 /// Whether a parenthesis opens a name of two bytes: that of a register or a string.
@@ -1133,58 +1250,14 @@ fn may_open(purpose: NameUse) -> bool
     }
 }
 
-/// Whether a byte belongs to the front of a name of which so much is read.
-fn is_in_front(purpose: NameUse, part: NamePart, byte: u8) -> bool
-    ensures { result ≡ is_in_front purpose part byte }
-{
-    match part {
-        NamePart::Nothing => may_open(purpose) && byte == b'(',
-        NamePart::Opened => is_argument_byte(byte),
-        NamePart::First(_) => false,
-    }
-}
-
-/// Whether a byte is one more of an expression, where so much of a condition is read.
-fn is_more_of(part: ConditionPart, byte: u8) -> bool
-    ensures { result ≡ is_more_of part byte }
-{
-    match part {
-        ConditionPart::Choice { .. } => false,
-        ConditionPart::Expression { .. } => is_of_expression(byte),
-        ConditionPart::Compared { .. } => false,
-        ConditionPart::Decided { .. } => false,
-    }
-}
-
 /// Whether a byte is held where an expression is read: neither a backslash nor one that ends it or
 /// is dropped.
+#[inline(always)]
 fn is_of_expression(byte: u8) -> bool
     ensures { result ≡ is_of_expression byte }
 {
+    if byte > b' ' && byte < b'\\' {
+        return true;
+    }
     is_argument_byte(byte) && !(byte == b' ' || byte == b'\t')
-}
-
-/// Whether a byte begins an expression with a digit, where so much of a condition is read.
-fn is_first_of(part: ConditionPart, byte: u8) -> bool
-    ensures { result ≡ is_first_of part byte }
-{
-    match part {
-        ConditionPart::Choice { .. } => byte.is_ascii_digit(),
-        ConditionPart::Expression { .. } => false,
-        ConditionPart::Compared { .. } => false,
-        ConditionPart::Decided { .. } => false,
-    }
-}
-
-/// Whether a byte is a backslash, or a blank in front of what is asked, where so much of a
-/// condition is read.
-fn is_read_of(part: ConditionPart, byte: u8) -> bool
-    ensures { result ≡ is_read_of part byte }
-{
-    match part {
-        ConditionPart::Choice { negated } => byte == b'\\' || (byte == b' ' && !negated),
-        ConditionPart::Expression { .. } => byte == b'\\',
-        ConditionPart::Compared { .. } => false,
-        ConditionPart::Decided { .. } => false,
-    }
 }

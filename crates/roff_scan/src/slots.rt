@@ -18,6 +18,9 @@ const EVENTS: usize = 4;
 /// How many bytes may stand in front again.
 const FREES: usize = 21;
 
+/// A text of fewer bytes, such as a number, is put in front byte by byte.
+const SHORT: usize = 8;
+
 /// An item taken from the front.
 #[derive(Clone, Copy)]
 pub(crate) enum Front<E> {
@@ -129,6 +132,16 @@ impl<E: Copy> Slots<E> {
         put_end(&mut self.slots, self.bytes.as_slice());
         self.ends += 1;
         put_reversed(&mut self.bytes, text);
+    }
+
+    /// Puts the end of a text in front.
+    #[inline]
+    pub(crate) fn push_end(&mut self)
+        requires { ends_ahead self.old.ahead < self.old.most_texts }
+        ensures { self.new ≡ record self.old { ahead = EndAhead ∷ self.old.ahead } }
+    {
+        put_end(&mut self.slots, self.bytes.as_slice());
+        self.ends += 1;
     }
 
     /// Puts the end of a called body in front.
@@ -312,7 +325,22 @@ fn put_reversed(bytes: &mut Vec<u8>, text: &[u8])
     ensures items { bytes.new.items ≡ bytes.old.items ++ reverse text.now }
     ensures capacity { vec_capacity bytes.old ≤ vec_capacity bytes.new }
 {
+    if text.len() < SHORT {
+        put_few(bytes, text);
+        return;
+    }
     let below = bytes.len();
     bytes.extend_from_slice(text).unwrap();
     bytes.as_mut_slice()[below..].reverse();
+}
+
+/// The same, one by one.
+fn put_few(bytes: &mut Vec<u8>, text: &[u8])
+    requires { vec_len bytes.old + length text.now ≤ vec_capacity bytes.old }
+    ensures items { bytes.new.items ≡ bytes.old.items ++ reverse text.now }
+    ensures capacity { vec_capacity bytes.old ≤ vec_capacity bytes.new }
+{
+    for byte in text.iter().rev() {
+        bytes.push_reserved(*byte);
+    }
 }

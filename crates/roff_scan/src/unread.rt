@@ -12,6 +12,7 @@ ghost use Rattle.std.specs.Prelude.{IfSome, take, ◌∷◌};
 ghost use Rattle.std.specs.List.{AllByRecursion};
 ghost use Rattle.roff_scan.specs.Bytes.{is_text_byte, newline};
 ghost use Rattle.roff_scan.specs.Unread.Calls.{next_bytes};
+ghost use Rattle.roff_scan.specs.Waiting.{WaitsFor};
 ghost use Rattle.roff_scan.specs.Tape.{Answer, OneByte, OneNote, Gives, Failed, Rises};
 ghost use Rattle.roff_scan.specs.Input.{is_none_ahead, counting, choosing, keeping, kept_last};
 ghost use Rattle.roff_scan.specs.Input.{leaving, without_last, events_ahead, frees_ahead};
@@ -113,7 +114,7 @@ impl<E: Copy> Unread<E> {
     ghost use Rattle.roff_scan.specs.Unread.{SeesEnding, taking, taking_answer, changing, reading};
     ghost use Rattle.roff_scan.specs.Unread.Calls.{Takes, Looks, PassesAhead, PassesOver};
     ghost use Rattle.roff_scan.specs.Unread.Calls.{front_bytes, IsFront, NoNewline, PassesFront};
-    ghost use Rattle.roff_scan.specs.Unread.Calls.{AddsFront, HoldsFront, PassesSource, ReadsNames};
+    ghost use Rattle.roff_scan.specs.Unread.Calls.{AddsFront, HoldsFewer, HoldsFront, PassesSource, ReadsNames};
     ghost use Rattle.roff_scan.specs.Unread.Calls.{PassesEnd, PassesNewline, TakesHalves, TakesPushed};
     ghost use Rattle.roff_store.specs.TextCalls.{Open, Remove, Rename, Set};
 
@@ -274,6 +275,78 @@ impl<E: Copy> Unread<E> {
                 self.charge += 1;
                 Some(byte)
             }
+        }
+    }
+
+    /// Takes a byte that stands ready, ahead or in the source, if what is half read waits for it and
+    /// the limit on bytes allows it. Otherwise nothing happens, and [`look`](Unread::look) tells what
+    /// is in front. Most bytes that end a name are taken so.
+    #[inline(always)]
+    pub fn take_waiting<S: ByteSource>(&mut self, source: &mut S) -> Option<u8>
+        ensures takes { IfSome result (λ b.
+            Takes (S.gives source.old) (S.gives source.new) self.old self.new (ShowsByte b)) }
+        ensures waits { IfSome result (λ b. WaitsFor self.old.input.half b) }
+        ensures kept { result ≡ None → (self.new ≡ self.old) × (source.new ≡ source.old) }
+        ensures notes { S.notes source.new ≤ S.notes source.old }
+        ensures failures { S.failures source.old ≤ S.failures source.new }
+        ensures within { IsWithin self.new }
+    {
+        if self.limits.bytes == self.charge {
+            return None;
+        }
+        if !self.frames.is_empty() {
+            return self.take_waiting_ahead();
+        }
+        self.take_waiting_ready(source)
+    }
+
+    /// The same of a byte ahead.
+    #[inline(always)]
+    fn take_waiting_ahead(&mut self) -> Option<u8>
+        requires room { self.old.input.charge < self.old.limits.bytes }
+        requires some { is_none_ahead self.old.input.ahead ≡ false }
+        ensures takes { IfSome result (λ b.
+            (a : Answer) → (ShowsByte b, self.new) ≡ taking a self.old) }
+        ensures waits { IfSome result (λ b. WaitsFor self.old.input.half b) }
+        ensures kept { result ≡ None → self.new ≡ self.old }
+        ensures within { IsWithin self.new }
+    {
+        match self.frames.take_waiting(&self.half) {
+            None => None,
+            Some(byte) => {
+                self.charge += 1;
+                Some(byte)
+            }
+        }
+    }
+
+    /// The same of one of the source, where nothing is ahead.
+    #[inline(always)]
+    fn take_waiting_ready<S: ByteSource>(&mut self, source: &mut S) -> Option<u8>
+        requires room { self.old.input.charge < self.old.limits.bytes }
+        requires none_ahead { is_none_ahead self.old.input.ahead ≡ true }
+        ensures takes { IfSome result (λ b.
+            Takes (S.gives source.old) (S.gives source.new) self.old self.new (ShowsByte b)) }
+        ensures waits { IfSome result (λ b. WaitsFor self.old.input.half b) }
+        ensures kept { result ≡ None → (self.new ≡ self.old) × (source.new ≡ source.old) }
+        ensures notes { S.notes source.new ≡ S.notes source.old }
+        ensures failures { S.failures source.new ≡ S.failures source.old }
+        ensures within { IsWithin self.new }
+    {
+        if self.looked.is_some() {
+            return None;
+        }
+        match source.buffered() {
+            [first, ..] => {
+                let byte = *first;
+                if !self.half.waits_for(byte) {
+                    return None;
+                }
+                self.count(byte);
+                source.pass(1);
+                Some(byte)
+            }
+            [] => None,
         }
     }
 
@@ -589,14 +662,16 @@ impl<E: Copy> Unread<E> {
             ≡ changing (pushing (body_named name.now self.old.input) self.old.input) self.old }
         ensures within { IsWithin self.new }
     {
-        let len = self.frames.body_len(name);
-        if len > self.limits.stack as usize - self.pushed() {
-            return Err(Limit::Stack);
-        }
+        let room = self.limits.stack as usize - self.pushed();
         if self.is_deep() {
+            if self.frames.body_len(name) > room {
+                return Err(Limit::Stack);
+            }
             return Err(Limit::Depth);
         }
-        self.frames.push_body(name, len);
+        if !self.frames.push_body(name, room) {
+            return Err(Limit::Stack);
+        }
         Ok(())
     }
 
@@ -612,17 +687,19 @@ impl<E: Copy> Unread<E> {
             ≡ changing (calling_body (body_named name.now self.old.input) self.old.input) self.old }
         ensures within { IsWithin self.new }
     {
-        let called = self.frames.called(name);
-        if called.len > self.limits.stack as usize - self.pushed() {
-            return Err(Limit::Stack);
-        }
+        let room = self.limits.stack as usize - self.pushed();
         if self.is_deep() {
+            if self.frames.called(name).len > room {
+                return Err(Limit::Stack);
+            }
             return Err(Limit::Depth);
+        }
+        if !self.frames.call(name, room) {
+            return Err(Limit::Stack);
         }
         self.arguments.finish();
         self.calls.push(self.arguments.list());
         self.arguments.clear();
-        self.frames.push_call(name, called);
         Ok(())
     }
 
@@ -955,13 +1032,38 @@ impl<E: Copy> Unread<E> {
         ensures failures { S.failures source.new ≡ S.failures source.old }
         ensures within { IsWithin self.new }
     {
+        self.hold_bounded(source, None);
+    }
+
+    /// The same as [`hold_front`](Unread::hold_front), but as long as fewer than so many arguments
+    /// are whole.
+    #[inline(never)]
+    pub fn hold_fewer<S: ByteSource>(&mut self, source: &mut S, most: usize)
+        ensures holds { HoldsFewer (Some most)
+            (S.gives source.old) (S.gives source.new) self.old self.new }
+        ensures notes { S.notes source.new ≡ S.notes source.old }
+        ensures failures { S.failures source.new ≡ S.failures source.old }
+        ensures within { IsWithin self.new }
+    {
+        self.hold_bounded(source, Some(most));
+    }
+
+    /// The same, where there is a bound.
+    #[inline(always)]
+    fn hold_bounded<S: ByteSource>(&mut self, source: &mut S, most: Option<usize>)
+        ensures holds { HoldsFewer most
+            (S.gives source.old) (S.gives source.new) self.old self.new }
+        ensures notes { S.notes source.new ≡ S.notes source.old }
+        ensures failures { S.failures source.new ≡ S.failures source.old }
+        ensures within { IsWithin self.new }
+    {
         let room = self.limits.stack as usize - self.pushed();
-        let most = room.min((self.limits.bytes - self.charge) as usize);
-        let front = front_of(&self.frames, self.looked, source, most);
+        let allowed = room.min((self.limits.bytes - self.charge) as usize);
+        let front = front_of(&self.frames, self.looked, source, allowed);
         if front.is_empty() {
             return;
         }
-        let count = self.arguments.take_front(front);
+        let count = self.arguments.take_front(front, most);
         self.pass(source, count);
     }
 

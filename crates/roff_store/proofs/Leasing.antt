@@ -2,7 +2,7 @@
 use Rattle.std.proofs.Common.{◌≡◌, ◌≢◌, ℕ, zero, suc, ◌+◌, ◌-◌, ◌<◌, ◌≤◌, true, false, cond, List, [], ◌∷◌, ◌++◌, length, map, get_or, sum_by, All, Some, None, is_some, IsSome, IsTrue, ◌↔◌, refl, sym, ap, subst, ◌∙◌, arith, Vec, Global, Option}
 use Rattle.std.specs.Prelude.{set, slice_index, take, drop, count_by, AllPairs, vec_len, vec_capacity, nat_le, ◌==◌}
 use Rattle.std.specs.Vec.{with_item}
-use Rattle.std.proofs.lemmas.List.{get_or-map, get_or_default, get_or-set_same, get_or-set_other, get_or_append_left, get_or_push, length-append, length-map, length-set, map-append, map-set}
+use Rattle.std.proofs.lemmas.List.{get_or-map, get_or_default, get_or-set_same, get_or-set_other, get_or_append_left, get_or_past, get_or_push, length-append, length-map, length-set, map-append, map-set}
 use Rattle.std.proofs.lemmas.List.Elements.{All-append}
 use Rattle.std.proofs.lemmas.List.Quantifiers.{all_pairs_push}
 use Rattle.std.proofs.lemmas.List.Sums.{sum_by-append, sum_by-cons, sum_by-set}
@@ -68,6 +68,22 @@ kept-within a t sound is =
 -- they are within the limit
 pub kept-inside : (a : Inside) → IsSound a → a.kept ≤ a.cap_kept
 kept-inside a sound = kept-within a (kept_by a) sound refl
+
+-- so many bytes more there is room for
+pub room-left : (a : Inside) (t : Texts) → IsSound a → kept_by a ≡ t → kept t + (a.cap_kept - a.kept) ≤ t.cap_kept
+room-left a t sound is =
+    let counted = kept-counted a t sound is in
+    let within = kept-inside a sound in
+    let cap : a.cap_kept ≡ t.cap_kept = ap (λ (x : Texts). x.cap_kept) is in
+    omega arith
+
+-- and a body that fits has no more
+pub room-enough : (a : Inside) (t : Texts) → IsSound a → kept_by a ≡ t → (count : ℕ) → kept t + count ≤ t.cap_kept
+    → count ≤ a.cap_kept - a.kept
+room-enough a t sound is count fits =
+    let counted = kept-counted a t sound is in
+    let cap : a.cap_kept ≡ t.cap_kept = ap (λ (x : Texts). x.cap_kept) is in
+    omega arith
 
 -- whether leases may give so many bytes more
 pub room-tested : (a : Inside) (t : Texts) → IsSound a → kept_by a ≡ t → (count : ℕ)
@@ -363,6 +379,17 @@ module _ (a : Inside) (t : Texts) (sound : IsSound a) (is : kept_by a ≡ t) (na
   pub body-shared : IsShared a.chunks strand
   body-shared chunk = let shares = body-in-hand.shares chunk in omega arith
 
+  -- it has as many bytes as its strand
+  pub body-rest : length (body_of name t) ≡ strand.rest
+  body-rest =
+      subst (λ (x : Texts). length (body_of name x) ≡ strand.rest) is
+      (ap length body-by ∙ length-bytes_of a.chunks strand body-strand)
+
+  -- there is room for them where there is room for more
+  pub room-within : (most : ℕ) → strand.rest ≤ most → kept t + most ≤ t.cap_kept
+      → kept t + length (body_of name t) ≤ t.cap_kept
+  room-within most short room = let long = body-rest in omega arith
+
   module _ (fewer : live t < t.cap_leases) (room : kept t + length (body_of name t) ≤ t.cap_kept) where
     rest-fits : sum_by (of_lease (λ s. s.rest)) a.leases.items + strand.rest ≤ a.cap_kept
     rest-fits =
@@ -531,6 +558,15 @@ module _ (a : Inside) (t : Texts) (sound : IsSound a) (is : kept_by a ≡ t) (na
 
         pub sound-behind : IsSound (record a { chunks = m; leases = leases; ended = ended; kept = a.kept + strand.rest })
         sound-behind = IsSound-lent a m leases ended (a.kept + strand.rest) sound lent-behind
+
+        pub free-behind : IsFree id t
+        free-behind =
+            let count = length-map a.leases.items (lease_in a.chunks) in
+            subst (λ (x : Texts). IsFree id x) is (record {
+              known = omega (arith, last, count, a.leases.ok.0);
+              free =
+                  get_or_past (map (lease_in a.chunks) a.leases.items) id None (omega (arith, last, count, a.leases.ok.0));
+            })
 
         pub after-behind : kept_by (record a { chunks = m; leases = leases; ended = ended; kept = a.kept + strand.rest }) ≡ after (Lease name id) t
         after-behind =

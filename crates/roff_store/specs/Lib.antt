@@ -7,6 +7,7 @@ pub mod Chains
 pub mod Chunks
 pub mod Texts
 pub mod TextCalls
+pub mod Leased
 pub mod TextRows
 pub mod TextStore
 pub mod TextLaws

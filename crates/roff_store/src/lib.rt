@@ -17,5 +17,5 @@ mod text_store;
 
 pub use reg_table::RegTable;
 pub use register::{Direction, Register};
-pub use text::{BodyEnd, Entry, Kind, LeaseId, OpenId};
+pub use text::{BodyEnd, Entry, Kind, LeaseId, Leased, OpenId};
 pub use text_store::TextStore;

@@ -34,3 +34,14 @@ pub struct OpenId(pub usize);
 /// A lease on a body, by its number.
 #[derive(Clone, Copy, Debug, PartialEq, Eq)]
 pub struct LeaseId(pub u32);
+
+/// What came of leasing a body by how many bytes it has.
+#[derive(Clone, Copy, Debug)]
+pub enum Leased {
+    /// The lease, and the last byte of the body, if there is one.
+    Body(LeaseId, Option<u8>),
+    /// Nothing: the name has no body, or too short a one.
+    Nothing,
+    /// Nothing: the body has too many bytes.
+    Long,
+}

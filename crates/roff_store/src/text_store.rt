@@ -12,7 +12,7 @@ ghost use Rattle.roff_store.specs.TextStore.Strands.{strands_of};
 use crate::chunks::{CHUNK, Chunks};
 use crate::name_table::NameTable;
 use crate::strand::Strand;
-use crate::text::{BodyEnd, Entry, Kind, LeaseId, OpenId};
+use crate::text::{BodyEnd, Entry, Kind, LeaseId, Leased, OpenId};
 use roff_num::{Limit, Name};
 use std::alloc::{AllocError, Global};
 use std::marker::Model;
@@ -71,6 +71,7 @@ impl TextStore {
     ghost use Rattle.roff_store.specs.TextCalls.{Append, DropOpen, Enter, Lease as Leases, Open};
     ghost use Rattle.roff_store.specs.TextCalls.{PushOpen, Release, Remove, Rename, Set, Take};
     ghost use Rattle.roff_store.specs.TextCalls.{after, answered};
+    ghost use Rattle.roff_store.specs.Leased.{LeasesWithin};
 
     /// A store without names, for so many bytes of bodies and texts in the making, so many names,
     /// texts in the making and leases, and so many bytes that leases still give.
@@ -378,20 +379,42 @@ impl TextStore {
         ensures no_body { IfNone result (has_body name.now self.old ≡ false) }
         ensures same { IfNone result (self.new ≡ self.old) }
     {
-        let body = match self.names.get(name)? {
-            Meaning::Body(body) => body,
-            Meaning::Request(_) => return None,
+        let most = self.cap_kept as usize - self.kept;
+        match self.lease_within(name, 0, most) {
+            Leased::Body(id, _) => Some(id),
+            Leased::Nothing => None,
+            Leased::Long => None,
+        }
+    }
+
+    /// Leases the body of a name, if it has one of so many bytes at the least and at the most.
+    pub fn lease_within(&mut self, name: &Name, least: usize, most: usize) -> Leased
+        requires fewer { live self.old < self.old.cap_leases }
+        requires room { kept self.old + most ≤ self.old.cap_kept }
+        ensures { LeasesWithin self.old self.new name.now least most result }
+    {
+        let body = match self.names.get(name) {
+            Some(Meaning::Body(body)) => body,
+            Some(Meaning::Request(_)) => return Leased::Nothing,
+            None => return Leased::Nothing,
         };
+        if body.rest < least {
+            return Leased::Nothing;
+        }
+        if body.rest > most {
+            return Leased::Long;
+        }
+        let last = self.chunks.last_byte(body);
         self.chunks.share(body);
         self.kept += body.rest;
         match self.ended.pop() {
             Some(id) => {
                 self.leases[id as usize] = Some(body);
-                Some(LeaseId(id))
+                Leased::Body(LeaseId(id), last)
             }
             None => {
                 self.leases.push(Some(body)).unwrap();
-                Some(LeaseId(self.leases.len() as u32 - 1))
+                Leased::Body(LeaseId(self.leases.len() as u32 - 1), last)
             }
         }
     }

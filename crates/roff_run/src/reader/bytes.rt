@@ -1,6 +1,6 @@
 //! A byte that was taken: what it means, and whether it means little.
 
-ghost use Rattle.std.specs.Prelude.{◌≡◌, ℕ, [], ◌∷◌, None, false, true, IfSome};
+ghost use Rattle.std.specs.Prelude.{◌≡◌, ℕ, [], ◌∷◌, None, Some, false, true, IfSome};
 ghost use Rattle.roff_lines.specs.declared.event.Event.TheVariants.{Gap, Print, WordEnd};
 ghost use Rattle.roff_lines.specs.declared.glyph.Glyph.TheVariants.{Printed};
 ghost use Rattle.roff_run.specs.Requests.{Text};
@@ -9,10 +9,12 @@ ghost use Rattle.roff_run.specs.Clauses.{Passes, TakesAs, meaning_events, is_pas
 ghost use Rattle.roff_run.specs.Clauses.{taking, due};
 ghost use Rattle.roff_run.specs.Reader.Found.{has_place};
 ghost use Rattle.roff_run.specs.Telling.{Prints};
-ghost use Rattle.roff_run.specs.Stages.{Adds, EndsLine, Holds, Ignores, ReadsHalves, TakesHalf};
+ghost use Rattle.roff_run.specs.Stages.{Adds, EndsLine, Holds, HoldsIfFewer, Ignores, ReadsHalves};
+ghost use Rattle.roff_run.specs.Stages.{TakesHalf};
 ghost use Rattle.roff_scan.specs.Arguments.{is_argument_byte};
 ghost use Rattle.roff_scan.specs.Bytes.{is_text_byte};
 
+use super::calls::CALL_ARGUMENTS;
 use super::{Meaning, Reader};
 use crate::environments::Environments;
 use crate::event::PageEvent;
@@ -95,6 +97,21 @@ impl Reader {
         match self.reading {
             Reading::Arguments { .. } => true,
             _ => false,
+        }
+    }
+
+    /// Where bytes of the line are held in its arguments as long as fewer than so many of these are
+    /// whole, where nothing is half read, and what is read stays, how many: behind the name of a body
+    /// that a line calls.
+    #[inline(always)]
+    pub fn holds_fewer(&self) -> Option<usize>
+        ensures holds { IfSome result (λ most. (b : ℕ) → is_argument_byte b ≡ true
+            → HoldsIfFewer (Some most) self.now.reading b) }
+        ensures none_due { IfSome result (λ most. due self.now.reading ≡ None) }
+    {
+        match self.reading {
+            Reading::Calling { .. } => Some(CALL_ARGUMENTS - 1),
+            _ => None,
         }
     }
 

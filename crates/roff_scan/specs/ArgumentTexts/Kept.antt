@@ -1,7 +1,7 @@
 -- What a buffer of arguments keeps.
-use Rattle.std.specs.Prelude.{◌≡◌, ℕ, ◌+◌, ◌<◌, ◌≤◌, ◌^◌, Bool, true, not, ◌||◌, List, length, reverse, take, drop, vec_capacity, ◌==◌}
+use Rattle.std.specs.Prelude.{◌≡◌, ℕ, ◌+◌, ◌<◌, ◌≤◌, ◌^◌, Bool, true, not, ◌||◌, List, length, reverse, take, drop, vec_capacity, ◌==◌, Option}
 use Rattle.std.specs.List.{AllByRecursion}
-use Rattle.roff_scan.specs.Arguments.{Arguments, bytes_held, is_argument_byte, kept, only_kept}
+use Rattle.roff_scan.specs.Arguments.{Arguments, HeldFewer, bytes_held, is_argument_byte, kept, only_kept}
 use Rattle.roff_scan.specs.ArgumentTexts.Ends.{texts_ending, last_end, EndWithin}
 use Rattle.roff_scan.specs.Bytes.{blank, quote}
 use Rattle.roff_scan.specs.declared.arguments.ArgumentTexts.TheInside.{Inside}
@@ -48,8 +48,9 @@ is_held BehindQuote b = not (b == blank)
 pub record Keeps (a : Arguments) (k : KeptArguments) : Type 0 where
   pub same : k.arguments ≡ only_kept a
 
--- so many of these bytes were taken, one after another, each held as it is read
-pub record TakesFront (bytes : List ℕ) (count : ℕ) (old new : KeptArguments) : Type 0 where
+-- so many of these bytes were taken, one after another, each held as it is read where few enough arguments are whole
+pub record TakesFront (most : Option ℕ) (bytes : List ℕ) (count : ℕ) (old new : KeptArguments) : Type 0 where
   pub few : count ≤ length bytes
   pub plain : AllByRecursion (λ b. is_argument_byte b ≡ true) (take count bytes)
+  pub fewer : HeldFewer most (take count bytes) old.arguments
   pub taken : new ≡ record old { arguments = bytes_held (take count bytes) old.arguments }

@@ -1,5 +1,5 @@
 -- What calls on frames tell.
-use Rattle.std.specs.Prelude.{◌≡◌, ◌≤◌, ℕ, Bool, true, false, List, ◌∷◌, ◌++◌, length, map}
+use Rattle.std.specs.Prelude.{◌≡◌, ◌<◌, ◌≤◌, ℕ, Bool, true, false, List, ◌∷◌, ◌++◌, length, map}
 use Rattle.std.specs.List.{AllByRecursion}
 use Rattle.roff_scan.specs.Bytes.{is_passed}
 use Rattle.roff_scan.specs.ConditionFronts.{HalvesTaken, TakesOn}
@@ -27,6 +27,13 @@ pub record PassesFront {E : Type 0} (old new : Framed E) (within_block : Bool) (
 pub record PutsBytes {E : Type 0} (old new : Inside E) (bytes : List ℕ) : Type 0 where
   pub sound : IsSound new
   pub kept : kept_by new ≡ record (kept_by old) { ahead = map ByteAhead bytes ++ (kept_by old).ahead }
+
+-- a text and what stands behind it were put in front, or the text has more than so many bytes and nothing changed
+pub record PutsWithin {E : Type 0} (old new : Framed E) (text : List ℕ) (behind : Ahead E) (most : ℕ) (is_put : Bool) : Type 0 where
+  pub short : is_put ≡ true → length text ≤ most
+  pub put : is_put ≡ true → new ≡ record old { ahead = map ByteAhead text ++ behind ∷ old.ahead }
+  pub long : is_put ≡ false → most < length text
+  pub kept : is_put ≡ false → new ≡ old
 
 -- a byte of a pushed text was in front, and was given to what is half read, which took it
 pub record GivesOne {E : Type 0} (old new : Framed E) (before after : KeptHalves) : Type 0 where

@@ -1,7 +1,7 @@
 -- What a call tells that is lent the source.
 use Rattle.std.specs.Prelude.{◌≡◌, ◌⊎◌, ℕ, ◌+◌, ◌≤◌, ◌==◌, Bool, true, false, List, [], ◌∷◌, ◌++◌, length, map, take, Option, Some, None}
 use Rattle.std.specs.List.{AllByRecursion}
-use Rattle.roff_scan.specs.Arguments.{bytes_held, is_argument_byte}
+use Rattle.roff_scan.specs.Arguments.{HeldFewer, bytes_held, is_argument_byte}
 use Rattle.roff_scan.specs.Bytes.{is_passed, is_text_byte, newline}
 use Rattle.roff_scan.specs.ConditionFronts.{HalvesTaken}
 use Rattle.roff_scan.specs.HalfFronts.{HalvesRead}
@@ -118,6 +118,11 @@ pub record HoldsFront {E : Type 0} (old new : Tape → Type 0) (before after : U
   pub plain : AllByRecursion (λ b. is_argument_byte b ≡ true) bytes
   pub passes : PassesFront old new bytes before (record after { input = record after.input { arguments = before.input.arguments } })
   pub arguments : after.input.arguments ≡ bytes_held bytes before.input.arguments
+
+-- the same where fewer than so many arguments were whole before each of the bytes
+pub record HoldsFewer {E : Type 0} (most : Option ℕ) (old new : Tape → Type 0) (before after : Unread E) : Type 0 where
+  pub held : HoldsFront old new before after
+  pub fewer : HeldFewer most held.bytes before.input.arguments
 
 -- Bytes of plain text that came next were taken at once and put behind the newest text in the making, if there is one; nothing
 -- else changed but what is counted.

@@ -5,10 +5,10 @@ use Rattle.roff_scan.proofs.arguments.ArgumentTexts.take_front.Goals as goal
 
 pub take_byte-requires : goal.take_byte-requires
 take_byte-requires c =
-    room-more c.args.bytes.now c.loop-count.count c.args.self.now _ _ c.loop-count.invariant c.loop-count-test.true c.requires
+    room-more c.args.most c.args.bytes.now c.loop-count.count c.args.self.now _ _ c.loop-count.invariant c.loop-count-test.true c.requires
     (length-take-le c.loop-count.count c.args.bytes.now c.loop-count.invariant.few)
 
 pub loop-count-preserved : goal.loop-count-preserved
 loop-count-preserved c =
-    TakesFront-more c.args.bytes.now c.loop-count.count c.args.self.now _ _ c.loop-count.invariant c.loop-count-test.true
-    (sym c.is_argument_byte.ensures ∙ c.if-not-is_argument_byte.false) c.take_byte.ensures
+    TakesFront-more c.args.most c.args.bytes.now c.loop-count.count c.args.self.now _ _ c.loop-count.invariant c.loop-count-test.true
+    (sym c.is_argument_byte.ensures ∙ c.if-not-is_argument_byte.false) (c.are_fewer.ensures c.if-not-are_fewer.false) c.take_byte.ensures

@@ -1,42 +1,70 @@
-use Rattle.std.proofs.Common.{[], ◌∷◌, ◌++◌, map, arith, refl, ap, ◌∙◌}
+use Rattle.std.proofs.Common.{◌≡◌, ◌<◌, ◌≤◌, ◌+◌, [], ◌∷◌, ◌++◌, length, map, arith, refl, ap, ◌∙◌}
+use Rattle.roff_scan.specs.Frames.Calls.{PutsBytes}
+use Rattle.roff_scan.specs.Frames.Kept.{Framed, kept_by}
+use Rattle.roff_scan.specs.Input.{ByteAhead, EndAhead, bytes_ahead, ends_ahead}
+use Rattle.roff_scan.specs.declared.frames.Frames.TheInside.{Inside}
 use Rattle.roff_scan.proofs.Bodies.{bytes-with_bodies, ends-with_bodies}
 use Rattle.roff_scan.proofs.Framing.{IsSound-pushing}
+use Rattle.roff_scan.proofs.Pushed.{PutsBytes-leased, body-empty, room-for-mark, room-for-most, room-for-one}
 use Rattle.roff_scan.proofs.frames.Frames.push_body.Goals as goal
-use Rattle.roff_scan.specs.Frames.Kept.{Framed}
-use Rattle.roff_scan.specs.Input.{ByteAhead, EndAhead}
+use Rattle.roff_store.specs.Named.{entry_of}
 use Rattle.roff_store.specs.Texts.{body_of}
 
-pub push-requires-clause-bytes : goal.push-requires-clause-bytes
-push-requires-clause-bytes g c =
-    omega (arith, c.self.invariant.bytes, bytes-with_bodies c.self.inside.texts c.self.inside.slots.ahead)
+pub lease_within-requires-clause-fewer : goal.lease_within-requires-clause-fewer
+lease_within-requires-clause-fewer g c =
+    room-for-one c.self.inside c.self.invariant (rw (← c.self.view_is) at c.requires.ends)
 
-pub push-requires-clause-ends : goal.push-requires-clause-ends
-push-requires-clause-ends g c =
+pub lease_within-requires-clause-room : goal.lease_within-requires-clause-room
+lease_within-requires-clause-room g c =
+    room-for-most c.self.inside c.self.invariant c.args.most (rw (← c.self.view_is) at c.requires.bytes)
+
+pub push_end-requires : goal.push_end-requires
+push_end-requires g c =
     let few = rw (← c.self.view_is) at c.requires.ends in
     omega (arith, few, ends-with_bodies c.self.inside.texts c.self.inside.slots.ahead)
 
-pub put_body-requires-clause-len : goal.put_body-requires-clause-len
-put_body-requires-clause-len g c = rw (← c.self.view_is) at c.requires.len
-
-pub put_body-requires-clause-sound : goal.put_body-requires-clause-sound
-put_body-requires-clause-sound g c =
-    let few = rw (← c.self.view_is) at c.requires.ends in
-    rw c.push.ensures (IsSound-pushing c.self.inside [] c.self.invariant (omega (arith, c.self.invariant.bytes)) few)
-
-pub put_body-requires-clause-end : goal.put_body-requires-clause-end
-put_body-requires-clause-end g c = rw c.push.ensures refl
-
-pub put_body-requires-clause-bytes : goal.put_body-requires-clause-bytes
-put_body-requires-clause-bytes g c =
+pub put_back-requires : goal.put_back-requires
+put_back-requires g c =
+    let inside = c.self.inside in
     let fits = rw (← c.self.view_is) at c.requires.bytes in
-    rw c.push.ensures fits
+    let few = rw (← c.self.view_is) at c.requires.ends in
+    let a : Inside _ = record inside { slots = record inside.slots { ahead = EndAhead ∷ inside.slots.ahead } } in
+    rw c.push_end.ensures
+    (room-for-mark a (IsSound-pushing inside [] c.self.invariant (omega (arith, c.self.invariant.bytes)) few) c.args.name.now refl
+    (omega (arith, fits, c.in-Body.ensures.short)))
 
 pub invariant_of-self : goal.invariant_of-self
-invariant_of-self g c = c.put_body.ensures.sound
+invariant_of-self g c =
+    let inside = c.self.inside in
+    let fits = rw (← c.self.view_is) at c.requires.bytes in
+    let few = rw (← c.self.view_is) at c.requires.ends in
+    let a : Inside _ = record inside { slots = record inside.slots { ahead = EndAhead ∷ inside.slots.ahead } } in
+    rw (c.put_back.ensures, c.push_end.ensures, c.in-Body.ensures.leased)
+    (PutsBytes-leased a (IsSound-pushing inside [] c.self.invariant (omega (arith, c.self.invariant.bytes)) few) c.args.name.now refl
+    (omega (arith, fits, c.in-Body.ensures.short)) c.in-Body.ensures.long c.in-Body.lease c.in-Body.ensures.number).sound
 
-pub returns : goal.returns
-returns g c =
-    let put = rw c.push.ensures at c.put_body.ensures.kept in
+pub push_end-requires-in-Nothing : goal.push_end-requires-in-Nothing
+push_end-requires-in-Nothing g c =
+    let few = rw (← c.self.view_is) at c.requires.ends in
+    omega (arith, few, ends-with_bodies c.self.inside.texts c.self.inside.slots.ahead)
+
+pub returns-in-Body : goal.returns-in-Body
+returns-in-Body g c =
+    let inside = c.self.inside in
     let name = c.args.name.now in
-    put
-    ∙ ap (λ (f : Framed _). record f { ahead = map ByteAhead (body_of name f.texts) ++ EndAhead ∷ f.ahead }) c.self.view_is
+    let fits = rw (← c.self.view_is) at c.requires.bytes in
+    let few = rw (← c.self.view_is) at c.requires.ends in
+    let a : Inside _ = record inside { slots = record inside.slots { ahead = EndAhead ∷ inside.slots.ahead } } in
+    let puts : PutsBytes a (record { slots = c.put_back.new.self; texts = c.lease_within.new.self }) (body_of name inside.texts) =
+    rw (c.put_back.ensures, c.push_end.ensures, c.in-Body.ensures.leased)
+    (PutsBytes-leased a (IsSound-pushing inside [] c.self.invariant (omega (arith, c.self.invariant.bytes)) few) name refl
+    (omega (arith, fits, c.in-Body.ensures.short)) c.in-Body.ensures.long c.in-Body.lease c.in-Body.ensures.number) in
+    let viewed =
+    ap (λ (f : Framed _). record f { ahead = map ByteAhead (body_of name f.texts) ++ EndAhead ∷ f.ahead }) c.self.view_is in
+    let short : length (body_of name inside.texts) ≤ c.args.most = c.in-Body.ensures.short in
+    record {
+      short = λ is. rw (← c.self.view_is) short;
+      put = λ is. puts.kept ∙ viewed;
+      long = λ is. absurd (cc);
+      kept = λ is. absurd (cc);
+    }

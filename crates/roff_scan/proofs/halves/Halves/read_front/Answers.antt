@@ -1,4 +1,3 @@
-use Rattle.std.proofs.Common.{sym, ◌∙◌}
 use Rattle.roff_scan.proofs.HalfFronts.{ReadsFront-more, ReadsFront-none}
 use Rattle.roff_scan.proofs.halves.Halves.read_front.Goals as goal
 
@@ -7,5 +6,5 @@ loop-count-init c = ReadsFront-none c.args.bytes.now c.args.self.now
 
 pub loop-count-preserved : goal.loop-count-preserved
 loop-count-preserved c =
-    ReadsFront-more c.args.bytes.now c.loop-count.count c.args.self.now _ _ c.read_byte.result c.loop-count.invariant c.loop-count-test.true
-    (sym c.reads_on.ensures ∙ c.if-not-reads_on.false) c.read_byte.ensures
+    ReadsFront-more c.args.bytes.now c.loop-count.count c.args.self.now _ _ c.loop-count.invariant c.loop-count-test.true
+    (rw c.if-not-read_on.false at c.read_on.ensures)

@@ -6,13 +6,13 @@ use Rattle.roff_scan.proofs.Counts.{returns-few}
 use Rattle.roff_scan.proofs.LineCalls.{IsWithin-calling, call_past_depth, call_past_stack, call_within, length-given, returns-calling}
 use Rattle.roff_scan.proofs.unread.Unread.call.Goals as goal
 
-pub returns-then-called-self-clause-change : goal.returns-then-called-self-clause-change
-returns-then-called-self-clause-change g c =
+pub returns-then-called-room-clause-change : goal.returns-then-called-room-clause-change
+returns-then-called-room-clause-change g c =
     let kept = kept_by c.self.inside in
     let body = body_named c.args.name.now kept.input in
     let counted = rw (← c.self.view_is) at c.pushed.ensures in
     let long : kept.limits.stack - c.pushed.result < length (called_text body) =
-    rw (← c.called-called.ensures.len) c.if-called-self.true in
+    rw (← c.called.ensures.len) c.if-called-room.true in
     rw (← c.self.view_is)
     (sym (call_past_stack kept body c.self.invariant.within c.self.invariant.begun c.pushed.result counted long))
 
@@ -22,11 +22,20 @@ returns-then-is_deep-clause-change g c =
     let body = body_named c.args.name.now kept.input in
     let counted = rw (← c.self.view_is) at c.pushed.ensures in
     let short : length (called_text body) ≤ kept.limits.stack - c.pushed.result =
-    rw (← c.called-called.ensures.len) c.if-called-self.false in
+    rw (← c.called.ensures.len) c.if-called-room.false in
     let deep : kept.limits.depth ≤ depth kept.input =
     rw (← c.self.view_is) at (c.is_deep.ensures.deep c.if-is_deep.true) in
     rw (← c.self.view_is)
     (sym (call_past_depth kept body c.self.invariant.within c.self.invariant.begun c.pushed.result counted short deep))
+
+pub returns-then-not-call-clause-change : goal.returns-then-not-call-clause-change
+returns-then-not-call-clause-change g c =
+    let kept = kept_by c.self.inside in
+    let body = body_named c.args.name.now kept.input in
+    let counted = rw (← c.self.view_is) at c.pushed.ensures in
+    let long : kept.limits.stack - c.pushed.result < length (called_text body) = c.call.ensures.long c.if-not-call.true in
+    rw (← c.self.view_is, c.call.ensures.kept c.if-not-call.true)
+    (sym (call_past_stack kept body c.self.invariant.within c.self.invariant.begun c.pushed.result counted long))
 
 pub push-requires-clause-bytes : goal.push-requires-clause-bytes
 push-requires-clause-bytes g c =
@@ -43,29 +52,29 @@ push-requires-clause-calls g c =
     rw (← c.self.view_is) at (c.is_deep.ensures.shallow c.if-is_deep.false) in
     omega (arith, shallow, returns-few c.self.inside.frames.ahead, c.self.invariant.calls, c.self.invariant.most_calls)
 
-pub invariant_of-self : goal.invariant_of-self
-invariant_of-self g c =
+pub invariant_of-self-2 : goal.invariant_of-self-2
+invariant_of-self-2 g c =
     let kept = kept_by c.self.inside in
     let body = body_named c.args.name.now kept.input in
     let counted = rw (← c.self.view_is) at c.pushed.ensures in
-    let short : length (called_text body) ≤ kept.limits.stack - c.pushed.result =
-    rw (← c.called-called.ensures.len) c.if-called-self.false in
+    let put = c.call.ensures.put c.if-not-call.false in
+    let short : length (called_text body) ≤ kept.limits.stack - c.pushed.result = c.call.ensures.short c.if-not-call.false in
     let shallow : depth kept.input < kept.limits.depth =
     rw (← c.self.view_is) at (c.is_deep.ensures.shallow c.if-is_deep.false) in
     record {
-      bytes = rw c.push_call.ensures c.self.invariant.bytes;
-      texts = rw c.push_call.ensures c.self.invariant.texts;
+      bytes = rw put c.self.invariant.bytes;
+      texts = rw put c.self.invariant.texts;
       arguments = rw (c.clear.ensures.value, c.finish.ensures.value) c.self.invariant.arguments;
       begun = rw c.clear.ensures.value (λ is. refl);
       call_bytes = rw c.push.ensures c.self.invariant.call_bytes;
       most_calls = rw c.push.ensures c.self.invariant.most_calls;
-      calls = rw (c.push_call.ensures, c.push.ensures) (returns-calling body kept.input c.self.invariant.calls);
+      calls = rw (put, c.push.ensures) (returns-calling body kept.input c.self.invariant.calls);
       held = c.self.invariant.held;
       small = c.self.invariant.small;
-      store = rw c.push_call.ensures c.self.invariant.store;
-      once = rw c.push_call.ensures c.self.invariant.once;
+      store = rw put c.self.invariant.store;
+      once = rw put c.self.invariant.once;
       results = c.self.invariant.results;
-      within = rw (c.push_call.ensures, c.push.ensures, c.clear.ensures.value, c.list.ensures.value, c.finish.ensures.value)
+      within = rw (put, c.push.ensures, c.clear.ensures.value, c.list.ensures.value, c.finish.ensures.value)
           (IsWithin-calling kept body c.self.invariant.within c.self.invariant.begun c.pushed.result counted short shallow);
     }
 
@@ -74,12 +83,12 @@ returns-clause-change g c =
     let kept = kept_by c.self.inside in
     let body = body_named c.args.name.now kept.input in
     let counted = rw (← c.self.view_is) at c.pushed.ensures in
-    let short : length (called_text body) ≤ kept.limits.stack - c.pushed.result =
-    rw (← c.called-called.ensures.len) c.if-called-self.false in
+    let put = c.call.ensures.put c.if-not-call.false in
+    let short : length (called_text body) ≤ kept.limits.stack - c.pushed.result = c.call.ensures.short c.if-not-call.false in
     let shallow : depth kept.input < kept.limits.depth =
     rw (← c.self.view_is) at (c.is_deep.ensures.shallow c.if-is_deep.false) in
-    rw (← c.self.view_is, c.push_call.ensures, c.push.ensures, c.clear.ensures.value, c.list.ensures.value, c.finish.ensures.value)
+    rw (← c.self.view_is, put, c.push.ensures, c.clear.ensures.value, c.list.ensures.value, c.finish.ensures.value)
     (sym (call_within kept body c.self.invariant.within c.self.invariant.begun c.pushed.result counted short shallow))
 
 pub returns-clause-within : goal.returns-clause-within
-returns-clause-within g c = (invariant_of-self g c).within
+returns-clause-within g c = (invariant_of-self-2 g c).within

@@ -5,12 +5,12 @@ use Rattle.roff_scan.proofs.Changing.{push_past_stack, push_past_depth, push_wit
 use Rattle.roff_scan.proofs.Counts.{returns_ahead-bytes}
 use Rattle.roff_scan.proofs.unread.Unread.push_body.Goals as goal
 
-pub returns-then-len-self-clause-change : goal.returns-then-len-self-clause-change
-returns-then-len-self-clause-change g c =
+pub returns-then-body_len-room-clause-change : goal.returns-then-body_len-room-clause-change
+returns-then-body_len-room-clause-change g c =
     let kept = kept_by c.self.inside in
     let body = body_named c.args.name.now kept.input in
     let counted = rw (← c.self.view_is) at c.pushed.ensures in
-    let long : kept.limits.stack - c.pushed.result < length body = rw (← c.body_len-len.ensures) c.if-len-self.true in
+    let long : kept.limits.stack - c.pushed.result < length body = rw (← c.body_len.ensures) c.if-body_len-room.true in
     rw (← c.self.view_is) (sym (push_past_stack kept body c.self.invariant.within c.pushed.result counted long))
 
 pub returns-then-is_deep-clause-change : goal.returns-then-is_deep-clause-change
@@ -18,31 +18,41 @@ returns-then-is_deep-clause-change g c =
     let kept = kept_by c.self.inside in
     let body = body_named c.args.name.now kept.input in
     let counted = rw (← c.self.view_is) at c.pushed.ensures in
-    let short : length body ≤ kept.limits.stack - c.pushed.result = rw (← c.body_len-len.ensures) c.if-len-self.false in
+    let short : length body ≤ kept.limits.stack - c.pushed.result = rw (← c.body_len.ensures) c.if-body_len-room.false in
     let deep : kept.limits.depth ≤ depth kept.input = rw (← c.self.view_is) at (c.is_deep.ensures.deep c.if-is_deep.true) in
     rw (← c.self.view_is) (sym (push_past_depth kept body c.self.invariant.within c.pushed.result counted short deep))
 
-pub invariant_of-self : goal.invariant_of-self
-invariant_of-self g c =
+pub returns-then-not-push_body-clause-change : goal.returns-then-not-push_body-clause-change
+returns-then-not-push_body-clause-change g c =
     let kept = kept_by c.self.inside in
     let body = body_named c.args.name.now kept.input in
     let counted = rw (← c.self.view_is) at c.pushed.ensures in
-    let short : length body ≤ kept.limits.stack - c.pushed.result = rw (← c.body_len-len.ensures) c.if-len-self.false in
+    let long : kept.limits.stack - c.pushed.result < length body = c.push_body.ensures.long c.if-not-push_body.true in
+    rw (← c.self.view_is, c.push_body.ensures.kept c.if-not-push_body.true)
+    (sym (push_past_stack kept body c.self.invariant.within c.pushed.result counted long))
+
+pub invariant_of-self-2 : goal.invariant_of-self-2
+invariant_of-self-2 g c =
+    let kept = kept_by c.self.inside in
+    let body = body_named c.args.name.now kept.input in
+    let counted = rw (← c.self.view_is) at c.pushed.ensures in
+    let put = c.push_body.ensures.put c.if-not-push_body.false in
+    let short : length body ≤ kept.limits.stack - c.pushed.result = c.push_body.ensures.short c.if-not-push_body.false in
     let shallow : depth kept.input < kept.limits.depth = rw (← c.self.view_is) at (c.is_deep.ensures.shallow c.if-is_deep.false) in
     record {
-      bytes = rw c.push_body.ensures c.self.invariant.bytes;
-      texts = rw c.push_body.ensures c.self.invariant.texts;
+      bytes = rw put c.self.invariant.bytes;
+      texts = rw put c.self.invariant.texts;
       arguments = c.self.invariant.arguments;
       begun = c.self.invariant.begun;
       call_bytes = c.self.invariant.call_bytes;
       most_calls = c.self.invariant.most_calls;
-      calls = rw c.push_body.ensures (returns_ahead-bytes body (EndAhead ∷ c.self.inside.frames.ahead) ∙ c.self.invariant.calls);
+      calls = rw put (returns_ahead-bytes body (EndAhead ∷ c.self.inside.frames.ahead) ∙ c.self.invariant.calls);
       held = c.self.invariant.held;
       small = c.self.invariant.small;
-      store = rw c.push_body.ensures c.self.invariant.store;
-      once = rw c.push_body.ensures c.self.invariant.once;
+      store = rw put c.self.invariant.store;
+      once = rw put c.self.invariant.once;
       results = c.self.invariant.results;
-      within = rw c.push_body.ensures (IsWithin-pushing kept body c.self.invariant.within c.pushed.result counted short shallow);
+      within = rw put (IsWithin-pushing kept body c.self.invariant.within c.pushed.result counted short shallow);
     }
 
 pub returns-clause-change : goal.returns-clause-change
@@ -50,9 +60,10 @@ returns-clause-change g c =
     let kept = kept_by c.self.inside in
     let body = body_named c.args.name.now kept.input in
     let counted = rw (← c.self.view_is) at c.pushed.ensures in
-    let short : length body ≤ kept.limits.stack - c.pushed.result = rw (← c.body_len-len.ensures) c.if-len-self.false in
+    let put = c.push_body.ensures.put c.if-not-push_body.false in
+    let short : length body ≤ kept.limits.stack - c.pushed.result = c.push_body.ensures.short c.if-not-push_body.false in
     let shallow : depth kept.input < kept.limits.depth = rw (← c.self.view_is) at (c.is_deep.ensures.shallow c.if-is_deep.false) in
-    rw (← c.self.view_is, c.push_body.ensures) (sym (push_within kept body c.self.invariant.within c.pushed.result counted short shallow))
+    rw (← c.self.view_is, put) (sym (push_within kept body c.self.invariant.within c.pushed.result counted short shallow))
 
 pub returns-clause-within : goal.returns-clause-within
-returns-clause-within g c = (invariant_of-self g c).within
+returns-clause-within g c = (invariant_of-self-2 g c).within

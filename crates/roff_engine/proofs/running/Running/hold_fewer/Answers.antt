@@ -1,0 +1,12 @@
+use Rattle.std.specs.Prelude.{Some}
+use Rattle.roff_run.proofs.HeldRuns.{reads-fewer}
+use Rattle.roff_engine.proofs.Turned.{goes_past_turned}
+use Rattle.roff_engine.proofs.running.Running.hold_fewer.Goals as goal
+
+pub returns : goal.returns
+returns g c = λ out err.
+    let held = c.hold_fewer.ensures in
+    let old = c.args.self.now in
+    goes_past_turned _ _ _ _ _ _ out err old _ old.formatter.reader
+    (reads-fewer (Some c.args.most) _ _ old.formatter.reader old.unread _ c.requires.none_half c.requires.none_due c.requires.holds held.holds held.within)
+    held.notes held.failures

@@ -1,0 +1,20 @@
+use Rattle.std.proofs.Common.{◌≡◌, ℕ, ◌+◌, List, false, true, None, arith, map, take, refl, rules, subst, sym}
+use Rattle.std.specs.Prelude.{get_or, nat_lt}
+use Rattle.std.proofs.lemmas.Bool.{le-ltb}
+use Rattle.roff_scan.specs.Input.{is_none_ahead}
+use Rattle.roff_scan.specs.Tape.{Gives, OneByte, Took}
+use Rattle.roff_scan.proofs.Asking.{answers_first, takes_asked}
+use Rattle.roff_scan.proofs.unread.Unread.take_waiting_ready.Goals as goal
+
+pub returns-else-not-waits_for-clause-takes : goal.returns-else-not-waits_for-clause-takes
+returns-else-not-waits_for-clause-takes g c =
+    let now = c.args.self.now in
+    let bytes = c.buffered.result.now in
+    let gave = g.S.ByteSource.gives c.args.source.now in
+    let gives = g.S.ByteSource.gives c.pass.new.self in
+    let none : c.self.inside.looked ≡ None = search rules in
+    let none_ahead : is_none_ahead c.self.inside.frames.ahead ≡ true = rw (← c.self.view_is) at c.requires.none_ahead in
+    let room : nat_lt now.limits.bytes (now.input.charge + 1) ≡ false = le-ltb now.limits.bytes (now.input.charge + 1) (omega (arith, c.requires.room)) in
+    let took : Took gave gives (map OneByte (take 1 bytes)) = subst (λ (ready : List ℕ). Took gave gives (map OneByte (take 1 ready))) (sym c.buffered.ensures) c.pass.ensures.gives in
+    takes_asked gave _ _ _ c.self.view_is _ gives (Gives (OneByte (get_or bytes 0 0))) none_ahead none
+    (answers_first gave gives bytes c.in-len1-up.len_at_least took) (rw (room, c.count.ensures.counts) refl)
