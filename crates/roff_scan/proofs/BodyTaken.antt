@@ -204,11 +204,19 @@ module _ {E : Type 0} (t : Texts) (full s : Held (Frame E)) (id : LeaseId) (whol
         }
 
     -- and the byte was in front
-    pub TakesFront-released : rest_of (lease_of id.0 t) ≡ 1
+    pub taken-released : rest_of (lease_of id.0 t) ≡ 1
         → (old : Framed E) → kept_by (record { slots = full; texts = t }) ≡ old
-        → TakesFront old (kept_by (record { slots = s; texts = after (Release id.0) t })) (ShowsByte (slice_index_or front 0 0))
-    TakesFront-released one old is =
+        → old ≡ record (kept_by (record { slots = s; texts = after (Release id.0) t })) {
+          ahead = ByteAhead (slice_index_or front 0 0) ∷ with_bodies (after (Release id.0) t) s.ahead;
+        }
+    taken-released one old is =
         let kept : Framed E = kept_by (record { slots = s; texts = after (Release id.0) t }) in
         let before = ap (λ (h : Held (Frame E)). kept_by (record { slots = h; texts = t })) whole in
         let taken = ap (λ (items : List (Ahead E)). record kept { ahead = items }) (ahead-released one) in
-        record { front = ByteAhead b; taken = sym is ∙ before ∙ taken; shows = refl }
+        sym is ∙ before ∙ taken
+
+    -- which is the front item
+    pub TakesFront-released : rest_of (lease_of id.0 t) ≡ 1
+        → (old : Framed E) → kept_by (record { slots = full; texts = t }) ≡ old
+        → TakesFront old (kept_by (record { slots = s; texts = after (Release id.0) t })) (ShowsByte (slice_index_or front 0 0))
+    TakesFront-released one old is = record { front = ByteAhead b; taken = taken-released one old is; shows = refl }

@@ -313,7 +313,7 @@ impl<E: Copy> Frames<E> {
         }
     }
 
-    /// Takes the byte in front, if it is one of a text or of a body that goes on behind it.
+    /// Takes the byte in front, if it is one of a text or of a body.
     #[inline(always)]
     pub(crate) fn take_ready(&mut self) -> Option<u8>
         ensures taken { IfSome result (λ b.
@@ -327,13 +327,39 @@ impl<E: Copy> Frames<E> {
             }
             Some(Front::Do(Frame::Body(lease))) => {
                 if self.texts.lease_rest(lease) < 2 {
-                    return None;
+                    return self.take_last();
                 }
                 let byte = self.texts.lease_front(lease)[0];
                 self.texts.lease_pass(lease, 1);
                 Some(byte)
             }
             Some(Front::Do(Frame::Event(_))) => None,
+            Some(Front::Free(_)) => None,
+            Some(Front::End) => None,
+            Some(Front::Return) => None,
+            None => None,
+        }
+    }
+
+    /// Takes the byte in front, if it is the last one of a body.
+    #[inline(never)]
+    fn take_last(&mut self) -> Option<u8>
+        ensures taken { IfSome result (λ b.
+            self.old ≡ record self.new { ahead = ByteAhead b ∷ self.new.ahead }) }
+        ensures kept { result ≡ None → self.new ≡ self.old }
+    {
+        match self.slots.front() {
+            Some(Front::Do(Frame::Body(lease))) => {
+                if self.texts.lease_rest(lease) != 1 {
+                    return None;
+                }
+                let byte = self.texts.lease_front(lease)[0];
+                self.texts.release(lease);
+                self.slots.take();
+                Some(byte)
+            }
+            Some(Front::Do(Frame::Event(_))) => None,
+            Some(Front::Byte(_)) => None,
             Some(Front::Free(_)) => None,
             Some(Front::End) => None,
             Some(Front::Return) => None,
