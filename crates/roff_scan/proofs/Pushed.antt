@@ -16,8 +16,7 @@ use Rattle.roff_scan.proofs.Counts.{bytes_ahead-bytes, ends_ahead-bytes, events_
 use Rattle.roff_scan.proofs.Leased.{with_bodies-same}
 use Rattle.roff_store.proofs.LyingSums.{sum_by-same}
 use Rattle.roff_store.specs.declared.text.LeaseId.{LeaseId}
-use Rattle.roff_store.specs.Texts.{Entry, Body as BodyOf, Request as RequestOf}
-use Rattle.roff_store.specs.Texts.{IsFree, Texts, body_if_any, body_of, is_body, kept, lease_bytes, lease_of, live, rest_of}
+use Rattle.roff_store.specs.Texts.{IsFree, Texts, body_of, kept, lease_bytes, lease_of, live, rest_of}
 use Rattle.roff_store.specs.TextCalls.{Lease, after}
 
 module _ {X : Type 0} (leases : List (Option X)) (id : ℕ) (known : id ≤ length leases) (free : get_or leases id None ≡ None)
@@ -66,13 +65,6 @@ module _ {E : Type 0} (a : Inside E) (sound : IsSound a) where
   pub room-for-most : (most : ℕ) → most + bytes_ahead (kept_by a).ahead ≤ a.slots.most_bytes
       → kept a.texts + most ≤ a.texts.cap_kept
   room-for-most most fits = omega (arith, fits, bytes-with_bodies a.texts a.slots.ahead, sound.sum, sound.cap_kept)
-
--- a name without a body, or with one of no bytes, reads as an empty one
-pub body-empty : (entry : Option Entry) → (is_body entry ≡ true → length (body_if_any entry) < 1) → body_if_any entry ≡ []
-body-empty None few = refl
-body-empty (Some (BodyOf [])) few = refl
-body-empty (Some (BodyOf (b ∷ bytes))) few = absurd (omega (arith, few refl))
-body-empty (Some (RequestOf number)) few = refl
 
 module _ {E : Type 0} (a : Inside E) (sound : IsSound a) (name : List ℕ) (ended : is_end_next a.slots.ahead ≡ true)
     (fits : length (body_of name a.texts) + bytes_ahead (kept_by a).ahead ≤ a.slots.most_bytes) where

@@ -5,9 +5,8 @@ use Rattle.roff_scan.specs.Input.{ByteAhead, EndAhead, bytes_ahead, ends_ahead}
 use Rattle.roff_scan.specs.declared.frames.Frames.TheInside.{Inside}
 use Rattle.roff_scan.proofs.Bodies.{bytes-with_bodies, ends-with_bodies}
 use Rattle.roff_scan.proofs.Framing.{IsSound-pushing}
-use Rattle.roff_scan.proofs.Pushed.{PutsBytes-leased, body-empty, room-for-mark, room-for-most, room-for-one}
+use Rattle.roff_scan.proofs.Pushed.{PutsBytes-leased, room-for-mark, room-for-most, room-for-one}
 use Rattle.roff_scan.proofs.frames.Frames.push_body.Goals as goal
-use Rattle.roff_store.specs.Named.{entry_of}
 use Rattle.roff_store.specs.Texts.{body_of}
 
 pub lease_within-requires-clause-fewer : goal.lease_within-requires-clause-fewer
