@@ -5,7 +5,7 @@ ghost use Rattle.std.specs.Prelude.{OnOk, slice_index_or};
 ghost use Rattle.roff_run.specs.Run.{ahead_taken, awaited, byte_taken, end_met, half_ends};
 ghost use Rattle.roff_run.specs.Run.{in_front_taken, input_ended, step, waiting};
 ghost use Rattle.roff_run.specs.ControlFronts.{BeginsControl};
-ghost use Rattle.roff_run.specs.Reading.{Passes};
+ghost use Rattle.roff_run.specs.Reading.{Passes, behind_return};
 ghost use Rattle.roff_run.specs.Stages.{Adds, EndsLine, Holds, HoldsIfFewer, Ignores, ReadsHalves};
 ghost use Rattle.roff_run.specs.Stages.{TakesHalf, counts_blanks};
 ghost use Rattle.roff_run.specs.Telling.{Prints};
@@ -14,7 +14,7 @@ ghost use Rattle.roff_scan.specs.Bytes.{is_passed, is_text_byte};
 ghost use Rattle.roff_scan.specs.Halves.{newline_stays};
 ghost use Rattle.roff_scan.specs.Input.{DoAhead};
 ghost use Rattle.roff_scan.specs.Unread.{IsWithin, seen_ahead};
-ghost use Rattle.roff_scan.specs.Unread.Calls.{PassesEnd};
+ghost use Rattle.roff_scan.specs.Unread.Calls.{PassesEnd, PassesReturn};
 ghost use Rattle.roff_engine.specs.Clauses.{Outcome, Sunk, Tape, Puts, Seen, seen, due};
 ghost use Rattle.roff_engine.specs.Clauses.{message_line, ReadFailed, Device, Tells};
 
@@ -55,8 +55,8 @@ impl Running {
         }
     }
 
-    /// Takes the front of a control line at once, if it stands in front, and then bytes behind it.
-    /// Returns whether a line begins behind them.
+    /// Takes the front of a control line at once, if it stands in front, and then bytes behind it, or
+    /// takes the end of a call. Returns whether a line begins behind them.
     #[inline(never)]
     fn pass_control_line<S: ByteSource>(&mut self, source: &mut S) -> bool
         requires begins { BeginsControl self.old.formatter.reader.reading }
@@ -70,8 +70,30 @@ impl Running {
         if self.read_control_front(source) {
             self.pass_line(source)
         } else {
-            false
+            self.pass_return()
         }
+    }
+
+    /// Takes the end of a call at once, if it stands in front. Returns whether it did.
+    #[inline(always)]
+    fn pass_return(&mut self) -> bool
+        ensures passes { result ≡ true → PassesReturn self.old.unread self.new.unread }
+        ensures within { result ≡ true → IsWithin self.new.unread }
+        ensures reads { result ≡ true → self.new ≡ record self.old {
+          formatter = record self.old.formatter {
+            reader = record self.old.formatter.reader {
+              reading = behind_return self.old.formatter.reader.reading;
+            };
+          };
+          unread = self.new.unread;
+        } }
+        ensures kept { result ≡ false → self.new ≡ self.old }
+    {
+        if !self.unread.pass_return() {
+            return false;
+        }
+        self.formatter.end_call();
+        true
     }
 
     /// Takes the front of a control line at once, if it stands in front. Whether it did.

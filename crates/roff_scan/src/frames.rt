@@ -470,6 +470,26 @@ impl<E: Copy> Frames<E> {
         }
     }
 
+    /// Takes the end of a call in front, if one is. Returns whether it did.
+    #[inline(always)]
+    pub(crate) fn pass_return(&mut self) -> bool
+        ensures taken { result ≡ true
+            → self.old ≡ record self.new { ahead = ReturnAhead ∷ self.new.ahead } }
+        ensures kept { result ≡ false → self.new ≡ self.old }
+    {
+        match self.slots.front() {
+            Some(Front::Return) => {
+                let _return = self.slots.take();
+                true
+            }
+            Some(Front::Do(_)) => false,
+            Some(Front::Byte(_)) => false,
+            Some(Front::Free(_)) => false,
+            Some(Front::End) => false,
+            None => false,
+        }
+    }
+
     /// Gives bytes of a pushed text in front to what is half read, one after another, as long as
     /// it takes them where a condition is read, and so many at the most. Returns how many.
     #[inline(always)]

@@ -115,7 +115,8 @@ impl<E: Copy> Unread<E> {
     ghost use Rattle.roff_scan.specs.Unread.Calls.{Takes, Looks, PassesAhead, PassesOver};
     ghost use Rattle.roff_scan.specs.Unread.Calls.{front_bytes, IsFront, NoNewline, PassesFront};
     ghost use Rattle.roff_scan.specs.Unread.Calls.{AddsFront, HoldsFewer, HoldsFront, PassesSource, ReadsNames};
-    ghost use Rattle.roff_scan.specs.Unread.Calls.{PassesEnd, PassesNewline, TakesHalves, TakesPushed};
+    ghost use Rattle.roff_scan.specs.Unread.Calls.{PassesEnd, PassesNewline, PassesReturn};
+    ghost use Rattle.roff_scan.specs.Unread.Calls.{TakesHalves, TakesPushed};
     ghost use Rattle.roff_store.specs.TextCalls.{Open, Remove, Rename, Set};
 
     /// The input before anything is read. So many names stand for something then: they are to be
@@ -510,6 +511,25 @@ impl<E: Copy> Unread<E> {
             return false;
         }
         self.charge += 1;
+        true
+    }
+
+    /// Takes the end of a call at once that stands in front, if the limit on bytes allows it. What is
+    /// half read isn't looked at. Returns whether it did.
+    #[inline(always)]
+    pub fn pass_return(&mut self) -> bool
+        ensures passes { result ≡ true → PassesReturn self.old self.new }
+        ensures kept { result ≡ false → self.new ≡ self.old }
+        ensures within { IsWithin self.new }
+    {
+        if self.limits.bytes == self.charge {
+            return false;
+        }
+        if !self.frames.pass_return() {
+            return false;
+        }
+        self.charge += 1;
+        end_call(&mut self.calls, &mut self.kept);
         true
     }
 

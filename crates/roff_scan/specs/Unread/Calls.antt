@@ -5,7 +5,7 @@ use Rattle.roff_scan.specs.Arguments.{HeldFewer, bytes_held, is_argument_byte}
 use Rattle.roff_scan.specs.Bytes.{is_passed, is_text_byte, newline}
 use Rattle.roff_scan.specs.ConditionFronts.{HalvesTaken}
 use Rattle.roff_scan.specs.HalfFronts.{HalvesRead}
-use Rattle.roff_scan.specs.Input.{Ahead, ByteAhead, EndAhead, adding, bytes_taken, leading, lines_taken}
+use Rattle.roff_scan.specs.Input.{Ahead, ByteAhead, EndAhead, ReturnAhead, adding, bytes_taken, item_taken, leading, lines_taken}
 use Rattle.roff_scan.specs.Tape.{Tape, Answer, OneByte, items_then}
 use Rattle.roff_scan.specs.Unread.{Unread, Asked, Stays, Shown, Sighted, asks_to_take, asks_to_look, passed_over, taking, looking}
 
@@ -109,6 +109,13 @@ pub record PassesEnd {E : Type 0} (before after : Unread E) : Type 0 where
   pub behind : List (Ahead E)
   pub in_front : before.input.ahead ≡ EndAhead ∷ behind
   pub input : after ≡ record before { input = record before.input { ahead = behind; charge = before.input.charge + 1 } }
+  pub within : before.input.charge + 1 ≤ before.limits.bytes
+
+-- the end of a call was in front, and was taken
+pub record PassesReturn {E : Type 0} (before after : Unread E) : Type 0 where
+  pub behind : List (Ahead E)
+  pub in_front : before.input.ahead ≡ ReturnAhead ∷ behind
+  pub input : after ≡ record before { input = item_taken ReturnAhead behind before.input }
   pub within : before.input.charge + 1 ≤ before.limits.bytes
 
 -- Bytes that came next were taken at once and held in the arguments of the line, each as it is read; nothing else changed but
