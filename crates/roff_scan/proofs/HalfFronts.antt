@@ -16,7 +16,7 @@ use Rattle.roff_scan.specs.declared.half.Surroundings.{Surroundings}
 use Rattle.roff_scan.proofs.Fronts.{passes_none}
 
 -- a byte was read
-pub was_read : (b : ℕ) (old new : KeptHalves) (next : List Half) → ReadsOn old.half b next → new ≡ record old { half = next } → ReadsByte b true old new
+was_read : (b : ℕ) (old new : KeptHalves) (next : List Half) → ReadsOn old.half b next → new ≡ record old { half = next } → ReadsByte b true old new
 was_read b old new next reads is = record {
   read = λ is_so. subst (ReadsOn old.half b) (sym (ap (λ (k : KeptHalves). k.half) is)) reads;
   kept = λ isnt. absurd (cc);

@@ -261,14 +261,6 @@ impl Halves {
         true
     }
 
-    /// Whether a name may be read below the top: there are fewer things than there may be names.
-    #[inline(always)]
-    fn is_shallow(&self) -> bool
-        ensures { result ≡ true → length self.now.half ≤ 8 }
-    {
-        self.items.len() <= MOST_NAMES
-    }
-
     /// The same in a name of which so much is read.
     #[inline(always)]
     fn read_on_in_name(&mut self, purpose: NameUse, part: NamePart, byte: u8) -> bool
@@ -282,6 +274,15 @@ impl Halves {
         self.pop();
         self.push(HalfRead::Name(purpose, more));
         true
+    }
+
+    /// Whether a name may stand in the place of the top: no more things are half read than names
+    /// may be.
+    #[inline(always)]
+    fn is_shallow(&self) -> bool
+        ensures { result ≡ true → length self.now.half ≤ 8 }
+    {
+        self.items.len() <= MOST_NAMES
     }
 
     /// Takes bytes one after another where a condition is half read: those that its expression
