@@ -95,6 +95,7 @@ impl<E: Copy> NameTable<E> {
     }
 
     /// The entry of a name.
+    #[inline]
     pub(crate) fn get(&self, name: &Name) -> Option<E>
         ensures { result ≡ entry_of name.now self.now.entries }
     {
@@ -145,6 +146,7 @@ impl<E: Copy> NameTable<E> {
 /// The bucket of a name: its bytes as the digits of a number, of which the remainder is taken.
 /// Names of one or two letters and digits are apart so, and of the names of one or two printed
 /// bytes no three share a bucket.
+#[inline]
 fn bucket_of(name: &Name) -> usize
     ensures value { result ≡ bucket_of name.now }
     ensures within { result < BUCKETS }
@@ -157,6 +159,7 @@ fn bucket_of(name: &Name) -> usize
 }
 
 /// The place of the slot of a name.
+#[inline]
 fn find<E>(slots: &[Slot<E>], heads: &[u32], name: &Name) -> Option<usize>
     requires { IsIndexed slots.now heads.now }
     ensures inside { IfSome result (λ place. place < length slots.now) }

@@ -1,4 +1,4 @@
-use Rattle.std.proofs.Common.{◌-◌, length, arith}
+use Rattle.std.proofs.Common.{length, arith}
 use Rattle.roff_store.specs.Texts.{body_of}
 use Rattle.roff_store.proofs.Leasing.{kept-inside, room-enough, room-left}
 use Rattle.roff_store.proofs.text_store.TextStore.lease.Goals as goal

@@ -1,4 +1,4 @@
-use Rattle.std.proofs.Common.{◌≡◌, ◌-◌, [], ap, refl, sym, ◌∙◌, Some, None, arith}
+use Rattle.std.proofs.Common.{◌-◌, [], ap, refl, sym, ◌∙◌, Some, None, arith}
 use Rattle.std.specs.List.{last_or}
 use Rattle.roff_store.specs.TextStore.Kept.{strands_in}
 use Rattle.roff_store.specs.declared.text_store.Meaning.TheVariants.{Body as BodyIn}
