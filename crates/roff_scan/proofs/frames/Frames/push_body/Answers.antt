@@ -1,9 +1,9 @@
-use Rattle.std.proofs.Common.{◌≡◌, ◌<◌, ◌≤◌, ◌+◌, [], ◌∷◌, ◌++◌, length, map, arith, refl, ap, ◌∙◌}
+use Rattle.std.proofs.Common.{◌≤◌, [], ◌∷◌, ◌++◌, length, map, arith, refl, ap, ◌∙◌}
 use Rattle.roff_scan.specs.Frames.Calls.{PutsBytes}
-use Rattle.roff_scan.specs.Frames.Kept.{Framed, kept_by}
-use Rattle.roff_scan.specs.Input.{ByteAhead, EndAhead, bytes_ahead, ends_ahead}
+use Rattle.roff_scan.specs.Frames.Kept.{Framed}
+use Rattle.roff_scan.specs.Input.{ByteAhead, EndAhead}
 use Rattle.roff_scan.specs.declared.frames.Frames.TheInside.{Inside}
-use Rattle.roff_scan.proofs.Bodies.{bytes-with_bodies, ends-with_bodies}
+use Rattle.roff_scan.proofs.Bodies.{ends-with_bodies}
 use Rattle.roff_scan.proofs.Framing.{IsSound-pushing}
 use Rattle.roff_scan.proofs.Pushed.{PutsBytes-leased, room-for-mark, room-for-most, room-for-one}
 use Rattle.roff_scan.proofs.frames.Frames.push_body.Goals as goal
