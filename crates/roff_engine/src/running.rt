@@ -478,32 +478,13 @@ impl Running {
             (seen (S.failures source.old) (O.sunk out.old) (E.sunk err.old))
             (seen (S.failures source.new) (O.sunk out.new) (E.sunk err.new)) result }
     {
+        if self.unread.decides_now() {
+            return self.end_half(out, err);
+        }
         let line = self.unread.line();
         match self.unread.take_waiting(source) {
             Some(byte) => self.take_above(byte, line, out, err),
-            None => self.turn_deciding(source, out, err),
-        }
-    }
-
-    /// The same where no byte that it takes stands ready.
-    #[inline(never)]
-    fn turn_deciding<S: ByteSource, O: ByteSink, E: ByteSink>(
-        &mut self,
-        source: &mut S,
-        out: &mut O,
-        err: &mut E,
-    ) -> Result<(), Status>
-        requires { newline_stays self.old.unread.input.half ≡ true }
-        ensures { TurnsBy (λ s. waiting self.old.limits s)
-            (S.gives source.old) (S.gives source.new) (S.notes source.old) (S.notes source.new)
-            self.old self.new
-            (seen (S.failures source.old) (O.sunk out.old) (E.sunk err.old))
-            (seen (S.failures source.new) (O.sunk out.new) (E.sunk err.new)) result }
-    {
-        if self.unread.decides_now() {
-            self.end_half(out, err)
-        } else {
-            self.turn_looking(source, out, err)
+            None => self.turn_looking(source, out, err),
         }
     }
 

@@ -8,9 +8,12 @@ use Rattle.roff_num.specs.declared.limit.Limit.{Limit}
 use Rattle.roff_num.specs.declared.limits.Limits.{Limits}
 use Rattle.roff_scan.specs.Bytes.{backslash, is_dropped, newline}
 use Rattle.roff_scan.specs.Half.{Half, Backslash}
+use Rattle.roff_scan.specs.Escapes.{is_copied}
 use Rattle.roff_scan.specs.Halves.{byte_read}
 use Rattle.roff_scan.specs.Input.{body_named, calling_body, holding_text, with_half}
 use Rattle.roff_scan.specs.Unread.{changing, input_refusal, reading, unless_passed}
+use Rattle.roff_scan.specs.declared.escapes.NameUse.{NameUse}
+use Rattle.roff_scan.specs.declared.escapes.NameUse.TheVariants.{Argument, Character, Font, LeftOut as NameLeftOut, Register, Text as OfText}
 use Rattle.roff_scan.specs.declared.half.CopyUnit.{CopyUnit}
 use Rattle.roff_scan.specs.declared.half.CopyUnit.TheVariants.{Byte}
 use Rattle.roff_scan.specs.declared.half.Read.{Read}
@@ -21,11 +24,11 @@ use Rattle.roff_run.specs.Environments.{PageHistory, interrupted_line}
 use Rattle.roff_run.specs.Environments.Standing.{StandFor}
 use Rattle.roff_run.specs.Events.Meant.{events_meant, none_meant}
 use Rattle.roff_run.specs.Reader.Above.{reads_above}
-use Rattle.roff_run.specs.Reader.AtOnce.{GoesOnAbove, IsReadAbove, MeansNothing, TakesAtOnce, only_events}
+use Rattle.roff_run.specs.Reader.AtOnce.{AsksAbove, GoesOnAbove, IsReadAbove, MeansNothing, TakesAtOnce, only_events}
 use Rattle.roff_run.specs.Reader.Found.{found_in, place_in}
 use Rattle.roff_run.specs.Reader.State.{ReaderState}
 use Rattle.roff_run.specs.Reader.Taken.{PageUnread, TakesAs, Took}
-use Rattle.roff_run.specs.Reading.{PageInput, Taking, arguments_ended, arguments_read_on, at_start, beginning_read, call_read, going_on, holding, kept_taking, meaning_events, taking}
+use Rattle.roff_run.specs.Reading.{PageInput, Taking, arguments_ended, arguments_read_on, asking, at_start, beginning_read, call_read, first_name, going_on, holding, kept_taking, meaning_events, name_taking, taking}
 use Rattle.roff_run.specs.Registers.{AllRegisters, Known}
 use Rattle.roff_run.specs.Requests.{PageEvent, row_of}
 use Rattle.roff_run.specs.Run.{known_at}
@@ -38,6 +41,7 @@ use Rattle.roff_run.specs.declared.reader.Meaning.{Meaning}
 use Rattle.roff_run.specs.declared.reading.Reading.{Reading}
 use Rattle.roff_run.specs.declared.reading.Reading.TheVariants.{StringName, StringText, LineStart, Branch, Braced, Text as InText, Control, Name, Arguments as InArguments, Deciding, Skipping, Dropped, Telling, Told, Exiting, Calling, Defining}
 use Rattle.roff_run.specs.declared.reading.ShortName.{ShortName}
+use Rattle.roff_run.specs.declared.reading.TextLine.{TextLine}
 use Rattle.roff_run.specs.declared.request.Request.{Request}
 use Rattle.roff_run.proofs.FoundIn.{above-placed, kept-placed}
 use Rattle.roff_run.proofs.TakesAs.{TakesAs-as, TakesAs-changed, TakesAs-meant, TakesAs-read_at, taking-of}
@@ -222,6 +226,46 @@ nothing-above es old mid behind (Measures width) above none = absurd none
 nothing-above es old mid behind (Tells remark) above none = absurd none
 nothing-above es old mid behind (Decides decision freed) above none = absurd none
 
+-- a name that copy mode reads asks the same on a text line, and where a line begins
+first_name-copied : (k : Known) (i : PageInput) (r : Reading) (purpose : NameUse) (name : Option (List ℕ)) → is_copied purpose ≡ true
+    → first_name k i r purpose name ≡ asking k i r purpose name
+first_name-copied k i r (Register step) name is = refl
+first_name-copied k i r OfText name is = refl
+first_name-copied k i r Argument name is = refl
+first_name-copied k i r Character name is = cc
+first_name-copied k i r Font name is = cc
+first_name-copied k i r (NameLeftOut b) name is = cc
+
+name_taking-copied : (k : Known) (i : PageInput) (r : Reading) (line : TextLine) (purpose : NameUse) (name : Option (List ℕ)) → is_copied purpose ≡ true
+    → name_taking k i r line purpose name ≡ asking k i r purpose name
+name_taking-copied k i r line (Register step) name is = refl
+name_taking-copied k i r line OfText name is = refl
+name_taking-copied k i r line Argument name is = refl
+name_taking-copied k i r line Character name is = cc
+name_taking-copied k i r line Font name is = cc
+name_taking-copied k i r line (NameLeftOut b) name is = cc
+
+-- and so does one in a condition
+asks-above : (k : Known) (i : PageInput) (r : Reading) (purpose : NameUse) (name : Option (List ℕ)) → is_copied purpose ≡ true → reads_above r ≡ true
+    → found_in k i r (Asks purpose name) ≡ asking k i r purpose name
+asks-above k i LineStart purpose name copied is = first_name-copied k i LineStart purpose name copied
+asks-above k i (InText line) purpose name copied is = name_taking-copied k i (InText line) line purpose name copied
+asks-above k i (Deciding keeps) purpose name copied is = refl
+asks-above k i Branch purpose name copied is = cc
+asks-above k i Braced purpose name copied is = cc
+asks-above k i (Control breaks) purpose name copied is = cc
+asks-above k i (Name breaks first) purpose name copied is = cc
+asks-above k i (InArguments breaks request) purpose name copied is = cc
+asks-above k i (StringName appends) purpose name copied is = cc
+asks-above k i (StringText name appends is_front) purpose asked copied is = cc
+asks-above k i (Calling name) purpose asked copied is = cc
+asks-above k i (Defining name appends end matched) purpose asked copied is = cc
+asks-above k i (Skipping opened closed behind) purpose name copied is = cc
+asks-above k i Dropped purpose name copied is = cc
+asks-above k i (Telling aborts is_front) purpose name copied is = cc
+asks-above k i (Told aborts) purpose name copied is = cc
+asks-above k i Exiting purpose name copied is = cc
+
 -- a byte there
 module _ (b : ℕ) (place : Surroundings) (es : EnvironmentsOf) (old : ReaderState) (before mid : PageUnread) (found : Read) (kept : false ≡ is_dropped b)
     (above : reads_above old.reading ≡ true)
@@ -245,3 +289,13 @@ module _ (b : ℕ) (place : Surroundings) (es : EnvironmentsOf) (old : ReaderSta
       found-taken new end result
       (subst (λ (f : Read). TakesAs (λ k. found_in k mid.input old.reading f) es old new mid end result) same.0
       (subst (λ (u : PageUnread). TakesAs (λ k. found_in k u.input old.reading other) es old new u end result) same.1 takes))
+
+  -- by whether what a name asks for was put in front at once
+  pub asked-above : (behind : PageUnread) (answer : AtOnce) (purpose : NameUse) (name : Option (List ℕ)) → found ≡ Asks purpose name
+      → AsksAbove purpose name es old mid behind answer → IsReadAbove (λ k. taking k old.reading before.input b) es old before behind answer
+  asked-above behind Not purpose name is none = absurd none
+  asked-above behind Done purpose name is puts = found-taken old behind (Ok (only_events []))
+      (subst (λ (f : Read). TakesAs (λ k. found_in k mid.input old.reading f) es old old mid behind (Ok (only_events []))) (sym is)
+      (TakesAs-as (λ k. asking k mid.input old.reading purpose name) (λ k. found_in k mid.input old.reading (Asks purpose name)) es old old mid behind
+      (Ok (only_events [])) (λ k. sym (asks-above k mid.input old.reading purpose name puts.copied above)) puts.takes))
+  asked-above behind (Found other) purpose name is same = read-above behind (Found other) (same.0 ∙ sym is, same.1)

@@ -1,17 +1,19 @@
 -- What the code takes at once, and what that means.
-use Rattle.std.specs.Prelude.{◌≡◌, ℕ, Bool, true, false, List, [], ◌∷◌, ◌++◌, None, Result, Ok}
+use Rattle.std.specs.Prelude.{◌≡◌, ℕ, Bool, true, false, List, [], ◌∷◌, ◌++◌, Option, None, Result, Ok}
 use Rattle.roff_num.specs.declared.limit.Limit.{Limit}
+use Rattle.roff_scan.specs.Escapes.{is_copied}
 use Rattle.roff_scan.specs.Input.{holding_text}
 use Rattle.roff_scan.specs.Unread.{changing}
+use Rattle.roff_scan.specs.declared.escapes.NameUse.{NameUse}
 use Rattle.roff_scan.specs.declared.half.Read.{Read}
-use Rattle.roff_scan.specs.declared.half.Read.TheVariants.{GoesOn, Holds}
+use Rattle.roff_scan.specs.declared.half.Read.TheVariants.{Asks, GoesOn, Holds}
 use Rattle.roff_lines.specs.declared.event.Event.TheVariants.{Count, LineEnd, Print, Tab, WordEnd}
 use Rattle.roff_lines.specs.declared.glyph.Glyph.TheVariants.{Printed}
 use Rattle.roff_run.specs.Events.Meant.{few_meant}
 use Rattle.roff_run.specs.Reader.Found.{found_in}
 use Rattle.roff_run.specs.Reader.State.{ReaderState}
 use Rattle.roff_run.specs.Reader.Taken.{PageUnread, TakesAs}
-use Rattle.roff_run.specs.Reading.{Taking, blank_line, leading_blank_events, leading_glyph}
+use Rattle.roff_run.specs.Reading.{Taking, asking, blank_line, leading_blank_events, leading_glyph}
 use Rattle.roff_run.specs.Registers.{Known}
 use Rattle.roff_run.specs.Requests.{PageEvent, Text}
 use Rattle.roff_run.specs.declared.environments.Environments.{Environments as EnvironmentsOf}
@@ -57,3 +59,14 @@ IsReadAbove t es old before behind Done = TakesAs t es old old before behind (Ok
 IsReadAbove t es old before behind (Found found) =
     (new : ReaderState) (end : PageUnread) (result : Result Meaning Limit)
     → TakesAs (λ k. found_in k behind.input old.reading found) es old new behind end result → TakesAs t es old new before end result
+
+-- what the name behind an escape asks for was put in front, in the escape's place, and means nothing else
+pub record PutsAbove (purpose : NameUse) (name : Option (List ℕ)) (es : EnvironmentsOf) (old : ReaderState) (before behind : PageUnread) : Type 0 where
+  pub copied : is_copied purpose ≡ true
+  pub takes : TakesAs (λ k. asking k before.input old.reading purpose name) es old old before behind (Ok (only_events []))
+
+-- it was, or what was found is given back
+abbrev pub AsksAbove : NameUse → Option (List ℕ) → EnvironmentsOf → ReaderState → PageUnread → PageUnread → AtOnce → Type 0
+AsksAbove purpose name es old before behind Not = ⊥
+AsksAbove purpose name es old before behind Done = PutsAbove purpose name es old before behind
+AsksAbove purpose name es old before behind (Found other) = (other ≡ Asks purpose name) × (behind ≡ before)

@@ -1,23 +1,26 @@
 //! Bytes that are read at once: most mean nothing.
 
-ghost use Rattle.std.specs.Prelude.{◌≡◌, [], IfSome, None, Ok, true};
+ghost use Rattle.std.specs.Prelude.{◌≡◌, [], IfSome, None, Some, Ok, false, true};
 ghost use Rattle.roff_scan.specs.Bytes.{newline};
+ghost use Rattle.roff_scan.specs.declared.escapes.NameUse.TheVariants.{Register, Text as OfText};
 ghost use Rattle.roff_run.specs.Reader.AtOnce.{GoesOnAbove, IsReadAbove, TakesAtOnce, only_events};
-ghost use Rattle.roff_run.specs.Reader.AtOnce.{text_byte_events};
+ghost use Rattle.roff_run.specs.Reader.AtOnce.{AsksAbove, PutsAbove, text_byte_events};
 ghost use Rattle.roff_run.specs.Reading.{PageInput, line_begun, meaning_events, text_taking};
 ghost use Rattle.roff_run.specs.Stages.{TurnsFront, counts_blanks};
-ghost use Rattle.roff_run.specs.Clauses.{LineStart, NameOf, PageUnread, TakesAs, kept_taking};
+ghost use Rattle.roff_run.specs.Clauses.{EnvironmentsOf, LineStart, NameOf, PageUnread, TakesAs, kept_taking};
 ghost use Rattle.roff_run.specs.Clauses.{taking};
 ghost use Rattle.roff_run.specs.declared.reading.Reading.TheVariants.{Arguments as InArguments, Calling};
 
 use super::calls::CALL_ARGUMENTS;
 use super::control_lines::called_by;
+use super::registers::facts;
 use super::{AtOnce, Reader};
 use crate::environments::Environments;
 use crate::event::PageEvent;
 use crate::reading::{Reading, ShortName, TextByte, TextLine, blanks_in_front, ends_name};
 use crate::request::{Called, Request};
-use roff_scan::{CopyUnit, Read, Unread, is_dropped};
+use roff_num::Name;
+use roff_scan::{CopyUnit, NameUse, Read, Unread, is_dropped};
 
 impl Reader {
     /// Reads a byte that means nothing, if it is one of those that most often do. Else nothing
@@ -147,8 +150,89 @@ impl Reader {
             return AtOnce::Not;
         }
         let place = self.place(environments);
-        let found = unread.read_byte(place, byte);
-        goes_on_above(found, unread)
+        match unread.read_byte(place, byte) {
+            Read::Asks(purpose, name) => self.asks_above(purpose, name, environments, unread),
+            found => goes_on_above(found, unread),
+        }
+    }
+
+    /// Reads what the name behind an escape asks for in the escape's place at once, if that means
+    /// nothing else.
+    #[inline(always)]
+    fn asks_above(
+        &self,
+        purpose: NameUse,
+        name: Option<Name>,
+        environments: &Environments,
+        unread: &mut Unread<PageEvent>,
+    ) -> AtOnce
+        ensures { AsksAbove purpose name environments.now self.now unread.old unread.new result }
+    {
+        match name {
+            None => AtOnce::Found(Read::Asks(purpose, None)),
+            Some(name) => {
+                if self.puts_above(purpose, &name, environments, unread) {
+                    AtOnce::Done
+                } else {
+                    AtOnce::Found(Read::Asks(purpose, Some(name)))
+                }
+            }
+        }
+    }
+
+    /// Puts a string in front, or the text of a register that isn't stepped, if no limit refuses it.
+    /// Else nothing happens. Whether it did.
+    #[inline(always)]
+    fn puts_above(
+        &self,
+        purpose: NameUse,
+        name: &Name,
+        environments: &Environments,
+        unread: &mut Unread<PageEvent>,
+    ) -> bool
+        ensures puts { result ≡ true
+            → PutsAbove purpose (Some name.now) environments.now self.now unread.old unread.new }
+        ensures kept { result ≡ false → unread.new ≡ unread.old }
+    {
+        match purpose {
+            NameUse::Register(None) => self.puts_register(name, environments, unread),
+            NameUse::Register(Some(_)) => false,
+            NameUse::Text => self.puts_string(name, unread),
+            NameUse::Argument => false,
+            NameUse::Character => false,
+            NameUse::Font => false,
+            NameUse::LeftOut(_) => false,
+        }
+    }
+
+    /// The same of a register that isn't stepped.
+    fn puts_register(
+        &self,
+        name: &Name,
+        environments: &Environments,
+        unread: &mut Unread<PageEvent>,
+    ) -> bool
+        ensures puts { result ≡ true → PutsAbove (Register None) (Some name.now)
+            environments.now self.now unread.old unread.new }
+        ensures kept { result ≡ false → unread.new ≡ unread.old }
+    {
+        let text = self.registers.text(name, facts(environments, unread));
+        match unread.push(&text) {
+            Ok(()) => true,
+            Err(_) => false,
+        }
+    }
+
+    /// The same of a string.
+    fn puts_string(&self, name: &Name, unread: &mut Unread<PageEvent>) -> bool
+        ensures puts { result ≡ true → (es : EnvironmentsOf)
+            → PutsAbove OfText (Some name.now) es self.now unread.old unread.new }
+        ensures kept { result ≡ false → unread.new ≡ unread.old }
+    {
+        match unread.push_body(name) {
+            Ok(()) => true,
+            Err(_) => false,
+        }
     }
 
     /// The same as [`reads_on`](Reader::reads_on) of a byte that isn't dropped.
