@@ -9,8 +9,9 @@ use Rattle.roff_scan.specs.Half.{Half}
 use Rattle.roff_scan.specs.Halves.{newline_stays}
 use Rattle.roff_scan.specs.Input.{Ahead, EndAhead, ReturnAhead, is_none_ahead, item_taken}
 use Rattle.roff_scan.specs.Tape.{Tape}
-use Rattle.roff_scan.specs.Unread.{IsWithin}
-use Rattle.roff_scan.specs.Unread.Calls.{PassesEnd, PassesReturn}
+use Rattle.roff_scan.proofs.Asking.{takes_ahead}
+use Rattle.roff_scan.specs.Unread.{IsWithin, ShowsEnd, ShowsRefusal, taking_first}
+use Rattle.roff_scan.specs.Unread.Calls.{PassesEnd, PassesReturn, Takes}
 use Rattle.roff_run.specs.Reader.Taken.{PageUnread}
 use Rattle.roff_run.specs.Reading.{PageInput, behind_return, due}
 use Rattle.roff_run.specs.Registers.{AllRegisters}
@@ -94,6 +95,17 @@ module _ (old : Coded) (after : PageUnread) (behind : List (Ahead PageEvent)) (n
     };
     fewer = λ begins. omega (arith, fewer-end);
   }
+
+-- so it is taken as the front item is
+pub takes_end : (gave : Tape → Type 0) (before after : PageUnread) → PassesEnd before after → Takes gave gave before after ShowsEnd
+takes_end gave before after passes =
+    let ahead = ap (λ (items : List (Ahead PageEvent)). is_none_ahead items) passes.in_front in
+    takes_ahead gave before before after refl ShowsEnd ahead
+    (λ a.
+    ap (λ (u : PageUnread). (ShowsEnd, u)) passes.input
+    ∙ sym (ap (λ (items : List (Ahead PageEvent)). taking_first items a before) passes.in_front
+    ∙ ap (λ (c : Bool). if c then (ShowsRefusal Bytes, before) else (ShowsEnd, record before { input = item_taken EndAhead passes.behind before.input }))
+    (le-ltb before.limits.bytes (before.input.charge + 1) passes.within)))
 
 -- past the end of a text, or past nothing
 pub goes_further_passed : (old new : Coded) (is_passed : Bool) → (is_passed ≡ true → due old.formatter.reader.reading ≡ None)

@@ -380,6 +380,9 @@ impl Running {
             self.old self.new
             (seen (S.failures source.old) out err) (seen (S.failures source.new) out err) }
     {
+        if self.unread.decides_now() {
+            return;
+        }
         self.unread.take_front(source);
     }
 
@@ -540,6 +543,26 @@ impl Running {
     /// The same above what is half read, where a byte is seldom one of a text line.
     #[inline(always)]
     fn turn_above<S: ByteSource, O: ByteSink, E: ByteSink>(
+        &mut self,
+        source: &mut S,
+        out: &mut O,
+        err: &mut E,
+    ) -> Result<(), Status>
+        ensures { TurnsBy (λ s. in_front_taken self.old.limits s.input.ahead s)
+            (S.gives source.old) (S.gives source.new) (S.notes source.old) (S.notes source.new)
+            self.old self.new
+            (seen (S.failures source.old) (O.sunk out.old) (E.sunk err.old))
+            (seen (S.failures source.new) (O.sunk out.new) (E.sunk err.new)) result }
+    {
+        if self.unread.pass_end() {
+            return Ok(());
+        }
+        self.turn_byte_above(source, out, err)
+    }
+
+    /// The same of what isn't the end of a text.
+    #[inline(always)]
+    fn turn_byte_above<S: ByteSource, O: ByteSink, E: ByteSink>(
         &mut self,
         source: &mut S,
         out: &mut O,

@@ -1,6 +1,10 @@
 use Rattle.roff_run.proofs.ConditionRuns.{reads-condition}
+use Rattle.roff_engine.proofs.PassingOn.{goes_past_none}
 use Rattle.roff_engine.proofs.Turned.{goes_past_turned}
 use Rattle.roff_engine.proofs.running.Running.read_condition.Goals as goal
+
+pub returns-then-decides_now : goal.returns-then-decides_now
+returns-then-decides_now g c = λ out err. goes_past_none _ _ c.args.self.now _
 
 pub returns : goal.returns
 returns g c = λ out err.

@@ -1,13 +1,13 @@
-use Rattle.roff_engine.proofs.Turns.{TurnsBy-same, front_byte}
+use Rattle.std.proofs.Common.{◌≤◌, ℕ, arith}
+use Rattle.roff_engine.proofs.PassingEnds.{takes_end}
+use Rattle.roff_engine.proofs.Turns.{TurnsBy-same, front_end}
 use Rattle.roff_engine.proofs.running.Running.turn_above.Goals as goal
 
-pub returns-in-Some : goal.returns-in-Some
-returns-in-Some g c =
-    let shown = c.in-Some.ensures in
-    front_byte c.args.self.now _ _ _ _ _ _ shown.failures shown.notes c.in-Some.byte c.line-line.result c.take_above.new.self _ _ shown.takes c.line-line.ensures (c.take_above.ensures _)
+pub returns-then-pass_end : goal.returns-then-pass_end
+returns-then-pass_end g c =
+    let old = c.args.self.now in
+    front_end old _ _ _ _ _ _ (omega arith) (omega arith) (takes_end _ old.unread _ (c.pass_end.ensures.passes c.if-pass_end.true))
 
-pub returns-in-None : goal.returns-in-None
-returns-in-None g c =
-    let kept = c.take_ready.ensures.kept c.in-None.is in
-    let turned = rw kept.1 at c.turn_item.ensures in
-    TurnsBy-same _ _ _ _ _ c.args.self.now c.turn_item.new.self c.take_ready.new.self _ _ _ kept.0 turned
+pub returns : goal.returns
+returns g c =
+    TurnsBy-same _ _ _ _ _ c.args.self.now c.turn_byte_above.new.self c.pass_end.new.self _ _ _ (c.pass_end.ensures.kept c.if-pass_end.false) c.turn_byte_above.ensures

@@ -1,0 +1,13 @@
+use Rattle.roff_engine.proofs.Turns.{TurnsBy-same, front_byte}
+use Rattle.roff_engine.proofs.running.Running.turn_byte_above.Goals as goal
+
+pub returns-in-Some : goal.returns-in-Some
+returns-in-Some g c =
+    let shown = c.in-Some.ensures in
+    front_byte c.args.self.now _ _ _ _ _ _ shown.failures shown.notes c.in-Some.byte c.line-line.result c.take_above.new.self _ _ shown.takes c.line-line.ensures (c.take_above.ensures _)
+
+pub returns-in-None : goal.returns-in-None
+returns-in-None g c =
+    let kept = c.take_ready.ensures.kept c.in-None.is in
+    let turned = rw kept.1 at c.turn_item.ensures in
+    TurnsBy-same _ _ _ _ _ c.args.self.now c.turn_item.new.self c.take_ready.new.self _ _ _ kept.0 turned
