@@ -627,6 +627,7 @@ impl<E: Copy> Frames<E> {
     }
 
     /// What a name stands for: a request, or a body with so many bytes.
+    #[inline(always)]
     pub(crate) fn get(&self, name: &Name) -> Option<Kind>
         ensures { option_map kind_given result
             ≡ option_map kind_of (entry_of name.now self.now.texts.names.entries) }

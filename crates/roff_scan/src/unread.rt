@@ -1035,6 +1035,7 @@ impl<E: Copy> Unread<E> {
     }
 
     /// What a name stands for: a request, or a body with so many bytes.
+    #[inline(always)]
     pub fn get(&self, name: &Name) -> Option<Kind>
         ensures { option_map kind_given result
             ≡ option_map kind_of (entry_of name.now self.now.input.names) }

@@ -95,7 +95,7 @@ impl<E: Copy> NameTable<E> {
     }
 
     /// The entry of a name.
-    #[inline]
+    #[inline(always)]
     pub(crate) fn get(&self, name: &Name) -> Option<E>
         ensures { result ≡ entry_of name.now self.now.entries }
     {

@@ -142,6 +142,7 @@ impl TextStore {
     }
 
     /// What a name stands for: a request, or a body with so many bytes.
+    #[inline(always)]
     pub fn get(&self, name: &Name) -> Option<Kind>
         ensures { option_map kind_given result
             ≡ option_map kind_of (entry_of name.now self.now.names.entries) }
