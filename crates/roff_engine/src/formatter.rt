@@ -403,6 +403,46 @@ impl Formatter {
             (sinks (O.sunk out.old) (E.sunk err.old))
             (sinks (O.sunk out.new) (E.sunk err.new)) result }
     {
+        if self.reader.decides(unread) {
+            return Ok(());
+        }
+        self.end_above(unread, out, err)
+    }
+
+    /// The same where that decides no condition, or where the result is kept: in a condition it most
+    /// often means nothing.
+    #[inline(always)]
+    fn end_above<O: ByteSink, E: ByteSink>(
+        &mut self,
+        unread: &mut Unread<PageEvent>,
+        out: &mut O,
+        err: &mut E,
+    ) -> Result<(), Halt>
+        ensures { DoesTaking (λ k. half_ended k self.old.reader.reading unread.old.input) []
+            self.old self.new unread.old unread.new
+            (sinks (O.sunk out.old) (E.sunk err.old))
+            (sinks (O.sunk out.new) (E.sunk err.new)) result }
+    {
+        match self.reader.end_above(unread) {
+            AtOnce::Done => Ok(()),
+            AtOnce::Found(found) => self.take_found(found, unread, out, err),
+            AtOnce::Not => self.end_as_read(unread, out, err),
+        }
+    }
+
+    /// The same by what the reader makes of it.
+    #[inline(never)]
+    fn end_as_read<O: ByteSink, E: ByteSink>(
+        &mut self,
+        unread: &mut Unread<PageEvent>,
+        out: &mut O,
+        err: &mut E,
+    ) -> Result<(), Halt>
+        ensures { DoesTaking (λ k. half_ended k self.old.reader.reading unread.old.input) []
+            self.old self.new unread.old unread.new
+            (sinks (O.sunk out.old) (E.sunk err.old))
+            (sinks (O.sunk out.new) (E.sunk err.new)) result }
+    {
         let read = self.reader.end_half(&self.environments, unread);
         match &read {
             Ok(meaning) => self.act(meaning, unread.line(), out, err),

@@ -57,7 +57,19 @@ pub fn write_num(value: Num, format: Format, text: &mut NumText)
     if value.0 < 0 {
         text.push(b'-');
     }
-    push_all(size_text(value.0.unsigned_abs(), format).as_slice(), text);
+    push_size(value.0.unsigned_abs(), format, text);
+}
+
+/// Puts the text of a number without sign at a text's end, where there is room for it.
+fn push_size(size: u32, format: Format, text: &mut NumText)
+    requires size { size ≤ 2 ^ 31 }
+    requires room { array_vec_len text.old ≤ 16 }
+    ensures { text.new.items ≡ text.old.items ++ size_text format size }
+{
+    match format {
+        Format::Decimal(digits) => push_decimal(size, digits, text),
+        _ => push_all(size_text(size, format).as_slice(), text),
+    }
 }
 
 /// Whether a text is 1 to 32 digits.
@@ -110,13 +122,23 @@ fn decimal_field(size: u32, digits: u8) -> NumText
     ensures text { result.items ≡ decimal_field (min digits 32) size }
     ensures short { array_vec_len result ≤ 32 }
 {
+    let mut text = NumText::new();
+    push_decimal(size, digits, &mut text);
+    text
+}
+
+/// Puts a number in decimal, with zeros in front up to so many digits, at a text's end, where there is
+/// room for it.
+fn push_decimal(size: u32, digits: u8, text: &mut NumText)
+    requires { array_vec_len text.old ≤ 16 }
+    ensures text { text.new.items ≡ text.old.items ++ decimal_field (min digits 32) size }
+    ensures short { array_vec_len text.new ≤ array_vec_len text.old + 32 }
+{
     let mut buffer = Buffer::new();
     let decimal = buffer.format(size).as_bytes();
     let width = MOST_DIGITS.min(digits as usize);
-    let mut text = NumText::new();
-    push_zeros(width.saturating_sub(decimal.len()), &mut text);
-    push_all(decimal, &mut text);
-    text
+    push_zeros(width.saturating_sub(decimal.len()), text);
+    push_all(decimal, text);
 }
 
 /// Puts zeros at a text's end, where there is room for them.

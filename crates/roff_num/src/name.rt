@@ -48,6 +48,12 @@ impl Name {
     pub fn is_same(&self, other: &Name) -> bool
         ensures { IsTrue result ↔ (self.now ≡ other.now) }
     {
-        self.as_bytes() == other.as_bytes()
+        match (self.as_bytes(), other.as_bytes()) {
+            ([first], [other_first]) => first == other_first,
+            ([first, second], [other_first, other_second]) => {
+                first == other_first && second == other_second
+            }
+            (bytes, others) => bytes == others,
+        }
     }
 }

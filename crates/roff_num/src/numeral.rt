@@ -73,7 +73,8 @@ fn value_of_whole(negative: bool, number: u64, unit: Ratio) -> Result<i32, NumFa
     if number > 2_147_483_648 {
         return Err(NumFault::Range);
     }
-    let size = (number * u64::from(unit.over) / u64::from(unit.under)) as i64;
+    let product = number * u64::from(unit.over);
+    let size = if unit.under == 1 { product } else { product / u64::from(unit.under) } as i64;
     in_range(if negative { -size } else { size })
 }
 

@@ -9,13 +9,14 @@ use Rattle.roff_num.specs.declared.limits.Limits.{Limits}
 use Rattle.roff_scan.specs.Bytes.{backslash, is_dropped, newline}
 use Rattle.roff_scan.specs.Half.{Half, Backslash}
 use Rattle.roff_scan.specs.Escapes.{is_copied}
-use Rattle.roff_scan.specs.Halves.{byte_read}
+use Rattle.roff_scan.specs.Halves.{byte_read, reading_ended}
 use Rattle.roff_scan.specs.Input.{body_named, calling_body, holding_text, with_half}
-use Rattle.roff_scan.specs.Unread.{changing, input_refusal, reading, unless_passed}
+use Rattle.roff_scan.specs.Unread.{EndsDecided, changing, input_refusal, reading, unless_passed}
 use Rattle.roff_scan.specs.declared.escapes.NameUse.{NameUse}
 use Rattle.roff_scan.specs.declared.escapes.NameUse.TheVariants.{Argument, Character, Font, LeftOut as NameLeftOut, Register, Text as OfText}
 use Rattle.roff_scan.specs.declared.half.CopyUnit.{CopyUnit}
 use Rattle.roff_scan.specs.declared.half.CopyUnit.TheVariants.{Byte}
+use Rattle.roff_scan.specs.declared.half.Decision.TheVariants.{Is}
 use Rattle.roff_scan.specs.declared.half.Read.{Read}
 use Rattle.roff_scan.specs.declared.half.Read.TheVariants.{GoesOn, Unit as GivesUnit, Holds, Escape, Asks, Motion, Measures, Tells, Decides}
 use Rattle.roff_scan.specs.declared.half.Surroundings.{Surroundings}
@@ -28,7 +29,7 @@ use Rattle.roff_run.specs.Reader.AtOnce.{AsksAbove, GoesOnAbove, IsReadAbove, Me
 use Rattle.roff_run.specs.Reader.Found.{found_in, place_in}
 use Rattle.roff_run.specs.Reader.State.{ReaderState}
 use Rattle.roff_run.specs.Reader.Taken.{PageUnread, TakesAs, Took}
-use Rattle.roff_run.specs.Reading.{PageInput, Taking, arguments_ended, arguments_read_on, asking, at_start, beginning_read, call_read, first_name, going_on, holding, kept_taking, meaning_events, name_taking, taking}
+use Rattle.roff_run.specs.Reading.{PageInput, Taking, arguments_ended, arguments_read_on, asking, at_start, beginning_read, branch_of, call_read, first_name, going_on, half_ended, holding, kept_taking, meaning_events, name_taking, taking}
 use Rattle.roff_run.specs.Registers.{AllRegisters, Known}
 use Rattle.roff_run.specs.Requests.{PageEvent, row_of}
 use Rattle.roff_run.specs.Run.{known_at}
@@ -43,8 +44,8 @@ use Rattle.roff_run.specs.declared.reading.Reading.TheVariants.{StringName, Stri
 use Rattle.roff_run.specs.declared.reading.ShortName.{ShortName}
 use Rattle.roff_run.specs.declared.reading.TextLine.{TextLine}
 use Rattle.roff_run.specs.declared.request.Request.{Request}
-use Rattle.roff_run.proofs.FoundIn.{above-placed, kept-placed}
-use Rattle.roff_run.proofs.TakesAs.{TakesAs-as, TakesAs-changed, TakesAs-meant, TakesAs-read_at, taking-of}
+use Rattle.roff_run.proofs.FoundIn.{above-placed, half_ended-placed, kept-placed}
+use Rattle.roff_run.proofs.TakesAs.{TakesAs-as, TakesAs-changed, TakesAs-ended_at, TakesAs-meant, TakesAs-read_at, TakesAs-where, taking-of}
 
 -- what is taken as one of two that are equal is taken as the other
 pub at_once-as : (s t : Known → Taking) (events : List PageEvent) (old new : ReaderState) (before behind : PageUnread) (on : Bool)
@@ -266,6 +267,48 @@ asks-above k i (Telling aborts is_front) purpose name copied is = cc
 asks-above k i (Told aborts) purpose name copied is = cc
 asks-above k i Exiting purpose name copied is = cc
 
+-- what takes this takes the whole, once it has taken what was found
+abbrev TakesFound : (Known → Taking) → EnvironmentsOf → ReaderState → PageUnread → PageUnread → Read → Type 0
+TakesFound t es old before mid found = (new : ReaderState) (end : PageUnread) (result : Result Meaning Limit)
+    → TakesAs (λ k. found_in k mid.input old.reading found) es old new mid end result → TakesAs t es old new before end result
+
+-- by how far it was read at once
+above-found : (t : Known → Taking) (es : EnvironmentsOf) (old : ReaderState) (before mid behind : PageUnread) (found : Read) (answer : AtOnce)
+    → reads_above old.reading ≡ true → TakesFound t es old before mid found → GoesOnAbove found mid behind answer → IsReadAbove t es old before behind answer
+above-found t es old before mid behind found Not above takes none = absurd none
+above-found t es old before mid behind found Done above takes nothing =
+    takes old behind (Ok (only_events [])) (nothing-above es old mid behind found above nothing)
+above-found t es old before mid behind found (Found other) above takes same = λ new end result taken.
+    takes new end result
+    (subst (λ (f : Read). TakesAs (λ k. found_in k mid.input old.reading f) es old new mid end result) same.0
+    (subst (λ (u : PageUnread). TakesAs (λ k. found_in k u.input old.reading other) es old new u end result) same.1 taken))
+
+-- the end of what is half read of a condition
+module _ (keeps : Bool) (old : ReaderState) (before mid : PageUnread) (found : Read) (deciding : old.reading ≡ Deciding keeps)
+    (ends : (found, mid) ≡ reading (reading_ended AboveArguments before.input.half) before) where
+  ended-taken : (es : EnvironmentsOf) → TakesFound (λ k. half_ended k old.reading before.input) es old before mid found
+  ended-taken es new end result takes =
+      TakesAs-as (λ k. found_in k (with_half (reading_ended (place_in k old.reading) before.input.half).1 before.input) old.reading (reading_ended (place_in k old.reading) before.input.half).0)
+      (λ k. half_ended k old.reading before.input) es old new before end result (λ k. half_ended-placed k before.input old.reading)
+      (TakesAs-ended_at (λ k i f. found_in k i old.reading f) (λ k. place_in k old.reading) AboveArguments es
+      (λ l h rs i stands. ap (place_in (known_at h rs i)) (sym deciding)) old new before mid end found result ends takes)
+
+  -- by how far it was read at once
+  pub ended-above : (es : EnvironmentsOf) (behind : PageUnread) (answer : AtOnce) → GoesOnAbove found mid behind answer
+      → IsReadAbove (λ k. half_ended k old.reading before.input) es old before behind answer
+  ended-above es behind answer goes_on =
+      above-found (λ k. half_ended k old.reading before.input) es old before mid behind found answer (ap reads_above deciding) (ended-taken es) goes_on
+
+-- a condition that is read and asks nothing more decides
+pub decided-alone : (so : Bool) (old new : ReaderState) (before behind : PageUnread) → old.reading ≡ Deciding false
+    → EndsDecided (Some so) before behind → new ≡ record old { reading = branch_of so }
+    → TakesAtOnce (λ k. half_ended k old.reading before.input) [] old new before behind true
+decided-alone so old new before behind deciding ends came = λ es.
+    ended-taken false old before behind (Decides (Is so) None) deciding (ends AboveArguments) es new behind (Ok (only_events []))
+    (TakesAs-where (λ k r. found_in k behind.input r (Decides (Is so) None)) (Deciding false) es old new behind behind (Ok (only_events [])) deciding
+    (TakesAs-meant (λ k. found_in k behind.input (Deciding false) (Decides (Is so) None)) (branch_of so) [] es old new behind (only_events [])
+    (λ k. refl) came refl refl))
+
 -- a byte there
 module _ (b : ℕ) (place : Surroundings) (es : EnvironmentsOf) (old : ReaderState) (before mid : PageUnread) (found : Read) (kept : false ≡ is_dropped b)
     (above : reads_above old.reading ≡ true)
@@ -283,12 +326,8 @@ module _ (b : ℕ) (place : Surroundings) (es : EnvironmentsOf) (old : ReaderSta
   -- by how far it was read at once
   pub read-above : (behind : PageUnread) (answer : AtOnce) → GoesOnAbove found mid behind answer
       → IsReadAbove (λ k. taking k old.reading before.input b) es old before behind answer
-  read-above behind Not none = absurd none
-  read-above behind Done nothing = found-taken old behind (Ok (only_events [])) (nothing-above es old mid behind found above nothing)
-  read-above behind (Found other) same = λ new end result takes.
-      found-taken new end result
-      (subst (λ (f : Read). TakesAs (λ k. found_in k mid.input old.reading f) es old new mid end result) same.0
-      (subst (λ (u : PageUnread). TakesAs (λ k. found_in k u.input old.reading other) es old new u end result) same.1 takes))
+  read-above behind answer goes_on =
+      above-found (λ k. taking k old.reading before.input b) es old before mid behind found answer above found-taken goes_on
 
   -- by whether what a name asks for was put in front at once
   pub asked-above : (behind : PageUnread) (answer : AtOnce) (purpose : NameUse) (name : Option (List ℕ)) → found ≡ Asks purpose name

@@ -4,16 +4,19 @@
 -- stands behind what is ahead, and before what the source still gives.
 pub mod Calls
 pub mod Kept
-use Rattle.std.specs.Prelude.{ℕ, ◌+◌, ◌-◌, ◌≤◌, ◌&&◌, is_none, Bool, true, false, List, [], ◌∷◌, length, take, take_while, ◌==◌, nat_lt, Option, Some, None, if◌then◌else◌, Result, Ok, Err}
+use Rattle.std.specs.Prelude.{◌≡◌, ℕ, ◌+◌, ◌-◌, ◌≤◌, ◌&&◌, is_none, Bool, true, false, List, [], ◌∷◌, length, take, take_while, ◌==◌, nat_lt, Option, Some, None, if◌then◌else◌, Result, Ok, Err}
 use Rattle.roff_num.specs.declared.limit.Limit.{Limit}
 use Rattle.roff_num.specs.declared.limit.Limit.TheVariants.{Bytes, Stack, Depth, Diversions, Conditions, Store, Names}
 use Rattle.roff_num.specs.declared.limits.Limits.{Limits}
 use Rattle.roff_scan.specs.Bytes.{is_passed}
-use Rattle.roff_scan.specs.Halves.{Reads}
+use Rattle.roff_scan.specs.Halves.{Reads, reading_ended}
 use Rattle.roff_scan.specs.Input.{with_half, Input, initial_input, is_none_ahead, Ahead, ByteAhead, FreeAhead, EndAhead, ReturnAhead, DoAhead, cost, counting, item_taken, pushed, depth, results, stored, names_added}
 use Rattle.roff_store.specs.Texts.{Texts}
 use Rattle.roff_scan.specs.Tape.{Tape, Answer, Answers, Gives, Ends, OneByte, OneNote, Ending, Ended, Failed, Stopped, items_then}
+use Rattle.roff_scan.specs.declared.half.Decision.TheVariants.{Is}
 use Rattle.roff_scan.specs.declared.half.Read.{Read}
+use Rattle.roff_scan.specs.declared.half.Read.TheVariants.{Decides}
+use Rattle.roff_scan.specs.declared.half.Surroundings.{Surroundings}
 use Rattle.roff_scan.specs.declared.unread.Item.{Item}
 use Rattle.roff_scan.specs.declared.unread.Item.TheVariants.{Byte, End, Return, Do, Note, SourceEnd, Fault, Stop, Refused}
 use Rattle.roff_scan.specs.declared.unread.Sight.{Sight}
@@ -225,3 +228,9 @@ changing i u = unless_passed (input_refusal u.limits i) i u
 -- what a reading gives, and the input with what is half read then
 abbrev pub reading : {E : Type 0} → Reads → Unread E → Read × Unread E
 reading r u = (r.0, record u { input = with_half r.1 u.input })
+
+-- A condition that is read and asks nothing more ended, with no byte freed: whether it is so. Where there was none, nothing
+-- happened.
+abbrev pub EndsDecided : {E : Type 0} → Option Bool → Unread E → Unread E → Type 0
+EndsDecided None old new = new ≡ old
+EndsDecided (Some so) old new = (base : Surroundings) → (Decides (Is so) None, new) ≡ reading (reading_ended base old.input.half) old

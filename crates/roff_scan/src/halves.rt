@@ -453,6 +453,30 @@ impl Halves {
         }
     }
 
+    /// Ends the condition on top, if it is read and asks nothing more, and no byte ended it that may be
+    /// the first of what follows: whether it is so. Else nothing happens.
+    #[inline(always)]
+    pub(crate) fn end_decided(&mut self) -> Option<bool>
+        ensures ended { IfSome result (λ so. (base : Surroundings)
+            → (Read.Decides (Decision.Is so) None, self.new)
+            ≡ leaving (reading_ended base self.old.half) self.old) }
+        ensures kept { result ≡ None → self.new ≡ self.old }
+    {
+        match self.top() {
+            Some(HalfRead::Condition(
+                ConditionPart::Decided {
+                    decision: Decision::Is(so),
+                    freed: None,
+                },
+                _,
+            )) => {
+                self.pop();
+                Some(so)
+            }
+            _ => None,
+        }
+    }
+
     /// How the byte behind a backslash above these is read; above a text line, above arguments, or
     /// in copy mode.
     fn surroundings(&self, base: Surroundings) -> Surroundings

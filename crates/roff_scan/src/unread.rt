@@ -112,6 +112,7 @@ impl<E: Copy> Unread<E> {
     ghost use Rattle.roff_scan.specs.Unread.{initial_unread, is_bare, IsWithin, Shown, shown};
     ghost use Rattle.roff_scan.specs.Unread.{ShowsByte, ShowsNote, ShowsEnding, sighted, SeesNote};
     ghost use Rattle.roff_scan.specs.Unread.{SeesEnding, taking, taking_answer, changing, reading};
+    ghost use Rattle.roff_scan.specs.Unread.{EndsDecided};
     ghost use Rattle.roff_scan.specs.Unread.Calls.{Takes, Looks, PassesAhead, PassesOver};
     ghost use Rattle.roff_scan.specs.Unread.Calls.{front_bytes, IsFront, NoNewline, PassesFront};
     ghost use Rattle.roff_scan.specs.Unread.Calls.{AddsFront, HoldsFewer, HoldsFront, PassesSource, ReadsNames};
@@ -829,6 +830,16 @@ impl<E: Copy> Unread<E> {
         ensures within { IsWithin self.new }
     {
         self.half.end_reading(base)
+    }
+
+    /// Ends the condition on top, if it is read and asks nothing more, and no byte ended it that may be
+    /// the first of what follows: whether it is so. Else nothing happens.
+    #[inline(always)]
+    pub fn end_decided(&mut self) -> Option<bool>
+        ensures ended { EndsDecided result self.old self.new }
+        ensures within { IsWithin self.new }
+    {
+        self.half.end_decided()
     }
 
     /// Holds one unit more of the text that is being read.

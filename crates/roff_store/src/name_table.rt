@@ -151,8 +151,20 @@ fn bucket_of(name: &Name) -> usize
     ensures value { result ≡ bucket_of name.now }
     ensures within { result < BUCKETS }
 {
+    match name.as_bytes() {
+        [first] => usize::from(*first),
+        [first, second] => (usize::from(*first) * 1145 + usize::from(*second)) % BUCKETS,
+        bytes => bucket_of_bytes(bytes),
+    }
+}
+
+/// The same of these bytes.
+fn bucket_of_bytes(bytes: &[u8]) -> usize
+    ensures value { result ≡ bucket_of bytes.now }
+    ensures within { result < BUCKETS }
+{
     let mut bucket = 0;
-    for byte in name.as_bytes() {
+    for byte in bytes {
         bucket = (bucket * 1145 + usize::from(*byte)) % BUCKETS;
     }
     bucket

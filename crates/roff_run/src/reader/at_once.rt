@@ -8,7 +8,7 @@ ghost use Rattle.roff_run.specs.Reader.AtOnce.{AsksAbove, PutsAbove, text_byte_e
 ghost use Rattle.roff_run.specs.Reading.{PageInput, line_begun, meaning_events, text_taking};
 ghost use Rattle.roff_run.specs.Stages.{TurnsFront, counts_blanks};
 ghost use Rattle.roff_run.specs.Clauses.{EnvironmentsOf, LineStart, NameOf, PageUnread, TakesAs, kept_taking};
-ghost use Rattle.roff_run.specs.Clauses.{taking};
+ghost use Rattle.roff_run.specs.Clauses.{half_ended, taking};
 ghost use Rattle.roff_run.specs.declared.reading.Reading.TheVariants.{Arguments as InArguments, Calling};
 
 use super::calls::CALL_ARGUMENTS;
@@ -20,7 +20,7 @@ use crate::event::PageEvent;
 use crate::reading::{Reading, ShortName, TextByte, TextLine, blanks_in_front, ends_name};
 use crate::request::{Called, Request};
 use roff_num::Name;
-use roff_scan::{CopyUnit, NameUse, Read, Unread, is_dropped};
+use roff_scan::{CopyUnit, NameUse, Read, Surroundings, Unread, is_dropped};
 
 impl Reader {
     /// Reads a byte that means nothing, if it is one of those that most often do. Else nothing
@@ -153,6 +153,22 @@ impl Reader {
         match unread.read_byte(place, byte) {
             Read::Asks(purpose, name) => self.asks_above(purpose, name, environments, unread),
             found => goes_on_above(found, unread),
+        }
+    }
+
+    /// Ends what is half read of a condition, before what stays: most often that means nothing there.
+    #[inline(always)]
+    pub fn end_above(&self, unread: &mut Unread<PageEvent>) -> AtOnce
+        ensures { (es : EnvironmentsOf)
+            → IsReadAbove (λ k. half_ended k self.now.reading unread.old.input)
+            es self.now unread.old unread.new result }
+    {
+        match self.reading {
+            Reading::Deciding { .. } => {
+                let found = unread.end_reading(Surroundings::Arguments);
+                goes_on_above(found, unread)
+            }
+            _ => AtOnce::Not,
         }
     }
 

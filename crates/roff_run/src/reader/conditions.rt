@@ -1,8 +1,10 @@
 //! Conditions: whether one is so, and its branch.
 
-ghost use Rattle.std.specs.Prelude.{◌≡◌};
+ghost use Rattle.std.specs.Prelude.{◌≡◌, []};
 ghost use Rattle.roff_run.specs.Registers.{Known as KnownOf};
 ghost use Rattle.roff_run.specs.Clauses.{TakesAs, condition_found, decided, is_so, condition_begun};
+ghost use Rattle.roff_run.specs.Clauses.{half_ended};
+ghost use Rattle.roff_run.specs.Reader.AtOnce.{TakesAtOnce};
 
 use super::places::at_start;
 use super::{Meaning, Reader};
@@ -55,6 +57,25 @@ impl Reader {
                 Ok(meaning)
             }
             _ => self.read_in_arguments(Reading::Deciding { keeps }, found, environments, unread),
+        }
+    }
+
+    /// Decides a condition that is read and asks nothing more, whose result isn't kept, and reads its
+    /// branch or skips it. Whether there was one; else nothing happens.
+    #[inline(always)]
+    pub fn decides(&mut self, unread: &mut Unread<PageEvent>) -> bool
+        ensures { TakesAtOnce (λ k. half_ended k self.old.reading unread.old.input) []
+            self.old self.new unread.old unread.new result }
+    {
+        match self.reading {
+            Reading::Deciding { keeps: false } => match unread.end_decided() {
+                Some(so) => {
+                    self.go_on(Reading::branch(so));
+                    true
+                }
+                None => false,
+            },
+            _ => false,
         }
     }
 

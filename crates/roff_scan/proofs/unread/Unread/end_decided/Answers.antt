@@ -1,0 +1,48 @@
+use Rattle.std.proofs.Common.{◌≡◌, ◌≤◌, Bool, Option, Some, None, IfSome, ap, arith, refl, subst, sym}
+use Rattle.roff_scan.specs.Half.{texts_held}
+use Rattle.roff_scan.specs.HalfTexts.{KeptHalves, leaving}
+use Rattle.roff_scan.specs.Halves.{reading_ended}
+use Rattle.roff_scan.specs.Unread.Kept.{kept_by}
+use Rattle.roff_scan.specs.declared.half.Decision.TheVariants.{Is}
+use Rattle.roff_scan.specs.declared.half.Read.TheVariants.{Decides}
+use Rattle.roff_scan.specs.declared.half.Surroundings.{Surroundings}
+use Rattle.roff_scan.specs.declared.half.Surroundings.TheVariants.{Arguments as AboveArguments}
+use Rattle.roff_scan.proofs.Changing.{IsWithin-with_half}
+use Rattle.roff_scan.proofs.TextsHeld.{texts_held-reading_ended}
+use Rattle.roff_scan.proofs.unread.Unread.end_decided.Goals as goal
+
+-- no more is held of texts than before, and there is room for as much
+record IsFewer (old new : KeptHalves) : Type 0 where
+  room : new ≡ record old { half = new.half }
+  fewer : texts_held new.half ≤ texts_held old.half
+
+is_fewer : (answer : Option Bool) (old new : KeptHalves)
+    → IfSome answer (λ so. (base : Surroundings) → (Decides (Is so) None, new) ≡ leaving (reading_ended base old.half) old)
+    → (answer ≡ None → new ≡ old) → IsFewer old new
+is_fewer (Some so) old new ended kept =
+    let is : new ≡ record old { half = (reading_ended AboveArguments old.half).1 } = ap (λ p. p.1) (ended AboveArguments) in
+    subst (λ (k : KeptHalves). IsFewer old k) (sym is) (record { room = refl; fewer = texts_held-reading_ended AboveArguments old.half })
+is_fewer None old new ended kept = subst (λ (k : KeptHalves). IsFewer old k) (sym (kept refl)) (record { room = refl; fewer = omega arith })
+
+pub invariant_of-self : goal.invariant_of-self
+invariant_of-self g c =
+    let done = c.end_decided in
+    let left = is_fewer done.result c.self.inside.half done.new.self done.ensures.ended done.ensures.kept in
+    record {
+      bytes = c.self.invariant.bytes;
+      texts = c.self.invariant.texts;
+      arguments = c.self.invariant.arguments;
+      begun = c.self.invariant.begun;
+      call_bytes = c.self.invariant.call_bytes;
+      most_calls = c.self.invariant.most_calls;
+      calls = c.self.invariant.calls;
+      held = rw left.room c.self.invariant.held;
+      small = c.self.invariant.small;
+      store = c.self.invariant.store;
+      once = c.self.invariant.once;
+      results = c.self.invariant.results;
+      within = rw left.room (IsWithin-with_half (kept_by c.self.inside) done.new.self.half c.self.invariant.within left.fewer);
+    }
+
+pub returns-clause-within : goal.returns-clause-within
+returns-clause-within g c = (invariant_of-self g c).within
