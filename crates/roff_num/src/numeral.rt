@@ -74,7 +74,11 @@ fn value_of_whole(negative: bool, number: u64, unit: Ratio) -> Result<i32, NumFa
         return Err(NumFault::Range);
     }
     let product = number * u64::from(unit.over);
-    let size = if unit.under == 1 { product } else { product / u64::from(unit.under) } as i64;
+    let size = if unit.under == 1 {
+        product
+    } else {
+        product / u64::from(unit.under)
+    } as i64;
     in_range(if negative { -size } else { size })
 }
 

@@ -463,13 +463,15 @@ impl Halves {
         ensures kept { result ≡ None → self.new ≡ self.old }
     {
         match self.top() {
-            Some(HalfRead::Condition(
-                ConditionPart::Decided {
-                    decision: Decision::Is(so),
-                    freed: None,
-                },
-                _,
-            )) => {
+            Some(
+                HalfRead::Condition(
+                    ConditionPart::Decided {
+                        decision: Decision::Is(so),
+                        freed: None,
+                    },
+                    _,
+                ),
+            ) => {
                 self.pop();
                 Some(so)
             }
