@@ -409,8 +409,8 @@ impl Formatter {
         self.end_above(unread, out, err)
     }
 
-    /// The same where that decides no condition, or where the result is kept: in a condition it most
-    /// often means nothing.
+    /// The same where that decides no condition, or where the result is kept: in a condition it
+    /// most often means nothing.
     #[inline(always)]
     fn end_above<O: ByteSink, E: ByteSink>(
         &mut self,

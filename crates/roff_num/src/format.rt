@@ -127,8 +127,8 @@ fn decimal_field(size: u32, digits: u8) -> NumText
     text
 }
 
-/// Puts a number in decimal, with zeros in front up to so many digits, at a text's end, where there is
-/// room for it.
+/// Puts a number in decimal, with zeros in front up to so many digits, at a text's end, where there
+/// is room for it.
 fn push_decimal(size: u32, digits: u8, text: &mut NumText)
     requires { array_vec_len text.old ≤ 16 }
     ensures text { text.new.items ≡ text.old.items ++ decimal_field (min digits 32) size }

@@ -453,8 +453,8 @@ impl Halves {
         }
     }
 
-    /// Ends the condition on top, if it is read and asks nothing more, and no byte ended it that may be
-    /// the first of what follows: whether it is so. Else nothing happens.
+    /// Ends the condition on top, if it is read and asks nothing more, and no byte ended it that may
+    /// be the first of what follows: whether it is so. Else nothing happens.
     #[inline(always)]
     pub(crate) fn end_decided(&mut self) -> Option<bool>
         ensures ended { IfSome result (λ so. (base : Surroundings)

@@ -832,8 +832,8 @@ impl<E: Copy> Unread<E> {
         self.half.end_reading(base)
     }
 
-    /// Ends the condition on top, if it is read and asks nothing more, and no byte ended it that may be
-    /// the first of what follows: whether it is so. Else nothing happens.
+    /// Ends the condition on top, if it is read and asks nothing more, and no byte ended it that may
+    /// be the first of what follows: whether it is so. Else nothing happens.
     #[inline(always)]
     pub fn end_decided(&mut self) -> Option<bool>
         ensures ended { EndsDecided result self.old self.new }

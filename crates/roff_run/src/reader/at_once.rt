@@ -156,7 +156,7 @@ impl Reader {
         }
     }
 
-    /// Ends what is half read of a condition, before what stays: most often that means nothing there.
+    /// Ends what is half read of a condition, before what stays: most often that means nothing.
     #[inline(always)]
     pub fn end_above(&self, unread: &mut Unread<PageEvent>) -> AtOnce
         ensures { (es : EnvironmentsOf)

@@ -60,8 +60,8 @@ impl Reader {
         }
     }
 
-    /// Decides a condition that is read and asks nothing more, whose result isn't kept, and reads its
-    /// branch or skips it. Whether there was one; else nothing happens.
+    /// Decides a condition that is read and asks nothing more, whose result isn't kept, and reads
+    /// its branch or skips it. Whether there was one; else nothing happens.
     #[inline(always)]
     pub fn decides(&mut self, unread: &mut Unread<PageEvent>) -> bool
         ensures { TakesAtOnce (λ k. half_ended k self.old.reading unread.old.input) []
