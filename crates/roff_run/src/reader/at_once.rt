@@ -267,6 +267,14 @@ impl Reader {
             Reading::Name { breaks, first } => self.reads_name(breaks, first, byte, unread),
             Reading::Arguments { breaks, request } => self.holds(breaks, request, byte, unread),
             Reading::Calling { name } => self.calls(name, byte, unread),
+            Reading::Skipping {
+                opened,
+                closed,
+                behind,
+            } => {
+                self.go_on(Reading::behind_skipped(opened, closed, behind, byte));
+                true
+            }
             Reading::Dropped => {
                 self.go_on(Reading::behind_dropped(byte));
                 true

@@ -1,7 +1,7 @@
 use Rattle.std.proofs.Common.{◌≡◌, [], rules, true}
 use Rattle.roff_run.specs.Reading.{kept_taking}
 use Rattle.roff_run.specs.declared.reading.Reading.{Reading}
-use Rattle.roff_run.specs.declared.reading.Reading.TheVariants.{Arguments as InArguments, Calling, Control, Dropped, LineStart, Name}
+use Rattle.roff_run.specs.declared.reading.Reading.TheVariants.{Arguments as InArguments, Calling, Control, Dropped, LineStart, Name, Skipping}
 use Rattle.roff_run.proofs.ReadAtOnce.{at_once-meant, at_once-where}
 use Rattle.roff_run.proofs.reader.Reader.reads_kept_on.Goals as goal
 
@@ -52,3 +52,14 @@ returns-in-Dropped c =
     at_once-where c.args.byte Dropped old done.new.self u u true is
     (at_once-meant (λ k. kept_taking k Dropped u.input c.args.byte) c.behind_dropped.result [] old done.new.self u
     (λ k. c.behind_dropped.ensures u.input) done.ensures)
+
+pub returns-in-Skipping : goal.returns-in-Skipping
+returns-in-Skipping c =
+    let old = c.args.self.now in
+    let u = c.args.unread.now in
+    let done = c.go_on-in-Skipping in
+    let place : Reading = Skipping c.in-Skipping.opened c.in-Skipping.closed c.in-Skipping.behind in
+    let is : old.reading ≡ place = search rules in
+    at_once-where c.args.byte place old done.new.self u u true is
+    (at_once-meant (λ k. kept_taking k place u.input c.args.byte) c.behind_skipped.result [] old done.new.self u
+    (λ k. c.behind_skipped.ensures u.input) done.ensures)
