@@ -24,9 +24,21 @@ use Rattle.roff_run.specs.declared.environments.Environments.{Environments as En
 use Rattle.roff_run.specs.Output.{PageHistory}
 use Rattle.roff_run.specs.Reader.State.{ReaderState}
 use Rattle.roff_run.specs.Reader.Taken.{Became, IsReady, PageUnread}
-use Rattle.roff_run.specs.Reading.{call_read, definition_read, PageInput, Taking, arguments_read_on, at_start, beginning_read, condition_read, going_on, half_ended, interrupted, line_ends_first, message_read, on_line, settling, string_name_read, string_text_read, text_read}
+use Rattle.roff_run.specs.Reading.{half_ended, interrupted}
+use Rattle.roff_run.specs.Reading.Arguments.{arguments_read_on}
+use Rattle.roff_run.specs.Reading.Beginnings.{at_start, beginning_read}
+use Rattle.roff_run.specs.Reading.Branches.{condition_read}
+use Rattle.roff_run.specs.Reading.Calls.{call_read}
+use Rattle.roff_run.specs.Reading.DefinedLines.{definition_read}
+use Rattle.roff_run.specs.Reading.Ends.{line_ends_first}
+use Rattle.roff_run.specs.Reading.Messages.{message_read}
+use Rattle.roff_run.specs.Reading.Strings.{string_name_read, string_text_read}
+use Rattle.roff_run.specs.Reading.Taking.{PageInput, Taking, going_on}
+use Rattle.roff_run.specs.Reading.TextLines.{on_line, text_read}
+use Rattle.roff_run.specs.Reading.Units.{settling}
 use Rattle.roff_run.specs.Registers.{AllRegisters, Known}
-use Rattle.roff_run.specs.Run.{State, initial, ahead_taken, counts_in, ending_as, half_ends, input_ended, known_at, made, step, taken_as, unless_refused, first_passed, grown}
+use Rattle.roff_run.specs.Run.{State, initial, ahead_taken, ending_as, half_ends, input_ended, known_at, made, step, taken_as, unless_refused, grown}
+use Rattle.roff_run.specs.Run.Counts.{counts_in, first_passed}
 use Rattle.roff_run.specs.declared.event.PageEvent.{PageEvent}
 use Rattle.roff_run.specs.declared.reading.Reading.{Reading}
 use Rattle.roff_run.specs.declared.reading.Reading.TheVariants.{LineStart, Branch, Braced, Text as InText, Control, Name, Arguments as InArguments, Deciding, StringName, StringText, Skipping, Dropped, Telling, Told, Exiting, Calling, Defining}

@@ -10,9 +10,10 @@ use Rattle.roff_run.specs.declared.status.Status.{Status}
 use Rattle.roff_run.specs.declared.status.Status.TheVariants.{Device, Limit as Limited}
 use Rattle.roff_run.specs.Messages.{message_line}
 use Rattle.roff_run.specs.Reader.Taken.{IsReady, PageUnread}
-use Rattle.roff_run.specs.Reading.{behind_return}
+use Rattle.roff_run.specs.Reading.Calls.{behind_return}
 use Rattle.roff_run.specs.Registers.Capped.{Capped}
-use Rattle.roff_run.specs.Run.{State, counts_in, ending_as, ending_with, first_passed, initial, made, output, reported, step, stopped_by, unless_refused}
+use Rattle.roff_run.specs.Run.{State, ending_as, ending_with, initial, made, output, reported, step, stopped_by, unless_refused}
+use Rattle.roff_run.specs.Run.Counts.{counts_in, first_passed}
 use Rattle.roff_engine.specs.declared.running.Running.{Running as Coded}
 use Rattle.roff_engine.specs.Engine.Outcome.{Seen, IsLeftOf, Reaches, MessagesFail, Outcome, seen}
 use Rattle.roff_engine.specs.Running.Turning.{Continues, IsAt, LimitStops, TookFrom, state_at}

@@ -13,9 +13,12 @@ use Rattle.roff_scan.proofs.Asking.{takes_ahead}
 use Rattle.roff_scan.specs.Unread.{IsWithin, ShowsEnd, ShowsRefusal, taking_first}
 use Rattle.roff_scan.specs.Unread.Calls.{PassesEnd, PassesReturn, Takes}
 use Rattle.roff_run.specs.Reader.Taken.{PageUnread}
-use Rattle.roff_run.specs.Reading.{PageInput, behind_return, due}
+use Rattle.roff_run.specs.Reading.Calls.{behind_return}
+use Rattle.roff_run.specs.Reading.Ends.{due}
+use Rattle.roff_run.specs.Reading.Taking.{PageInput}
 use Rattle.roff_run.specs.Registers.{AllRegisters}
-use Rattle.roff_run.specs.Run.{Leads, State, counts_in, first_passed, in_front_taken, made, step, stopped_by, unless_refused, waiting}
+use Rattle.roff_run.specs.Run.{Leads, State, in_front_taken, made, step, stopped_by, unless_refused, waiting}
+use Rattle.roff_run.specs.Run.Counts.{counts_in, first_passed}
 use Rattle.roff_run.specs.InterpolationLaws.{TakesItems}
 use Rattle.roff_run.specs.TurnsToCome.{begun, free_ahead, turns_to_come}
 use Rattle.roff_run.specs.declared.event.PageEvent.{PageEvent}

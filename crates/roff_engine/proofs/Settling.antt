@@ -7,8 +7,10 @@ use Rattle.roff_scan.specs.Tape.{Tape}
 use Rattle.roff_run.specs.Messages.{told_line}
 use Rattle.roff_run.specs.Output.{PageHistory}
 use Rattle.roff_run.specs.Reader.Taken.{PageUnread}
-use Rattle.roff_run.specs.Reading.{due, message_text_read}
-use Rattle.roff_run.specs.Run.{State, aborted, counts_in, end_met, first_passed, message_told, reading_by, reported, step, unless_refused}
+use Rattle.roff_run.specs.Reading.Ends.{due}
+use Rattle.roff_run.specs.Reading.Messages.{message_text_read}
+use Rattle.roff_run.specs.Run.{State, aborted, end_met, message_told, reading_by, reported, step, unless_refused}
+use Rattle.roff_run.specs.Run.Counts.{counts_in, first_passed}
 use Rattle.roff_run.specs.declared.reading.Due.{Due}
 use Rattle.roff_run.specs.declared.reading.Due.TheVariants.{Leaves as LeavesInput, Tells}
 use Rattle.roff_run.specs.declared.reading.Reading.TheVariants.{LineStart}

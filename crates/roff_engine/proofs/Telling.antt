@@ -20,9 +20,11 @@ use Rattle.roff_run.specs.Environments.Standing.{StandBy, StandFor}
 use Rattle.roff_run.specs.Output.{PageHistory}
 use Rattle.roff_run.specs.Reader.State.{ReaderState}
 use Rattle.roff_run.specs.Reader.Taken.{PageUnread}
-use Rattle.roff_run.specs.Reading.{PageInput, due}
+use Rattle.roff_run.specs.Reading.Ends.{due}
+use Rattle.roff_run.specs.Reading.Taking.{PageInput}
 use Rattle.roff_run.specs.Registers.{AllRegisters}
-use Rattle.roff_run.specs.Run.{State, Leads, counts_in, first_passed}
+use Rattle.roff_run.specs.Run.{State, Leads}
+use Rattle.roff_run.specs.Run.Counts.{counts_in, first_passed}
 use Rattle.roff_run.specs.Telling.{Prints, page_told}
 use Rattle.roff_run.specs.TurnsToCome.{turns_to_come}
 use Rattle.roff_run.specs.declared.environments.Environments.{Environments as EnvironmentsOf}

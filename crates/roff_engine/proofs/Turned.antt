@@ -8,11 +8,13 @@ use Rattle.roff_scan.specs.Unread.{Stays, input_refusal, looked_then}
 use Rattle.roff_scan.specs.Unread.Calls.{OfSource, OfTexts, PassesFront, PassesSource, PassesTexts}
 use Rattle.roff_run.specs.Reader.State.{ReaderState}
 use Rattle.roff_run.specs.Reader.Taken.{IsReady, PageUnread}
-use Rattle.roff_run.specs.Reading.{PageInput, due}
+use Rattle.roff_run.specs.Reading.Ends.{due}
+use Rattle.roff_run.specs.Reading.Taking.{PageInput}
 use Rattle.roff_run.specs.Registers.{AllRegisters, Known}
 use Rattle.roff_run.specs.Registers.Capped.{Capped}
 use Rattle.roff_run.specs.declared.event.PageEvent.{PageEvent}
-use Rattle.roff_run.specs.Run.{State, Leads, after, counts_in, first_passed, known_at}
+use Rattle.roff_run.specs.Run.{State, Leads, after, known_at}
+use Rattle.roff_run.specs.Run.Counts.{counts_in, first_passed}
 use Rattle.roff_run.specs.Stages.{ReadsPast, Stage, Turned, stage_of, with_stage_of}
 use Rattle.roff_run.specs.TurnsToCome.{begun, turns_within}
 use Rattle.roff_run.specs.declared.reading.Reading.{Reading}

@@ -12,8 +12,9 @@ use Rattle.roff_run.specs.Output.{PageHistory}
 use Rattle.roff_run.specs.Reader.State.{ReaderState, fresh_reader}
 use Rattle.roff_run.specs.Reader.Taken.{IsReady, PageUnread}
 use Rattle.roff_run.specs.Registers.{no_registers}
-use Rattle.roff_run.specs.Run.{State, Leads, counts_in, first_input, first_passed, first_unread, in_front_taken, initial, reading_by, step, waiting}
-use Rattle.roff_run.specs.Reading.{due}
+use Rattle.roff_run.specs.Run.{State, Leads, first_input, first_unread, in_front_taken, initial, reading_by, step, waiting}
+use Rattle.roff_run.specs.Run.Counts.{counts_in, first_passed}
+use Rattle.roff_run.specs.Reading.Ends.{due}
 use Rattle.roff_run.specs.declared.reading.Due.{Due}
 use Rattle.roff_engine.specs.declared.running.Running.{Running as Coded}
 use Rattle.roff_engine.specs.Engine.Outcome.{Seen, Outcome, Runs}

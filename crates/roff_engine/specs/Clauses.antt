@@ -4,7 +4,9 @@ pub use Rattle.roff_engine.specs.Formatter.Performing.{DoesMeaning, DoesTaking, 
 pub use Rattle.roff_run.specs.Messages.{message_line, message_lines, text_told, told_line}
 pub use Rattle.roff_run.specs.Output.{finished_bytes}
 pub use Rattle.roff_run.specs.Reader.State.{fresh_reader}
-pub use Rattle.roff_run.specs.Reading.{due, end_taking, half_ended, interrupted, line_ends_first, taking, behind_return}
+pub use Rattle.roff_run.specs.Reading.{half_ended, interrupted, taking}
+pub use Rattle.roff_run.specs.Reading.Calls.{behind_return}
+pub use Rattle.roff_run.specs.Reading.Ends.{due, end_taking, line_ends_first}
 pub use Rattle.roff_run.specs.declared.reading.Due.TheVariants.{Tells}
 pub use Rattle.roff_run.specs.declared.reading.Reading.TheVariants.{LineStart}
 pub use Rattle.roff_run.specs.declared.event.PageEvent.TheVariants.{Text, Space, Environment}

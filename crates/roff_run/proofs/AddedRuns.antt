@@ -22,7 +22,11 @@ use Rattle.roff_run.proofs.HeldRuns.{passed-counted}
 use Rattle.roff_run.proofs.TextBytes.{is_other, kept-text}
 use Rattle.roff_run.specs.Reader.State.{ReaderState}
 use Rattle.roff_run.specs.Reader.Taken.{PageUnread}
-use Rattle.roff_run.specs.Reading.{PageInput, definition_grown, definition_read, due, going_on, interrupted, kept_taking, taking}
+use Rattle.roff_run.specs.Reading.{interrupted, kept_taking, taking}
+use Rattle.roff_run.specs.Reading.DefinedLines.{definition_read}
+use Rattle.roff_run.specs.Reading.Definitions.{definition_grown}
+use Rattle.roff_run.specs.Reading.Ends.{due}
+use Rattle.roff_run.specs.Reading.Taking.{PageInput, going_on}
 use Rattle.roff_run.specs.Registers.{Known}
 use Rattle.roff_run.specs.Stages.{Adds, Growing, Here, Ignores, Onward, ReadsPast, Stage, TextsGrow, Turned, TurnsFront, input_at, stage_of, with_stage_of}
 use Rattle.roff_run.specs.declared.reading.Reading.{Reading}

@@ -12,7 +12,9 @@ use Rattle.roff_scan.specs.Unread.{changing}
 use Rattle.roff_run.specs.Definitions.{end_mark, front_of}
 use Rattle.roff_run.specs.Reader.State.{ReaderState}
 use Rattle.roff_run.specs.Reader.Taken.{InputBecame, PageUnread, TakesAs}
-use Rattle.roff_run.specs.Reading.{PageInput, Taking, arguments_ended, definition_begun, definition_grown, line_ended}
+use Rattle.roff_run.specs.Reading.Arguments.{arguments_ended, line_ended}
+use Rattle.roff_run.specs.Reading.Definitions.{definition_begun, definition_grown}
+use Rattle.roff_run.specs.Reading.Taking.{PageInput, Taking}
 use Rattle.roff_run.specs.Registers.{Known}
 use Rattle.roff_run.specs.ShortNames.{name_or_none}
 use Rattle.roff_run.specs.declared.reader.Meaning.{Meaning}

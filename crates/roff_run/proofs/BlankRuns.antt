@@ -20,7 +20,9 @@ use Rattle.roff_run.proofs.HeldRuns.{passed-counted}
 use Rattle.roff_run.proofs.TextTaken.{text_line-reads}
 use Rattle.roff_run.specs.Reader.State.{ReaderState}
 use Rattle.roff_run.specs.Reader.Taken.{PageUnread}
-use Rattle.roff_run.specs.Reading.{PageInput, going_on, meaning_events, most_leading, taking}
+use Rattle.roff_run.specs.Reading.{taking}
+use Rattle.roff_run.specs.Reading.Taking.{PageInput, going_on, meaning_events}
+use Rattle.roff_run.specs.Reading.TextLines.{most_leading}
 use Rattle.roff_run.specs.Registers.{Known}
 use Rattle.roff_run.specs.Requests.{Text}
 use Rattle.roff_run.specs.Stages.{Here, Onward, ReadsPast, Stage, Turned, TurnsFront, blanks_counted, counts_blanks, input_at, stage_of, with_stage_of}

@@ -28,7 +28,12 @@ use Rattle.roff_run.proofs.QuotedArguments.{itself-quoted_line}
 use Rattle.roff_run.specs.CallLaws.{BeginsLine, BelongsToName, BodiesAreCalled, BodiesAreCalledFromTheSource, BlankBehind, IsApostrophe, IsBehindName, IsCall, IsControl, IsDot, IsUnknown, NothingBehind, UnknownNamesDoNothing, UnknownNamesOfTheSourceDoNothing, behind_call, call_line, named_line, with_call}
 use Rattle.roff_run.specs.InterpolationLaws.{StandsForItself}
 use Rattle.roff_run.specs.Laws.{IsWithin}
-use Rattle.roff_run.specs.Reading.{PageInput, Taking, behind_called, call_read, called_taking, due, ends_name, going_on, holding_call, kept_taking, name_ended_taking, name_whole_taking, settling, taking}
+use Rattle.roff_run.specs.Reading.{kept_taking, taking}
+use Rattle.roff_run.specs.Reading.Calls.{call_read, holding_call}
+use Rattle.roff_run.specs.Reading.ControlLines.{behind_called, called_taking, ends_name, name_ended_taking, name_whole_taking}
+use Rattle.roff_run.specs.Reading.Ends.{due}
+use Rattle.roff_run.specs.Reading.Taking.{PageInput, Taking, going_on}
+use Rattle.roff_run.specs.Reading.Units.{settling}
 use Rattle.roff_run.specs.Registers.{Known}
 use Rattle.roff_run.specs.Requests.{called_as, called_by}
 use Rattle.roff_run.specs.Run.{State, after, byte_taken, known, taken_as}

@@ -14,7 +14,10 @@ use Rattle.roff_scan.specs.declared.arguments.Place.TheVariants.{Between, InPlai
 use Rattle.roff_scan.specs.declared.half.CopyUnit.TheVariants.{Byte}
 use Rattle.roff_scan.specs.declared.half.Read.TheVariants.{GoesOn, Unit as GivesUnit}
 use Rattle.roff_scan.specs.declared.half.Surroundings.TheVariants.{Arguments as AboveArguments}
-use Rattle.roff_run.specs.Reading.{PageInput, Taking, call_read, call_unit, going_on, holding, holding_call, kept_taking, settling}
+use Rattle.roff_run.specs.Reading.{kept_taking}
+use Rattle.roff_run.specs.Reading.Calls.{call_read, call_unit, holding_call}
+use Rattle.roff_run.specs.Reading.Taking.{PageInput, Taking, going_on}
+use Rattle.roff_run.specs.Reading.Units.{holding, settling}
 use Rattle.roff_run.specs.Registers.{Known}
 use Rattle.roff_run.specs.declared.reading.Reading.TheVariants.{Calling}
 use Rattle.roff_run.specs.declared.reading.ShortName.{ShortName}

@@ -12,7 +12,10 @@ use Rattle.roff_scan.specs.declared.half.Read.TheVariants.{GoesOn, Unit as OneUn
 use Rattle.roff_run.specs.Events.Meant.{none_meant}
 use Rattle.roff_run.specs.Reader.State.{ReaderState}
 use Rattle.roff_run.specs.Reader.Taken.{PageUnread, TakesAs}
-use Rattle.roff_run.specs.Reading.{PageInput, argument_named, call_found, call_unit, going_on, holding, holding_call, no_unit_found, settling}
+use Rattle.roff_run.specs.Reading.Calls.{call_found, call_unit, holding_call}
+use Rattle.roff_run.specs.Reading.Escapes.{argument_named}
+use Rattle.roff_run.specs.Reading.Taking.{PageInput, going_on}
+use Rattle.roff_run.specs.Reading.Units.{holding, no_unit_found, settling}
 use Rattle.roff_run.specs.Registers.{Known}
 use Rattle.roff_run.specs.declared.reader.Meaning.{Meaning}
 use Rattle.roff_run.specs.declared.reading.Reading.TheVariants.{Calling}

@@ -22,11 +22,16 @@ use Rattle.roff_scan.specs.declared.half.Read.{Read}
 use Rattle.roff_scan.specs.declared.half.Read.TheVariants.{GoesOn, Unit as OneUnit, Holds, Escape, Asks, Motion, Measures, Tells, Decides}
 use Rattle.roff_run.specs.Reader.State.{ReaderState}
 use Rattle.roff_run.specs.Reader.Taken.{PageUnread, Takes, TakesAs, Took}
-use Rattle.roff_run.specs.Reading.{PageInput, Taking, at_start, beginning_found, behind_events, character_printed, condition_found, decided, escape_meant, escape_taking, first_escape, first_taking, going_on_told, is_so, kept_if, line_begun, line_begun_as, no_unit_found, skipping_taking, text_taking}
+use Rattle.roff_run.specs.Reading.Beginnings.{at_start, beginning_found, first_escape, first_taking, going_on_told, line_begun, line_begun_as}
+use Rattle.roff_run.specs.Reading.Branches.{condition_found, decided, is_so, kept_if, skipping_taking}
+use Rattle.roff_run.specs.Reading.Taking.{PageInput, Taking, behind_events}
+use Rattle.roff_run.specs.Reading.TextLines.{character_printed, escape_meant, escape_taking, text_taking}
+use Rattle.roff_run.specs.Reading.Units.{no_unit_found}
 use Rattle.roff_run.specs.Registers.{AllRegisters, Known, changed_by_all}
 use Rattle.roff_run.specs.Registers.Capped.{Capped}
 use Rattle.roff_run.specs.Requests.{PageEvent}
-use Rattle.roff_run.specs.Run.{counts_in, first_passed, known_at}
+use Rattle.roff_run.specs.Run.{known_at}
+use Rattle.roff_run.specs.Run.Counts.{counts_in, first_passed}
 use Rattle.roff_run.specs.declared.reader.Meaning.{Meaning}
 use Rattle.roff_run.specs.declared.reading.Reading.TheVariants.{Branch, Deciding}
 use Rattle.roff_run.specs.declared.reading.TextLine.{TextLine}

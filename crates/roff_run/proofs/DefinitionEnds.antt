@@ -10,7 +10,11 @@ use Rattle.roff_store.specs.Named.{Named}
 use Rattle.roff_store.specs.TextCalls.{Call}
 use Rattle.roff_store.specs.Texts.{Entry}
 use Rattle.roff_run.specs.Definitions.{ends_mark}
-use Rattle.roff_run.specs.Reading.{PageInput, Taking, arguments_ended, arguments_read_on, behind_definition, branch_taking, called_taking, calling_all, ended_by, line_ended, line_taking, reads_else}
+use Rattle.roff_run.specs.Reading.Arguments.{arguments_ended, arguments_read_on, calling_all, ended_by, line_ended}
+use Rattle.roff_run.specs.Reading.Branches.{branch_taking, reads_else}
+use Rattle.roff_run.specs.Reading.ControlLines.{called_taking, line_taking}
+use Rattle.roff_run.specs.Reading.DefinedLines.{behind_definition}
+use Rattle.roff_run.specs.Reading.Taking.{PageInput, Taking}
 use Rattle.roff_run.specs.Registers.{AllRegisters, Change, Known, changed_by_all}
 use Rattle.roff_run.specs.Requests.{Back, Effect, called_by, meant_by, request_effect, row_of}
 use Rattle.roff_run.specs.Requests.Effects.{happens, no_such_environment}

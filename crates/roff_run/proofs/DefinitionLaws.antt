@@ -30,7 +30,11 @@ use Rattle.roff_run.specs.Definitions.{end_mark, front_of, line_from, line_with,
 use Rattle.roff_run.specs.InterpolationLaws.{StandsForItself}
 use Rattle.roff_run.specs.Laws.{IsWithin}
 use Rattle.roff_run.specs.Output.{PageHistory}
-use Rattle.roff_run.specs.Reading.{PageInput, Taking, behind_definition, definition_grown, definition_line, definition_read, definition_unit, going_on, kept_taking, string_entered, taking}
+use Rattle.roff_run.specs.Reading.{kept_taking, taking}
+use Rattle.roff_run.specs.Reading.DefinedLines.{behind_definition, definition_line, definition_read, definition_unit}
+use Rattle.roff_run.specs.Reading.Definitions.{definition_grown}
+use Rattle.roff_run.specs.Reading.Strings.{string_entered}
+use Rattle.roff_run.specs.Reading.Taking.{PageInput, Taking, going_on}
 use Rattle.roff_run.specs.Registers.{AllRegisters, Known}
 use Rattle.roff_run.specs.Run.{State, after, byte_taken, known, known_at, taken_as}
 use Rattle.roff_run.specs.ShortNames.{name_bytes}

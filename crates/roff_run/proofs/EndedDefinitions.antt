@@ -17,7 +17,12 @@ use Rattle.roff_run.specs.Definitions.{end_mark, ends_mark, front_of, line_from,
 use Rattle.roff_run.specs.Output.{PageHistory}
 use Rattle.roff_run.specs.Reader.State.{ReaderState}
 use Rattle.roff_run.specs.Reader.Taken.{InputBecame, PageUnread, Takes, TakesAs}
-use Rattle.roff_run.specs.Reading.{PageInput, Taking, behind_definition, definition_found, definition_grown, definition_line, definition_unit, going_on, name_bytes, no_unit_found, string_entered}
+use Rattle.roff_run.specs.Reading.DefinedLines.{behind_definition, definition_found, definition_line, definition_unit}
+use Rattle.roff_run.specs.Reading.Definitions.{definition_grown}
+use Rattle.roff_run.specs.Reading.Strings.{string_entered}
+use Rattle.roff_run.specs.Reading.Taking.{PageInput, Taking, going_on}
+use Rattle.roff_run.specs.Reading.Units.{no_unit_found}
+use Rattle.roff_run.specs.ShortNames.{name_bytes}
 use Rattle.roff_run.specs.Registers.{AllRegisters, Known, changed_by_all}
 use Rattle.roff_run.specs.Run.{known_at}
 use Rattle.roff_run.specs.declared.definition.DefinitionLine.{DefinitionLine}

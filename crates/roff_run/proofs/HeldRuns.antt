@@ -21,7 +21,11 @@ use Rattle.roff_run.proofs.PlainRuns.{counted, counted-source}
 use Rattle.roff_run.proofs.TurnedRuns.{counted-bytes_taken}
 use Rattle.roff_run.specs.Reader.State.{ReaderState}
 use Rattle.roff_run.specs.Reader.Taken.{PageUnread}
-use Rattle.roff_run.specs.Reading.{PageInput, arguments_ended, arguments_read_on, due, going_on, holding, kept_taking, settling}
+use Rattle.roff_run.specs.Reading.{kept_taking}
+use Rattle.roff_run.specs.Reading.Arguments.{arguments_ended, arguments_read_on}
+use Rattle.roff_run.specs.Reading.Ends.{due}
+use Rattle.roff_run.specs.Reading.Taking.{PageInput, going_on}
+use Rattle.roff_run.specs.Reading.Units.{holding, settling}
 use Rattle.roff_run.specs.Requests.{row_of}
 use Rattle.roff_run.specs.Stages.{Here, Holds, HoldsIfFewer, Onward, ReadsPast, Stage, Turned, input_at, stage_of, with_stage_of}
 use Rattle.roff_run.specs.declared.reading.Reading.{Reading}

@@ -8,7 +8,9 @@ use Rattle.roff_scan.specs.Input.{Ahead, ByteAhead, FreeAhead, EndAhead, ReturnA
 use Rattle.roff_scan.specs.Tape.{Tape, Item, Answer, Gives, Ends, OneByte, OneNote, Ending, Ended, Failed, Stopped, front, behind_front, items_then, only, Took}
 use Rattle.roff_scan.specs.Unread.{Unread, Shown, ShowsByte, ShowsEnd, ShowsReturn, ShowsDo, ShowsNote, ShowsEnding, ShowsRefusal, taking, taking_ahead, taking_answer, looked_then, answer_behind, asks_to_take, shown_ahead, Sighted, SeesByte, SeesNothing, SeesNote, SeesEnding, seen_ahead, looking, looking_at, looking_past, asks_to_look, Asked}
 use Rattle.roff_run.proofs.InputCounts.{one_of}
-use Rattle.roff_run.specs.Reading.{PageInput, behind_return, interrupted}
+use Rattle.roff_run.specs.Reading.{interrupted}
+use Rattle.roff_run.specs.Reading.Calls.{behind_return}
+use Rattle.roff_run.specs.Reading.Taking.{PageInput}
 use Rattle.roff_run.specs.Requests.{PageEvent}
 use Rattle.roff_run.specs.Run.{front_seen, State, made, byte_taken, ending_input, ending_with, ending_as, stopped_by, in_front_taken, answered, ahead_taken, half_ends, awaited, awaited_of_source}
 use Rattle.roff_run.specs.declared.message.Message.TheVariants.{ReadFailed}

@@ -13,10 +13,12 @@ use Rattle.roff_scan.specs.Unread.{Unread, IsWithin, Shown, taking, taking_answe
 use Rattle.roff_store.specs.Named.{Named}
 use Rattle.roff_store.specs.Texts.{Entry, bytes_in}
 use Rattle.roff_scan.proofs.KeptArguments.{held-only_kept, held-settled}
-use Rattle.roff_run.specs.Reading.{PageInput, interrupted, settling}
+use Rattle.roff_run.specs.Reading.{interrupted}
+use Rattle.roff_run.specs.Reading.Taking.{PageInput}
+use Rattle.roff_run.specs.Reading.Units.{settling}
 use Rattle.roff_run.specs.Registers.{AllRegisters}
 use Rattle.roff_run.specs.Requests.{PageEvent}
-use Rattle.roff_run.specs.Run.{first_passed, counts_in}
+use Rattle.roff_run.specs.Run.Counts.{first_passed, counts_in}
 use Rattle.roff_run.specs.declared.reading.Reading.{Reading}
 use Rattle.roff_run.specs.declared.reading.Reading.TheVariants.{Arguments as InArguments, StringName, Calling}
 

@@ -27,7 +27,11 @@ use Rattle.roff_run.specs.declared.reading.TextLine.{TextLine}
 use Rattle.roff_run.proofs.Interpolation.{AtLast, Behind, FindsAtLast, Fits-IsWithin, FromAhead, FromSource, IsRead, IsRead-itself, Means, Origin, ReadsEscapes, AtBeginning, AtBranch, AtBraced, OnText, OnArguments, OnCondition, OnStringName, OnCall, OnStringText, OnDefinition, OnMessage, ReadsEscapes-reads_escapes, above, after-escape, ahead_at, going, input_of, interrupted-arguments, is-going, is_no_newline, line_behind, not-first, read_in, settled_for, settled_for-settled_for, settled_input, source_behind, tape_at, taking-reads}
 use Rattle.roff_run.specs.InterpolationLaws.{TakesItems, StandsForItself, IsEscapeOf, Short, Long, ShortString, LongString, OfArgument, reads_text, reads_escapes, reads_in_condition, reads_above, stepped, text_named, with_text_ahead, EscapesReadAsTexts, EscapesOfTheSourceReadAsTexts, EscapesOfTextReadAsTexts}
 use Rattle.roff_run.specs.Laws.{IsWithin}
-use Rattle.roff_run.specs.Reading.{PageInput, Taking, taking, interrupted, asking, first_name, name_taking}
+use Rattle.roff_run.specs.Reading.{taking, interrupted}
+use Rattle.roff_run.specs.Reading.Beginnings.{first_name}
+use Rattle.roff_run.specs.Reading.Escapes.{asking}
+use Rattle.roff_run.specs.Reading.Taking.{PageInput, Taking}
+use Rattle.roff_run.specs.Reading.TextLines.{name_taking}
 use Rattle.roff_run.specs.Registers.{Known, text_of_register}
 use Rattle.roff_run.specs.Requests.{PageEvent}
 use Rattle.roff_run.specs.Run.{State, known, taken_as, step, after}

@@ -30,10 +30,21 @@ use Rattle.roff_run.specs.declared.request.Request.{Request}
 use Rattle.roff_run.specs.declared.status.Status.{Status}
 use Rattle.roff_run.specs.InterpolationLaws.{TakesItems, BytesAheadAreTaken, BytesOfTheSourceAreTaken, StandsForItself, reads_escapes, with_source_behind, cost_of_all, TextsCostTheirBytesAndOne}
 use Rattle.roff_run.specs.Laws.{IsWithin}
-use Rattle.roff_run.specs.Reading.{PageInput, at_start, on_line, call_read, definition_read, due, message_read, Taking, going_on, taking, kept_taking, beginning_read, text_read, arguments_read_on, condition_read, string_name_read, string_text_read, interrupted}
+use Rattle.roff_run.specs.Reading.{taking, kept_taking, interrupted}
+use Rattle.roff_run.specs.Reading.Arguments.{arguments_read_on}
+use Rattle.roff_run.specs.Reading.Beginnings.{at_start, beginning_read}
+use Rattle.roff_run.specs.Reading.Branches.{condition_read}
+use Rattle.roff_run.specs.Reading.Calls.{call_read}
+use Rattle.roff_run.specs.Reading.DefinedLines.{definition_read}
+use Rattle.roff_run.specs.Reading.Ends.{due}
+use Rattle.roff_run.specs.Reading.Messages.{message_read}
+use Rattle.roff_run.specs.Reading.Strings.{string_name_read, string_text_read}
+use Rattle.roff_run.specs.Reading.Taking.{PageInput, Taking, going_on}
+use Rattle.roff_run.specs.Reading.TextLines.{on_line, text_read}
 use Rattle.roff_run.specs.Registers.{AllRegisters, Known}
 use Rattle.roff_run.specs.Requests.{PageEvent}
-use Rattle.roff_run.specs.Run.{State, known, made, byte_taken, front_seen, half_ends, awaited, awaited_of_source, answered, moved, in_front_taken, taking_ahead, taking_byte, taken_as, first_passed, grown, unless_refused, stopped_by, item_read, step, after}
+use Rattle.roff_run.specs.Run.{State, known, made, byte_taken, front_seen, half_ends, awaited, awaited_of_source, answered, moved, in_front_taken, taking_ahead, taking_byte, taken_as, grown, unless_refused, stopped_by, item_read, step, after}
+use Rattle.roff_run.specs.Run.Counts.{first_passed}
 
 -- where bytes come from: they stand ahead of these items, or in the source in front of this tape
 pub data Origin : Type 0 where

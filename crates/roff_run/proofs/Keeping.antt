@@ -27,7 +27,18 @@ use Rattle.roff_run.specs.declared.definition.DefinitionLine.TheVariants.{MayBeL
 use Rattle.roff_run.specs.Definitions.{end_mark, ends_mark, front_of, line_from, matched_behind}
 use Rattle.roff_run.specs.ShortNames.{name_at}
 use Rattle.roff_run.specs.declared.request.Request.{Request}
-use Rattle.roff_run.specs.Reading.{PageInput, Taking, no_unit_found, arguments_ended, branch_of, branch_taking, is_so, decided, kept_if, condition_found, reads_else, ends_name, line_taking, called_taking, name_ended_taking, behind_called, behind_name, kept_taking, interrupted, taking, half_ended, end_taking, line_ends_first, string_entered, string_line_ended, definition_dropped, definition_grown, behind_definition, definition_unit, definition_line, definition_found, condition_begun, at_start, on_line}
+use Rattle.roff_run.specs.Reading.{kept_taking, interrupted, taking, half_ended}
+use Rattle.roff_run.specs.Reading.Arguments.{arguments_ended}
+use Rattle.roff_run.specs.Reading.Beginnings.{at_start}
+use Rattle.roff_run.specs.Reading.Branches.{branch_of, branch_taking, is_so, decided, kept_if, condition_found, reads_else, condition_begun}
+use Rattle.roff_run.specs.Reading.ControlLines.{ends_name, line_taking, called_taking, name_ended_taking, behind_called, behind_name}
+use Rattle.roff_run.specs.Reading.DefinedLines.{behind_definition, definition_unit, definition_line, definition_found}
+use Rattle.roff_run.specs.Reading.Definitions.{definition_dropped, definition_grown}
+use Rattle.roff_run.specs.Reading.Ends.{end_taking, line_ends_first}
+use Rattle.roff_run.specs.Reading.Strings.{string_entered, string_line_ended}
+use Rattle.roff_run.specs.Reading.Taking.{PageInput, Taking}
+use Rattle.roff_run.specs.Reading.TextLines.{on_line}
+use Rattle.roff_run.specs.Reading.Units.{no_unit_found}
 use Rattle.roff_run.specs.Registers.{Known}
 use Rattle.roff_run.specs.Requests.{called_by, row_of}
 use Rattle.roff_run.specs.TurnsToCome.{begun, endings_of}

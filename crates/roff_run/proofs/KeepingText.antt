@@ -24,7 +24,12 @@ use Rattle.roff_store.specs.declared.register.Direction.{Direction}
 use Rattle.roff_run.specs.declared.reading.Reading.{Reading}
 use Rattle.roff_run.specs.declared.reading.Reading.TheVariants.{LineStart, Branch, Braced, Text as InText, Control, Name, Arguments as InArguments, Deciding, StringName, StringText, Skipping, Dropped, Telling, Told, Exiting, Calling, Defining}
 use Rattle.roff_run.specs.declared.reading.TextLine.{TextLine}
-use Rattle.roff_run.specs.Reading.{PageInput, Taking, glyph_taking, blank_taking, text_taking, escape_meant, escape_taking, character_printed, character_taking, argument_named, asking, measuring, name_taking, line_begun, first_taking, first_escape, beginning_found, text_found, skipping_taking, branch_of, dropped_taking, going_on, beginning_text, line_begun_as, escape_begun, first_name}
+use Rattle.roff_run.specs.Reading.Beginnings.{line_begun, first_taking, first_escape, beginning_found, beginning_text, line_begun_as, escape_begun, first_name}
+use Rattle.roff_run.specs.Reading.Branches.{skipping_taking, branch_of}
+use Rattle.roff_run.specs.Reading.ControlLines.{dropped_taking}
+use Rattle.roff_run.specs.Reading.Escapes.{argument_named, asking, measuring}
+use Rattle.roff_run.specs.Reading.Taking.{PageInput, Taking, going_on}
+use Rattle.roff_run.specs.Reading.TextLines.{glyph_taking, blank_taking, text_taking, escape_meant, escape_taking, character_printed, character_taking, name_taking, text_found}
 use Rattle.roff_run.specs.Registers.{Known, known_behind, step_changes, text_of_register}
 use Rattle.roff_run.specs.Requests.{PageEvent}
 use Rattle.roff_run.specs.TurnsToCome.{begun, endings_of, free_ahead}

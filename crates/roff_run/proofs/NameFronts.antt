@@ -12,7 +12,11 @@ use Rattle.roff_store.specs.Texts.{Entry}
 use Rattle.roff_run.proofs.HeldRuns.{passed-counted}
 use Rattle.roff_run.specs.Reader.State.{ReaderState}
 use Rattle.roff_run.specs.Reader.Taken.{PageUnread}
-use Rattle.roff_run.specs.Reading.{PageInput, at_start, beginning_read, due, going_on, interrupted, kept_taking, on_line, text_read}
+use Rattle.roff_run.specs.Reading.{interrupted, kept_taking}
+use Rattle.roff_run.specs.Reading.Beginnings.{at_start, beginning_read}
+use Rattle.roff_run.specs.Reading.Ends.{due}
+use Rattle.roff_run.specs.Reading.Taking.{PageInput, going_on}
+use Rattle.roff_run.specs.Reading.TextLines.{on_line, text_read}
 use Rattle.roff_run.specs.Stages.{Here, Onward, ReadsHalves, ReadsPast, Stage, Turned, input_at, stage_of, with_stage_of}
 use Rattle.roff_run.specs.declared.reading.Reading.{Reading}
 use Rattle.roff_run.specs.declared.reading.Reading.TheVariants.{LineStart, Branch, Text as InText}

@@ -19,12 +19,14 @@ use Rattle.roff_run.specs.Events.Meant.{events_meant}
 use Rattle.roff_run.specs.Output.{PageHistory}
 use Rattle.roff_run.specs.Reader.State.{ReaderState}
 use Rattle.roff_run.specs.Reader.Taken.{ChangedTo, PageUnread, Refused, TakesAs, Took, behind_changes}
-use Rattle.roff_run.specs.Reading.{PageInput, calling_all, ended_by, line_ended, reading_behind}
+use Rattle.roff_run.specs.Reading.Arguments.{calling_all, ended_by, line_ended, reading_behind}
+use Rattle.roff_run.specs.Reading.Taking.{PageInput}
 use Rattle.roff_run.specs.Registers.{AllRegisters, Change, Remove, changed_by_all}
 use Rattle.roff_run.specs.Registers.Capped.{Capped, is_past_cap, with_change}
 use Rattle.roff_run.specs.Request.Coded.{calls_of, changes_of, effect_of}
 use Rattle.roff_run.specs.Requests.{Effect, request_effect, row_of}
-use Rattle.roff_run.specs.Run.{counts_in, first_passed, known_at}
+use Rattle.roff_run.specs.Run.{known_at}
+use Rattle.roff_run.specs.Run.Counts.{counts_in, first_passed}
 use Rattle.roff_run.specs.declared.reader.Meaning.{Meaning}
 use Rattle.roff_run.specs.declared.request.Request.{Request}
 use Rattle.roff_run.specs.declared.request.effects.Effect.{Effect as CodedEffect}

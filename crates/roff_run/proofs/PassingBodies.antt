@@ -10,10 +10,12 @@ use Rattle.roff_scan.specs.Input.{Ahead, ByteAhead, bytes_taken, item_taken}
 use Rattle.roff_run.proofs.InputCounts.{NoMore-item_taken, first_passed-no_more}
 use Rattle.roff_run.proofs.Interpolation.{taken_as-going_on, bytes_ahead_are_taken}
 use Rattle.roff_run.specs.InterpolationLaws.{TakesItems}
-use Rattle.roff_run.specs.Reading.{PageInput, Passes, Taking}
+use Rattle.roff_run.specs.Reading.{Passes}
+use Rattle.roff_run.specs.Reading.Taking.{PageInput, Taking}
 use Rattle.roff_run.specs.Registers.{AllRegisters}
 use Rattle.roff_run.specs.Requests.{PageEvent}
-use Rattle.roff_run.specs.Run.{State, after, counts_in, first_passed, known_at, made, step, taken_as, unless_refused}
+use Rattle.roff_run.specs.Run.{State, after, known_at, made, step, taken_as, unless_refused}
+use Rattle.roff_run.specs.Run.Counts.{counts_in, first_passed}
 use Rattle.roff_run.specs.TurnsToCome.{free_ahead, turns_within}
 
 -- the input behind a byte that stands in front of these items

@@ -3,7 +3,8 @@ use Rattle.std.proofs.Common.{◌≡◌, List, ◌∷◌, Option, Some, None, re
 use Rattle.roff_num.specs.declared.limit.Limit.{Limit}
 use Rattle.roff_num.specs.declared.limits.Limits.{Limits}
 use Rattle.roff_run.specs.Requests.{PageEvent}
-use Rattle.roff_run.specs.Run.{State, stopped_by, refusal, unless_refused, performing}
+use Rattle.roff_run.specs.Run.{State, stopped_by, unless_refused, performing}
+use Rattle.roff_run.specs.Run.Counts.{refusal}
 
 -- an event was performed, which no limit refuses, or a limit stopped the run at it
 pub data PerformedOrStopped (l : Limits) (e : PageEvent) (rest : List PageEvent) (s : State) : State → Type 0 where

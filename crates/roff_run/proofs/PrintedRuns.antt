@@ -21,10 +21,12 @@ use Rattle.roff_run.proofs.Leads.{Leads-refl, Leads-trans}
 use Rattle.roff_run.proofs.PassingBodies.{behind_byte, within-byte}
 use Rattle.roff_run.specs.Environments.{Environments, environments}
 use Rattle.roff_run.specs.Output.{PageHistory, finished_bytes, text_of, written}
-use Rattle.roff_run.specs.Reading.{PageInput, Taking, due, meaning_events}
+use Rattle.roff_run.specs.Reading.Ends.{due}
+use Rattle.roff_run.specs.Reading.Taking.{PageInput, Taking, meaning_events}
 use Rattle.roff_run.specs.Registers.{AllRegisters}
 use Rattle.roff_run.specs.Requests.{PageEvent, Text}
-use Rattle.roff_run.specs.Run.{State, Leads, byte_taken, counts_in, first_passed, known_at, made, refusal, step, taken_as, unless_refused}
+use Rattle.roff_run.specs.Run.{State, Leads, byte_taken, known_at, made, step, taken_as, unless_refused}
+use Rattle.roff_run.specs.Run.Counts.{counts_in, first_passed, refusal}
 use Rattle.roff_run.specs.Telling.{Prints, byte_events, byte_told, page_told}
 use Rattle.roff_run.specs.declared.reading.Reading.{Reading}
 

@@ -19,7 +19,12 @@ use Rattle.roff_run.proofs.Interpolation.{IsRead, not-first, not-second, IsRead-
 use Rattle.roff_run.specs.declared.reading.Reading.{Reading}
 use Rattle.roff_run.specs.InterpolationLaws.{StandsForItself}
 use Rattle.roff_run.specs.Quoting.{both, given_taking, taking_all, RequestsGetQuotedArguments}
-use Rattle.roff_run.specs.Reading.{PageInput, Taking, arguments_ended, definition_named, lines_begun, name_at, name_or_none, taking, kept_taking, arguments_read_on, holding, settling, going_on}
+use Rattle.roff_run.specs.Reading.{taking, kept_taking}
+use Rattle.roff_run.specs.Reading.Arguments.{arguments_ended, arguments_read_on}
+use Rattle.roff_run.specs.Reading.Definitions.{definition_named, lines_begun}
+use Rattle.roff_run.specs.Reading.Taking.{PageInput, Taking, going_on}
+use Rattle.roff_run.specs.Reading.Units.{holding, settling}
+use Rattle.roff_run.specs.ShortNames.{name_at, name_or_none}
 use Rattle.roff_run.specs.Registers.{Known}
 use Rattle.roff_run.specs.Requests.{row_of}
 use Rattle.roff_run.specs.declared.reading.ShortName.{ShortName}

@@ -29,7 +29,15 @@ use Rattle.roff_run.specs.Reader.AtOnce.{AsksAbove, GoesOnAbove, IsReadAbove, Me
 use Rattle.roff_run.specs.Reader.Found.{found_in, place_in}
 use Rattle.roff_run.specs.Reader.State.{ReaderState}
 use Rattle.roff_run.specs.Reader.Taken.{PageUnread, TakesAs, Took}
-use Rattle.roff_run.specs.Reading.{PageInput, Taking, arguments_ended, arguments_read_on, asking, at_start, beginning_read, branch_of, call_read, first_name, going_on, half_ended, holding, kept_taking, meaning_events, name_taking, taking}
+use Rattle.roff_run.specs.Reading.{half_ended, kept_taking, taking}
+use Rattle.roff_run.specs.Reading.Arguments.{arguments_ended, arguments_read_on}
+use Rattle.roff_run.specs.Reading.Beginnings.{at_start, beginning_read, first_name}
+use Rattle.roff_run.specs.Reading.Branches.{branch_of}
+use Rattle.roff_run.specs.Reading.Calls.{call_read}
+use Rattle.roff_run.specs.Reading.Escapes.{asking}
+use Rattle.roff_run.specs.Reading.Taking.{PageInput, Taking, going_on, meaning_events}
+use Rattle.roff_run.specs.Reading.TextLines.{name_taking}
+use Rattle.roff_run.specs.Reading.Units.{holding}
 use Rattle.roff_run.specs.Registers.{AllRegisters, Known}
 use Rattle.roff_run.specs.Requests.{PageEvent, row_of}
 use Rattle.roff_run.specs.Run.{known_at}

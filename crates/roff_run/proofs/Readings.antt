@@ -13,12 +13,14 @@ use Rattle.roff_scan.specs.Tape.{Answer, OneByte, OneNote, Ended, Failed, Stoppe
 use Rattle.roff_scan.specs.Unread.{Sighted, SeesByte, SeesNothing, SeesNote, SeesEnding, seen_ahead}
 use Rattle.roff_scan.specs.Half.{Half}
 use Rattle.roff_run.specs.Requests.{PageEvent}
-use Rattle.roff_run.specs.Reading.{behind_return, due, line_ends_first}
+use Rattle.roff_run.specs.Reading.Calls.{behind_return}
+use Rattle.roff_run.specs.Reading.Ends.{due, line_ends_first}
 use Rattle.roff_run.specs.declared.reading.Due.{Due}
 use Rattle.roff_run.specs.declared.reading.Due.TheVariants.{Leaves, Tells as TellsText}
 use Rattle.roff_run.specs.declared.reading.Reading.{Reading}
 use Rattle.roff_run.specs.declared.reading.Reading.TheVariants.{LineStart, Branch, Braced, Text as InText, Control, Name, Arguments as InArguments, Deciding, StringName, StringText, Skipping, Dropped, Telling, Told, Exiting, Calling, Defining}
-use Rattle.roff_run.specs.Run.{waiting, State, known, ending_as, ending_with, stopped_by, passes_bytes, first_passed, unless_refused, grown, made, moved, byte_taken, half_ends, end_met, ahead_taken, taking_ahead, taking_byte, ending_input, answered, in_front_taken, front_seen, awaited_of_source, awaited, item_read, input_ended, message_told, aborted, input_left, reading_by, reading_on}
+use Rattle.roff_run.specs.Run.{waiting, State, known, ending_as, ending_with, stopped_by, unless_refused, grown, made, moved, byte_taken, half_ends, end_met, ahead_taken, taking_ahead, taking_byte, ending_input, answered, in_front_taken, front_seen, awaited_of_source, awaited, item_read, input_ended, message_told, aborted, input_left, reading_by, reading_on}
+use Rattle.roff_run.specs.Run.Counts.{passes_bytes, first_passed}
 use Rattle.roff_run.specs.declared.message.Message.TheVariants.{ReadFailed}
 use Rattle.roff_run.specs.declared.status.Status.TheVariants.{Device, Limit as Limited}
 use Rattle.roff_run.specs.TurnsToCome.{begun, endings_of}

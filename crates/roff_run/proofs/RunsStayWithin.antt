@@ -10,7 +10,8 @@ use Rattle.roff_num.specs.declared.limits.Limits.{Limits}
 use Rattle.roff_run.specs.Environments.{PageHistory, EnvironmentNumber, Environments, environments, gone_back, is_same, turned, turned_to, turned_unless}
 use Rattle.roff_run.specs.Laws.{EnvironmentsWithin, IsWithin, NoLimitIsPassed}
 use Rattle.roff_run.specs.Requests.{PageEvent, Text, Space, Interrupt, Environment, Back}
-use Rattle.roff_run.specs.Run.{State, known, counts, first_passed, refusal, initial, grown, input_left, moved, step_with, step, after}
+use Rattle.roff_run.specs.Run.{State, known, initial, grown, input_left, moved, step_with, step, after}
+use Rattle.roff_run.specs.Run.Counts.{counts, first_passed, refusal}
 use Rattle.roff_run.proofs.Keeping.{Keeps-end_taking}
 use Rattle.roff_run.proofs.PerformedOrStopped.{PerformedOrStopped, Performed, StoppedAt, performed_or_stopped}
 use Rattle.roff_run.proofs.Readings.{IsMade, ReadsOn, LimitStops, AheadTaken, ByteTaken, NoteTaken, HalfEnds, InputEnds, InputLeft, LineEnds, MessageTold, RunAborts, SourceFails, SourceStops, ReadsOn-reading_on, Behind-byte_taken, Behind-ahead_taken, Behind-half_ends, Behind-line_ends, within}

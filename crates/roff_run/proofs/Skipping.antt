@@ -7,7 +7,9 @@ use Rattle.std.proofs.lemmas.List.Elements.{All-head, All-tail}
 use Rattle.roff_scan.specs.Bytes.{newline, backslash, is_dropped}
 use Rattle.roff_run.specs.ConditionLaws.{is_whole, escapes_among, MayEnd, AreKept, SkippedBranchesDoNothing, BranchesAreSkippedToTheirEnd}
 use Rattle.roff_run.specs.Quoting.{both, taking_all}
-use Rattle.roff_run.specs.Reading.{PageInput, Taking, counted_if, going_on, most_braces, skipping_taking, kept_taking, taking}
+use Rattle.roff_run.specs.Reading.{kept_taking, taking}
+use Rattle.roff_run.specs.Reading.Branches.{counted_if, most_braces, skipping_taking}
+use Rattle.roff_run.specs.Reading.Taking.{PageInput, Taking, going_on}
 use Rattle.roff_run.specs.Registers.{Known}
 use Rattle.roff_run.specs.declared.reading.Reading.{Reading}
 use Rattle.roff_run.specs.declared.reading.Reading.TheVariants.{LineStart, Skipping}

@@ -14,7 +14,10 @@ use Rattle.roff_run.proofs.Skipping.{skipped_behind, taking-goes_on, taking-ends
 use Rattle.roff_run.specs.ConditionLaws.{is_whole, escapes_among, MayEnd, AreKept, RunsPassOverSkippedBranches}
 use Rattle.roff_run.specs.InterpolationLaws.{TakesItems}
 use Rattle.roff_run.specs.Laws.{IsWithin}
-use Rattle.roff_run.specs.Reading.{PageInput, Taking, due, going_on, most_braces, taking}
+use Rattle.roff_run.specs.Reading.{taking}
+use Rattle.roff_run.specs.Reading.Branches.{most_braces}
+use Rattle.roff_run.specs.Reading.Ends.{due}
+use Rattle.roff_run.specs.Reading.Taking.{PageInput, Taking, going_on}
 use Rattle.roff_run.specs.Run.{State, known_at, made, taken_as, step, after}
 use Rattle.roff_run.specs.declared.reading.Reading.{Reading}
 use Rattle.roff_run.specs.declared.reading.Reading.TheVariants.{LineStart, Skipping}

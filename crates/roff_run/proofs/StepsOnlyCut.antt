@@ -19,11 +19,12 @@ use Rattle.roff_scan.specs.Unread.{Sighted, SeesByte, SeesNothing, SeesNote, See
 use Rattle.roff_scan.specs.Half.{Half}
 use Rattle.roff_run.specs.Laws.{OnlyCuts, over}
 use Rattle.roff_run.specs.Limits.{AreWithin}
-use Rattle.roff_run.specs.Reading.{due, line_ends_first}
+use Rattle.roff_run.specs.Reading.Ends.{due, line_ends_first}
 use Rattle.roff_run.specs.declared.reading.Due.{Due}
 use Rattle.roff_run.specs.declared.reading.Due.TheVariants.{Leaves, Tells as TellsText}
 use Rattle.roff_run.specs.Requests.{PageEvent}
-use Rattle.roff_run.specs.Run.{waiting, State, ending_with, counts, first_passed, unless_refused, stopped_by, passes_bytes, performing, grown, made, half_ends, taking_ahead, taking_byte, ending_input, answered, in_front_taken, front_seen, awaited_of_source, awaited, item_read, input_ended, reading_by, step_with, step, after}
+use Rattle.roff_run.specs.Run.{waiting, State, ending_with, unless_refused, stopped_by, performing, grown, made, half_ends, taking_ahead, taking_byte, ending_input, answered, in_front_taken, front_seen, awaited_of_source, awaited, item_read, input_ended, reading_by, step_with, step, after}
+use Rattle.roff_run.specs.Run.Counts.{counts, first_passed, passes_bytes}
 use Rattle.roff_run.specs.declared.message.Message.TheVariants.{ReadFailed}
 use Rattle.roff_run.specs.declared.status.Status.{Status}
 use Rattle.roff_run.specs.declared.status.Status.TheVariants.{Device, Limit as Limited}

@@ -29,12 +29,22 @@ use Rattle.roff_store.specs.declared.register.Register.{Register}
 use Rattle.roff_run.specs.Output.{PageHistory}
 use Rattle.roff_run.specs.Reader.State.{ReaderState}
 use Rattle.roff_run.specs.Reader.Taken.{IsReady, PageUnread, Takes, TakesAs, Took}
-use Rattle.roff_run.specs.Reading.{PageInput, Taking, arguments_found, beginning_text, behind_events, end_taking, escape_begun, first_escape, first_taking, going_on, going_on_told, interpolating, interrupted, kept_taking, last_line_ended, line_begun, line_begun_as, line_taking, meaning_events, message_found, no_unit_found, settling, string_line_ended, taking}
+use Rattle.roff_run.specs.Reading.{interrupted, kept_taking, taking}
+use Rattle.roff_run.specs.Reading.Arguments.{arguments_found}
+use Rattle.roff_run.specs.Reading.Beginnings.{beginning_text, escape_begun, first_escape, first_taking, going_on_told, line_begun, line_begun_as}
+use Rattle.roff_run.specs.Reading.ControlLines.{line_taking}
+use Rattle.roff_run.specs.Reading.Ends.{end_taking, last_line_ended}
+use Rattle.roff_run.specs.Reading.Escapes.{interpolating}
+use Rattle.roff_run.specs.Reading.Messages.{message_found}
+use Rattle.roff_run.specs.Reading.Strings.{string_line_ended}
+use Rattle.roff_run.specs.Reading.Taking.{PageInput, Taking, behind_events, going_on, meaning_events}
+use Rattle.roff_run.specs.Reading.Units.{no_unit_found, settling}
 use Rattle.roff_run.specs.Registers.{AllRegisters, Known, changed_by_all, is_page, is_read_only, known_behind, step_changes, step_messages, stepped_page, text_of_register}
 use Rattle.roff_run.specs.Registers.Capped.{Capped}
 use Rattle.roff_run.specs.Registers.Coded.{known_of}
 use Rattle.roff_run.specs.Requests.{PageEvent, row_of}
-use Rattle.roff_run.specs.Run.{counts_in, first_passed, known_at}
+use Rattle.roff_run.specs.Run.{known_at}
+use Rattle.roff_run.specs.Run.Counts.{counts_in, first_passed}
 use Rattle.roff_run.specs.declared.message.Message.{Message}
 use Rattle.roff_run.specs.declared.reader.Meaning.{Meaning}
 use Rattle.roff_run.specs.declared.reading.Reading.{Reading}

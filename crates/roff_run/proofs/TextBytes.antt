@@ -10,7 +10,9 @@ use Rattle.roff_scan.specs.Half.{Half, Backslash}
 use Rattle.roff_scan.specs.Halves.{byte_read}
 use Rattle.roff_scan.specs.declared.half.CopyUnit.TheVariants.{Byte}
 use Rattle.roff_scan.specs.declared.half.Read.TheVariants.{GoesOn, Unit as GivesUnit}
-use Rattle.roff_run.specs.Reading.{PageInput, Taking, blank_taking, glyph_taking, going_on, interrupted, kept_taking, meaning_events, on_line, other_taking, tab_taking, text_line_end, text_read, text_taking}
+use Rattle.roff_run.specs.Reading.{interrupted, kept_taking}
+use Rattle.roff_run.specs.Reading.Taking.{PageInput, Taking, going_on, meaning_events}
+use Rattle.roff_run.specs.Reading.TextLines.{blank_taking, glyph_taking, on_line, other_taking, tab_taking, text_line_end, text_read, text_taking}
 use Rattle.roff_run.specs.Requests.{Text}
 use Rattle.roff_run.specs.Telling.{Prints, byte_events}
 use Rattle.roff_run.specs.declared.reading.Reading.{Reading}

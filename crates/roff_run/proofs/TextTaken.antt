@@ -6,7 +6,10 @@ use Rattle.roff_scan.specs.Half.{Half, Backslash}
 use Rattle.roff_scan.specs.Halves.{byte_read}
 use Rattle.roff_scan.specs.declared.half.CopyUnit.TheVariants.{Byte}
 use Rattle.roff_scan.specs.declared.half.Read.TheVariants.{GoesOn, Unit as GivesUnit}
-use Rattle.roff_run.specs.Reading.{PageInput, at_start, beginning_read, beginning_text, behind_events, fresh_line, going_on, going_on_told, interrupted, kept_taking, line_begun, line_begun_as, on_line, taking, text_read, text_taking}
+use Rattle.roff_run.specs.Reading.{interrupted, kept_taking, taking}
+use Rattle.roff_run.specs.Reading.Beginnings.{at_start, beginning_read, beginning_text, going_on_told, line_begun, line_begun_as}
+use Rattle.roff_run.specs.Reading.Taking.{PageInput, behind_events, going_on}
+use Rattle.roff_run.specs.Reading.TextLines.{fresh_line, on_line, text_read, text_taking}
 use Rattle.roff_run.specs.Registers.{Known}
 use Rattle.roff_run.specs.declared.reading.Reading.TheVariants.{Control, LineStart, Text as InText}
 use Rattle.roff_run.specs.declared.reading.TextLine.{TextLine}

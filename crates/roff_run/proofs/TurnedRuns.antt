@@ -14,10 +14,13 @@ use Rattle.roff_run.proofs.InputCounts.{NoMore, first_passed-no_more, first_pass
 use Rattle.roff_run.proofs.Interpolation.{FromAhead, FromSource, Origin, ahead_at, bytes_ahead_are_taken, bytes_of_the_source_are_taken, taken_as-going_on}
 use Rattle.roff_run.proofs.PlainRuns.{behind_byte, behind_bytes, behind_bytes-counts, counted, counted-ahead, run_at}
 use Rattle.roff_run.proofs.TurnsToCome.{turns_within-byte}
-use Rattle.roff_run.specs.Reading.{PageInput, Taking, due, taking}
+use Rattle.roff_run.specs.Reading.{taking}
+use Rattle.roff_run.specs.Reading.Ends.{due}
+use Rattle.roff_run.specs.Reading.Taking.{PageInput, Taking}
 use Rattle.roff_run.specs.Registers.{AllRegisters, Known}
 use Rattle.roff_run.specs.Requests.{PageEvent}
-use Rattle.roff_run.specs.Run.{State, after, counts_in, first_passed, known, made, step, taken_as, unless_refused}
+use Rattle.roff_run.specs.Run.{State, after, known, made, step, taken_as, unless_refused}
+use Rattle.roff_run.specs.Run.Counts.{counts_in, first_passed}
 use Rattle.roff_run.specs.Stages.{Growing, Here, Onward, Stage, TextsGrow, Turned, Turns, held_at, input_at, stage_of, with_stage_of}
 use Rattle.roff_run.specs.TurnsToCome.{begun, free_ahead, turns_within}
 use Rattle.roff_run.specs.declared.reading.Reading.{Reading}

@@ -8,7 +8,9 @@ use Rattle.roff_scan.specs.Input.{Ahead, ByteAhead, FreeAhead, EndAhead, ReturnA
 use Rattle.roff_scan.specs.Tape.{Answer, Gives, Ends, OneByte, OneNote}
 use Rattle.roff_scan.specs.Unread.{Unread, Shown, ShowsByte, ShowsEnd, ShowsReturn, ShowsDo, ShowsNote, ShowsEnding, ShowsRefusal, taking, taking_answer, answer_behind}
 use Rattle.roff_scan.specs.Half.{Half}
-use Rattle.roff_run.specs.Reading.{PageInput, end_taking, half_ended, line_ends_first, taking as byte_taking}
+use Rattle.roff_run.specs.Reading.{half_ended, taking as byte_taking}
+use Rattle.roff_run.specs.Reading.Ends.{end_taking, line_ends_first}
+use Rattle.roff_run.specs.Reading.Taking.{PageInput}
 use Rattle.roff_run.specs.Registers.{Known}
 use Rattle.roff_run.specs.Requests.{PageEvent}
 use Rattle.roff_run.specs.declared.reading.Reading.{Reading}

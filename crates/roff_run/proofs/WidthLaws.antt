@@ -29,10 +29,13 @@ use Rattle.roff_run.proofs.Interpolation.{Fits-IsWithin, FindsAtLast, AtLast, Be
 use Rattle.roff_run.specs.InterpolationLaws.{TakesItems, StandsForItself, reads_escapes}
 use Rattle.roff_run.specs.Laws.{IsWithin}
 use Rattle.roff_run.specs.Output.{text_of}
-use Rattle.roff_run.specs.Reading.{PageInput, Taking, measuring, taking, half_ended}
+use Rattle.roff_run.specs.Reading.{taking, half_ended}
+use Rattle.roff_run.specs.Reading.Escapes.{measuring}
+use Rattle.roff_run.specs.Reading.Taking.{PageInput, Taking}
 use Rattle.roff_run.specs.Registers.{Known}
 use Rattle.roff_run.specs.Requests.{PageEvent}
-use Rattle.roff_run.specs.Run.{State, after, first_passed, known, step, taken_as, answered, awaited, awaited_of_source, ending_input, half_ends, in_front_taken, made, item_read}
+use Rattle.roff_run.specs.Run.{State, after, known, step, taken_as, answered, awaited, awaited_of_source, ending_input, half_ends, in_front_taken, made, item_read}
+use Rattle.roff_run.specs.Run.Counts.{first_passed}
 use Rattle.roff_run.specs.WidthLaws.{MayDelimit, IsPlain, text_units, width_escape, measures_texts, with_width_ahead, WidthsReadAsDigits, WidthsOfTheSourceReadAsDigits, MeasuredTextsReadAsDigits, MeasuredTextsOfTheSourceReadAsDigits, MotionsAreAsLongAsTheirColumns, MotionsCountInTheLine, TabsAreAsLongAsTheirColumns, TabsCountInTheLine, EndsText, NewlineAhead, NewlineOfTheSource, EndOfTheSource, WidthsEndWithTheirLine}
 use Rattle.roff_run.specs.declared.reading.Reading.{Reading}
 use Rattle.roff_run.specs.declared.reading.Reading.TheVariants.{LineStart, Branch, Braced, Text as InText, Control, Name as NameOf, Arguments as InArguments, Deciding, StringName, StringText, Skipping, Dropped, Telling, Told, Exiting, Calling, Defining}

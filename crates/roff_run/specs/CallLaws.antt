@@ -10,7 +10,8 @@ use Rattle.roff_store.specs.Named.{Named, entry_of}
 use Rattle.roff_store.specs.Texts.{Entry, Body}
 use Rattle.roff_run.specs.InterpolationLaws.{StandsForItself, TakesItems}
 use Rattle.roff_run.specs.Laws.{IsWithin}
-use Rattle.roff_run.specs.Reading.{PageInput, ends_name}
+use Rattle.roff_run.specs.Reading.ControlLines.{ends_name}
+use Rattle.roff_run.specs.Reading.Taking.{PageInput}
 use Rattle.roff_run.specs.Requests.{PageEvent}
 use Rattle.roff_run.specs.Run.{State, after}
 use Rattle.roff_run.specs.ShortNames.{name_bytes}

@@ -5,7 +5,22 @@ pub use Rattle.roff_run.specs.declared.environments.Environments.{Environments a
 pub use Rattle.roff_run.specs.Reader.State.{fresh_reader}
 pub use Rattle.roff_run.specs.Reader.Taken.{Changed, InputBecame, PageUnread, TakesAs}
 pub use Rattle.roff_scan.specs.Bytes.{is_passed}
-pub use Rattle.roff_run.specs.Reading.{PageInput, Passes, arguments_found, asking, beginning_found, behind_name, calling_all, condition_found, decided, end_taking, first_escape, first_taking, going_on, going_on_told, half_ended, holding, interpolating, interrupted, is_so, kept_taking, line_begun, line_taking, line_ended, meaning_events, measuring, name_ended_taking, name_taking, no_unit_found, putting_nothing, taking, telling, text_found, unit_found, name_read, putting_string, string_begun, string_emptied, string_entered, string_grown, string_line_ended, string_name_behind, string_name_found, string_name_or_text, string_name_unit, string_text_found, string_unit, due, line_ends_first, message_found, message_unit, name_at, arguments_ended, lines_begun, behind_definition, definition_begun, definition_cut, definition_found, definition_grown, definition_line, call_found, call_unit, behind_return, putting_argument, condition_begun, first_name, interrupted_end, at_start, on_line}
+pub use Rattle.roff_run.specs.Reading.{Passes, half_ended, interrupted, kept_taking, taking}
+pub use Rattle.roff_run.specs.Reading.Arguments.{arguments_found, calling_all, line_ended, unit_found, arguments_ended}
+pub use Rattle.roff_run.specs.Reading.Beginnings.{beginning_found, first_escape, first_taking, going_on_told, line_begun, first_name, at_start}
+pub use Rattle.roff_run.specs.Reading.Branches.{condition_found, decided, is_so, condition_begun}
+pub use Rattle.roff_run.specs.Reading.Calls.{call_found, call_unit, behind_return}
+pub use Rattle.roff_run.specs.Reading.ControlLines.{behind_name, line_taking, name_ended_taking}
+pub use Rattle.roff_run.specs.Reading.DefinedLines.{behind_definition, definition_found, definition_line}
+pub use Rattle.roff_run.specs.Reading.Definitions.{lines_begun, definition_begun, definition_cut, definition_grown}
+pub use Rattle.roff_run.specs.Reading.Ends.{end_taking, due, line_ends_first, interrupted_end}
+pub use Rattle.roff_run.specs.Reading.Escapes.{asking, interpolating, measuring, putting_nothing, putting_string, putting_argument}
+pub use Rattle.roff_run.specs.Reading.Messages.{message_found, message_unit}
+pub use Rattle.roff_run.specs.Reading.Strings.{name_read, string_begun, string_emptied, string_entered, string_grown, string_line_ended, string_name_behind, string_name_found, string_name_or_text, string_name_unit, string_text_found, string_unit}
+pub use Rattle.roff_run.specs.Reading.Taking.{PageInput, going_on, meaning_events, telling}
+pub use Rattle.roff_run.specs.Reading.TextLines.{name_taking, text_found, on_line}
+pub use Rattle.roff_run.specs.Reading.Units.{holding, no_unit_found}
+pub use Rattle.roff_run.specs.ShortNames.{name_at}
 pub use Rattle.roff_scan.specs.Input.{holding_plain, holding_text, arguments_given}
 pub use Rattle.roff_run.specs.Definitions.{ends_mark}
 pub use Rattle.roff_scan.specs.Half.{unit_bytes}

@@ -10,7 +10,8 @@ use Rattle.roff_scan.specs.Tape.{Tape, OneByte, items_then}
 use Rattle.roff_run.specs.InterpolationLaws.{TakesItems}
 use Rattle.roff_run.specs.Laws.{IsWithin}
 use Rattle.roff_run.specs.Quoting.{taking_all}
-use Rattle.roff_run.specs.Reading.{PageInput, branch_of, going_on, most_braces}
+use Rattle.roff_run.specs.Reading.Branches.{branch_of, most_braces}
+use Rattle.roff_run.specs.Reading.Taking.{PageInput, going_on}
 use Rattle.roff_run.specs.Registers.{Known}
 use Rattle.roff_run.specs.Run.{State, after}
 use Rattle.roff_run.specs.declared.reading.Reading.TheVariants.{LineStart, Skipping}

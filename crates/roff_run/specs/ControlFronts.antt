@@ -5,7 +5,8 @@ use Rattle.roff_scan.specs.Half.{Half, Condition}
 use Rattle.roff_scan.specs.declared.half.ConditionPart.TheVariants.{Choice}
 use Rattle.roff_scan.specs.Unread.Calls.{IsFront, front_bytes}
 use Rattle.roff_run.specs.Reader.Taken.{PageUnread}
-use Rattle.roff_run.specs.Reading.{PageInput, Taking, going_on, taking}
+use Rattle.roff_run.specs.Reading.{taking}
+use Rattle.roff_run.specs.Reading.Taking.{PageInput, Taking, going_on}
 use Rattle.roff_run.specs.Registers.{Known}
 use Rattle.roff_run.specs.declared.reader.ahead.ControlFront.{ControlFront}
 use Rattle.roff_run.specs.declared.reading.Reading.{Reading}
@@ -17,7 +18,9 @@ control_byte breaks = if breaks then dot else apostrophe
 
 -- where this is read and nothing is half read, a control line may begin
 abbrev pub BeginsControl : Reading → Type 0
-BeginsControl reading = (k : Known) (i : PageInput) (breaks : Bool) → i.half ≡ [] → taking k reading i (control_byte breaks) ≡ going_on i (Control breaks)
+BeginsControl reading =
+    (k : Known) (i : PageInput) (breaks : Bool) → i.half ≡ []
+    → taking k reading i (control_byte breaks) ≡ going_on i (Control breaks)
 
 -- whether a condition is read
 abbrev pub is_deciding : Reading → Bool

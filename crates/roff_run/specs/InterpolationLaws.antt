@@ -15,7 +15,10 @@ use Rattle.roff_scan.specs.Tape.{Tape, Gives, OneByte, front, items_then}
 use Rattle.roff_store.specs.declared.register.Direction.{Direction}
 use Rattle.roff_run.specs.Laws.{IsWithin}
 use Rattle.roff_run.specs.Messages.{message_lines}
-use Rattle.roff_run.specs.Reading.{PageInput, argument_named, due, interrupted}
+use Rattle.roff_run.specs.Reading.{interrupted}
+use Rattle.roff_run.specs.Reading.Ends.{due}
+use Rattle.roff_run.specs.Reading.Escapes.{argument_named}
+use Rattle.roff_run.specs.Reading.Taking.{PageInput}
 use Rattle.roff_run.specs.Registers.{Known, StepBy, changed_by, step_messages, text_of_register}
 use Rattle.roff_run.specs.Requests.{PageEvent}
 use Rattle.roff_run.specs.Run.{State, known, made, byte_taken, moved, answered, item_read, step, after}
@@ -60,10 +63,13 @@ StandsForItself b = IsTrue (not (b == backslash || (is_dropped b || b == newline
 -- an escape that is read as a text, by what its name is for: a register, `\nx`, `\n(xy`, or with a sign for the step that
 -- is made first; a string, `\*x` or `\*(xy`; or an argument, `\$x`
 pub data IsEscapeOf : NameUse → List ℕ → List ℕ → Type 0 where
-  Short : (step : Option Direction) (x : ℕ) → StandsForItself x → is_special x ≡ false → IsEscapeOf (Register step) (x ∷ []) (short_escape step x)
-  Long : (step : Option Direction) (x y : ℕ) → StandsForItself x → StandsForItself y → IsEscapeOf (Register step) (x ∷ y ∷ []) (long_escape step x y)
+  Short : (step : Option Direction) (x : ℕ) → StandsForItself x → is_special x ≡ false
+      → IsEscapeOf (Register step) (x ∷ []) (short_escape step x)
+  Long : (step : Option Direction) (x y : ℕ) → StandsForItself x → StandsForItself y
+      → IsEscapeOf (Register step) (x ∷ y ∷ []) (long_escape step x y)
   ShortString : (x : ℕ) → StandsForItself x → (x == 40) ≡ false → IsEscapeOf OfText (x ∷ []) (string_escape (x ∷ []))
-  LongString : (x y : ℕ) → StandsForItself x → StandsForItself y → IsEscapeOf OfText (x ∷ y ∷ []) (string_escape (40 ∷ x ∷ y ∷ []))
+  LongString : (x y : ℕ) → StandsForItself x → StandsForItself y
+      → IsEscapeOf OfText (x ∷ y ∷ []) (string_escape (40 ∷ x ∷ y ∷ []))
   OfArgument : (x : ℕ) → StandsForItself x → IsEscapeOf Argument (x ∷ []) (argument_escape x)
 
 -- whether text is read: where a line or a branch begins, and behind it
@@ -182,13 +188,15 @@ EscapesOfTextReadAsTexts =
     IsEscapeOf (Register None) name escape → TakesItems s → reads_text s.reading ≡ true → s.input.half ≡ [] →
     s.input.ahead ≡ map ByteAhead escape ++ rest →
     let text : List ℕ = text_of_register (known s) name in
-    let read : State = record s { input = pushing text (record s.input { ahead = rest; charge = s.input.charge + length escape }) } in
+    let read : State =
+      record s { input = pushing text (record s.input { ahead = rest; charge = s.input.charge + length escape }) } in
     IsWithin l s → IsWithin l read → after l (length escape) s ≡ read
 
 -- a byte of a pushed text costs what a byte of the source does
 abbrev pub PushedBytesCostAsOthers : Type 0
 PushedBytesCostAsOthers =
-    (i : PageInput) (b c : ℕ) (behind : List (Ahead PageEvent)) → (item_taken (ByteAhead b) behind i).charge ≡ (counting c i).charge
+    (i : PageInput) (b c : ℕ) (behind : List (Ahead PageEvent))
+    → (item_taken (ByteAhead b) behind i).charge ≡ (counting c i).charge
 
 -- what several items ahead cost
 abbrev pub cost_of_all : List (Ahead PageEvent) → ℕ

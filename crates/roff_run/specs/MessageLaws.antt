@@ -4,7 +4,8 @@ use Rattle.roff_scan.specs.Arguments.{no_arguments}
 use Rattle.roff_scan.specs.Bytes.{blank, newline}
 use Rattle.roff_run.specs.InterpolationLaws.{StandsForItself}
 use Rattle.roff_run.specs.Quoting.{taking_all}
-use Rattle.roff_run.specs.Reading.{PageInput, Taking, message_text_read}
+use Rattle.roff_run.specs.Reading.Messages.{message_text_read}
+use Rattle.roff_run.specs.Reading.Taking.{PageInput, Taking}
 use Rattle.roff_run.specs.Registers.{Known}
 use Rattle.roff_run.specs.declared.reading.Reading.TheVariants.{Telling, Told}
 
@@ -21,5 +22,6 @@ pub record TellsText (aborts : Bool) (text : List ℕ) (t : Taking) : Type 0 whe
 -- a line of bytes that stand for themselves tells them, without the blanks in front: quotes stay
 abbrev pub MessagesAreTheirTexts : Type 0
 MessagesAreTheirTexts =
-    (k : Known) (aborts : Bool) (i : PageInput) (text : List ℕ) → i.half ≡ [] → i.arguments ≡ no_arguments → All StandsForItself text →
+    (k : Known) (aborts : Bool) (i : PageInput) (text : List ℕ) → i.half ≡ [] → i.arguments ≡ no_arguments →
+    All StandsForItself text →
     TellsText aborts (without_front text) (taking_all k (Telling aborts true) i (text ++ newline ∷ []))

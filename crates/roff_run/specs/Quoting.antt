@@ -4,7 +4,10 @@ use Rattle.roff_scan.specs.Arguments.{no_arguments, kept}
 use Rattle.roff_scan.specs.Bytes.{newline}
 use Rattle.roff_scan.specs.Quoting.{quoted_line}
 use Rattle.roff_run.specs.InterpolationLaws.{StandsForItself}
-use Rattle.roff_run.specs.Reading.{PageInput, Taking, ended_by, going_on, lines_begun, taking}
+use Rattle.roff_run.specs.Reading.{taking}
+use Rattle.roff_run.specs.Reading.Arguments.{ended_by}
+use Rattle.roff_run.specs.Reading.Definitions.{lines_begun}
+use Rattle.roff_run.specs.Reading.Taking.{PageInput, Taking, going_on}
 use Rattle.roff_run.specs.Registers.{Known}
 use Rattle.roff_run.specs.Requests.{Effect, request_effect, row_of}
 use Rattle.roff_run.specs.declared.request.LineReading.{LineReading}

@@ -138,7 +138,8 @@ request_named name names = request_of (entry_of name names)
 -- what a line does whose name has this entry
 abbrev pub called_as : ShortName → Option Entry → Called
 called_as name None = Unknown
-called_as name (Some (RequestEntry number)) = elim (slice_get requests number) [ None ↦ Unknown | Some request ↦ ARequest request ]
+called_as name (Some (RequestEntry number)) =
+    elim (slice_get requests number) [ None ↦ Unknown | Some request ↦ ARequest request ]
 called_as name (Some (Body bytes)) = ABody name
 
 -- what a line does that begins with a name

@@ -1,17 +1,16 @@
 -- The run: a machine of small steps over the source's tape.
-use Rattle.std.specs.Prelude.{◌≡◌, ℕ, zero, suc, ◌+◌, ◌-◌, Bool, true, false, not, List, [], ◌∷◌, ◌++◌, length, nat_lt, Option, Some, None, if◌then◌else◌}
+use Rattle.std.specs.Prelude.{◌≡◌, ℕ, zero, suc, ◌+◌, Bool, true, false, not, List, ◌∷◌, ◌++◌, length, nat_lt, Option, Some, None, if◌then◌else◌}
 use Rattle.roff_lines.specs.Events.{settings_after}
 use Rattle.roff_lines.specs.LastLine.{last_width}
 use Rattle.roff_lines.specs.Places.{input_place}
 use Rattle.roff_lines.specs.Words.{is_empty}
-use Rattle.roff_lines.specs.Lines.{pending_length}
 use Rattle.roff_lines.specs.declared.event.Event.TheVariants.{WordEnd, Break}
 use Rattle.roff_num.specs.LimitValues.{value_of}
 use Rattle.roff_num.specs.declared.limit.Limit.{Limit}
-use Rattle.roff_num.specs.declared.limit.Limit.TheVariants.{Bytes, Names, Stack, Depth, Line, Conditions, Store, Diversions, Environments as EnvironmentsLimit}
+use Rattle.roff_num.specs.declared.limit.Limit.TheVariants.{Bytes}
 use Rattle.roff_num.specs.declared.limits.Limits.{Limits}
 use Rattle.roff_scan.specs.Halves.{decides_now, newline_stays, seen_stays}
-use Rattle.roff_scan.specs.Input.{Ahead, ByteAhead, FreeAhead, EndAhead, DoAhead, initial_input, names_added, pushed, depth, results, stored, cost, item_taken, counting, leaving, ReturnAhead, arguments_live}
+use Rattle.roff_scan.specs.Input.{Ahead, ByteAhead, FreeAhead, EndAhead, DoAhead, initial_input, cost, item_taken, counting, leaving, ReturnAhead, arguments_live}
 use Rattle.roff_scan.specs.Tape.{Tape, Answer, OneByte, OneNote, Ended, Failed, Stopped, Gives, Ends, front, behind_front}
 use Rattle.roff_scan.specs.Unread.{Unread, Sighted, SeesByte, SeesNothing, SeesNote, SeesEnding, seen_ahead}
 use Rattle.roff_scan.specs.Arguments.{no_arguments}
@@ -19,9 +18,13 @@ use Rattle.roff_scan.specs.Half.{Half}
 use Rattle.roff_run.specs.Messages.{message_line, message_lines, told_line}
 use Rattle.roff_run.specs.Environments.{environments, interrupted_line}
 use Rattle.roff_run.specs.Output.{PageHistory, text_of, written}
-use Rattle.roff_run.specs.Reading.{PageInput, Taking, taking, half_ended, end_taking, interrupted, due, line_ends_first, message_text_read, behind_return}
+use Rattle.roff_run.specs.Reading.{taking, half_ended, interrupted}
+use Rattle.roff_run.specs.Reading.Calls.{behind_return}
+use Rattle.roff_run.specs.Reading.Ends.{end_taking, due, line_ends_first}
+use Rattle.roff_run.specs.Reading.Messages.{message_text_read}
+use Rattle.roff_run.specs.Reading.Taking.{PageInput, Taking}
 use Rattle.roff_run.specs.Registers.{AllRegisters, Known, no_registers, changed_by_all}
-use Rattle.roff_run.specs.Requests.{PageEvent, Text, Space, Interrupt, Environment, Back, Effect, first_entries, requests}
+use Rattle.roff_run.specs.Requests.{PageEvent, Text, Effect, first_entries, requests}
 use Rattle.roff_run.specs.declared.message.Message.{Message}
 use Rattle.roff_run.specs.declared.message.Message.TheVariants.{LimitReached, ReadFailed}
 use Rattle.roff_run.specs.declared.reading.Due.{Due}
@@ -30,6 +33,8 @@ use Rattle.roff_run.specs.declared.reading.Reading.{Reading}
 use Rattle.roff_run.specs.declared.reading.Reading.TheVariants.{LineStart}
 use Rattle.roff_run.specs.declared.status.Status.{Status}
 use Rattle.roff_run.specs.declared.status.Status.TheVariants.{Aborted, Done, Device, Limit as Limited}
+use Rattle.roff_run.specs.Run.Counts.{passes_bytes, first_passed, refusal, counts_in}
+pub mod Counts
 
 -- a state of the run
 pub record State : Type 0 where
@@ -113,27 +118,6 @@ meaning effect s = record s {
   to_do = effect.events ++ s.to_do;
 }
 
--- the limit on bytes stops one more
-abbrev pub passes_bytes : Limits → PageInput → Bool
-passes_bytes l i = nat_lt l.bytes (i.charge + 1)
-
--- what an event makes grow, each count as it is behind the event, in the order in which they are looked at
-abbrev pub counts : PageHistory → PageEvent → List (Limit × ℕ)
-counts h (Text e) = (Line, pending_length (e ∷ text_of h)) ∷ []
-counts h (Space lines) = []
-counts h (Interrupt untold) = []
-counts h (Environment number) = (EnvironmentsLimit, length (environments h).left + 1) ∷ []
-counts h Back = []
-
--- the first limit that a count is above
-abbrev pub first_passed : Limits → List (Limit × ℕ) → Option Limit
-first_passed l [] = None
-first_passed l (c ∷ cs) = if nat_lt (value_of l c.0) c.1 then Some c.0 else first_passed l cs
-
--- the limit that an event would pass behind a history, if it would pass one
-abbrev pub refusal : Limits → PageHistory → PageEvent → Option Limit
-refusal l h e = first_passed l (counts h e)
-
 -- what a step does, unless a limit refuses it
 abbrev pub unless_refused : Limits → Option Limit → State → State → State
 unless_refused l None s done = done
@@ -142,13 +126,6 @@ unless_refused l (Some limit) s done = stopped_by l limit s
 -- an event is performed, or refused by a limit
 abbrev pub performing : Limits → PageEvent → List PageEvent → State → State
 performing l e rest s = unless_refused l (refusal l s.history e) s (record s { to_do = rest; history = e ∷ s.history })
-
--- What a step may make grow, as it is behind the step, in the order in which it is looked at: what is of texts and their names
--- comes before what stands in front. One text may be made beside the diversions: that of a string or a macro.
-abbrev pub counts_in : AllRegisters → PageInput → List (Limit × ℕ)
-counts_in rs i =
-    (Names, length rs.named) ∷ (Diversions, length i.open_texts - 1) ∷ (Store, stored i) ∷ (Names, names_added i)
-    ∷ (Stack, pushed i) ∷ (Depth, depth i) ∷ (Conditions, results i) ∷ []
 
 -- the same of a state
 abbrev pub grown : State → List (Limit × ℕ)
@@ -176,7 +153,8 @@ half_ends s = taken_as (half_ended (known s) s.reading s.input) s
 
 -- the end of the input is met: an unfinished line ends, and then the pending line is placed
 abbrev pub end_met : State → State
-end_met s = taken_as (end_taking (known s) s.reading s.input) (record s { is_closing = true; to_do = Text WordEnd ∷ Text Break ∷ [] })
+end_met s =
+    taken_as (end_taking (known s) s.reading s.input) (record s { is_closing = true; to_do = Text WordEnd ∷ Text Break ∷ [] })
 
 -- with nothing half read the end of the input is met, unless a control line is to end first: that ends as by a newline
 abbrev pub input_ended : Bool → State → State

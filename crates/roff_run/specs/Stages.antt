@@ -16,7 +16,11 @@ use Rattle.roff_store.specs.Named.{Named}
 use Rattle.roff_store.specs.Texts.{Entry}
 use Rattle.roff_run.specs.Reader.State.{ReaderState}
 use Rattle.roff_run.specs.Reader.Taken.{PageUnread}
-use Rattle.roff_run.specs.Reading.{PageInput, due, going_on, holding, most_leading, taking}
+use Rattle.roff_run.specs.Reading.{taking}
+use Rattle.roff_run.specs.Reading.Ends.{due}
+use Rattle.roff_run.specs.Reading.Taking.{PageInput, going_on}
+use Rattle.roff_run.specs.Reading.TextLines.{most_leading}
+use Rattle.roff_run.specs.Reading.Units.{holding}
 use Rattle.roff_run.specs.Registers.{Known}
 use Rattle.roff_run.specs.declared.reading.Reading.{Reading}
 use Rattle.roff_run.specs.declared.reading.Reading.TheVariants.{LineStart, Text as InText}
@@ -38,7 +42,8 @@ stage_of reading i = record { reading = reading; half = i.half; arguments = i.ar
 
 -- a byte leads from one stage to another, whatever else is known
 abbrev pub Turns : Named Entry → Stage → ℕ → Stage → Type 0
-Turns names p b q = (k : Known) (i : PageInput) → taking k p.reading (input_at names p i) b ≡ going_on (input_at names q i) q.reading
+Turns names p b q =
+    (k : Known) (i : PageInput) → taking k p.reading (input_at names p i) b ≡ going_on (input_at names q i) q.reading
 
 -- where this is read, a newline changes nothing else, and a line begins behind it
 abbrev pub EndsLine : Reading → Type 0
@@ -51,7 +56,8 @@ Holds reading b = (k : Known) (i : PageInput) → i.half ≡ [] → taking k rea
 -- the same where fewer than so many arguments are whole
 abbrev pub HoldsIfFewer : Option ℕ → Reading → ℕ → Type 0
 HoldsIfFewer most reading b =
-    (k : Known) (i : PageInput) → i.half ≡ [] → AreFewer most i.arguments → taking k reading i b ≡ going_on (holding (Byte b) i) reading
+    (k : Known) (i : PageInput) → i.half ≡ [] → AreFewer most i.arguments
+    → taking k reading i b ≡ going_on (holding (Byte b) i) reading
 
 -- a byte is put behind the newest text in the making where nothing is half read, and this is read on
 abbrev pub Adds : Reading → ℕ → Type 0
@@ -64,12 +70,15 @@ Ignores reading b = (k : Known) (i : PageInput) → i.half ≡ [] → taking k r
 -- where this is read, bytes may change only what is half read: what gives nothing yet changes nothing else
 abbrev pub ReadsHalves : Reading → Type 0
 ReadsHalves reading =
-    (k : Known) (i : PageInput) (b : ℕ) (next : List Half) → is_dropped b ≡ false → ((base : Surroundings) → byte_read base i.half b ≡ (GoesOn, next))
+    (k : Known) (i : PageInput) (b : ℕ) (next : List Half) → is_dropped b ≡ false
+    → ((base : Surroundings) → byte_read base i.half b ≡ (GoesOn, next))
     → taking k reading i b ≡ going_on (record i { half = next }) reading
 
 -- where this is read, bytes may change only what is half read, in which some are held
 abbrev pub TakesHalf : Reading → Type 0
-TakesHalf reading = (k : Known) (i : PageInput) (b : ℕ) (next : List Half) → TakesOn i.half b next → taking k reading i b ≡ going_on (record i { half = next }) reading
+TakesHalf reading =
+    (k : Known) (i : PageInput) (b : ℕ) (next : List Half) → TakesOn i.half b next
+    → taking k reading i b ≡ going_on (record i { half = next }) reading
 
 -- the bytes that are held at a stage, of arguments and of texts that are half read
 abbrev pub held_at : Stage → ℕ
@@ -84,10 +93,12 @@ pub record TextsGrow (texts grown : List (List ℕ)) : Type 0 where
 -- texts in the making stay, or grow. Of each one byte more is held at the most, and what is held stays.
 pub data Turned (names : Named Entry) : Stage → List ℕ → Stage → Type 0 where
   Here : (p : Stage) → Turned names p [] p
-  Onward : (p q r : Stage) (b : ℕ) (bytes : List ℕ) → due p.reading ≡ None → seen_stays p.half (Some b) ≡ false → Turns names p b q
-      → q.texts ≡ p.texts → held_at p ≤ held_at q → held_at q ≤ held_at p + 1 → Turned names q bytes r → Turned names p (b ∷ bytes) r
-  Growing : (p q r : Stage) (b : ℕ) (bytes : List ℕ) → due p.reading ≡ None → seen_stays p.half (Some b) ≡ false → Turns names p b q
-      → TextsGrow p.texts q.texts → held_at p ≤ held_at q → held_at q ≤ held_at p + 1 → Turned names q bytes r → Turned names p (b ∷ bytes) r
+  Onward : (p q r : Stage) (b : ℕ) (bytes : List ℕ) → due p.reading ≡ None → seen_stays p.half (Some b) ≡ false
+      → Turns names p b q → q.texts ≡ p.texts → held_at p ≤ held_at q → held_at q ≤ held_at p + 1
+      → Turned names q bytes r → Turned names p (b ∷ bytes) r
+  Growing : (p q r : Stage) (b : ℕ) (bytes : List ℕ) → due p.reading ≡ None → seen_stays p.half (Some b) ≡ false
+      → Turns names p b q → TextsGrow p.texts q.texts → held_at p ≤ held_at q → held_at q ≤ held_at p + 1
+      → Turned names q bytes r → Turned names p (b ∷ bytes) r
 
 -- an input with the stage of another one
 abbrev pub with_stage_of : PageInput → PageInput → PageInput
@@ -108,7 +119,8 @@ pub record ReadsPast (gave gives : Tape → Type 0) (old new : ReaderState) (bef
 pub record TurnsFront (front : List ℕ) (count : ℕ) (old new : ReaderState) : Type 0 where
   pub few : count ≤ length front
   pub no_newline : NoNewline (take count front)
-  pub turned : (names : Named Entry) (i : PageInput) → i.half ≡ [] → Turned names (stage_of old.reading i) (take count front) (stage_of new.reading i)
+  pub turned : (names : Named Entry) (i : PageInput) → i.half ≡ []
+      → Turned names (stage_of old.reading i) (take count front) (stage_of new.reading i)
   pub registers : new.registers ≡ old.registers
   pub requested : new.requested ≡ old.requested
 

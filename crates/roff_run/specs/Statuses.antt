@@ -3,7 +3,7 @@ use Rattle.std.specs.Prelude.{◌≡◌, ◌⊎◌, true, [], Some}
 use Rattle.roff_num.specs.LimitValues.{value_of}
 use Rattle.roff_num.specs.declared.limits.Limits.{Limits}
 use Rattle.roff_run.specs.Messages.{message_line, told_line}
-use Rattle.roff_run.specs.Reading.{message_text_read}
+use Rattle.roff_run.specs.Reading.Messages.{message_text_read}
 use Rattle.roff_run.specs.Results.{last_state, status_of}
 use Rattle.roff_run.specs.Run.{State}
 use Rattle.roff_run.specs.declared.message.Message.TheVariants.{LimitReached, ReadFailed}

@@ -19,7 +19,8 @@ use Rattle.roff_run.specs.Laws.{IsWithin}
 use Rattle.roff_run.specs.Output.{PageHistory, text_of}
 use Rattle.roff_run.specs.Reading.{interrupted}
 use Rattle.roff_run.specs.Requests.{PageEvent, Text}
-use Rattle.roff_run.specs.Run.{State, refusal, step, after}
+use Rattle.roff_run.specs.Run.{State, step, after}
+use Rattle.roff_run.specs.Run.Counts.{refusal}
 use Rattle.roff_run.specs.declared.reading.Reading.{Reading}
 use Rattle.roff_run.specs.declared.reading.Reading.TheVariants.{StringText, Telling, Defining}
 
@@ -28,7 +29,8 @@ use Rattle.roff_run.specs.declared.reading.Reading.TheVariants.{StringText, Tell
 -- it.
 abbrev pub with_width_ahead : ℕ → List Half → ℕ → List (Ahead PageEvent) → State → State
 with_width_ahead width half taken rest s = record s {
-  input = pushing (decimal width) (record (interrupted s.reading s.input) { ahead = rest; half = half; charge = s.input.charge + taken });
+  input = pushing (decimal width)
+    (record (interrupted s.reading s.input) { ahead = rest; half = half; charge = s.input.charge + taken });
 }
 
 -- a byte that may delimit a text: it isn't dropped, and doesn't end the line
@@ -129,4 +131,5 @@ TabsAreAsLongAsTheirColumns = (h : History) → pending_length (Tab ∷ h) ≡ p
 
 -- and it is refused where a motion of as many columns would be
 abbrev pub TabsCountInTheLine : Type 0
-TabsCountInTheLine = (l : Limits) (h : PageHistory) → refusal l h (Text Tab) ≡ refusal l h (Text (Print (Blanks (tab_width (text_of h)))))
+TabsCountInTheLine =
+    (l : Limits) (h : PageHistory) → refusal l h (Text Tab) ≡ refusal l h (Text (Print (Blanks (tab_width (text_of h)))))

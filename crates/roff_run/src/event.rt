@@ -5,7 +5,7 @@ ghost use Rattle.roff_run.specs.Events.{request_events, resumed_if, stop_at, sto
 ghost use Rattle.roff_run.specs.Events.Lines.{line_events, print_event};
 ghost use Rattle.roff_run.specs.Events.Meant.{few_meant, none_meant, requested_meant};
 ghost use Rattle.roff_run.specs.Requests.Effects.{behind_break};
-ghost use Rattle.roff_run.specs.Reading.{leading_glyph};
+ghost use Rattle.roff_run.specs.Reading.TextLines.{leading_glyph};
 
 use crate::environments::EnvironmentNumber;
 use arrayvec::ArrayVec;

@@ -17,7 +17,7 @@ use Rattle.roff_engine.specs.Formatter.Performing.{Opens, going}
 use Rattle.roff_run.specs.Reader.State.{fresh_reader}
 use Rattle.roff_run.specs.Reader.Taken.{IsReady, PageUnread}
 use Rattle.roff_run.specs.TurnsToCome.{begun, turns_to_come}
-use Rattle.roff_run.specs.Reading.{due, line_ends_first}
+use Rattle.roff_run.specs.Reading.Ends.{due, line_ends_first}
 use Rattle.roff_run.specs.declared.reading.Reading.{Reading}
 use Rattle.roff_run.specs.declared.reading.Reading.TheVariants.{Exiting}
 use Rattle.roff_scan.specs.Half.{Half}

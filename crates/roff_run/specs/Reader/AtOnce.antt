@@ -13,7 +13,9 @@ use Rattle.roff_run.specs.Events.Meant.{few_meant}
 use Rattle.roff_run.specs.Reader.Found.{found_in}
 use Rattle.roff_run.specs.Reader.State.{ReaderState}
 use Rattle.roff_run.specs.Reader.Taken.{PageUnread, TakesAs}
-use Rattle.roff_run.specs.Reading.{Taking, asking, blank_line, leading_blank_events, leading_glyph}
+use Rattle.roff_run.specs.Reading.Escapes.{asking}
+use Rattle.roff_run.specs.Reading.Taking.{Taking}
+use Rattle.roff_run.specs.Reading.TextLines.{blank_line, leading_blank_events, leading_glyph}
 use Rattle.roff_run.specs.Registers.{Known}
 use Rattle.roff_run.specs.Requests.{PageEvent, Text}
 use Rattle.roff_run.specs.declared.environments.Environments.{Environments as EnvironmentsOf}
@@ -37,7 +39,8 @@ text_byte_events b BlankLine = blank_line
 
 -- The code took what the definition takes, which means these events alone; or nothing happened.
 abbrev pub TakesAtOnce : (Known → Taking) → List PageEvent → ReaderState → ReaderState → PageUnread → PageUnread → Bool → Type 0
-TakesAtOnce t events old new before behind true = (es : EnvironmentsOf) → TakesAs t es old new before behind (Ok (only_events events))
+TakesAtOnce t events old new before behind true =
+    (es : EnvironmentsOf) → TakesAs t es old new before behind (Ok (only_events events))
 TakesAtOnce t events old new before behind false = (new ≡ old) × (behind ≡ before)
 
 -- what was found means nothing, and was held if it is a unit of a text that is being read
@@ -58,10 +61,12 @@ IsReadAbove t es old before behind Not = behind ≡ before
 IsReadAbove t es old before behind Done = TakesAs t es old old before behind (Ok (only_events []))
 IsReadAbove t es old before behind (Found found) =
     (new : ReaderState) (end : PageUnread) (result : Result Meaning Limit)
-    → TakesAs (λ k. found_in k behind.input old.reading found) es old new behind end result → TakesAs t es old new before end result
+    → TakesAs (λ k. found_in k behind.input old.reading found) es old new behind end result
+    → TakesAs t es old new before end result
 
 -- what the name behind an escape asks for was put in front, in the escape's place, and means nothing else
-pub record PutsAbove (purpose : NameUse) (name : Option (List ℕ)) (es : EnvironmentsOf) (old : ReaderState) (before behind : PageUnread) : Type 0 where
+pub record PutsAbove (purpose : NameUse) (name : Option (List ℕ)) (es : EnvironmentsOf) (old : ReaderState)
+  (before behind : PageUnread) : Type 0 where
   pub copied : is_copied purpose ≡ true
   pub takes : TakesAs (λ k. asking k before.input old.reading purpose name) es old old before behind (Ok (only_events []))
 

@@ -3,7 +3,15 @@ use Rattle.std.specs.Prelude.{Bool, true, false, pos}
 use Rattle.roff_scan.specs.declared.half.Read.{Read}
 use Rattle.roff_scan.specs.declared.half.Surroundings.{Surroundings}
 use Rattle.roff_scan.specs.declared.half.Surroundings.TheVariants.{Text as AboveText, Arguments as AboveArguments, Copy as AboveCopy}
-use Rattle.roff_run.specs.Reading.{PageInput, Taking, arguments_found, at_start, beginning_found, call_found, condition_found, definition_found, going_on, message_found, on_line, string_name_found, string_text_found, text_found}
+use Rattle.roff_run.specs.Reading.Arguments.{arguments_found}
+use Rattle.roff_run.specs.Reading.Beginnings.{at_start, beginning_found}
+use Rattle.roff_run.specs.Reading.Branches.{condition_found}
+use Rattle.roff_run.specs.Reading.Calls.{call_found}
+use Rattle.roff_run.specs.Reading.DefinedLines.{definition_found}
+use Rattle.roff_run.specs.Reading.Messages.{message_found}
+use Rattle.roff_run.specs.Reading.Strings.{string_name_found, string_text_found}
+use Rattle.roff_run.specs.Reading.Taking.{PageInput, Taking, going_on}
+use Rattle.roff_run.specs.Reading.TextLines.{on_line, text_found}
 use Rattle.roff_run.specs.Registers.{Known}
 use Rattle.roff_run.specs.declared.reading.Reading.{Reading}
 use Rattle.roff_run.specs.declared.reading.Reading.TheVariants.{StringName, StringText, LineStart, Branch, Braced, Text as InText, Control, Name, Arguments as InArguments, Deciding, Skipping, Dropped, Telling, Told, Exiting, Calling, Defining}

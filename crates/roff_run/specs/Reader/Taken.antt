@@ -9,11 +9,12 @@ use Rattle.roff_run.specs.Environments.{PageHistory}
 use Rattle.roff_run.specs.Events.Meant.{events_meant}
 use Rattle.roff_run.specs.Environments.Standing.{StandFor}
 use Rattle.roff_run.specs.declared.environments.Environments.{Environments as EnvironmentsOf}
-use Rattle.roff_run.specs.Reading.{PageInput, Taking}
+use Rattle.roff_run.specs.Reading.Taking.{PageInput, Taking}
 use Rattle.roff_run.specs.Registers.{Change, Known, changed_by_all}
 use Rattle.roff_run.specs.Registers.Capped.{Capped, is_past_cap}
 use Rattle.roff_run.specs.Requests.{PageEvent}
-use Rattle.roff_run.specs.Run.{counts_in, first_passed, known_at}
+use Rattle.roff_run.specs.Run.{known_at}
+use Rattle.roff_run.specs.Run.Counts.{counts_in, first_passed}
 use Rattle.roff_run.specs.Reader.State.{ReaderState}
 use Rattle.roff_run.specs.declared.reader.Meaning.{Meaning}
 
@@ -75,6 +76,7 @@ pub record IsReady (r : Capped) (u : PageUnread) : Type 0 where
   pub within : first_passed u.limits (counts_in r.all u.input) ≡ None
 
 -- The code took what the definition takes, by what is known of the run, wherever the environments stand for a history.
-pub record TakesAs (t : Known → Taking) (es : EnvironmentsOf) (old new : ReaderState) (before behind : PageUnread) (result : Result Meaning Limit) : Type 0 where
+pub record TakesAs (t : Known → Taking) (es : EnvironmentsOf) (old new : ReaderState) (before behind : PageUnread)
+  (result : Result Meaning Limit) : Type 0 where
   pub takes : (l : Limits) (h : PageHistory) → StandFor l h es → IsReady old.registers before
       → Takes (t (known_at h old.registers.all before.input)) old.registers new before behind result

@@ -1,5 +1,5 @@
 use Rattle.std.proofs.Common.{refl}
-use Rattle.roff_run.specs.Reading.{end_taking}
+use Rattle.roff_run.specs.Reading.Ends.{end_taking}
 use Rattle.roff_engine.proofs.DoesTakings.{refused_taking, taking_done}
 use Rattle.roff_engine.proofs.formatter.Formatter.end_input_line.Goals as goal
 

@@ -1,6 +1,6 @@
 use Rattle.std.proofs.Common.{[], true, false, refl}
 use Rattle.roff_run.specs.Run.{input_ended}
-use Rattle.roff_run.specs.Reading.{end_taking}
+use Rattle.roff_run.specs.Reading.Ends.{end_taking}
 use Rattle.roff_run.specs.Registers.{Known}
 use Rattle.roff_run.proofs.Keeping.{Keeps-end_taking}
 use Rattle.roff_engine.proofs.Acting.{taking_acts, halted_acts}

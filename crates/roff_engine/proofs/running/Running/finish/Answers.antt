@@ -1,6 +1,6 @@
 use Rattle.std.proofs.Common.{true, refl, ap}
 use Rattle.roff_run.specs.Run.{end_met}
-use Rattle.roff_run.specs.Reading.{end_taking}
+use Rattle.roff_run.specs.Reading.Ends.{end_taking}
 use Rattle.roff_run.specs.Registers.{Known}
 use Rattle.roff_run.specs.declared.reading.Reading.{Reading}
 use Rattle.roff_run.proofs.Keeping.{Keeps-end_taking}

@@ -1,5 +1,5 @@
 use Rattle.std.proofs.Common.{sym, subst, ap, ◌∙◌}
-use Rattle.roff_run.specs.Reading.{due}
+use Rattle.roff_run.specs.Reading.Ends.{due}
 use Rattle.roff_run.specs.Stages.{EndsLine}
 use Rattle.roff_engine.specs.declared.formatter.Formatter.{Formatter}
 use Rattle.roff_engine.proofs.PassingOn.{goes_further_both, goes_further_none}

@@ -1,7 +1,7 @@
 use Rattle.std.proofs.Common.{◌≡◌, Some, ap, inr, ◌∙◌}
 use Rattle.roff_run.specs.declared.reading.Due.{Due}
 use Rattle.roff_run.specs.declared.reading.Due.TheVariants.{Leaves}
-use Rattle.roff_run.specs.Reading.{due}
+use Rattle.roff_run.specs.Reading.Ends.{due}
 use Rattle.roff_run.proofs.Readings.{left_where_due}
 use Rattle.roff_engine.proofs.Settling.{left_settles}
 use Rattle.roff_engine.proofs.running.Running.settle_due.Goals as goal

@@ -1,6 +1,6 @@
 use Rattle.std.proofs.Common.{◌≡◌, rules, subst}
 use Rattle.roff_run.specs.Reader.Taken.{TakesAs}
-use Rattle.roff_run.specs.Reading.{at_start, beginning_found}
+use Rattle.roff_run.specs.Reading.Beginnings.{at_start, beginning_found}
 use Rattle.roff_run.specs.declared.reading.Reading.{Reading}
 use Rattle.roff_run.specs.declared.reading.Reading.TheVariants.{Branch}
 use Rattle.roff_run.proofs.TakesAs.{TakesAs-read_at}

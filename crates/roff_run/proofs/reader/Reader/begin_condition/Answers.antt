@@ -7,7 +7,7 @@ use Rattle.roff_scan.specs.declared.half.Read.TheVariants.{Decides}
 use Rattle.roff_scan.specs.declared.half.Surroundings.TheVariants.{Arguments as AboveArguments}
 use Rattle.roff_scan.proofs.TextsHeld.{texts_held-byte_read}
 use Rattle.roff_run.specs.Reader.Taken.{PageUnread, TakesAs}
-use Rattle.roff_run.specs.Reading.{condition_begun, condition_found, condition_read}
+use Rattle.roff_run.specs.Reading.Branches.{condition_begun, condition_found, condition_read}
 use Rattle.roff_run.proofs.TakesAs.{NoMore-choosing, TakesAs-as, TakesAs-less, TakesAs-read}
 use Rattle.roff_run.proofs.reader.Reader.begin_condition.Goals as goal
 

@@ -1,5 +1,5 @@
 use Rattle.std.proofs.Common.{◌≡◌, Err, Some, rules}
-use Rattle.roff_run.specs.Reading.{string_begun}
+use Rattle.roff_run.specs.Reading.Strings.{string_begun}
 use Rattle.roff_run.specs.declared.reading.Reading.{Reading}
 use Rattle.roff_run.specs.declared.reading.Reading.TheVariants.{Defining}
 use Rattle.roff_run.proofs.Strings.{TakesAs-became, TakesAs-not_became}

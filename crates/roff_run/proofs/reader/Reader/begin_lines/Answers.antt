@@ -1,7 +1,7 @@
 use Rattle.std.proofs.Common.{◌≡◌, false, List, ℕ, Option, Some, None, ap, reverse, rules, subst, sym, ◌∙◌}
 use Rattle.roff_scan.specs.Input.{arguments_given}
 use Rattle.roff_run.specs.Reader.Taken.{PageUnread, TakesAs}
-use Rattle.roff_run.specs.Reading.{definition_begun, definition_named}
+use Rattle.roff_run.specs.Reading.Definitions.{definition_begun, definition_named}
 use Rattle.roff_run.specs.ShortNames.{name_at, name_or_none}
 use Rattle.roff_run.specs.declared.reading.ShortName.{ShortName}
 use Rattle.roff_run.proofs.BegunDefinitions.{TakesAs-behind_line, flatten-name}

@@ -1,5 +1,5 @@
 use Rattle.std.proofs.Common.{◌≡◌, Ok, rules}
-use Rattle.roff_run.specs.Reading.{first_taking, line_begun}
+use Rattle.roff_run.specs.Reading.Beginnings.{first_taking, line_begun}
 use Rattle.roff_run.specs.Registers.{Known}
 use Rattle.roff_run.proofs.TakesAs.{TakesAs-as, first_taking-any}
 use Rattle.roff_run.proofs.reader.Reader.begin_with.Goals.{in_default-via-in-Branch+in_default, in_default-via-in-Braced+in_default, in_default-via-in_default}

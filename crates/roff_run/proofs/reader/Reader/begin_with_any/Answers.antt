@@ -1,5 +1,6 @@
 use Rattle.std.proofs.Common.{◌≡◌, Ok, false, refl, rules, ◌==◌}
-use Rattle.roff_run.specs.Reading.{beginning_text, line_begun, text_taking}
+use Rattle.roff_run.specs.Reading.Beginnings.{beginning_text, line_begun}
+use Rattle.roff_run.specs.Reading.TextLines.{text_taking}
 use Rattle.roff_run.proofs.TakesAs.{TakesAs-as, TakesAs-begun}
 use Rattle.roff_run.proofs.reader.Reader.begin_with_any.Goals as goal
 

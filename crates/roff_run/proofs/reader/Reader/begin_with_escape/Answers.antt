@@ -1,5 +1,6 @@
 use Rattle.std.proofs.Common.{◌≡◌, Ok, rules}
-use Rattle.roff_run.specs.Reading.{escape_begun, escape_taking, first_escape}
+use Rattle.roff_run.specs.Reading.Beginnings.{escape_begun, first_escape}
+use Rattle.roff_run.specs.Reading.TextLines.{escape_taking}
 use Rattle.roff_run.specs.Registers.{Known}
 use Rattle.roff_run.proofs.TakesAs.{TakesAs-as, TakesAs-begun, first_escape-any}
 use Rattle.roff_run.proofs.reader.Reader.begin_with_escape.Goals.{in_default-via-in-Branch+in_default, in_default-via-in-Braced+in_default, in_default-via-in_default}

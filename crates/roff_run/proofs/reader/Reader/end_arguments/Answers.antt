@@ -1,6 +1,6 @@
 use Rattle.std.proofs.Common.{◌≡◌, rules, subst, sym}
 use Rattle.roff_run.specs.Reader.Taken.{TakesAs}
-use Rattle.roff_run.specs.Reading.{arguments_ended, line_ended}
+use Rattle.roff_run.specs.Reading.Arguments.{arguments_ended, line_ended}
 use Rattle.roff_run.specs.Requests.{row_of}
 use Rattle.roff_run.specs.declared.request.LineReading.{LineReading}
 use Rattle.roff_run.specs.declared.request.LineReading.TheVariants.{ByLines}

@@ -1,5 +1,5 @@
 use Rattle.std.proofs.Common.{◌≡◌, Err, rules}
-use Rattle.roff_run.specs.Reading.{behind_definition}
+use Rattle.roff_run.specs.Reading.DefinedLines.{behind_definition}
 use Rattle.roff_run.proofs.EndedDefinitions.{TakesAs-entered, TakesAs-not_entered}
 use Rattle.roff_run.proofs.reader.Reader.end_definition.Goals as goal
 

@@ -2,7 +2,11 @@ use Rattle.std.proofs.Common.{◌≡◌, Ok, Err, refl, ap, rules, ◌∙◌}
 use Rattle.roff_scan.specs.Bytes.{newline}
 use Rattle.roff_scan.specs.Input.{arguments_given}
 use Rattle.roff_run.specs.Reader.State.{ReaderState}
-use Rattle.roff_run.specs.Reading.{end_taking, going_on, kept_taking, name_at, string_entered, string_line_ended}
+use Rattle.roff_run.specs.Reading.{kept_taking}
+use Rattle.roff_run.specs.Reading.Ends.{end_taking}
+use Rattle.roff_run.specs.Reading.Strings.{string_entered, string_line_ended}
+use Rattle.roff_run.specs.Reading.Taking.{going_on}
+use Rattle.roff_run.specs.ShortNames.{name_at}
 use Rattle.roff_run.specs.declared.reading.Reading.TheVariants.{Braced, Control, Defining, Dropped, Exiting, LineStart, Skipping, StringName, StringText}
 use Rattle.roff_run.proofs.TakesAs.{TakesAs-as, TakesAs-last_line, TakesAs-no_last_line, TakesAs-where, end_taking-newline, string_line_ended-going}
 use Rattle.roff_run.proofs.reader.Reader.end_line_of_input.Goals as goal

@@ -1,5 +1,5 @@
 use Rattle.std.proofs.Common.{◌≡◌, Err, rules}
-use Rattle.roff_run.specs.Reading.{holding}
+use Rattle.roff_run.specs.Reading.Units.{holding}
 use Rattle.roff_run.proofs.TakesAs.{TakesAs-changed, TakesAs-not_changed}
 use Rattle.roff_run.proofs.reader.Reader.hold.Goals as goal
 

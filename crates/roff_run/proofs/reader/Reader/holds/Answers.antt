@@ -1,6 +1,7 @@
 use Rattle.std.proofs.Common.{◌≡◌, ◌==◌, false, refl, rules}
 use Rattle.roff_scan.specs.declared.half.CopyUnit.TheVariants.{Byte}
-use Rattle.roff_run.specs.Reading.{holding, kept_taking}
+use Rattle.roff_run.specs.Reading.{kept_taking}
+use Rattle.roff_run.specs.Reading.Units.{holding}
 use Rattle.roff_run.specs.declared.reading.Reading.{Reading}
 use Rattle.roff_run.specs.declared.reading.Reading.TheVariants.{Arguments as InArguments}
 use Rattle.roff_run.proofs.ReadAtOnce.{at_once-changed, holds-byte, refused-stays}

@@ -1,7 +1,7 @@
 use Rattle.std.proofs.Common.{◌≡◌, Ok, Err, rules, subst, ◌∙◌}
 use Rattle.roff_run.specs.Reader.State.{ReaderState}
 use Rattle.roff_run.specs.Reader.Taken.{TakesAs}
-use Rattle.roff_run.specs.Reading.{interpolating}
+use Rattle.roff_run.specs.Reading.Escapes.{interpolating}
 use Rattle.roff_run.specs.declared.reader.Meaning.{Meaning}
 use Rattle.roff_run.proofs.TakesAs.{KnowsText, TakesAs-interpolated, TakesAs-not_interpolated}
 use Rattle.roff_run.proofs.reader.Reader.interpolate.Goals as goal

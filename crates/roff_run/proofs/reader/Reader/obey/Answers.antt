@@ -4,7 +4,7 @@ use Rattle.roff_run.specs.Reader.State.{ReaderState}
 use Rattle.roff_run.specs.Reader.Taken.{ChangedTo, Refused}
 use Rattle.roff_run.specs.Registers.Capped.{Capped}
 use Rattle.roff_run.specs.Request.Coded.{changes_of, effect_of}
-use Rattle.roff_run.specs.Reading.{reading_behind}
+use Rattle.roff_run.specs.Reading.Arguments.{reading_behind}
 use Rattle.roff_run.specs.declared.request.Row.{Row}
 use Rattle.roff_run.proofs.Obeying.{Obeys, TakesAs-obeyed, TakesAs-not_obeyed, texts_read}
 use Rattle.roff_run.proofs.reader.Reader.obey.Goals as goal

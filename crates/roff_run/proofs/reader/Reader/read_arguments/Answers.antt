@@ -1,4 +1,5 @@
-use Rattle.roff_run.specs.Reading.{arguments_found, no_unit_found, settling}
+use Rattle.roff_run.specs.Reading.Arguments.{arguments_found}
+use Rattle.roff_run.specs.Reading.Units.{no_unit_found, settling}
 use Rattle.roff_run.specs.declared.reading.Reading.{Reading}
 use Rattle.roff_run.specs.declared.reading.Reading.TheVariants.{Arguments as InArguments}
 use Rattle.roff_run.proofs.TakesAs.{TakesAs-as, TakesAs-settled, arguments_found-no_unit}

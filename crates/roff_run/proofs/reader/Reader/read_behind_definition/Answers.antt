@@ -1,6 +1,6 @@
 use Rattle.std.proofs.Common.{[]}
 use Rattle.std.specs.Prelude.{true}
-use Rattle.roff_run.specs.Reading.{dropped_taking, name_ended_taking}
+use Rattle.roff_run.specs.Reading.ControlLines.{dropped_taking, name_ended_taking}
 use Rattle.roff_run.proofs.EndedDefinitions.{TakesAs-line_begun}
 use Rattle.roff_run.proofs.TakesAs.{TakesAs-meant}
 use Rattle.roff_run.proofs.reader.Reader.read_behind_definition.Goals as goal

@@ -2,7 +2,8 @@ use Rattle.std.proofs.Common.{[], sym, ap, ◌∙◌}
 use Rattle.roff_scan.specs.Halves.{byte_read}
 use Rattle.roff_scan.specs.declared.half.Surroundings.TheVariants.{Arguments as AboveArguments}
 use Rattle.roff_scan.proofs.TextsHeld.{texts_held-byte_read}
-use Rattle.roff_run.specs.Reading.{call_found, call_read, called_taking, line_taking, name_ended_taking}
+use Rattle.roff_run.specs.Reading.Calls.{call_found, call_read}
+use Rattle.roff_run.specs.Reading.ControlLines.{called_taking, line_taking, name_ended_taking}
 use Rattle.roff_run.specs.Requests.{row_of}
 use Rattle.roff_run.specs.declared.request.Called.{Called}
 use Rattle.roff_run.proofs.TakesAs.{TakesAs-as, TakesAs-meant, TakesAs-read}

@@ -1,4 +1,5 @@
-use Rattle.roff_run.specs.Reading.{call_found, no_unit_found, settling}
+use Rattle.roff_run.specs.Reading.Calls.{call_found}
+use Rattle.roff_run.specs.Reading.Units.{no_unit_found, settling}
 use Rattle.roff_run.specs.declared.reading.Reading.{Reading}
 use Rattle.roff_run.specs.declared.reading.Reading.TheVariants.{Calling}
 use Rattle.roff_run.proofs.CalledBodies.{call_found-no_unit}

@@ -1,5 +1,6 @@
 use Rattle.std.proofs.Common.{◌≡◌, true, false, Ok, Err, rules}
-use Rattle.roff_run.specs.Reading.{condition_found, no_unit_found}
+use Rattle.roff_run.specs.Reading.Branches.{condition_found}
+use Rattle.roff_run.specs.Reading.Units.{no_unit_found}
 use Rattle.roff_run.specs.declared.reading.Reading.TheVariants.{Deciding}
 use Rattle.roff_run.proofs.Deciding.{TakesAs-decides, TakesAs-kept, TakesAs-not_begun, TakesAs-not_kept, condition_found-undecided}
 use Rattle.roff_run.proofs.TakesAs.{TakesAs-as}

@@ -1,5 +1,5 @@
 use Rattle.std.proofs.Common.{refl, sym, ap, ◌∙◌}
-use Rattle.roff_run.specs.Reading.{behind_called}
+use Rattle.roff_run.specs.Reading.ControlLines.{behind_called}
 use Rattle.roff_run.proofs.ControlFronts.{ready-two, reads-dropped, reads-named}
 use Rattle.roff_run.proofs.reader.Reader.read_control.Goals as goal
 

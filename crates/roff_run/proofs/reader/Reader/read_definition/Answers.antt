@@ -1,4 +1,5 @@
-use Rattle.roff_run.specs.Reading.{definition_found, no_unit_found}
+use Rattle.roff_run.specs.Reading.DefinedLines.{definition_found}
+use Rattle.roff_run.specs.Reading.Units.{no_unit_found}
 use Rattle.roff_run.specs.declared.reading.Reading.{Reading}
 use Rattle.roff_run.specs.declared.reading.Reading.TheVariants.{Defining}
 use Rattle.roff_run.proofs.EndedDefinitions.{definition_found-no_unit}

@@ -4,7 +4,11 @@ use Rattle.roff_scan.specs.Input.{kept_last, without_last}
 use Rattle.roff_scan.specs.declared.half.Surroundings.TheVariants.{Arguments as AboveArguments, Copy as AboveCopy}
 use Rattle.roff_scan.proofs.TextsHeld.{texts_held-byte_read}
 use Rattle.roff_run.specs.Reader.Taken.{PageUnread, TakesAs}
-use Rattle.roff_run.specs.Reading.{arguments_found, branch_taking, line_taking, message_found, reads_else, string_name_found}
+use Rattle.roff_run.specs.Reading.Arguments.{arguments_found}
+use Rattle.roff_run.specs.Reading.Branches.{branch_taking, reads_else}
+use Rattle.roff_run.specs.Reading.ControlLines.{line_taking}
+use Rattle.roff_run.specs.Reading.Messages.{message_found}
+use Rattle.roff_run.specs.Reading.Strings.{string_name_found}
 use Rattle.roff_run.specs.Requests.{row_of}
 use Rattle.roff_run.specs.declared.request.LineReading.TheVariants.{ByArguments, ByCondition, ByElse, ByLastLine, ByLines, ByMessage, ByString}
 use Rattle.roff_run.proofs.TakesAs.{NoMore-without_last, TakesAs-less, TakesAs-line, TakesAs-read}

@@ -1,6 +1,6 @@
 use Rattle.std.proofs.Common.{ap}
 use Rattle.roff_run.specs.Reader.State.{ReaderState}
-use Rattle.roff_run.specs.Reading.{asking}
+use Rattle.roff_run.specs.Reading.Escapes.{asking}
 use Rattle.roff_run.proofs.TakesAs.{TakesAs-set}
 use Rattle.roff_run.proofs.reader.Reader.read_in_arguments.Goals as goal
 

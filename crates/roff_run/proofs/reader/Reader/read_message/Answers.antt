@@ -1,4 +1,5 @@
-use Rattle.roff_run.specs.Reading.{message_found, no_unit_found}
+use Rattle.roff_run.specs.Reading.Messages.{message_found}
+use Rattle.roff_run.specs.Reading.Units.{no_unit_found}
 use Rattle.roff_run.specs.declared.reading.Reading.{Reading}
 use Rattle.roff_run.specs.declared.reading.Reading.TheVariants.{Telling}
 use Rattle.roff_run.proofs.TakesAs.{TakesAs-as, message_found-no_unit}

@@ -1,4 +1,4 @@
-use Rattle.roff_run.specs.Reading.{character_taking, left_out_taking, other_taking}
+use Rattle.roff_run.specs.Reading.TextLines.{character_taking, left_out_taking, other_taking}
 use Rattle.roff_run.proofs.TakesAs.{TakesAs-stepped}
 use Rattle.roff_run.proofs.reader.Reader.read_name.Goals as goal
 

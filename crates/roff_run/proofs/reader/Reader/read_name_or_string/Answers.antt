@@ -1,5 +1,6 @@
 use Rattle.std.proofs.Common.{◌≡◌, true, Some, None, Ok, Err, rules, sym, ap}
-use Rattle.roff_run.specs.Reading.{holding, name_read, string_begun, string_name_behind, string_name_or_text, string_unit}
+use Rattle.roff_run.specs.Reading.Strings.{name_read, string_begun, string_name_behind, string_name_or_text, string_unit}
+use Rattle.roff_run.specs.Reading.Units.{holding}
 use Rattle.roff_run.proofs.Strings.{InputBecame-changing, TakesAs-elsewhere}
 use Rattle.roff_run.proofs.StringRefusals.{TakesAs-not_begun, TakesAs-not_held}
 use Rattle.roff_run.proofs.TakesAs.{TakesAs-as}

@@ -1,4 +1,5 @@
-use Rattle.roff_run.specs.Reading.{string_text_found, no_unit_found}
+use Rattle.roff_run.specs.Reading.Strings.{string_text_found}
+use Rattle.roff_run.specs.Reading.Units.{no_unit_found}
 use Rattle.roff_run.specs.declared.reading.Reading.{Reading}
 use Rattle.roff_run.specs.declared.reading.Reading.TheVariants.{StringText}
 use Rattle.roff_run.proofs.TakesAs.{TakesAs-as}

@@ -1,4 +1,5 @@
-use Rattle.roff_run.specs.Reading.{string_name_found, no_unit_found, settling}
+use Rattle.roff_run.specs.Reading.Strings.{string_name_found}
+use Rattle.roff_run.specs.Reading.Units.{no_unit_found, settling}
 use Rattle.roff_run.specs.declared.reading.Reading.{Reading}
 use Rattle.roff_run.specs.declared.reading.Reading.TheVariants.{StringName}
 use Rattle.roff_run.proofs.TakesAs.{TakesAs-as, TakesAs-settled}

@@ -1,6 +1,6 @@
 use Rattle.std.proofs.Common.{ap}
 use Rattle.roff_run.specs.Reader.State.{ReaderState}
-use Rattle.roff_run.specs.Reading.{motion_taking, name_taking}
+use Rattle.roff_run.specs.Reading.TextLines.{motion_taking, name_taking}
 use Rattle.roff_run.specs.declared.reading.Reading.TheVariants.{Text}
 use Rattle.roff_run.proofs.TakesAs.{TakesAs-set, TakesAs-stepped}
 use Rattle.roff_run.proofs.reader.Reader.read_text.Goals as goal

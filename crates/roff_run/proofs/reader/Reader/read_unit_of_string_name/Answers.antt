@@ -1,6 +1,7 @@
 use Rattle.std.proofs.Common.{◌≡◌, rules}
 use Rattle.roff_scan.specs.declared.half.CopyUnit.TheVariants.{Byte}
-use Rattle.roff_run.specs.Reading.{name_read, settling, string_name_or_text, string_name_unit}
+use Rattle.roff_run.specs.Reading.Strings.{name_read, string_name_or_text, string_name_unit}
+use Rattle.roff_run.specs.Reading.Units.{settling}
 use Rattle.roff_run.proofs.Strings.{string_name_unit-other, string_name_unit-quote}
 use Rattle.roff_run.proofs.TakesAs.{TakesAs-as, TakesAs-settled}
 use Rattle.roff_run.proofs.reader.Reader.read_unit_of_string_name.Goals as goal

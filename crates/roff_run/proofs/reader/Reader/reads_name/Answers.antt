@@ -1,6 +1,7 @@
 use Rattle.std.proofs.Common.{◌≡◌, [], Ok, ap, false, rules, sym}
 use Rattle.roff_run.specs.Reader.AtOnce.{only_events}
-use Rattle.roff_run.specs.Reading.{behind_called, behind_name, ends_name, kept_taking}
+use Rattle.roff_run.specs.Reading.{kept_taking}
+use Rattle.roff_run.specs.Reading.ControlLines.{behind_called, behind_name, ends_name}
 use Rattle.roff_run.specs.Requests.{row_of}
 use Rattle.roff_run.specs.declared.reading.Reading.TheVariants.{Calling, Dropped, Name}
 use Rattle.roff_run.proofs.ReadAtOnce.{at_once-meant}

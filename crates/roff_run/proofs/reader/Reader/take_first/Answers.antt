@@ -1,7 +1,8 @@
 use Rattle.std.proofs.Common.{◌≡◌, ◌∙◌, ◌==◌, ap, false, rules, sym}
 use Rattle.std.proofs.lemmas.Option.{IfSome_then}
 use Rattle.roff_run.specs.Reader.AtOnce.{text_byte_events}
-use Rattle.roff_run.specs.Reading.{line_begun, text_taking}
+use Rattle.roff_run.specs.Reading.Beginnings.{line_begun}
+use Rattle.roff_run.specs.Reading.TextLines.{text_taking}
 use Rattle.roff_run.specs.declared.reading.TextLine.{TextLine}
 use Rattle.roff_run.proofs.ReadAtOnce.{meant-uninterrupted}
 use Rattle.roff_run.proofs.TextTaken.{begins-fresh}

@@ -2,7 +2,8 @@ use Rattle.std.proofs.Common.{◌≡◌, ◌∙◌, ◌==◌, Ok, false, refl, r
 use Rattle.std.proofs.lemmas.Option.{IfSome_then}
 use Rattle.roff_scan.specs.Bytes.{is_dropped}
 use Rattle.roff_run.specs.Reader.AtOnce.{only_events, text_byte_events}
-use Rattle.roff_run.specs.Reading.{line_begun, taking}
+use Rattle.roff_run.specs.Reading.{taking}
+use Rattle.roff_run.specs.Reading.Beginnings.{line_begun}
 use Rattle.roff_run.specs.declared.reading.Reading.{Reading}
 use Rattle.roff_run.specs.declared.reading.Reading.TheVariants.{LineStart, Text as InText}
 use Rattle.roff_run.proofs.ReadAtOnce.{none_half}

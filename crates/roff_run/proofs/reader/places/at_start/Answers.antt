@@ -1,5 +1,6 @@
 use Rattle.std.proofs.Common.{ap, ◌∙◌}
-use Rattle.roff_run.specs.Reading.{line_begun_as, on_line}
+use Rattle.roff_run.specs.Reading.Beginnings.{line_begun_as}
+use Rattle.roff_run.specs.Reading.TextLines.{on_line}
 use Rattle.roff_run.specs.Run.{known_at}
 use Rattle.roff_run.proofs.reader.places.at_start.Goals as goal
 

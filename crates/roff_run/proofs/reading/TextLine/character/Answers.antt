@@ -1,6 +1,6 @@
 use Rattle.std.proofs.Common.{◌≡◌, Some, None, rules, sym, ap, ◌∙◌}
 use Rattle.roff_scan.specs.Characters.{character}
-use Rattle.roff_run.specs.Reading.{character_printed, character_taking, told_taking}
+use Rattle.roff_run.specs.Reading.TextLines.{character_printed, character_taking, told_taking}
 use Rattle.roff_run.specs.declared.message.CharacterName.{CharacterName}
 use Rattle.roff_run.specs.declared.message.Message.TheVariants.{UnknownCharacter}
 use Rattle.roff_run.proofs.reading.TextLine.character.Goals as goal

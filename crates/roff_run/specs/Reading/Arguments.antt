@@ -1,0 +1,66 @@
+-- The arguments of requests, and the end of a request's line (manual, sections 1.1 and 7.3).
+use Rattle.std.specs.Prelude.{Bool, List, ◌∷◌, if◌then◌else◌, ◌==◌}
+use Rattle.roff_scan.specs.Arguments.{no_arguments}
+use Rattle.roff_scan.specs.Bytes.{newline}
+use Rattle.roff_scan.specs.Halves.{Reads}
+use Rattle.roff_scan.specs.Input.{calling, arguments_given}
+use Rattle.roff_scan.specs.declared.half.CopyUnit.{CopyUnit}
+use Rattle.roff_scan.specs.declared.half.CopyUnit.TheVariants.{Byte, Kept}
+use Rattle.roff_scan.specs.declared.half.Read.{Read}
+use Rattle.roff_scan.specs.declared.half.Read.TheVariants.{Unit, Escape}
+use Rattle.roff_store.specs.TextCalls.{Call}
+use Rattle.roff_run.specs.declared.reading.Reading.{Reading}
+use Rattle.roff_run.specs.declared.reading.Reading.TheVariants.{LineStart, Arguments as InArguments, Exiting}
+use Rattle.roff_run.specs.declared.request.Request.{Request}
+use Rattle.roff_run.specs.declared.request.LineReading.{LineReading}
+use Rattle.roff_run.specs.declared.request.LineReading.TheVariants.{ByLastLine, ByLines}
+use Rattle.roff_run.specs.Reading.Definitions.{lines_begun}
+use Rattle.roff_run.specs.Reading.Taking.{PageInput, Taking, going_on}
+use Rattle.roff_run.specs.Reading.Units.{holding, settling, no_unit_found}
+use Rattle.roff_run.specs.Registers.{Known}
+use Rattle.roff_run.specs.Requests.{Effect, row_of, request_effect}
+
+-- the input behind calls on names, one after another
+abbrev pub calling_all : List Call → PageInput → PageInput
+calling_all [] i = i
+calling_all (call ∷ calls) i = calling_all calls (calling call i)
+
+-- what is read behind a request's line, by how that is read: behind the last one nothing is
+abbrev pub reading_behind : LineReading → Reading
+reading_behind ByLastLine = Exiting
+reading_behind (_) = LineStart
+
+-- the line of a request has ended, and the request means this: its arguments are released, and what names stand for
+-- changes so
+abbrev pub ended_by : PageInput → Request → Effect → Taking
+ended_by i request effect = record {
+  input = calling_all effect.calls (record i { arguments = no_arguments });
+  reading = reading_behind (row_of request).line;
+  effect = effect;
+}
+
+-- the end of a request's line: the request is obeyed
+abbrev pub line_ended : Known → PageInput → Bool → Request → Taking
+line_ended k i breaks request = ended_by i request (request_effect k breaks request (arguments_given i))
+
+-- the end of a line that was read as arguments, by how it is read
+abbrev pub arguments_ended : Known → PageInput → Bool → Request → LineReading → Taking
+arguments_ended k i breaks request (ByLines lines) = lines_begun i lines (arguments_given i)
+arguments_ended k i breaks request (_) = line_ended k i breaks request
+
+-- a unit behind a request's name is held; a newline ends the line
+abbrev pub unit_found : Known → PageInput → Bool → Request → CopyUnit → Taking
+unit_found k i breaks request (Byte b) =
+    if b == newline then arguments_ended k i breaks request (row_of request).line
+    else going_on (holding (Byte b) i) (InArguments breaks request)
+unit_found k i breaks request (Kept b) = going_on (holding (Kept b) i) (InArguments breaks request)
+
+-- what was found behind a request's name: an escape's beginning is no quote
+abbrev pub arguments_found : Known → PageInput → Bool → Request → Read → Taking
+arguments_found k i breaks request (Unit unit) = unit_found k i breaks request unit
+arguments_found k i breaks request (Escape b) = unit_found k i breaks request (Kept b)
+arguments_found k i breaks request found = no_unit_found k (settling i) (InArguments breaks request) found
+
+-- what something reads behind a request's name, with what is half read then
+abbrev pub arguments_read_on : Known → PageInput → Bool → Request → Reads → Taking
+arguments_read_on k i breaks request r = arguments_found k (record i { half = r.1 }) breaks request r.0

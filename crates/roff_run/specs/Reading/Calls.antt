@@ -1,0 +1,45 @@
+-- Lines that call bodies: strings and macros (manual, sections 7.2 and 7.3).
+use Rattle.std.specs.Prelude.{nat_le, length, if◌then◌else◌, ◌==◌}
+use Rattle.roff_scan.specs.Bytes.{newline, quote}
+use Rattle.roff_scan.specs.Halves.{Reads}
+use Rattle.roff_scan.specs.Input.{body_named, calling_body}
+use Rattle.roff_scan.specs.declared.half.CopyUnit.{CopyUnit}
+use Rattle.roff_scan.specs.declared.half.CopyUnit.TheVariants.{Byte, Kept}
+use Rattle.roff_scan.specs.declared.half.Read.{Read}
+use Rattle.roff_scan.specs.declared.half.Read.TheVariants.{Unit, Escape}
+use Rattle.roff_run.specs.Reading.Taking.{PageInput, Taking, going_on}
+use Rattle.roff_run.specs.Reading.Units.{holding, settling, no_unit_found}
+use Rattle.roff_run.specs.ShortNames.{name_bytes}
+use Rattle.roff_run.specs.declared.reading.Reading.{Reading}
+use Rattle.roff_run.specs.declared.reading.Reading.TheVariants.{LineStart, Branch, Braced, Text as InText, Calling}
+use Rattle.roff_run.specs.declared.reading.ShortName.{ShortName}
+use Rattle.roff_run.specs.Registers.{Known}
+
+-- the arguments of a call are held up to the ninth
+abbrev pub holding_call : CopyUnit → PageInput → PageInput
+holding_call unit i = if nat_le 9 (length i.arguments.whole) then i else holding unit i
+
+-- a unit behind the name of a body that a line calls: a newline ends the line, and the body is read
+abbrev pub call_unit : PageInput → ShortName → CopyUnit → Taking
+call_unit i name (Byte b) =
+    if b == newline then going_on (calling_body (body_named (name_bytes name) i) i) LineStart
+    else if b == quote then going_on (holding_call (Byte b) i) (Calling name)
+    else going_on (holding_call (Byte b) (settling i)) (Calling name)
+call_unit i name (Kept b) = going_on (holding_call (Kept b) (settling i)) (Calling name)
+
+-- what was found there
+abbrev pub call_found : Known → PageInput → ShortName → Read → Taking
+call_found k i name (Unit unit) = call_unit i name unit
+call_found k i name (Escape b) = call_unit i name (Kept b)
+call_found k i name found = no_unit_found k (settling i) (Calling name) found
+
+-- what something reads there, with what is half read then
+abbrev pub call_read : Known → PageInput → ShortName → Reads → Taking
+call_read k i name r = call_found k (record i { half = r.1 }) name r.0
+
+-- what is read behind the end of a body that a line called: a line begins, unless a control line is being read
+abbrev pub behind_return : Reading → Reading
+behind_return Branch = LineStart
+behind_return Braced = LineStart
+behind_return (InText line) = LineStart
+behind_return reading = reading

@@ -1,0 +1,70 @@
+-- The names of control lines, and how what is behind one is read (manual, sections 1.1 and 7.2).
+use Rattle.std.specs.Prelude.{ℕ, Bool, true, ◌||◌, if◌then◌else◌, ◌==◌}
+use Rattle.roff_scan.specs.Bytes.{tab, newline, blank, backslash}
+use Rattle.roff_scan.specs.Halves.{byte_read}
+use Rattle.roff_scan.specs.Input.{choosing, kept_last, without_last}
+use Rattle.roff_scan.specs.declared.half.Surroundings.TheVariants.{Arguments as AboveArguments, Copy as AboveCopy}
+use Rattle.roff_run.specs.declared.reading.Reading.TheVariants.{LineStart, Arguments as InArguments, Deciding, StringName, Dropped, Telling, Calling}
+use Rattle.roff_run.specs.declared.reading.ShortName.{ShortName}
+use Rattle.roff_run.specs.declared.request.Request.{Request}
+use Rattle.roff_run.specs.declared.request.LineReading.{LineReading}
+use Rattle.roff_run.specs.declared.request.LineReading.TheVariants.{ByArguments, ByCondition, ByElse, ByLastLine, ByMessage, ByString, ByLines}
+use Rattle.roff_run.specs.declared.request.Called.{Called}
+use Rattle.roff_run.specs.declared.request.Called.TheVariants.{Request as ARequest, Body as ABody, Nothing as Unknown}
+use Rattle.roff_run.specs.Reading.Arguments.{arguments_read_on}
+use Rattle.roff_run.specs.Reading.Branches.{branch_of, branch_taking, condition_begun, reads_else}
+use Rattle.roff_run.specs.Reading.Calls.{call_read}
+use Rattle.roff_run.specs.Reading.Messages.{message_read}
+use Rattle.roff_run.specs.Reading.Strings.{string_name_read}
+use Rattle.roff_run.specs.Reading.Taking.{PageInput, Taking, going_on}
+use Rattle.roff_run.specs.Registers.{Known}
+use Rattle.roff_run.specs.Requests.{called_by, row_of}
+
+-- a byte of a dropped line
+abbrev pub dropped_taking : PageInput → ℕ → Taking
+dropped_taking i b = going_on i (if b == newline then LineStart else Dropped)
+
+-- whether a byte ends a name, and doesn't belong to it
+abbrev pub ends_name : ℕ → Bool
+ends_name b = b == blank || (b == tab || (b == newline || b == backslash))
+
+-- the first byte behind a request's name, by how its line is read
+abbrev pub line_taking : Known → PageInput → Bool → Request → LineReading → ℕ → Taking
+line_taking k i breaks request ByArguments b = arguments_read_on k i breaks request (byte_read AboveArguments i.half b)
+line_taking k i breaks request (ByCondition keeps) b = condition_begun k i keeps b
+line_taking k i breaks request (ByString appends) b = string_name_read k i appends (byte_read AboveArguments i.half b)
+line_taking k i breaks request ByLastLine b = arguments_read_on k i breaks request (byte_read AboveArguments i.half b)
+line_taking k i breaks request (ByMessage aborts) b = message_read k i aborts true (byte_read AboveCopy i.half b)
+line_taking k i breaks request (ByLines lines) b = arguments_read_on k i breaks request (byte_read AboveArguments i.half b)
+line_taking k i breaks request ByElse b = branch_taking k (without_last i) (reads_else (kept_last i)) b
+
+-- a byte behind a name that stands for this: a request is read on, a body is called, and any other line is dropped
+abbrev pub called_taking : Known → PageInput → Bool → Called → ℕ → Taking
+called_taking k i breaks (ARequest request) b = line_taking k i breaks request (row_of request).line b
+called_taking k i breaks (ABody name) b = call_read k i name (byte_read AboveArguments i.half b)
+called_taking k i breaks Unknown b = dropped_taking i b
+
+-- a byte behind a name that it doesn't belong to
+abbrev pub name_ended_taking : Known → PageInput → Bool → ShortName → ℕ → Taking
+name_ended_taking k i breaks name b = called_taking k i breaks (called_by name i.names) b
+
+-- what is read behind a request's name, by how its line is read: a condition, or the other branch of the last one whose
+-- result was kept
+abbrev pub behind_name : PageInput → Bool → Request → LineReading → Taking
+behind_name i breaks request ByArguments = going_on i (InArguments breaks request)
+behind_name i breaks request (ByCondition keeps) = going_on (choosing i) (Deciding keeps)
+behind_name i breaks request (ByString appends) = going_on i (StringName appends)
+behind_name i breaks request ByLastLine = going_on i (InArguments breaks request)
+behind_name i breaks request (ByMessage aborts) = going_on i (Telling aborts true)
+behind_name i breaks request (ByLines lines) = going_on i (InArguments breaks request)
+behind_name i breaks request ByElse = going_on (without_last i) (branch_of (reads_else (kept_last i)))
+
+-- what is read behind a name that stands for this
+abbrev pub behind_called : PageInput → Bool → Called → Taking
+behind_called i breaks (ARequest request) = behind_name i breaks request (row_of request).line
+behind_called i breaks (ABody name) = going_on i (Calling name)
+behind_called i breaks Unknown = going_on i Dropped
+
+-- the last byte of a name of two bytes
+abbrev pub name_whole_taking : PageInput → Bool → ShortName → Taking
+name_whole_taking i breaks name = behind_called i breaks (called_by name i.names)

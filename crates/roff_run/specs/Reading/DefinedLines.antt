@@ -1,0 +1,49 @@
+-- The lines of a macro's definition, and the one that ends it (manual, section 7.1).
+use Rattle.std.specs.Prelude.{ℕ, Bool, true, List, ◌++◌, Some, None, Option}
+use Rattle.roff_scan.specs.Half.{unit_bytes}
+use Rattle.roff_scan.specs.Halves.{Reads}
+use Rattle.roff_scan.specs.Input.{beginning_line}
+use Rattle.roff_scan.specs.declared.half.CopyUnit.{CopyUnit}
+use Rattle.roff_scan.specs.declared.half.CopyUnit.TheVariants.{Kept}
+use Rattle.roff_scan.specs.declared.half.Read.{Read}
+use Rattle.roff_scan.specs.declared.half.Read.TheVariants.{Unit, Escape}
+use Rattle.roff_run.specs.Definitions.{end_mark, front_of, line_from, matched_behind}
+use Rattle.roff_run.specs.declared.definition.DefinitionLine.{DefinitionLine}
+use Rattle.roff_run.specs.declared.definition.DefinitionLine.TheVariants.{MayBeLast, IsLast, IsText}
+use Rattle.roff_run.specs.declared.reading.Reading.TheVariants.{Defining}
+use Rattle.roff_run.specs.declared.reading.ShortName.{ShortName}
+use Rattle.roff_run.specs.Reading.ControlLines.{dropped_taking, name_ended_taking}
+use Rattle.roff_run.specs.Reading.Definitions.{definition_grown}
+use Rattle.roff_run.specs.Reading.Strings.{string_entered}
+use Rattle.roff_run.specs.Reading.Taking.{PageInput, Taking, going_on}
+use Rattle.roff_run.specs.Reading.Units.{no_unit_found}
+use Rattle.roff_run.specs.Registers.{Known}
+
+-- the line that ends a definition: the name behind its dot is called with the rest of the line, of which this is the first
+-- byte; behind two dots the rest is dropped
+abbrev pub behind_definition : Known → PageInput → Option ShortName → ℕ → Taking
+behind_definition k i None b = dropped_taking i b
+behind_definition k i (Some name) b = name_ended_taking k (beginning_line i) true name b
+
+-- a unit of a definition's text, where its line is this
+abbrev pub definition_unit : Known → PageInput → Option ShortName → Bool → Option ShortName → List ℕ → CopyUnit → DefinitionLine
+    → Taking
+definition_unit k i name appends end front unit (MayBeLast matched) = going_on i (Defining name appends end (Some matched))
+definition_unit k i name appends end front unit (IsLast b) = behind_definition k (string_entered name appends i) end b
+definition_unit k i name appends end front unit IsText =
+    going_on (definition_grown name (front ++ unit_bytes unit) i) (Defining name appends end (matched_behind unit))
+
+-- a unit of a definition's text: what stands in front of a line that may be the last one is no text yet
+abbrev pub definition_line : Known → PageInput → Option ShortName → Bool → Option ShortName → Option ℕ → CopyUnit → Taking
+definition_line k i name appends end matched unit =
+    definition_unit k i name appends end (front_of (end_mark end) matched) unit (line_from (end_mark end) matched unit)
+
+-- what was found of a definition's text
+abbrev pub definition_found : Known → PageInput → Option ShortName → Bool → Option ShortName → Option ℕ → Read → Taking
+definition_found k i name appends end matched (Unit unit) = definition_line k i name appends end matched unit
+definition_found k i name appends end matched (Escape b) = definition_line k i name appends end matched (Kept b)
+definition_found k i name appends end matched found = no_unit_found k i (Defining name appends end matched) found
+
+-- what something reads of it, with what is half read then
+abbrev pub definition_read : Known → PageInput → Option ShortName → Bool → Option ShortName → Option ℕ → Reads → Taking
+definition_read k i name appends end matched r = definition_found k (record i { half = r.1 }) name appends end matched r.0

@@ -1,0 +1,47 @@
+-- What is read in the place of an escape: registers, strings, arguments and widths (manual, sections 7, 8 and 11).
+use Rattle.std.specs.Prelude.{ℕ, get_or, ◌-◌, ◌&&◌, nat_le, List, ◌∷◌, decimal, Some, None, Option, if◌then◌else◌}
+use Rattle.roff_scan.specs.Input.{pushing, body_named, arguments_live}
+use Rattle.roff_scan.specs.declared.escapes.NameUse.{NameUse}
+use Rattle.roff_scan.specs.declared.escapes.NameUse.TheVariants.{Register, Text as OfText, Argument as OfArgument}
+use Rattle.roff_store.specs.declared.register.Direction.{Direction}
+use Rattle.roff_run.specs.declared.reading.Reading.{Reading}
+use Rattle.roff_run.specs.Reading.Taking.{PageInput, Taking, going_on}
+use Rattle.roff_run.specs.Registers.{Known, known_behind, step_changes, step_messages, text_of_register}
+
+-- a register is read in the place of its escape: it is stepped first, and its text is put in front
+abbrev pub interpolating : Known → PageInput → Reading → Option Direction → List ℕ → Taking
+interpolating k i reading step name = record {
+  input = pushing (text_of_register (known_behind (step_changes step name) k) name) i;
+  reading = reading;
+  effect = record { messages = step_messages step name k.registers; changes = step_changes step name; calls = []; events = [] };
+}
+
+-- a string is read in the place of its escape
+abbrev pub putting_string : PageInput → Reading → List ℕ → Taking
+putting_string i reading name = going_on (pushing (body_named name i) i) reading
+
+-- nothing is read in the place of an escape
+abbrev pub putting_nothing : PageInput → Reading → Taking
+putting_nothing i reading = going_on (pushing [] i) reading
+
+-- the one of these arguments that a name of one digit above 0 stands for; another name stands for an empty one
+abbrev pub argument_named : List ℕ → List (List ℕ) → List ℕ
+argument_named [] arguments = []
+argument_named (digit ∷ []) arguments = if nat_le 49 digit && nat_le digit 57 then get_or arguments (digit - 49) [] else []
+argument_named (first ∷ second ∷ others) arguments = []
+
+-- an argument of the innermost body that a line called is read in the place of its escape
+abbrev pub putting_argument : PageInput → Reading → List ℕ → Taking
+putting_argument i reading name = going_on (pushing (argument_named name (arguments_live i)) i) reading
+
+-- the width of a text is read in its place, in digits
+abbrev pub measuring : PageInput → Reading → ℕ → Taking
+measuring i reading width = going_on (pushing (decimal width) i) reading
+
+-- what the name behind an escape asks for is read in the escape's place; without a byte it is no name
+abbrev pub asking : Known → PageInput → Reading → NameUse → Option (List ℕ) → Taking
+asking k i reading purpose None = going_on i reading
+asking k i reading (Register step) (Some name) = interpolating k i reading step name
+asking k i reading OfText (Some name) = putting_string i reading name
+asking k i reading OfArgument (Some name) = putting_argument i reading name
+asking k i reading (_) (Some name) = putting_nothing i reading

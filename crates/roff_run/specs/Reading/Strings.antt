@@ -1,0 +1,96 @@
+-- The strings that lines define: their names and their texts (manual, section 7).
+use Rattle.std.specs.Prelude.{Bool, true, false, ◌&&◌, reverse, Some, None, Option, if◌then◌else◌, ◌==◌}
+use Rattle.roff_scan.specs.Arguments.{no_arguments}
+use Rattle.roff_scan.specs.Bytes.{newline, blank, quote}
+use Rattle.roff_scan.specs.Half.{unit_bytes}
+use Rattle.roff_scan.specs.Halves.{Reads}
+use Rattle.roff_scan.specs.Input.{texts_of, calling, adding, entering, arguments_given}
+use Rattle.roff_scan.specs.declared.half.CopyUnit.{CopyUnit}
+use Rattle.roff_scan.specs.declared.half.CopyUnit.TheVariants.{Byte, Kept}
+use Rattle.roff_scan.specs.declared.half.Read.{Read}
+use Rattle.roff_scan.specs.declared.half.Read.TheVariants.{Unit, Escape}
+use Rattle.roff_store.specs.TextCalls.{Open, Set}
+use Rattle.roff_store.specs.Texts.{Body, has_body}
+use Rattle.roff_run.specs.Reading.Taking.{PageInput, Taking, going_on}
+use Rattle.roff_run.specs.Reading.Units.{holding, settling, no_unit_found}
+use Rattle.roff_run.specs.ShortNames.{name_at, name_bytes}
+use Rattle.roff_run.specs.declared.reading.Reading.TheVariants.{LineStart, StringName, StringText}
+use Rattle.roff_run.specs.declared.reading.ShortName.{ShortName}
+use Rattle.roff_run.specs.Registers.{Known}
+
+-- the name of a string, if the argument that gives it is whole
+abbrev pub name_read : PageInput → Option (Option ShortName)
+name_read i = name_at 0 (reverse i.arguments.whole)
+
+-- the text of a string is begun, and the argument that gave its name is released; one without a name gets none
+abbrev pub string_begun : Option ShortName → PageInput → PageInput
+string_begun None i = record i { arguments = no_arguments }
+string_begun (Some name) i = calling Open (record i { arguments = no_arguments })
+
+-- a unit is put behind the text, if a name gets it
+abbrev pub string_grown : Option ShortName → CopyUnit → PageInput → PageInput
+string_grown None unit i = i
+string_grown (Some name) unit i = adding (unit_bytes unit) i
+
+-- the text is the string from now on, or is put behind it
+abbrev pub string_entered : Option ShortName → Bool → PageInput → PageInput
+string_entered None appends i = i
+string_entered (Some name) appends i = entering (name_bytes name) appends i
+
+-- a string without a text is empty; one that is appended to stays
+abbrev pub string_emptied : Option ShortName → Bool → PageInput → PageInput
+string_emptied None appends i = i
+string_emptied (Some name) appends i =
+    if appends && has_body (name_bytes name) (texts_of i) then i else calling (Set (name_bytes name) (Body [])) i
+
+-- a unit of a string's text: in front of it blanks are dropped, and then one quote; a newline ends it
+abbrev pub string_unit : PageInput → Option ShortName → Bool → Bool → CopyUnit → Taking
+string_unit i name appends is_front (Byte b) =
+    if b == newline then going_on (string_entered name appends i) LineStart
+    else if is_front && b == blank then going_on i (StringText name appends true)
+    else if is_front && b == quote then going_on i (StringText name appends false)
+    else going_on (string_grown name (Byte b) i) (StringText name appends false)
+string_unit i name appends is_front (Kept b) = going_on (string_grown name (Kept b) i) (StringText name appends false)
+
+-- the line ends where its name is read: the string is without a text
+abbrev pub string_line_ended : PageInput → Bool → Option (Option ShortName) → Taking
+string_line_ended i appends None = going_on (record i { arguments = no_arguments }) LineStart
+string_line_ended i appends (Some name) = going_on (string_emptied name appends (record i { arguments = no_arguments })) LineStart
+
+-- behind a unit of the name: where the name is whole the text comes
+abbrev pub string_name_behind : PageInput → Bool → Option (Option ShortName) → Taking
+string_name_behind i appends None = going_on i (StringName appends)
+string_name_behind i appends (Some name) = going_on (string_begun name i) (StringText name appends true)
+
+-- a unit where the name may be whole: it is the text's first one, or one of the name
+abbrev pub string_name_or_text : PageInput → Bool → CopyUnit → Option (Option ShortName) → Taking
+string_name_or_text i appends unit None = string_name_behind (holding unit i) appends (name_read (holding unit i))
+string_name_or_text i appends unit (Some name) = string_unit (string_begun name i) name appends true unit
+
+-- a unit of a string's name, which is read as an argument is; one in quotes ends before all but a quote
+abbrev pub string_name_unit : PageInput → Bool → CopyUnit → Taking
+string_name_unit i appends (Byte b) =
+    if b == newline then string_line_ended i appends (name_at 0 (arguments_given i))
+    else if b == quote then string_name_or_text i appends (Byte b) (name_read i)
+    else string_name_or_text (settling i) appends (Byte b) (name_read (settling i))
+string_name_unit i appends (Kept b) = string_name_or_text (settling i) appends (Kept b) (name_read (settling i))
+
+-- what was found where the name is read
+abbrev pub string_name_found : Known → PageInput → Bool → Read → Taking
+string_name_found k i appends (Unit unit) = string_name_unit i appends unit
+string_name_found k i appends (Escape b) = string_name_unit i appends (Kept b)
+string_name_found k i appends found = no_unit_found k (settling i) (StringName appends) found
+
+-- what something reads there, with what is half read then
+abbrev pub string_name_read : Known → PageInput → Bool → Reads → Taking
+string_name_read k i appends r = string_name_found k (record i { half = r.1 }) appends r.0
+
+-- what was found of the text
+abbrev pub string_text_found : Known → PageInput → Option ShortName → Bool → Bool → Read → Taking
+string_text_found k i name appends is_front (Unit unit) = string_unit i name appends is_front unit
+string_text_found k i name appends is_front (Escape b) = string_unit i name appends is_front (Kept b)
+string_text_found k i name appends is_front found = no_unit_found k i (StringText name appends is_front) found
+
+-- what something reads of it, with what is half read then
+abbrev pub string_text_read : Known → PageInput → Option ShortName → Bool → Bool → Reads → Taking
+string_text_read k i name appends is_front r = string_text_found k (record i { half = r.1 }) name appends is_front r.0

@@ -1,0 +1,37 @@
+-- What one item of the input does: what is read behind it, and what it means (manual, section 1.1).
+use Rattle.std.specs.Prelude.{List, ◌∷◌, ◌++◌}
+use Rattle.roff_scan.specs.Input.{Input}
+use Rattle.roff_scan.specs.declared.half.Remark.{Remark}
+use Rattle.roff_run.specs.Messages.{remark_message}
+use Rattle.roff_run.specs.declared.reading.Reading.{Reading}
+use Rattle.roff_run.specs.Requests.{PageEvent, Effect, doing, saying}
+
+-- the input, as a run of the formatter has it
+abbrev pub PageInput : Type 0
+PageInput = Input PageEvent
+
+-- what one item does: the input and what is read behind it, and what it means
+pub record Taking : Type 0 where
+  pub input : PageInput
+  pub reading : Reading
+  pub effect : Effect
+
+-- this is read on, and nothing is meant yet
+abbrev pub going_on : PageInput → Reading → Taking
+going_on i reading = record { input = i; reading = reading; effect = doing [] }
+
+-- this is read on behind some events
+abbrev pub meaning_events : PageInput → Reading → List PageEvent → Taking
+meaning_events i reading events = record { input = i; reading = reading; effect = doing events }
+
+-- what is meant behind some events
+abbrev pub behind_events : List PageEvent → Taking → Taking
+behind_events events t = record t { effect = record t.effect { events = events ++ t.effect.events } }
+
+-- something that was read within a text that is measured, or a condition, and of which this is said
+abbrev pub telling : PageInput → Reading → Remark → Taking
+telling i reading remark = record {
+  input = i;
+  reading = reading;
+  effect = saying (remark_message remark ∷ []) [];
+}

@@ -1,0 +1,41 @@
+-- What an event or a step makes grow, and the first limit that a count is above.
+use Rattle.std.specs.Prelude.{ℕ, ◌+◌, ◌-◌, Bool, List, ◌∷◌, length, nat_lt, Option, Some, None, if◌then◌else◌}
+use Rattle.roff_lines.specs.Lines.{pending_length}
+use Rattle.roff_num.specs.LimitValues.{value_of}
+use Rattle.roff_num.specs.declared.limit.Limit.{Limit}
+use Rattle.roff_num.specs.declared.limit.Limit.TheVariants.{Names, Stack, Depth, Line, Conditions, Store, Diversions, Environments as EnvironmentsLimit}
+use Rattle.roff_num.specs.declared.limits.Limits.{Limits}
+use Rattle.roff_scan.specs.Input.{names_added, pushed, depth, results, stored}
+use Rattle.roff_run.specs.Environments.{environments}
+use Rattle.roff_run.specs.Output.{PageHistory, text_of}
+use Rattle.roff_run.specs.Reading.Taking.{PageInput}
+use Rattle.roff_run.specs.Registers.{AllRegisters}
+use Rattle.roff_run.specs.Requests.{PageEvent, Text, Space, Interrupt, Environment, Back}
+
+-- the limit on bytes stops one more
+abbrev pub passes_bytes : Limits → PageInput → Bool
+passes_bytes l i = nat_lt l.bytes (i.charge + 1)
+
+-- what an event makes grow, each count as it is behind the event, in the order in which they are looked at
+abbrev pub counts : PageHistory → PageEvent → List (Limit × ℕ)
+counts h (Text e) = (Line, pending_length (e ∷ text_of h)) ∷ []
+counts h (Space lines) = []
+counts h (Interrupt untold) = []
+counts h (Environment number) = (EnvironmentsLimit, length (environments h).left + 1) ∷ []
+counts h Back = []
+
+-- the first limit that a count is above
+abbrev pub first_passed : Limits → List (Limit × ℕ) → Option Limit
+first_passed l [] = None
+first_passed l (c ∷ cs) = if nat_lt (value_of l c.0) c.1 then Some c.0 else first_passed l cs
+
+-- the limit that an event would pass behind a history, if it would pass one
+abbrev pub refusal : Limits → PageHistory → PageEvent → Option Limit
+refusal l h e = first_passed l (counts h e)
+
+-- What a step may make grow, as it is behind the step, in the order in which it is looked at: what is of texts and their names
+-- comes before what stands in front. One text may be made beside the diversions: that of a string or a macro.
+abbrev pub counts_in : AllRegisters → PageInput → List (Limit × ℕ)
+counts_in rs i =
+    (Names, length rs.named) ∷ (Diversions, length i.open_texts - 1) ∷ (Store, stored i) ∷ (Names, names_added i)
+    ∷ (Stack, pushed i) ∷ (Depth, depth i) ∷ (Conditions, results i) ∷ []
