@@ -1,5 +1,5 @@
 -- The arguments of requests, and the end of a request's line (manual, sections 1.1 and 7.3).
-use Rattle.std.specs.Prelude.{Bool, List, ◌∷◌, if◌then◌else◌, ◌==◌}
+use Rattle.std.specs.Prelude.{Bool, List, [], ◌∷◌, if◌then◌else◌, ◌==◌}
 use Rattle.roff_scan.specs.Arguments.{no_arguments}
 use Rattle.roff_scan.specs.Bytes.{newline}
 use Rattle.roff_scan.specs.Halves.{Reads}

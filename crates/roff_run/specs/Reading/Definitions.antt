@@ -1,5 +1,5 @@
 -- The lines by which macros are defined, or that are ignored, and where their text begins (manual, section 7.1).
-use Rattle.std.specs.Prelude.{ℕ, Bool, false, List, ◌∷◌, Some, None, Option}
+use Rattle.std.specs.Prelude.{ℕ, Bool, false, List, [], ◌∷◌, Some, None, Option}
 use Rattle.roff_scan.specs.Arguments.{no_arguments}
 use Rattle.roff_scan.specs.Input.{adding, dropping}
 use Rattle.roff_run.specs.Reading.Strings.{string_begun}

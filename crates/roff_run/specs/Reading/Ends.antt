@@ -1,5 +1,5 @@
 -- What is due before anything more is taken, and the end of the input (manual, section 20).
-use Rattle.std.specs.Prelude.{Bool, true, false, List, ◌∷◌, Some, None, Option}
+use Rattle.std.specs.Prelude.{Bool, true, false, List, [], ◌∷◌, Some, None, Option}
 use Rattle.roff_lines.specs.declared.event.Event.TheVariants.{Resume}
 use Rattle.roff_scan.specs.Bytes.{newline}
 use Rattle.roff_scan.specs.Input.{arguments_given}

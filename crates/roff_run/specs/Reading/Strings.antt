@@ -1,5 +1,5 @@
 -- The strings that lines define: their names and their texts (manual, section 7).
-use Rattle.std.specs.Prelude.{Bool, true, false, ◌&&◌, reverse, Some, None, Option, if◌then◌else◌, ◌==◌}
+use Rattle.std.specs.Prelude.{Bool, true, false, ◌&&◌, reverse, Some, None, Option, if◌then◌else◌, ◌==◌, []}
 use Rattle.roff_scan.specs.Arguments.{no_arguments}
 use Rattle.roff_scan.specs.Bytes.{newline, blank, quote}
 use Rattle.roff_scan.specs.Half.{unit_bytes}

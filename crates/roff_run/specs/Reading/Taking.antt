@@ -1,5 +1,5 @@
 -- What one item of the input does: what is read behind it, and what it means (manual, section 1.1).
-use Rattle.std.specs.Prelude.{List, ◌∷◌, ◌++◌}
+use Rattle.std.specs.Prelude.{List, [], ◌∷◌, ◌++◌}
 use Rattle.roff_scan.specs.Input.{Input}
 use Rattle.roff_scan.specs.declared.half.Remark.{Remark}
 use Rattle.roff_run.specs.Messages.{remark_message}

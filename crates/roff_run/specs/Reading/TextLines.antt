@@ -1,5 +1,5 @@
 -- Text lines: glyphs, blanks, tabs and escapes (manual, sections 4.1, 4.2, 9.1, 10.1 and 11.1).
-use Rattle.std.specs.Prelude.{ℕ, ℤ, pos, ◌+◌, true, false, ◌||◌, List, ◌∷◌, ◌++◌, map, min, Some, None, Option, if◌then◌else◌, ◌==◌}
+use Rattle.std.specs.Prelude.{ℕ, ℤ, pos, ◌+◌, true, false, ◌||◌, List, [], ◌∷◌, ◌++◌, map, min, Some, None, Option, if◌then◌else◌, ◌==◌}
 use Rattle.roff_lines.specs.declared.event.Event.TheVariants.{Print, Tab, WordEnd, Gap, LineEnd, Count, Break}
 use Rattle.roff_lines.specs.declared.glyph.Glyph.{Glyph}
 use Rattle.roff_lines.specs.declared.glyph.Glyph.TheVariants.{Printed, Blanks}
