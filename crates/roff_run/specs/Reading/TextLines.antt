@@ -114,7 +114,8 @@ abbrev pub blank_taking : PageInput → TextLine → Taking
 blank_taking i line =
     if line.has_glyph then meaning_events i (InText line) (Text WordEnd ∷ Text (Gap 1) ∷ [])
     else
-      meaning_events i (InText (record line { leading = min (line.leading + 1) most_leading })) (leading_blank_events line.leading)
+      meaning_events i (InText (record line { leading = min (line.leading + 1) most_leading }))
+      (leading_blank_events line.leading)
 
 -- a byte of a text line
 abbrev pub text_taking : PageInput → TextLine → ℕ → Taking
