@@ -26,7 +26,7 @@ use Rattle.roff_run.specs.Reading.{interrupted, kept_taking, taking}
 use Rattle.roff_run.specs.Reading.DefinedLines.{definition_read}
 use Rattle.roff_run.specs.Reading.Definitions.{definition_grown}
 use Rattle.roff_run.specs.Reading.Ends.{due}
-use Rattle.roff_run.specs.Reading.Taking.{PageInput, going_on}
+use Rattle.roff_run.specs.Reading.Items.{PageInput, going_on}
 use Rattle.roff_run.specs.Registers.{Known}
 use Rattle.roff_run.specs.Stages.{Adds, Growing, Here, Ignores, Onward, ReadsPast, Stage, TextsGrow, Turned, TurnsFront, input_at, stage_of, with_stage_of}
 use Rattle.roff_run.specs.declared.reading.Reading.{Reading}

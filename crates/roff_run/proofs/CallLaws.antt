@@ -32,7 +32,7 @@ use Rattle.roff_run.specs.Reading.{kept_taking, taking}
 use Rattle.roff_run.specs.Reading.Calls.{call_read, holding_call}
 use Rattle.roff_run.specs.Reading.ControlLines.{behind_called, called_taking, ends_name, name_ended_taking, name_whole_taking}
 use Rattle.roff_run.specs.Reading.Ends.{due}
-use Rattle.roff_run.specs.Reading.Taking.{PageInput, Taking, going_on}
+use Rattle.roff_run.specs.Reading.Items.{PageInput, Taking, going_on}
 use Rattle.roff_run.specs.Reading.Units.{settling}
 use Rattle.roff_run.specs.Registers.{Known}
 use Rattle.roff_run.specs.Requests.{called_as, called_by}

@@ -23,7 +23,7 @@ use Rattle.roff_run.specs.Reading.{kept_taking}
 use Rattle.roff_run.specs.Reading.Beginnings.{at_start, beginning_read}
 use Rattle.roff_run.specs.Reading.ControlLines.{behind_called, ends_name, name_ended_taking, name_whole_taking}
 use Rattle.roff_run.specs.Reading.Ends.{due}
-use Rattle.roff_run.specs.Reading.Taking.{PageInput, going_on}
+use Rattle.roff_run.specs.Reading.Items.{PageInput, going_on}
 use Rattle.roff_run.specs.Requests.{called_by}
 use Rattle.roff_run.specs.Stages.{Here, Onward, ReadsPast, Stage, Turned, Turns, input_at, stage_of, with_stage_of}
 use Rattle.roff_run.specs.declared.reading.Reading.{Reading}

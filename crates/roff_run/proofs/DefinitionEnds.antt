@@ -14,7 +14,7 @@ use Rattle.roff_run.specs.Reading.Arguments.{arguments_ended, arguments_read_on,
 use Rattle.roff_run.specs.Reading.Branches.{branch_taking, reads_else}
 use Rattle.roff_run.specs.Reading.ControlLines.{called_taking, line_taking}
 use Rattle.roff_run.specs.Reading.DefinedLines.{behind_definition}
-use Rattle.roff_run.specs.Reading.Taking.{PageInput, Taking}
+use Rattle.roff_run.specs.Reading.Items.{PageInput, Taking}
 use Rattle.roff_run.specs.Registers.{AllRegisters, Change, Known, changed_by_all}
 use Rattle.roff_run.specs.Requests.{Back, Effect, called_by, meant_by, request_effect, row_of}
 use Rattle.roff_run.specs.Requests.Effects.{happens, no_such_environment}

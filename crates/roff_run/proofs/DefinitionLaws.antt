@@ -33,8 +33,8 @@ use Rattle.roff_run.specs.Output.{PageHistory}
 use Rattle.roff_run.specs.Reading.{kept_taking, taking}
 use Rattle.roff_run.specs.Reading.DefinedLines.{behind_definition, definition_line, definition_read, definition_unit}
 use Rattle.roff_run.specs.Reading.Definitions.{definition_grown}
+use Rattle.roff_run.specs.Reading.Items.{PageInput, Taking, going_on}
 use Rattle.roff_run.specs.Reading.Strings.{string_entered}
-use Rattle.roff_run.specs.Reading.Taking.{PageInput, Taking, going_on}
 use Rattle.roff_run.specs.Registers.{AllRegisters, Known}
 use Rattle.roff_run.specs.Run.{State, after, byte_taken, known, known_at, taken_as}
 use Rattle.roff_run.specs.ShortNames.{name_bytes}

@@ -6,7 +6,7 @@ use Rattle.roff_scan.specs.declared.half.Read.{Read}
 use Rattle.roff_run.specs.Reader.Above.{reads_above}
 use Rattle.roff_run.specs.Reader.Found.{found_in, has_place, place_in}
 use Rattle.roff_run.specs.Reading.{half_ended, kept_taking}
-use Rattle.roff_run.specs.Reading.Taking.{PageInput, going_on}
+use Rattle.roff_run.specs.Reading.Items.{PageInput, going_on}
 use Rattle.roff_run.specs.Registers.{Known}
 use Rattle.roff_run.specs.declared.reading.Reading.{Reading}
 use Rattle.roff_run.specs.declared.reading.Reading.TheVariants.{StringName, StringText, LineStart, Branch, Braced, Text as InText, Control, Name, Arguments as InArguments, Deciding, Skipping, Dropped, Telling, Told, Exiting, Calling, Defining}

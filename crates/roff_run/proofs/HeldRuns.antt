@@ -24,7 +24,7 @@ use Rattle.roff_run.specs.Reader.Taken.{PageUnread}
 use Rattle.roff_run.specs.Reading.{kept_taking}
 use Rattle.roff_run.specs.Reading.Arguments.{arguments_ended, arguments_read_on}
 use Rattle.roff_run.specs.Reading.Ends.{due}
-use Rattle.roff_run.specs.Reading.Taking.{PageInput, going_on}
+use Rattle.roff_run.specs.Reading.Items.{PageInput, going_on}
 use Rattle.roff_run.specs.Reading.Units.{holding, settling}
 use Rattle.roff_run.specs.Requests.{row_of}
 use Rattle.roff_run.specs.Stages.{Here, Holds, HoldsIfFewer, Onward, ReadsPast, Stage, Turned, input_at, stage_of, with_stage_of}

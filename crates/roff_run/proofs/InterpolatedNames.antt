@@ -30,7 +30,7 @@ use Rattle.roff_run.specs.Laws.{IsWithin}
 use Rattle.roff_run.specs.Reading.{taking, interrupted}
 use Rattle.roff_run.specs.Reading.Beginnings.{first_name}
 use Rattle.roff_run.specs.Reading.Escapes.{asking}
-use Rattle.roff_run.specs.Reading.Taking.{PageInput, Taking}
+use Rattle.roff_run.specs.Reading.Items.{PageInput, Taking}
 use Rattle.roff_run.specs.Reading.TextLines.{name_taking}
 use Rattle.roff_run.specs.Registers.{Known, text_of_register}
 use Rattle.roff_run.specs.Requests.{PageEvent}

@@ -37,9 +37,9 @@ use Rattle.roff_run.specs.Reading.Branches.{condition_read}
 use Rattle.roff_run.specs.Reading.Calls.{call_read}
 use Rattle.roff_run.specs.Reading.DefinedLines.{definition_read}
 use Rattle.roff_run.specs.Reading.Ends.{due}
+use Rattle.roff_run.specs.Reading.Items.{PageInput, Taking, going_on}
 use Rattle.roff_run.specs.Reading.Messages.{message_read}
 use Rattle.roff_run.specs.Reading.Strings.{string_name_read, string_text_read}
-use Rattle.roff_run.specs.Reading.Taking.{PageInput, Taking, going_on}
 use Rattle.roff_run.specs.Reading.TextLines.{on_line, text_read}
 use Rattle.roff_run.specs.Registers.{AllRegisters, Known}
 use Rattle.roff_run.specs.Requests.{PageEvent}

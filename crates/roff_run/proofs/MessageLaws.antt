@@ -18,8 +18,8 @@ use Rattle.roff_run.specs.InterpolationLaws.{StandsForItself}
 use Rattle.roff_run.specs.MessageLaws.{MessagesAreTheirTexts, TellsText, without_front}
 use Rattle.roff_run.specs.Quoting.{taking_all}
 use Rattle.roff_run.specs.Reading.{kept_taking, taking}
+use Rattle.roff_run.specs.Reading.Items.{PageInput, Taking, going_on}
 use Rattle.roff_run.specs.Reading.Messages.{message_read}
-use Rattle.roff_run.specs.Reading.Taking.{PageInput, Taking, going_on}
 use Rattle.roff_run.specs.Registers.{Known}
 use Rattle.roff_run.specs.declared.reading.Reading.{Reading}
 use Rattle.roff_run.specs.declared.reading.Reading.TheVariants.{Telling, Told}

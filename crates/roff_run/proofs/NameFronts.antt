@@ -15,7 +15,7 @@ use Rattle.roff_run.specs.Reader.Taken.{PageUnread}
 use Rattle.roff_run.specs.Reading.{interrupted, kept_taking}
 use Rattle.roff_run.specs.Reading.Beginnings.{at_start, beginning_read}
 use Rattle.roff_run.specs.Reading.Ends.{due}
-use Rattle.roff_run.specs.Reading.Taking.{PageInput, going_on}
+use Rattle.roff_run.specs.Reading.Items.{PageInput, going_on}
 use Rattle.roff_run.specs.Reading.TextLines.{on_line, text_read}
 use Rattle.roff_run.specs.Stages.{Here, Onward, ReadsHalves, ReadsPast, Stage, Turned, input_at, stage_of, with_stage_of}
 use Rattle.roff_run.specs.declared.reading.Reading.{Reading}

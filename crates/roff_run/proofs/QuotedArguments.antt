@@ -22,7 +22,7 @@ use Rattle.roff_run.specs.Quoting.{both, given_taking, taking_all, RequestsGetQu
 use Rattle.roff_run.specs.Reading.{taking, kept_taking}
 use Rattle.roff_run.specs.Reading.Arguments.{arguments_ended, arguments_read_on}
 use Rattle.roff_run.specs.Reading.Definitions.{definition_named, lines_begun}
-use Rattle.roff_run.specs.Reading.Taking.{PageInput, Taking, going_on}
+use Rattle.roff_run.specs.Reading.Items.{PageInput, Taking, going_on}
 use Rattle.roff_run.specs.Reading.Units.{holding, settling}
 use Rattle.roff_run.specs.ShortNames.{name_at, name_or_none}
 use Rattle.roff_run.specs.Registers.{Known}

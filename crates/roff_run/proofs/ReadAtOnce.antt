@@ -35,7 +35,7 @@ use Rattle.roff_run.specs.Reading.Beginnings.{at_start, beginning_read, first_na
 use Rattle.roff_run.specs.Reading.Branches.{branch_of}
 use Rattle.roff_run.specs.Reading.Calls.{call_read}
 use Rattle.roff_run.specs.Reading.Escapes.{asking}
-use Rattle.roff_run.specs.Reading.Taking.{PageInput, Taking, going_on, meaning_events}
+use Rattle.roff_run.specs.Reading.Items.{PageInput, Taking, going_on, meaning_events}
 use Rattle.roff_run.specs.Reading.TextLines.{name_taking}
 use Rattle.roff_run.specs.Reading.Units.{holding}
 use Rattle.roff_run.specs.Registers.{AllRegisters, Known}

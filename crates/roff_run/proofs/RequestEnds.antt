@@ -6,7 +6,7 @@ use Rattle.roff_scan.specs.Halves.{byte_read}
 use Rattle.roff_scan.specs.declared.half.Surroundings.TheVariants.{Arguments as AboveArguments}
 use Rattle.roff_run.specs.Reading.{taking}
 use Rattle.roff_run.specs.Reading.Arguments.{arguments_ended, arguments_read_on}
-use Rattle.roff_run.specs.Reading.Taking.{PageInput}
+use Rattle.roff_run.specs.Reading.Items.{PageInput}
 use Rattle.roff_run.specs.Registers.{Known}
 use Rattle.roff_run.specs.Requests.{row_of}
 use Rattle.roff_run.specs.declared.reading.Reading.TheVariants.{Arguments as InArguments}

@@ -11,7 +11,7 @@ use Rattle.roff_scan.specs.Halves.{byte_read}
 use Rattle.roff_scan.specs.declared.half.CopyUnit.TheVariants.{Byte}
 use Rattle.roff_scan.specs.declared.half.Read.TheVariants.{GoesOn, Unit as GivesUnit}
 use Rattle.roff_run.specs.Reading.{interrupted, kept_taking}
-use Rattle.roff_run.specs.Reading.Taking.{PageInput, Taking, going_on, meaning_events}
+use Rattle.roff_run.specs.Reading.Items.{PageInput, Taking, going_on, meaning_events}
 use Rattle.roff_run.specs.Reading.TextLines.{blank_taking, glyph_taking, on_line, other_taking, tab_taking, text_line_end, text_read, text_taking}
 use Rattle.roff_run.specs.Requests.{Text}
 use Rattle.roff_run.specs.Telling.{Prints, byte_events}

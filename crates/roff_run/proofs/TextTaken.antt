@@ -8,7 +8,7 @@ use Rattle.roff_scan.specs.declared.half.CopyUnit.TheVariants.{Byte}
 use Rattle.roff_scan.specs.declared.half.Read.TheVariants.{GoesOn, Unit as GivesUnit}
 use Rattle.roff_run.specs.Reading.{interrupted, kept_taking, taking}
 use Rattle.roff_run.specs.Reading.Beginnings.{at_start, beginning_read, beginning_text, going_on_told, line_begun, line_begun_as}
-use Rattle.roff_run.specs.Reading.Taking.{PageInput, behind_events, going_on}
+use Rattle.roff_run.specs.Reading.Items.{PageInput, behind_events, going_on}
 use Rattle.roff_run.specs.Reading.TextLines.{fresh_line, on_line, text_read, text_taking}
 use Rattle.roff_run.specs.Registers.{Known}
 use Rattle.roff_run.specs.declared.reading.Reading.TheVariants.{Control, LineStart, Text as InText}

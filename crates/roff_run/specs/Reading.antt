@@ -11,13 +11,13 @@ use Rattle.roff_run.specs.Reading.Branches.{skipping_taking, condition_read}
 use Rattle.roff_run.specs.Reading.Calls.{call_read}
 use Rattle.roff_run.specs.Reading.ControlLines.{dropped_taking, ends_name, name_ended_taking, name_whole_taking}
 use Rattle.roff_run.specs.Reading.DefinedLines.{definition_read}
+use Rattle.roff_run.specs.Reading.Items.{PageInput, Taking, going_on}
 use Rattle.roff_run.specs.Reading.Messages.{message_read}
 use Rattle.roff_run.specs.Reading.Strings.{string_name_read, string_text_read}
-use Rattle.roff_run.specs.Reading.Taking.{PageInput, Taking, going_on}
 use Rattle.roff_run.specs.Reading.TextLines.{on_line, text_read}
 use Rattle.roff_run.specs.Reading.Units.{settling}
 use Rattle.roff_run.specs.Registers.{Known}
-pub mod Taking
+pub mod Items
 pub mod TextLines
 pub mod Beginnings
 pub mod Escapes

@@ -15,7 +15,7 @@ use Rattle.roff_run.specs.declared.request.Request.{Request}
 use Rattle.roff_run.specs.declared.request.LineReading.{LineReading}
 use Rattle.roff_run.specs.declared.request.LineReading.TheVariants.{ByLastLine, ByLines}
 use Rattle.roff_run.specs.Reading.Definitions.{lines_begun}
-use Rattle.roff_run.specs.Reading.Taking.{PageInput, Taking, going_on}
+use Rattle.roff_run.specs.Reading.Items.{PageInput, Taking, going_on}
 use Rattle.roff_run.specs.Reading.Units.{holding, settling, no_unit_found}
 use Rattle.roff_run.specs.Registers.{Known}
 use Rattle.roff_run.specs.Requests.{Effect, row_of, request_effect}

@@ -14,7 +14,7 @@ use Rattle.roff_run.specs.declared.reading.Reading.{Reading}
 use Rattle.roff_run.specs.declared.reading.Reading.TheVariants.{LineStart, Branch, Braced, Control}
 use Rattle.roff_run.specs.declared.reading.TextLine.{TextLine}
 use Rattle.roff_run.specs.Reading.Escapes.{measuring, asking}
-use Rattle.roff_run.specs.Reading.Taking.{PageInput, Taking, going_on, behind_events, telling}
+use Rattle.roff_run.specs.Reading.Items.{PageInput, Taking, going_on, behind_events, telling}
 use Rattle.roff_run.specs.Reading.TextLines.{fresh_line, on_line, other_taking, motion_taking, text_taking, left_out_taking, escape_taking, character_taking}
 use Rattle.roff_run.specs.Registers.{Known}
 use Rattle.roff_run.specs.Requests.{PageEvent, Text}

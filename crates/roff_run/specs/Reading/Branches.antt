@@ -11,7 +11,7 @@ use Rattle.roff_scan.specs.declared.half.Surroundings.TheVariants.{Arguments as 
 use Rattle.roff_run.specs.declared.reading.Reading.{Reading}
 use Rattle.roff_run.specs.declared.reading.Reading.TheVariants.{LineStart, Branch, Deciding, Skipping}
 use Rattle.roff_run.specs.Reading.Beginnings.{at_start, beginning_read}
-use Rattle.roff_run.specs.Reading.Taking.{PageInput, Taking, going_on}
+use Rattle.roff_run.specs.Reading.Items.{PageInput, Taking, going_on}
 use Rattle.roff_run.specs.Reading.Units.{no_unit_found}
 use Rattle.roff_run.specs.Registers.{Known, is_page_odd}
 

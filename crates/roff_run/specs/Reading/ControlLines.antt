@@ -14,9 +14,9 @@ use Rattle.roff_run.specs.declared.request.Called.TheVariants.{Request as AReque
 use Rattle.roff_run.specs.Reading.Arguments.{arguments_read_on}
 use Rattle.roff_run.specs.Reading.Branches.{branch_of, branch_taking, condition_begun, reads_else}
 use Rattle.roff_run.specs.Reading.Calls.{call_read}
+use Rattle.roff_run.specs.Reading.Items.{PageInput, Taking, going_on}
 use Rattle.roff_run.specs.Reading.Messages.{message_read}
 use Rattle.roff_run.specs.Reading.Strings.{string_name_read}
-use Rattle.roff_run.specs.Reading.Taking.{PageInput, Taking, going_on}
 use Rattle.roff_run.specs.Registers.{Known}
 use Rattle.roff_run.specs.Requests.{called_by, row_of}
 

@@ -14,8 +14,8 @@ use Rattle.roff_run.specs.declared.reading.Reading.TheVariants.{Defining}
 use Rattle.roff_run.specs.declared.reading.ShortName.{ShortName}
 use Rattle.roff_run.specs.Reading.ControlLines.{dropped_taking, name_ended_taking}
 use Rattle.roff_run.specs.Reading.Definitions.{definition_grown}
+use Rattle.roff_run.specs.Reading.Items.{PageInput, Taking, going_on}
 use Rattle.roff_run.specs.Reading.Strings.{string_entered}
-use Rattle.roff_run.specs.Reading.Taking.{PageInput, Taking, going_on}
 use Rattle.roff_run.specs.Reading.Units.{no_unit_found}
 use Rattle.roff_run.specs.Registers.{Known}
 

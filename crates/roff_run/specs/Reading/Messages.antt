@@ -8,7 +8,7 @@ use Rattle.roff_scan.specs.declared.half.CopyUnit.TheVariants.{Byte, Kept}
 use Rattle.roff_scan.specs.declared.half.Read.{Read}
 use Rattle.roff_scan.specs.declared.half.Read.TheVariants.{Unit, Escape}
 use Rattle.roff_run.specs.declared.reading.Reading.TheVariants.{Telling, Told}
-use Rattle.roff_run.specs.Reading.Taking.{PageInput, Taking, going_on}
+use Rattle.roff_run.specs.Reading.Items.{PageInput, Taking, going_on}
 use Rattle.roff_run.specs.Reading.Units.{no_unit_found}
 use Rattle.roff_run.specs.Registers.{Known}
 

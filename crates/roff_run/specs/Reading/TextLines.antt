@@ -26,7 +26,7 @@ use Rattle.roff_run.specs.declared.reading.Reading.{Reading}
 use Rattle.roff_run.specs.declared.reading.Reading.TheVariants.{LineStart, Text as InText, Dropped}
 use Rattle.roff_run.specs.declared.reading.TextLine.{TextLine}
 use Rattle.roff_run.specs.Reading.Escapes.{measuring, asking}
-use Rattle.roff_run.specs.Reading.Taking.{PageInput, Taking, going_on, meaning_events, telling}
+use Rattle.roff_run.specs.Reading.Items.{PageInput, Taking, going_on, meaning_events, telling}
 use Rattle.roff_run.specs.Registers.{Known, in_units, greatest_number}
 use Rattle.roff_run.specs.Requests.{PageEvent, Text, Space, Interrupt, saying}
 

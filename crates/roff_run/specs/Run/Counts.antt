@@ -8,7 +8,7 @@ use Rattle.roff_num.specs.declared.limits.Limits.{Limits}
 use Rattle.roff_scan.specs.Input.{names_added, pushed, depth, results, stored}
 use Rattle.roff_run.specs.Environments.{environments}
 use Rattle.roff_run.specs.Output.{PageHistory, text_of}
-use Rattle.roff_run.specs.Reading.Taking.{PageInput}
+use Rattle.roff_run.specs.Reading.Items.{PageInput}
 use Rattle.roff_run.specs.Registers.{AllRegisters}
 use Rattle.roff_run.specs.Requests.{PageEvent, Text, Space, Interrupt, Environment, Back}
 
