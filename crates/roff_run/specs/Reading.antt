@@ -9,7 +9,9 @@ use Rattle.roff_scan.specs.Characters.{character}
 use Rattle.roff_scan.specs.Escapes.{escape_of}
 use Rattle.roff_scan.specs.Half.{unit_bytes}
 use Rattle.roff_scan.specs.Halves.{Reads, byte_read, reading_ended}
-use Rattle.roff_scan.specs.Input.{Input, pushing, holding_plain, holding_text, choosing, keeping, kept_last, without_last, texts_of, calling, body_named, adding, entering, calling_body, arguments_live, arguments_given, beginning_line, dropping}
+use Rattle.roff_scan.specs.Input.{Input, pushing, holding_plain, holding_text, choosing, beginning_line}
+use Rattle.roff_scan.specs.Input.Calls.{keeping, kept_last, without_last, calling_body, arguments_live, arguments_given}
+use Rattle.roff_scan.specs.Input.Names.{texts_of, calling, body_named, adding, entering, dropping}
 use Rattle.roff_scan.specs.declared.escapes.Escape.{Escape as Kind}
 use Rattle.roff_scan.specs.declared.escapes.Escape.TheVariants.{Prints, Blank, NoWidth, Tab as GivesTab, Interrupts, Brace, LeftOut as IsLeftOut, Text as BeginsText}
 use Rattle.roff_scan.specs.declared.escapes.NameUse.{NameUse}

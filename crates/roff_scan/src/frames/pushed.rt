@@ -3,9 +3,10 @@
 ghost use Rattle.std.specs.Prelude.{true, ◌≡◌, ◌+◌, ◌<◌, ◌≤◌, ◌∷◌, ◌++◌, map, length, None, ℕ};
 ghost use Rattle.std.specs.Prelude.{List};
 ghost use Rattle.std.specs.List.{last_or};
-ghost use Rattle.roff_scan.specs.Input.{called_text, lacks_newline, ByteAhead, FreeAhead, EndAhead};
-ghost use Rattle.roff_scan.specs.Input.{ReturnAhead, DoAhead, bytes_ahead, ends_ahead};
-ghost use Rattle.roff_scan.specs.Input.{events_ahead, frees_ahead, most_events, most_frees};
+ghost use Rattle.roff_scan.specs.Input.{ByteAhead, FreeAhead, EndAhead, ReturnAhead, DoAhead};
+ghost use Rattle.roff_scan.specs.Input.{bytes_ahead, ends_ahead, events_ahead, frees_ahead};
+ghost use Rattle.roff_scan.specs.Input.{most_events, most_frees};
+ghost use Rattle.roff_scan.specs.Input.Calls.{called_text, lacks_newline};
 ghost use Rattle.roff_scan.specs.Frames.Bodies.{with_bodies};
 ghost use Rattle.roff_scan.specs.Frames.Calls.{PutsBytes};
 ghost use Rattle.roff_scan.specs.Frames.Kept.{is_end_next, IsSound};

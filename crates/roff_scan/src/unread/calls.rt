@@ -2,8 +2,9 @@
 
 ghost use Rattle.roff_scan.specs.ArgumentList.{listed};
 ghost use Rattle.std.specs.Prelude.{vec_capacity, reverse, ◌≡◌, ◌<◌, ◌^◌, [], drop, get_or, length};
-ghost use Rattle.roff_scan.specs.Input.{pushing, body_named, kept_below, arguments_live};
-ghost use Rattle.roff_scan.specs.Input.{argument_live, calling_body};
+ghost use Rattle.roff_scan.specs.Input.{pushing, kept_below};
+ghost use Rattle.roff_scan.specs.Input.Calls.{arguments_live, argument_live, calling_body};
+ghost use Rattle.roff_scan.specs.Input.Names.{body_named};
 
 use super::Unread;
 use super::results::drop_kept;

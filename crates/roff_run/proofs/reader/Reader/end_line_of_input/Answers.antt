@@ -1,6 +1,6 @@
 use Rattle.std.proofs.Common.{◌≡◌, Ok, Err, refl, ap, rules, ◌∙◌}
 use Rattle.roff_scan.specs.Bytes.{newline}
-use Rattle.roff_scan.specs.Input.{arguments_given}
+use Rattle.roff_scan.specs.Input.Calls.{arguments_given}
 use Rattle.roff_run.specs.Reader.State.{ReaderState}
 use Rattle.roff_run.specs.Reading.{end_taking, going_on, kept_taking, name_at, string_entered, string_line_ended}
 use Rattle.roff_run.specs.declared.reading.Reading.TheVariants.{Braced, Control, Defining, Dropped, Exiting, LineStart, Skipping, StringName, StringText}
