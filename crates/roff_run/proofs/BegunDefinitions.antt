@@ -7,7 +7,8 @@ use Rattle.roff_run.specs.declared.environments.Environments.{Environments as En
 use Rattle.roff_num.specs.declared.limit.Limit.{Limit}
 use Rattle.roff_scan.proofs.KeptArguments.{held-finished, held-only_kept}
 use Rattle.roff_scan.specs.Arguments.{finished}
-use Rattle.roff_scan.specs.Input.{adding, with_arguments}
+use Rattle.roff_scan.specs.Input.{with_arguments}
+use Rattle.roff_scan.specs.Input.Names.{adding}
 use Rattle.roff_scan.specs.Unread.{changing}
 use Rattle.roff_run.specs.Definitions.{end_mark, front_of}
 use Rattle.roff_run.specs.Reader.State.{ReaderState}

@@ -13,7 +13,9 @@ use Rattle.roff_scan.specs.Arguments.{Arguments, finished, held, kept_behind, no
 use Rattle.roff_scan.specs.Bytes.{backslash, blank, is_dropped, newline, quote}
 use Rattle.roff_scan.specs.Half.{Half, Backslash}
 use Rattle.roff_scan.specs.Halves.{byte_read}
-use Rattle.roff_scan.specs.Input.{ByteAhead, ReturnAhead, body_named, bytes_ahead, called_text, calling_body, ends_ahead, lines_taken}
+use Rattle.roff_scan.specs.Input.{ByteAhead, ReturnAhead, bytes_ahead, ends_ahead, lines_taken}
+use Rattle.roff_scan.specs.Input.Calls.{called_text, calling_body}
+use Rattle.roff_scan.specs.Input.Names.{body_named}
 use Rattle.roff_scan.specs.Quoting.{quoted_byte, quoted_line}
 use Rattle.roff_scan.specs.declared.arguments.Place.{Place}
 use Rattle.roff_scan.specs.declared.arguments.Place.TheVariants.{BehindQuote, Between, InQuotes}

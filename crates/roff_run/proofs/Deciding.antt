@@ -10,7 +10,9 @@ use Rattle.roff_scan.specs.Bytes.{tab, newline, blank, apostrophe, dot, backslas
 use Rattle.roff_scan.specs.Characters.{character}
 use Rattle.roff_scan.specs.Escapes.{escape_of}
 use Rattle.roff_scan.specs.Halves.{byte_read}
-use Rattle.roff_scan.specs.Input.{names_added, keeping, pushed, depth, results, stored}
+use Rattle.roff_scan.specs.Input.{pushed, depth, results}
+use Rattle.roff_scan.specs.Input.Calls.{keeping}
+use Rattle.roff_scan.specs.Input.Names.{names_added, stored}
 use Rattle.roff_scan.specs.Unread.{changing, input_refusal}
 use Rattle.roff_scan.specs.declared.escapes.Escape.{Escape as Kind}
 use Rattle.roff_scan.specs.declared.escapes.Escape.TheVariants.{Prints, Blank, NoWidth, Tab as GivesTab, Interrupts, Brace, Nothing, Comment as BeginsComment, Size as BeginsSize, Name as BeginsName, Text as BeginsText, Width as BeginsWidth, LeftOut as IsLeftOut}

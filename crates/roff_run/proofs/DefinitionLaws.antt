@@ -14,7 +14,8 @@ use Rattle.roff_scan.proofs.Copying.{taken-copied}
 use Rattle.roff_scan.specs.Half.{Half, Backslash, unit_bytes}
 use Rattle.roff_scan.specs.HalfLaws.{begins_reading, copied, copied_escape, is_only_copied}
 use Rattle.roff_scan.specs.Halves.{byte_read, unit_taken}
-use Rattle.roff_scan.specs.Input.{body_named, calling_on, lines_taken, stored}
+use Rattle.roff_scan.specs.Input.{lines_taken}
+use Rattle.roff_scan.specs.Input.Names.{body_named, calling_on, stored}
 use Rattle.roff_scan.specs.declared.half.CopyUnit.{CopyUnit}
 use Rattle.roff_scan.specs.declared.half.CopyUnit.TheVariants.{Byte, Kept}
 use Rattle.roff_scan.specs.declared.half.Read.TheVariants.{GoesOn, Unit as GivesUnit}

@@ -6,7 +6,8 @@ use Rattle.roff_num.specs.declared.limit.Limit.{Limit}
 use Rattle.roff_num.specs.declared.limit.Limit.TheVariants.{Conditions, Depth, Diversions, Names, Stack, Store}
 use Rattle.roff_num.specs.declared.limits.Limits.{Limits}
 use Rattle.roff_scan.specs.Half.{unit_bytes}
-use Rattle.roff_scan.specs.Input.{beginning_line, calling_on, depth, pushed, results}
+use Rattle.roff_scan.specs.Input.{beginning_line, depth, pushed, results}
+use Rattle.roff_scan.specs.Input.Names.{calling_on}
 use Rattle.roff_scan.specs.Unread.{input_refusal}
 use Rattle.roff_scan.specs.declared.half.CopyUnit.{CopyUnit}
 use Rattle.roff_scan.specs.declared.half.Read.{Read}

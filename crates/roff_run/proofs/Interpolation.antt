@@ -12,7 +12,8 @@ use Rattle.roff_scan.specs.Arguments.{Arguments, settled, only_kept, held}
 use Rattle.roff_scan.specs.Bytes.{newline, backslash, is_dropped}
 use Rattle.roff_scan.specs.Conditions.{ends_condition, is_decided}
 use Rattle.roff_scan.specs.Halves.{Reads, byte_read, decides_now, newline_stays, seen_stays}
-use Rattle.roff_scan.specs.Input.{names_added, Ahead, ByteAhead, EndAhead, cost, counting, item_taken, pushed, depth, results, stored}
+use Rattle.roff_scan.specs.Input.{Ahead, ByteAhead, EndAhead, cost, counting, item_taken, pushed, depth, results}
+use Rattle.roff_scan.specs.Input.Names.{names_added, stored}
 use Rattle.roff_scan.specs.Tape.{Tape, Answer, Gives, OneByte, front, items_then}
 use Rattle.roff_scan.specs.Unread.{seen_ahead}
 use Rattle.roff_scan.specs.Half.{Half, Backslash, Comment, Name, Size, Delimited, Width, Condition, texts_held}

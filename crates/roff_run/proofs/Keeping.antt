@@ -5,7 +5,8 @@ use Rattle.std.proofs.Common.{◌≡◌, ℕ, ◌+◌, ◌*◌, ◌-◌, ◌≤�
 use Rattle.std.specs.Prelude.{◌||◌, ◌==◌}
 use Rattle.roff_scan.specs.Bytes.{tab, newline, blank, is_dropped}
 use Rattle.roff_scan.specs.Halves.{byte_read, reading_ended}
-use Rattle.roff_scan.specs.Input.{arguments_given, beginning_line, choosing, kept_last, without_last}
+use Rattle.roff_scan.specs.Input.{beginning_line, choosing}
+use Rattle.roff_scan.specs.Input.Calls.{arguments_given, kept_last, without_last}
 use Rattle.roff_scan.specs.declared.half.CopyUnit.{CopyUnit}
 use Rattle.roff_scan.specs.declared.half.CopyUnit.TheVariants.{Kept}
 use Rattle.roff_scan.specs.Half.{Half, unit_bytes}

@@ -6,7 +6,8 @@
 use Rattle.std.proofs.Common.{◌≡◌, ℕ, ◌≤◌, Bool, true, false, List, [], ◌∷◌, Option, Some, None, refl, ap, ◌∙◌, arith}
 use Rattle.std.specs.Prelude.{◌&&◌, length, nat_le, if◌then◌else◌, ◌==◌}
 use Rattle.roff_scan.specs.Bytes.{newline, blank, quote}
-use Rattle.roff_scan.specs.Input.{arguments_given, body_named, called_text, calling, calling_body, calling_on}
+use Rattle.roff_scan.specs.Input.Calls.{arguments_given, called_text, calling_body}
+use Rattle.roff_scan.specs.Input.Names.{body_named, calling, calling_on}
 use Rattle.roff_scan.specs.declared.half.CopyUnit.{CopyUnit}
 use Rattle.roff_scan.specs.declared.half.CopyUnit.TheVariants.{Byte, Kept}
 use Rattle.roff_scan.specs.Half.{unit_bytes}

@@ -8,7 +8,9 @@ use Rattle.roff_lines.specs.declared.glyph.Glyph.TheVariants.{Printed}
 use Rattle.roff_scan.specs.Bytes.{tab, newline, blank, apostrophe, dot, backslash, is_silent}
 use Rattle.roff_scan.specs.Characters.{character}
 use Rattle.roff_scan.specs.Escapes.{escape_of}
-use Rattle.roff_scan.specs.Input.{Ahead, ByteAhead, EndAhead, ReturnAhead, arguments_live, body_named, holding_text}
+use Rattle.roff_scan.specs.Input.{Ahead, ByteAhead, EndAhead, ReturnAhead, holding_text}
+use Rattle.roff_scan.specs.Input.Calls.{arguments_live}
+use Rattle.roff_scan.specs.Input.Names.{body_named}
 use Rattle.roff_scan.specs.declared.escapes.Escape.{Escape as Kind}
 use Rattle.roff_scan.specs.declared.escapes.Escape.TheVariants.{Prints, Blank, NoWidth, Nothing as GivesNothing, Brace, LeftOut as IsLeftOut, Comment as BeginsComment, Size as BeginsSize, Name as BeginsName, Text as BeginsText, Width as BeginsWidth, Tab as GivesTab, Interrupts}
 use Rattle.roff_scan.specs.declared.escapes.NameUse.{NameUse}

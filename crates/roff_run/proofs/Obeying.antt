@@ -9,7 +9,8 @@ use Rattle.roff_run.specs.declared.environments.Environments.{Environments as En
 use Rattle.roff_num.specs.declared.limit.Limit.{Limit}
 use Rattle.roff_num.specs.declared.limit.Limit.TheVariants.{Names}
 use Rattle.roff_scan.specs.Arguments.{finished, no_arguments, only_kept}
-use Rattle.roff_scan.specs.Input.{arguments_given, with_arguments, without_arguments}
+use Rattle.roff_scan.specs.Input.{with_arguments, without_arguments}
+use Rattle.roff_scan.specs.Input.Calls.{arguments_given}
 use Rattle.roff_scan.specs.Unread.{input_refusal}
 use Rattle.roff_store.proofs.Calls.{length-without_entry_le}
 use Rattle.roff_store.specs.Named.{without_entry}

@@ -7,7 +7,7 @@ use Rattle.std.proofs.lemmas.List.Elements.{All-nil, All-cons, All-head, All-tai
 use Rattle.roff_scan.proofs.KeptArguments.{only_kept-finished, only_kept-with_unit}
 use Rattle.roff_scan.proofs.QuotedArguments.{quoted_arguments_read_back}
 use Rattle.roff_scan.specs.Arguments.{Arguments, no_arguments, with_argument_byte, finished, arguments_read, kept, only_kept}
-use Rattle.roff_scan.specs.Input.{arguments_given}
+use Rattle.roff_scan.specs.Input.Calls.{arguments_given}
 use Rattle.roff_scan.specs.Bytes.{newline, blank, quote, backslash, is_dropped}
 use Rattle.roff_scan.specs.Quoting.{quoted_byte, quoted, quoted_line}
 use Rattle.roff_scan.specs.Halves.{byte_read}

@@ -10,7 +10,9 @@ use Rattle.roff_scan.specs.Bytes.{backslash, is_dropped, newline}
 use Rattle.roff_scan.specs.Half.{Half, Backslash}
 use Rattle.roff_scan.specs.Escapes.{is_copied}
 use Rattle.roff_scan.specs.Halves.{byte_read, reading_ended}
-use Rattle.roff_scan.specs.Input.{body_named, calling_body, holding_text, with_half}
+use Rattle.roff_scan.specs.Input.{holding_text, with_half}
+use Rattle.roff_scan.specs.Input.Calls.{calling_body}
+use Rattle.roff_scan.specs.Input.Names.{body_named}
 use Rattle.roff_scan.specs.Unread.{EndsDecided, changing, input_refusal, reading, unless_passed}
 use Rattle.roff_scan.specs.declared.escapes.NameUse.{NameUse}
 use Rattle.roff_scan.specs.declared.escapes.NameUse.TheVariants.{Argument, Character, Font, LeftOut as NameLeftOut, Register, Text as OfText}

@@ -10,7 +10,8 @@ use Rattle.roff_num.specs.declared.limit.Limit.TheVariants.{Stack, Depth, Divers
 use Rattle.roff_num.specs.declared.limits.Limits.{Limits}
 use Rattle.roff_scan.specs.Arguments.{Arguments, held, no_arguments, settled_at, with_byte_at, with_unit, with_whole}
 use Rattle.roff_scan.specs.Half.{texts_held, unit_bytes}
-use Rattle.roff_scan.specs.Input.{adding, bytes_ahead, calling, calling_on, depth, live_bytes, names_added, pushed, results, stored}
+use Rattle.roff_scan.specs.Input.{bytes_ahead, depth, live_bytes, pushed, results}
+use Rattle.roff_scan.specs.Input.Names.{adding, calling, calling_on, names_added, stored}
 use Rattle.roff_scan.specs.Unread.{input_refusal}
 use Rattle.roff_scan.specs.declared.arguments.Place.{Place}
 use Rattle.roff_scan.specs.declared.arguments.Place.TheVariants.{Between, InPlain, InQuotes, BehindQuote}

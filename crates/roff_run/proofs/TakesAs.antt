@@ -14,7 +14,8 @@ use Rattle.roff_num.specs.Ranges.{is_in_range}
 use Rattle.roff_scan.specs.Bytes.{blank, is_dropped, newline}
 use Rattle.roff_scan.specs.Half.{Half, texts_held}
 use Rattle.roff_scan.specs.Halves.{Reads, byte_read, reading_ended}
-use Rattle.roff_scan.specs.Input.{choosing, pushing, with_half, without_last}
+use Rattle.roff_scan.specs.Input.{choosing, pushing, with_half}
+use Rattle.roff_scan.specs.Input.Calls.{without_last}
 use Rattle.roff_scan.specs.Unread.{changing, input_refusal, reading, unless_passed}
 use Rattle.roff_scan.specs.declared.half.CopyUnit.{CopyUnit}
 use Rattle.roff_scan.specs.declared.half.Read.{Read}

@@ -3,7 +3,8 @@ use Rattle.std.specs.Prelude.{◌≡◌, ℕ, ◌+◌, ◌≤◌, false, not, �
 use Rattle.roff_num.specs.declared.limits.Limits.{Limits}
 use Rattle.roff_scan.specs.Arguments.{no_arguments}
 use Rattle.roff_scan.specs.Bytes.{apostrophe, blank, dot, is_dropped, newline}
-use Rattle.roff_scan.specs.Input.{Ahead, ByteAhead, ReturnAhead, called_text, lines_taken}
+use Rattle.roff_scan.specs.Input.{Ahead, ByteAhead, ReturnAhead, lines_taken}
+use Rattle.roff_scan.specs.Input.Calls.{called_text}
 use Rattle.roff_scan.specs.Quoting.{quoted_line}
 use Rattle.roff_scan.specs.Tape.{Tape, OneByte, items_then}
 use Rattle.roff_store.specs.Named.{Named, entry_of}

@@ -21,7 +21,8 @@ pub use Rattle.roff_run.specs.Reading.Strings.{name_read, string_begun, string_e
 pub use Rattle.roff_run.specs.Reading.TextLines.{name_taking, text_found, on_line}
 pub use Rattle.roff_run.specs.Reading.Units.{holding, no_unit_found}
 pub use Rattle.roff_run.specs.ShortNames.{name_at}
-pub use Rattle.roff_scan.specs.Input.{holding_plain, holding_text, arguments_given}
+pub use Rattle.roff_scan.specs.Input.{holding_plain, holding_text}
+pub use Rattle.roff_scan.specs.Input.Calls.{arguments_given}
 pub use Rattle.roff_run.specs.Definitions.{ends_mark}
 pub use Rattle.roff_scan.specs.Half.{unit_bytes}
 pub use Rattle.roff_run.specs.Registers.{AllRegisters, Remove, changed_by, value_in_force}

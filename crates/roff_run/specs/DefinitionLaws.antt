@@ -4,7 +4,8 @@ use Rattle.std.specs.List.{flat_map}
 use Rattle.roff_num.specs.declared.limits.Limits.{Limits}
 use Rattle.roff_scan.specs.Bytes.{is_dropped, newline}
 use Rattle.roff_scan.specs.HalfLaws.{copied, is_only_copied}
-use Rattle.roff_scan.specs.Input.{Ahead, ByteAhead, body_named, lines_taken, stored}
+use Rattle.roff_scan.specs.Input.{Ahead, ByteAhead, lines_taken}
+use Rattle.roff_scan.specs.Input.Names.{body_named, stored}
 use Rattle.roff_scan.specs.Tape.{Tape, OneByte, items_then}
 use Rattle.roff_store.specs.Named.{with_entry}
 use Rattle.roff_store.specs.Texts.{Body}

@@ -6,7 +6,9 @@ use Rattle.roff_scan.specs.Bytes.{newline, backslash, is_dropped}
 use Rattle.roff_scan.specs.HalfLaws.{is_special, short_escape, long_escape, string_escape, argument_escape}
 use Rattle.roff_scan.specs.Half.{Half, Backslash, Comment, Name as NameHalf, Size, Delimited, Width, Condition, names_in}
 use Rattle.roff_scan.specs.Halves.{most_names, seen_stays}
-use Rattle.roff_scan.specs.Input.{Ahead, ByteAhead, pushing, item_taken, cost, counting, arguments_live, body_named}
+use Rattle.roff_scan.specs.Input.{Ahead, ByteAhead, pushing, item_taken, cost, counting}
+use Rattle.roff_scan.specs.Input.Calls.{arguments_live}
+use Rattle.roff_scan.specs.Input.Names.{body_named}
 use Rattle.roff_scan.specs.declared.escapes.NameUse.{NameUse}
 use Rattle.roff_scan.specs.declared.escapes.NameUse.TheVariants.{Register, Text as OfText, Argument}
 use Rattle.roff_scan.specs.declared.half.ConditionPart.{ConditionPart}

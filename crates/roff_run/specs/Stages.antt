@@ -5,7 +5,7 @@ use Rattle.roff_scan.specs.Bytes.{is_dropped, newline}
 use Rattle.roff_scan.specs.ConditionFronts.{TakesOn}
 use Rattle.roff_scan.specs.Half.{Half, texts_held}
 use Rattle.roff_scan.specs.Halves.{byte_read, seen_stays}
-use Rattle.roff_scan.specs.Input.{adding}
+use Rattle.roff_scan.specs.Input.Names.{adding}
 use Rattle.roff_scan.specs.Tape.{Tape}
 use Rattle.roff_scan.specs.Unread.{IsWithin}
 use Rattle.roff_scan.specs.Unread.Calls.{NoNewline, PassesFront}

@@ -8,7 +8,8 @@ use Rattle.std.proofs.lemmas.List.{append-nil, get_or-set_same, length-append, l
 use Rattle.std.proofs.lemmas.List.Sums.{sum_by-set}
 use Rattle.roff_num.specs.declared.limit.Limit.{Limit}
 use Rattle.roff_scan.specs.Bytes.{is_text_byte, newline}
-use Rattle.roff_scan.specs.Input.{Input, adding, calling_on, counting, is_none_ahead, lines_taken}
+use Rattle.roff_scan.specs.Input.{Input, counting, is_none_ahead, lines_taken}
+use Rattle.roff_scan.specs.Input.Names.{adding, calling_on}
 use Rattle.roff_scan.specs.Tape.{Tape}
 use Rattle.roff_scan.specs.Unread.{Unread, changing, input_refusal, unless_passed}
 use Rattle.roff_scan.specs.Unread.Calls.{AddsFront, IsFront, NoNewline, OfSource, OfTexts, PassesSource, front_bytes}

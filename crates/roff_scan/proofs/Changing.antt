@@ -6,7 +6,8 @@ use Rattle.roff_num.specs.declared.limit.Limit.{Limit}
 use Rattle.roff_num.specs.declared.limit.Limit.TheVariants.{Stack, Depth, Store, Names}
 use Rattle.roff_scan.specs.Arguments.{Arguments, held}
 use Rattle.roff_scan.specs.Half.{Half, texts_held}
-use Rattle.roff_scan.specs.Input.{Input, EndAhead, pushed, depth, results, pushing, freeing, leaving, with_arguments, with_half, names_added, stored}
+use Rattle.roff_scan.specs.Input.{Input, EndAhead, pushed, depth, results, pushing, freeing, leaving, with_arguments, with_half}
+use Rattle.roff_scan.specs.Input.Names.{names_added, stored}
 use Rattle.roff_scan.specs.Unread.{Unread, IsWithin, changing, unless_passed}
 use Rattle.roff_scan.proofs.CallsOver.{kept_below-few}
 use Rattle.roff_scan.proofs.KeptArguments.{held-only_kept}

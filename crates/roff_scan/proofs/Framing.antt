@@ -3,7 +3,8 @@ use Rattle.std.proofs.Common.{◌≡◌, ◌<◌, ◌≤◌, ◌+◌, ◌^◌, �
 use Rattle.std.specs.Prelude.{All, Some, if◌then◌else◌}
 use Rattle.std.proofs.lemmas.List.{map-append}
 use Rattle.roff_scan.specs.Bytes.{newline}
-use Rattle.roff_scan.specs.Input.{Ahead, ByteAhead, FreeAhead, EndAhead, ReturnAhead, DoAhead, bytes_ahead, ends_ahead, frees_ahead, most_frees, cost, first, front_cost, called_text, lacks_newline}
+use Rattle.roff_scan.specs.Input.{Ahead, ByteAhead, FreeAhead, EndAhead, ReturnAhead, DoAhead, bytes_ahead, ends_ahead, frees_ahead, most_frees, cost, first, front_cost}
+use Rattle.roff_scan.specs.Input.Calls.{called_text, lacks_newline}
 use Rattle.roff_scan.specs.Frames.Bodies.{leases_in, with_bodies}
 use Rattle.roff_scan.specs.Frames.Kept.{Gives, IsSound, kept_by}
 use Rattle.roff_scan.specs.declared.frames.Frame.{Frame}

@@ -4,7 +4,7 @@ use Rattle.std.specs.Prelude.{not, reverse, ◌==◌}
 use Rattle.std.specs.List.{last_or}
 use Rattle.std.proofs.lemmas.List.{reverse-append, reverse-reverse}
 use Rattle.roff_scan.specs.Bytes.{newline}
-use Rattle.roff_scan.specs.Input.{lacks_newline}
+use Rattle.roff_scan.specs.Input.Calls.{lacks_newline}
 
 -- whether a byte that comes last isn't a newline
 abbrev pub is_no_newline : Option ℕ → Bool

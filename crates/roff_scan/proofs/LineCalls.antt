@@ -6,7 +6,8 @@ use Rattle.roff_scan.specs.Arguments.{Arguments, with_byte, with_byte_at, with_p
 use Rattle.roff_scan.specs.ArgumentList.{listed}
 use Rattle.roff_scan.specs.Bytes.{blank, quote}
 use Rattle.roff_scan.specs.Calls.Kept.{first_call}
-use Rattle.roff_scan.specs.Input.{Input, ReturnAhead, argument_live, called_text, calling_body, depth, pushed, returns_ahead}
+use Rattle.roff_scan.specs.Input.{Input, ReturnAhead, depth, pushed, returns_ahead}
+use Rattle.roff_scan.specs.Input.Calls.{argument_live, called_text, calling_body}
 use Rattle.roff_scan.specs.Unread.{Unread, IsWithin, changing}
 use Rattle.roff_scan.specs.Unread.Kept.{NoneBegun}
 use Rattle.roff_scan.specs.declared.arguments.ArgumentList.{ArgumentList}

@@ -3,15 +3,16 @@
 -- Pushed texts, each with its end, and events put back stand ahead of the source's items in one list; so do the bodies that
 -- lines call, whose ends are told apart. Beside it the input has the arguments of these calls, what names stand for, whose
 -- bodies are pushed, and the texts that are being made of it.
-use Rattle.std.specs.Prelude.{ℕ, ◌+◌, ◌-◌, ◌*◌, Bool, true, false, List, [], ◌∷◌, ◌++◌, drop, length, map, Option, Some, None, if◌then◌else◌, ◌==◌, not, nat_le, get_or, reverse}
-use Rattle.roff_scan.specs.Arguments.{Arguments, no_arguments, only_kept, held, with_plain, finished, total_length}
+pub mod Calls
+pub mod Names
+use Rattle.std.specs.Prelude.{ℕ, ◌+◌, ◌*◌, Bool, true, false, List, [], ◌∷◌, ◌++◌, drop, length, map, Option, Some, None, if◌then◌else◌, ◌==◌, nat_le}
+use Rattle.roff_scan.specs.Arguments.{Arguments, no_arguments, only_kept, held, with_plain, total_length}
 use Rattle.roff_scan.specs.Bytes.{newline}
 use Rattle.roff_scan.specs.Half.{Half, Condition, texts_held, text_held}
 use Rattle.roff_scan.specs.declared.half.ConditionPart.TheVariants.{Choice}
 use Rattle.roff_scan.specs.declared.half.CopyUnit.{CopyUnit}
 use Rattle.roff_store.specs.Named.{Named}
-use Rattle.roff_store.specs.TextCalls.{Call, Enter, PushOpen, DropOpen, made}
-use Rattle.roff_store.specs.Texts.{Entry, Texts, body_of, newest, used}
+use Rattle.roff_store.specs.Texts.{Entry}
 
 -- an item ahead of the source
 pub data Ahead (E : Type 0) : Type 0 where
@@ -157,37 +158,9 @@ results i = length i.kept
 abbrev pub pushing : {E : Type 0} → List ℕ → Input E → Input E
 pushing text i = record i { ahead = map ByteAhead text ++ EndAhead ∷ i.ahead }
 
--- whether a body has bytes, and no newline at its end
-abbrev pub lacks_newline : List ℕ → Bool
-lacks_newline body = elim (reverse body) [ [] ↦ false | last ∷ others ↦ not (last == newline) ]
-
--- a body as it is read where a line calls it: one that has bytes ends in a newline
-abbrev pub called_text : List ℕ → List ℕ
-called_text body = if lacks_newline body then body ++ newline ∷ [] else body
-
 -- a line is read of which nothing was read
 abbrev pub beginning_line : {E : Type 0} → Input E → Input E
 beginning_line i = record i { arguments = no_arguments; half = [] }
-
--- the arguments that a line was given, once it has ended
-abbrev pub arguments_given : {E : Type 0} → Input E → List (List ℕ)
-arguments_given i = reverse (only_kept (finished i.arguments)).whole
-
--- a line calls a body with the arguments that it was given: it is put in front, and its end
-abbrev pub calling_body : {E : Type 0} → List ℕ → Input E → Input E
-calling_body body i = record i {
-  ahead = map ByteAhead (called_text body) ++ ReturnAhead ∷ i.ahead;
-  calls = arguments_given i ∷ i.calls;
-  arguments = no_arguments;
-}
-
--- the arguments of the innermost call that isn't over
-abbrev pub arguments_live : {E : Type 0} → Input E → List (List ℕ)
-arguments_live i = elim i.calls [ [] ↦ [] | arguments ∷ calls ↦ arguments ]
-
--- the argument of that call at an index, from 0 on; one that it wasn't given is empty
-abbrev pub argument_live : {E : Type 0} → ℕ → Input E → List ℕ
-argument_live index i = get_or (arguments_live i) index []
 
 -- an event is put back
 abbrev pub putting_back : {E : Type 0} → E → Input E → Input E
@@ -293,64 +266,3 @@ holding_text unit i = record i { half = text_held unit i.half }
 -- a condition begins to be read, and nothing else is half read
 abbrev pub choosing : {E : Type 0} → Input E → Input E
 choosing i = record i { half = Condition (Choice false) [] ∷ [] }
-
--- a result is kept
-abbrev pub keeping : {E : Type 0} → Bool → Input E → Input E
-keeping so i = record i { kept = (so, length i.calls) ∷ i.kept }
-
--- the result that was kept last, if one is
-abbrev pub kept_last : {E : Type 0} → Input E → Option Bool
-kept_last i = elim i.kept [ [] ↦ None | result ∷ others ↦ Some result.0 ]
-
--- it is kept no more
-abbrev pub without_last : {E : Type 0} → Input E → Input E
-without_last i = record i { kept = drop 1 i.kept }
-
--- the texts of an input, as a store without limits has them
-abbrev pub texts_of : {E : Type 0} → Input E → Texts
-texts_of i = record {
-  names = record { entries = i.names; cap = 0 };
-  open_texts = i.open_texts;
-  leases = [];
-  cap_bytes = 0;
-  cap_kept = 0;
-  cap_open = 0;
-  cap_leases = 0;
-}
-
--- the input with the texts of a store
-abbrev pub with_texts : {E : Type 0} → Texts → Input E → Input E
-with_texts t i = record i { names = t.names.entries; open_texts = t.open_texts }
-
--- the input behind a call on names or texts in the making, if no limit refuses it
-abbrev pub calling : {E : Type 0} → Call → Input E → Input E
-calling call i = with_texts (made call (texts_of i)) i
-
--- what counts in the limit on the store: the bytes of bodies and of texts in the making
-abbrev pub stored : {E : Type 0} → Input E → ℕ
-stored i = used (texts_of i)
-
--- what counts in the limit on names: those beyond the ones that were there at the start
-abbrev pub names_added : {E : Type 0} → Input E → ℕ
-names_added i = length i.names - i.first_names
-
--- the body of a name; a name that has none reads as an empty one
-abbrev pub body_named : {E : Type 0} → List ℕ → Input E → List ℕ
-body_named name i = body_of name (texts_of i)
-
--- the input behind a call on the text in the making with this number, if there is one
-abbrev pub calling_on : {E : Type 0} → (ℕ → Call) → Option ℕ → Input E → Input E
-calling_on call None i = i
-calling_on call (Some id) i = calling (call id) i
-
--- bytes are put behind the newest text in the making
-abbrev pub adding : {E : Type 0} → List ℕ → Input E → Input E
-adding bytes i = calling_on (λ id. PushOpen id bytes) (newest i.open_texts) i
-
--- it ends: it is put behind the body of a name, or is the name's body from now on
-abbrev pub entering : {E : Type 0} → List ℕ → Bool → Input E → Input E
-entering name append i = calling_on (λ id. Enter id name append) (newest i.open_texts) i
-
--- it is dropped
-abbrev pub dropping : {E : Type 0} → Input E → Input E
-dropping i = calling_on (λ id. DropOpen id) (newest i.open_texts) i

@@ -10,7 +10,8 @@ use Rattle.roff_num.specs.declared.limit.Limit.TheVariants.{Bytes, Stack, Depth,
 use Rattle.roff_num.specs.declared.limits.Limits.{Limits}
 use Rattle.roff_scan.specs.Bytes.{is_passed}
 use Rattle.roff_scan.specs.Halves.{Reads, reading_ended}
-use Rattle.roff_scan.specs.Input.{with_half, Input, initial_input, is_none_ahead, Ahead, ByteAhead, FreeAhead, EndAhead, ReturnAhead, DoAhead, cost, counting, item_taken, pushed, depth, results, stored, names_added}
+use Rattle.roff_scan.specs.Input.{with_half, Input, initial_input, is_none_ahead, Ahead, ByteAhead, FreeAhead, EndAhead, ReturnAhead, DoAhead, cost, counting, item_taken, pushed, depth, results}
+use Rattle.roff_scan.specs.Input.Names.{stored, names_added}
 use Rattle.roff_store.specs.Texts.{Texts}
 use Rattle.roff_scan.specs.Tape.{Tape, Answer, Answers, Gives, Ends, OneByte, OneNote, Ending, Ended, Failed, Stopped, items_then}
 use Rattle.roff_scan.specs.declared.half.Decision.TheVariants.{Is}

@@ -3,7 +3,8 @@
 ghost use Rattle.std.specs.Prelude.{◌≡◌, ℕ, ◌+◌, ◌<◌, ◌≤◌, ◌∷◌, ◌++◌, length, reverse, slice_get};
 ghost use Rattle.std.specs.Prelude.{IfOk, ◌==◌, true};
 ghost use Rattle.std.specs.Option.{option_copied};
-ghost use Rattle.roff_scan.specs.Arguments.{AreFewer, Arguments, no_arguments, with_unit, with_argument_byte};
+ghost use Rattle.roff_scan.specs.Arguments.{AreFewer, Arguments, no_arguments, with_unit};
+ghost use Rattle.roff_scan.specs.Arguments.{with_argument_byte};
 ghost use Rattle.roff_scan.specs.Arguments.{with_kept, with_plain, with_byte, with_whole, settled};
 ghost use Rattle.roff_scan.specs.Arguments.{finished, held, kept, in_argument, total_length};
 ghost use Rattle.roff_scan.specs.ArgumentTexts.Ends.{is_kept, last_end, EndWithin, EndWithin-prop};
@@ -147,8 +148,8 @@ impl ArgumentTexts {
         }
     }
 
-    /// Takes bytes of the line one after another, up to the first that isn't held as it is read, and
-    /// where there is a bound as long as fewer arguments than that are whole. Returns how many.
+    /// Takes bytes of the line one after another, up to the first that isn't held as it is read,
+    /// and where there is a bound as long as fewer arguments than that are whole. Returns how many.
     #[inline(always)]
     pub(crate) fn take_front(&mut self, bytes: &[u8], most: Option<usize>) -> usize
         requires { held self.old.arguments + length bytes.now ≤ self.old.room }

@@ -3,7 +3,8 @@ use Rattle.std.specs.Prelude.{Bool, List, [], ◌∷◌, if◌then◌else◌, �
 use Rattle.roff_scan.specs.Arguments.{no_arguments}
 use Rattle.roff_scan.specs.Bytes.{newline}
 use Rattle.roff_scan.specs.Halves.{Reads}
-use Rattle.roff_scan.specs.Input.{calling, arguments_given}
+use Rattle.roff_scan.specs.Input.Names.{calling}
+use Rattle.roff_scan.specs.Input.Calls.{arguments_given}
 use Rattle.roff_scan.specs.declared.half.CopyUnit.{CopyUnit}
 use Rattle.roff_scan.specs.declared.half.CopyUnit.TheVariants.{Byte, Kept}
 use Rattle.roff_scan.specs.declared.half.Read.{Read}

@@ -2,7 +2,8 @@
 use Rattle.std.specs.Prelude.{nat_le, length, if◌then◌else◌, ◌==◌}
 use Rattle.roff_scan.specs.Bytes.{newline, quote}
 use Rattle.roff_scan.specs.Halves.{Reads}
-use Rattle.roff_scan.specs.Input.{body_named, calling_body}
+use Rattle.roff_scan.specs.Input.Names.{body_named}
+use Rattle.roff_scan.specs.Input.Calls.{calling_body}
 use Rattle.roff_scan.specs.declared.half.CopyUnit.{CopyUnit}
 use Rattle.roff_scan.specs.declared.half.CopyUnit.TheVariants.{Byte, Kept}
 use Rattle.roff_scan.specs.declared.half.Read.{Read}

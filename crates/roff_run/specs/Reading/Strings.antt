@@ -4,7 +4,8 @@ use Rattle.roff_scan.specs.Arguments.{no_arguments}
 use Rattle.roff_scan.specs.Bytes.{newline, blank, quote}
 use Rattle.roff_scan.specs.Half.{unit_bytes}
 use Rattle.roff_scan.specs.Halves.{Reads}
-use Rattle.roff_scan.specs.Input.{texts_of, calling, adding, entering, arguments_given}
+use Rattle.roff_scan.specs.Input.Names.{texts_of, calling, adding, entering}
+use Rattle.roff_scan.specs.Input.Calls.{arguments_given}
 use Rattle.roff_scan.specs.declared.half.CopyUnit.{CopyUnit}
 use Rattle.roff_scan.specs.declared.half.CopyUnit.TheVariants.{Byte, Kept}
 use Rattle.roff_scan.specs.declared.half.Read.{Read}

@@ -5,7 +5,8 @@ use Rattle.roff_scan.specs.Arguments.{HeldFewer, bytes_held, is_argument_byte}
 use Rattle.roff_scan.specs.Bytes.{is_passed, is_text_byte, newline}
 use Rattle.roff_scan.specs.ConditionFronts.{HalvesTaken}
 use Rattle.roff_scan.specs.HalfFronts.{HalvesRead}
-use Rattle.roff_scan.specs.Input.{Ahead, ByteAhead, EndAhead, ReturnAhead, adding, bytes_taken, item_taken, leading, lines_taken}
+use Rattle.roff_scan.specs.Input.{Ahead, ByteAhead, EndAhead, ReturnAhead, bytes_taken, item_taken, leading, lines_taken}
+use Rattle.roff_scan.specs.Input.Names.{adding}
 use Rattle.roff_scan.specs.Tape.{Tape, Answer, OneByte, items_then}
 use Rattle.roff_scan.specs.Unread.{Unread, Asked, Stays, Shown, Sighted, asks_to_take, asks_to_look, passed_over, taking, looking}
 

@@ -2,7 +2,8 @@ use Rattle.std.proofs.Common.{◌≡◌, ◌≤◌, ℕ, List, true, false, ◌�
 use Rattle.roff_scan.specs.Bytes.{newline}
 use Rattle.roff_scan.specs.Frames.Calls.{PutsBytes}
 use Rattle.roff_scan.specs.Frames.Kept.{Framed}
-use Rattle.roff_scan.specs.Input.{Ahead, ByteAhead, ReturnAhead, called_text, lacks_newline}
+use Rattle.roff_scan.specs.Input.{Ahead, ByteAhead, ReturnAhead}
+use Rattle.roff_scan.specs.Input.Calls.{called_text, lacks_newline}
 use Rattle.roff_scan.specs.declared.frames.Frames.TheInside.{Inside}
 use Rattle.roff_scan.proofs.Bodies.{bytes-with_bodies, ends-with_bodies}
 use Rattle.roff_scan.proofs.Framing.{IsSound-byte, IsSound-returning, called-in-front, called-len, called-whole}

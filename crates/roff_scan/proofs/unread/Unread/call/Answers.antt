@@ -1,6 +1,8 @@
 use Rattle.std.proofs.Common.{◌≡◌, ◌≤◌, ◌<◌, ◌-◌, length, refl, sym, arith}
 use Rattle.roff_scan.specs.Arguments.{held, total_length}
-use Rattle.roff_scan.specs.Input.{arguments_given, body_named, called_text, depth}
+use Rattle.roff_scan.specs.Input.{depth}
+use Rattle.roff_scan.specs.Input.Calls.{arguments_given, called_text}
+use Rattle.roff_scan.specs.Input.Names.{body_named}
 use Rattle.roff_scan.specs.Unread.Kept.{kept_by}
 use Rattle.roff_scan.proofs.Counts.{returns-few}
 use Rattle.roff_scan.proofs.LineCalls.{IsWithin-calling, call_past_depth, call_past_stack, call_within, length-given, returns-calling}

@@ -1,5 +1,6 @@
 use Rattle.std.proofs.Common.{◌≤◌, ◌<◌, ◌-◌, ◌∷◌, length, sym, ◌∙◌}
-use Rattle.roff_scan.specs.Input.{EndAhead, body_named, depth}
+use Rattle.roff_scan.specs.Input.{EndAhead, depth}
+use Rattle.roff_scan.specs.Input.Names.{body_named}
 use Rattle.roff_scan.specs.Unread.Kept.{kept_by}
 use Rattle.roff_scan.proofs.Changing.{push_past_stack, push_past_depth, push_within, IsWithin-pushing}
 use Rattle.roff_scan.proofs.Counts.{returns_ahead-bytes}

@@ -1,7 +1,7 @@
 use Rattle.std.proofs.Common.{◌≡◌, length}
 use Rattle.std.specs.Prelude.{reverse, vec_capacity}
 use Rattle.roff_scan.specs.Input.{kept_below}
-use Rattle.roff_scan.proofs.unread.drop_kept.Given as goal
+use Rattle.roff_scan.proofs.unread.results.drop_kept.Given as goal
 
 abbrev pub invariant-loop-last : goal.invariant-loop-last
 invariant-loop-last l = record {

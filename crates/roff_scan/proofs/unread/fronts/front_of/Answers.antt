@@ -1,6 +1,6 @@
 use Rattle.std.proofs.Common.{take, ap, sym, ◌∙◌}
 use Rattle.roff_scan.proofs.Fronts.{begins-ahead, begins-ready, nothing_looked}
-use Rattle.roff_scan.proofs.unread.front_of.Goals as goal
+use Rattle.roff_scan.proofs.unread.fronts.front_of.Goals as goal
 
 pub returns-then-not-is_empty-clause-bytes : goal.returns-then-not-is_empty-clause-bytes
 returns-then-not-is_empty-clause-bytes g c =

@@ -1,6 +1,6 @@
 use Rattle.std.proofs.Common.{◌≡◌, ◌<◌, length, arith}
 use Rattle.roff_scan.proofs.Pushed.{PutsBytes-leased, PutsBytes-none, room-for-body, room-for-lease, room-for-mark}
-use Rattle.roff_scan.proofs.frames.put_body.Goals as goal
+use Rattle.roff_scan.proofs.frames.pushed.put_body.Goals as goal
 use Rattle.roff_scan.specs.declared.frames.Frames.TheInside.{Inside}
 use Rattle.roff_store.specs.Texts.{body_of}
 

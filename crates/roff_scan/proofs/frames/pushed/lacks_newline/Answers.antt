@@ -1,6 +1,6 @@
 use Rattle.std.proofs.Common.{sym, ap, ◌∙◌}
 use Rattle.roff_scan.proofs.LastBytes.{is_no_newline, lacks_newline-last}
-use Rattle.roff_scan.proofs.frames.lacks_newline.Goals as goal
+use Rattle.roff_scan.proofs.frames.pushed.lacks_newline.Goals as goal
 
 pub returns-in-Some : goal.returns-in-Some
 returns-in-Some c = λ body is. ap is_no_newline (sym c.in-Some.is ∙ is) ∙ lacks_newline-last body

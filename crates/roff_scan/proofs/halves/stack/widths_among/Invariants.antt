@@ -1,6 +1,6 @@
 use Rattle.std.proofs.Common.{◌≡◌, ◌+◌, ◌≤◌, length}
 use Rattle.roff_scan.specs.HalfTexts.{widths_among}
-use Rattle.roff_scan.proofs.halves.widths_among.Given as goal
+use Rattle.roff_scan.proofs.halves.stack.widths_among.Given as goal
 
 abbrev pub invariant-loop-item : goal.invariant-loop-item
 invariant-loop-item l = record {

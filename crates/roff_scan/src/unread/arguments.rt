@@ -1,0 +1,150 @@
+//! The arguments of the line that is being read.
+
+ghost use Rattle.roff_scan.specs.Arguments.{with_unit, settled, finished};
+ghost use Rattle.roff_scan.specs.ArgumentList.{listed};
+ghost use Rattle.std.specs.Prelude.{reverse, ◌≡◌};
+ghost use Rattle.roff_scan.specs.Input.{holding_plain, with_arguments, without_arguments};
+ghost use Rattle.roff_scan.specs.Input.{beginning_line};
+
+use super::Unread;
+use super::fronts::front_of;
+use crate::arguments::{ArgumentList, bytes_of};
+use crate::half::CopyUnit;
+use crate::source::ByteSource;
+use roff_num::Limit;
+
+impl<E: Copy> Unread<E> {
+    ghost use Rattle.roff_scan.specs.Unread.{IsWithin, changing};
+    ghost use Rattle.roff_scan.specs.Unread.Calls.{HoldsFewer, HoldsFront};
+
+    /// A line is read of which nothing was read.
+    pub fn begin_line(&mut self)
+        ensures change { self.new ≡ record self.old { input = beginning_line self.old.input } }
+        ensures within { IsWithin self.new }
+    {
+        self.arguments.clear();
+        self.half.clear();
+    }
+
+    /// Drops the arguments of the line before.
+    pub fn begin_arguments(&mut self)
+        ensures change { self.new ≡ record self.old { input = without_arguments self.old.input } }
+        ensures within { IsWithin self.new }
+    {
+        self.arguments.clear();
+    }
+
+    /// Holds one unit more of a line's arguments.
+    ///
+    /// # Errors
+    ///
+    /// [`Limit::Stack`] if its bytes don't fit.
+    pub fn hold(&mut self, unit: CopyUnit) -> Result<(), Limit>
+        ensures change { (result, self.new)
+            ≡ changing (with_arguments (with_unit self.old.input.arguments unit) self.old.input)
+            self.old }
+        ensures within { IsWithin self.new }
+    {
+        if self.arguments.bytes_more(unit) > self.limits.stack as usize - self.pushed() {
+            return Err(Limit::Stack);
+        }
+        self.arguments.take(unit);
+        Ok(())
+    }
+
+    /// Holds one unit more of a line's text, in which nothing separates or quotes.
+    ///
+    /// # Errors
+    ///
+    /// [`Limit::Stack`] if its bytes don't fit.
+    pub fn hold_plain(&mut self, unit: CopyUnit) -> Result<(), Limit>
+        ensures change { (result, self.new)
+            ≡ changing (holding_plain unit self.old.input) self.old }
+        ensures within { IsWithin self.new }
+    {
+        if bytes_of(unit) > self.limits.stack as usize - self.pushed() {
+            return Err(Limit::Stack);
+        }
+        self.arguments.take_plain(unit);
+        Ok(())
+    }
+
+    /// The argument that is being read, as far as it is.
+    pub fn begun(&self) -> &[u8]
+        ensures { result.now ≡ reverse self.now.input.arguments.begun }
+    {
+        self.arguments.begun()
+    }
+
+    /// What follows on the line is no quote: behind one within quotes the argument is whole.
+    pub fn settle(&mut self)
+        ensures change { self.new ≡ record self.old {
+          input = with_arguments (settled self.old.input.arguments) self.old.input;
+        } }
+        ensures within { IsWithin self.new }
+    {
+        self.arguments.settle();
+    }
+
+    /// The line has ended: the argument being read is whole.
+    pub fn finish_arguments(&mut self)
+        ensures change { self.new ≡ record self.old {
+          input = with_arguments (finished self.old.input.arguments) self.old.input;
+        } }
+        ensures within { IsWithin self.new }
+    {
+        self.arguments.finish();
+    }
+
+    /// The arguments of the line that are whole.
+    pub fn arguments(&self) -> ArgumentList<'_>
+        ensures { listed result ≡ reverse self.now.input.arguments.whole }
+    {
+        self.arguments.list()
+    }
+
+    /// Takes at once bytes that stand in front, as they lie together, and holds them in the line's
+    /// arguments: up to the first that isn't held as it is read, and no more than the limits have
+    /// room for. Whether anything is half read isn't looked at.
+    #[inline(never)]
+    pub fn hold_front<S: ByteSource>(&mut self, source: &mut S)
+        ensures holds { HoldsFront (S.gives source.old) (S.gives source.new) self.old self.new }
+        ensures notes { S.notes source.new ≡ S.notes source.old }
+        ensures failures { S.failures source.new ≡ S.failures source.old }
+        ensures within { IsWithin self.new }
+    {
+        self.hold_bounded(source, None);
+    }
+
+    /// The same as [`hold_front`](Unread::hold_front), but as long as fewer than so many arguments
+    /// are whole.
+    #[inline(never)]
+    pub fn hold_fewer<S: ByteSource>(&mut self, source: &mut S, most: usize)
+        ensures holds { HoldsFewer (Some most)
+            (S.gives source.old) (S.gives source.new) self.old self.new }
+        ensures notes { S.notes source.new ≡ S.notes source.old }
+        ensures failures { S.failures source.new ≡ S.failures source.old }
+        ensures within { IsWithin self.new }
+    {
+        self.hold_bounded(source, Some(most));
+    }
+
+    /// The same, where there is a bound.
+    #[inline(always)]
+    fn hold_bounded<S: ByteSource>(&mut self, source: &mut S, most: Option<usize>)
+        ensures holds { HoldsFewer most
+            (S.gives source.old) (S.gives source.new) self.old self.new }
+        ensures notes { S.notes source.new ≡ S.notes source.old }
+        ensures failures { S.failures source.new ≡ S.failures source.old }
+        ensures within { IsWithin self.new }
+    {
+        let room = self.limits.stack as usize - self.pushed();
+        let allowed = room.min((self.limits.bytes - self.charge) as usize);
+        let front = front_of(&self.frames, self.looked, source, allowed);
+        if front.is_empty() {
+            return;
+        }
+        let count = self.arguments.take_front(front, most);
+        self.pass(source, count);
+    }
+}

@@ -1,0 +1,98 @@
+//! Lines that call bodies, and the arguments of calls.
+
+ghost use Rattle.roff_scan.specs.ArgumentList.{listed};
+ghost use Rattle.std.specs.Prelude.{vec_capacity, reverse, ◌≡◌, ◌<◌, ◌^◌, [], drop, get_or, length};
+ghost use Rattle.roff_scan.specs.Input.{pushing, kept_below};
+ghost use Rattle.roff_scan.specs.Input.Calls.{arguments_live, argument_live, calling_body};
+ghost use Rattle.roff_scan.specs.Input.Names.{body_named};
+
+use super::Unread;
+use super::results::drop_kept;
+use crate::arguments::ArgumentList;
+use crate::calls::Calls;
+use roff_num::{Limit, Name};
+
+impl<E: Copy> Unread<E> {
+    ghost use Rattle.roff_scan.specs.Unread.{IsWithin, changing};
+
+    /// A line calls the body of a name: it is put in front, as it is now, with a newline behind it
+    /// if it has bytes and none at its end, and the end of the call. The arguments of the line are
+    /// those of the call, until its end is taken.
+    ///
+    /// # Errors
+    ///
+    /// As for [`push`](Unread::push).
+    pub fn call(&mut self, name: &Name) -> Result<(), Limit>
+        ensures change { (result, self.new)
+            ≡ changing (calling_body (body_named name.now self.old.input) self.old.input) self.old }
+        ensures within { IsWithin self.new }
+    {
+        let room = self.limits.stack as usize - self.pushed();
+        if self.is_deep() {
+            if self.frames.called(name).len > room {
+                return Err(Limit::Stack);
+            }
+            return Err(Limit::Depth);
+        }
+        if !self.frames.call(name, room) {
+            return Err(Limit::Stack);
+        }
+        self.arguments.finish();
+        self.calls.push(self.arguments.list());
+        self.arguments.clear();
+        Ok(())
+    }
+
+    /// How many arguments the innermost call has that isn't over; none where there is no call.
+    pub fn argument_count(&self) -> usize
+        ensures { result ≡ length (arguments_live self.now.input) }
+    {
+        self.calls.arguments().len()
+    }
+
+    /// Puts an argument of that call and its end in front, by its index from 0 on. One that it
+    /// wasn't given is empty.
+    ///
+    /// # Errors
+    ///
+    /// As for [`push`](Unread::push).
+    pub fn push_argument(&mut self, index: usize) -> Result<(), Limit>
+        ensures change { (result, self.new)
+            ≡ changing (pushing (argument_live index self.old.input) self.old.input) self.old }
+        ensures within { IsWithin self.new }
+    {
+        let pushed = self.pushed();
+        let is_deep = self.is_deep();
+        let text = argument_at(self.calls.arguments(), index);
+        if text.len() > self.limits.stack as usize - pushed {
+            return Err(Limit::Stack);
+        }
+        if is_deep {
+            return Err(Limit::Depth);
+        }
+        self.frames.push(text);
+        Ok(())
+    }
+}
+
+/// The argument at an index, from 0 on; one that isn't there is empty.
+fn argument_at(arguments: ArgumentList<'_>, index: usize) -> &[u8]
+    ensures { result.now ≡ get_or (listed arguments.entry) index [] }
+{
+    match arguments.get(index) {
+        Some(text) => text,
+        None => &[],
+    }
+}
+
+/// The innermost call is over, and what was kept in its body is kept no more.
+pub(super) fn end_call(calls: &mut Calls, kept: &mut Vec<(bool, u32)>)
+    requires { calls.old.most_calls < 2 ^ 32 }
+    ensures calls { calls.new ≡ record calls.old { calls = drop 1 calls.old.calls } }
+    ensures results { reverse kept.new.items
+        ≡ kept_below (length calls.old.calls) (reverse kept.old.items) }
+    ensures capacity { vec_capacity kept.new ≡ vec_capacity kept.old }
+{
+    drop_kept(kept, calls.len() as u32);
+    calls.pop();
+}

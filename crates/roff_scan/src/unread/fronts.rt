@@ -1,0 +1,96 @@
+//! Bytes that stand in front, as they lie together.
+
+ghost use Rattle.std.specs.Prelude.{true, ◌≡◌, ◌≤◌, length, take};
+ghost use Rattle.roff_scan.specs.Unread.Calls.{next_bytes};
+ghost use Rattle.roff_scan.specs.Input.{is_none_ahead};
+
+use super::Unread;
+use crate::bytes::at_most;
+use crate::frames::Frames;
+use crate::source::ByteSource;
+
+impl<E: Copy> Unread<E> {
+    ghost use Rattle.roff_scan.specs.Unread.{IsWithin};
+    ghost use Rattle.roff_scan.specs.Unread.Calls.{front_bytes, IsFront, NoNewline, PassesFront};
+    ghost use Rattle.roff_scan.specs.Unread.Calls.{PassesSource};
+
+    /// Bytes that stand in front, as they lie together: of a body ahead, or where nothing is ahead
+    /// and no byte was looked at, those of the source that stand ready; no more than the limit on
+    /// bytes allows. Whether anything is half read isn't looked at.
+    #[inline]
+    pub fn front<'a, S: ByteSource>(&'a self, source: &'a S) -> &'a [u8]
+        ensures bytes { result.now
+            ≡ front_bytes (length result.now) (S.ready source.now) self.now }
+        ensures front { IsFront (length result.now) (S.ready source.now) self.now }
+    {
+        let most = (self.limits.bytes - self.charge) as usize;
+        front_of(&self.frames, self.looked, source, most)
+    }
+
+    /// Takes at once so many of the bytes that stand in front, each at its cost.
+    #[inline(always)]
+    pub fn pass<S: ByteSource>(&mut self, source: &mut S, count: usize)
+        requires front { IsFront count (S.ready source.old) self.old }
+        requires plain { NoNewline (front_bytes count (S.ready source.old) self.old) }
+        ensures passes { PassesFront (S.gives source.old) (S.gives source.new)
+            (front_bytes count (S.ready source.old) self.old) self.old self.new }
+        ensures notes { S.notes source.new ≡ S.notes source.old }
+        ensures failures { S.failures source.new ≡ S.failures source.old }
+        ensures within { IsWithin self.new }
+    {
+        // the invariant is known where a field is named
+        let _ = &self.limits;
+        if count == 0 {
+            return;
+        }
+        if !self.frames.is_empty() {
+            self.frames.pass(count);
+            self.charge += count as u32;
+            return;
+        }
+        self.pass_source(source, count);
+    }
+
+    /// The same where nothing is ahead, of one byte at least.
+    #[inline]
+    pub(super) fn pass_source<S: ByteSource>(&mut self, source: &mut S, count: usize)
+        requires some { 1 ≤ count }
+        requires none_ahead { is_none_ahead self.old.input.ahead ≡ true }
+        requires front { IsFront count (S.ready source.old) self.old }
+        requires plain { NoNewline (front_bytes count (S.ready source.old) self.old) }
+        ensures passes { PassesSource (S.gives source.old) (S.gives source.new)
+            (front_bytes count (S.ready source.old) self.old) self.old self.new }
+        ensures notes { S.notes source.new ≡ S.notes source.old }
+        ensures failures { S.failures source.new ≡ S.failures source.old }
+        ensures within { IsWithin self.new }
+    {
+        let line = self.newlines + 1;
+        self.line = line;
+        self.charge += count as u32;
+        source.pass(count);
+    }
+}
+
+/// Bytes that stand in front, as they lie together, so many at the most: of a body ahead, or where
+/// nothing is ahead and no byte was looked at, those of the source that stand ready.
+#[inline]
+pub(super) fn front_of<'a, E: Copy, S: ByteSource>(
+    frames: &'a Frames<E>,
+    looked: Option<u8>,
+    source: &'a S,
+    most: usize,
+) -> &'a [u8]
+    ensures bytes { result.now
+        ≡ take (length result.now) (next_bytes frames.now.ahead looked (S.ready source.now)) }
+    ensures among { length result.now
+        ≤ length (next_bytes frames.now.ahead looked (S.ready source.now)) }
+    ensures few { length result.now ≤ most }
+{
+    if !frames.is_empty() {
+        return at_most(frames.front(), most);
+    }
+    if looked.is_some() {
+        return &[];
+    }
+    at_most(source.buffered(), most)
+}

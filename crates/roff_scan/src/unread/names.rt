@@ -1,0 +1,172 @@
+//! Names that are set, removed or renamed, and texts in the making.
+
+ghost use Rattle.roff_store.specs.Named.{entry_of};
+ghost use Rattle.roff_store.specs.Texts.{entry_given, kind_given, kind_of};
+ghost use Rattle.std.specs.Prelude.{true, ◌≡◌, ◌≤◌, length, None, option_map, take};
+ghost use Rattle.std.specs.List.{AllByRecursion};
+ghost use Rattle.roff_scan.specs.Bytes.{is_text_byte};
+ghost use Rattle.roff_scan.specs.Input.{is_none_ahead};
+ghost use Rattle.roff_scan.specs.Input.Names.{adding, calling, dropping, entering};
+
+use super::Unread;
+use crate::bytes::{at_most, text_in_front};
+use crate::source::ByteSource;
+use roff_num::{Limit, Name};
+use roff_store::{Entry, Kind};
+
+impl<E: Copy> Unread<E> {
+    ghost use Rattle.roff_scan.specs.Unread.{IsWithin, changing};
+    ghost use Rattle.roff_scan.specs.Unread.Calls.{AddsFront};
+    ghost use Rattle.roff_store.specs.TextCalls.{Open, Remove, Rename, Set};
+
+    /// What a name stands for: a request, or a body with so many bytes.
+    #[inline(always)]
+    pub fn get(&self, name: &Name) -> Option<Kind>
+        ensures { option_map kind_given result
+            ≡ option_map kind_of (entry_of name.now self.now.input.names) }
+    {
+        self.frames.get(name)
+    }
+
+    /// Lets a name stand for an entry from now on.
+    ///
+    /// # Errors
+    ///
+    /// [`Limit::Store`] if there would be too many bytes, else [`Limit::Names`] if the name is new
+    /// and there are as many as may be.
+    pub fn set(&mut self, name: &Name, entry: Entry<'_>) -> Result<(), Limit>
+        ensures change { (result, self.new)
+            ≡ changing (calling (Set name.now (entry_given entry.entry)) self.old.input) self.old }
+        ensures within { IsWithin self.new }
+    {
+        self.frames.set(name, entry)
+    }
+
+    /// Removes a name.
+    pub fn remove(&mut self, name: &Name)
+        ensures change { self.new
+            ≡ record self.old { input = calling (Remove name.now) self.old.input } }
+        ensures within { IsWithin self.new }
+    {
+        self.frames.remove(name);
+    }
+
+    /// Lets one name stand for what another one stood for, which then stands for nothing. Nothing
+    /// changes where that one stands for nothing, or is the same name.
+    pub fn rename(&mut self, from: &Name, to: &Name)
+        ensures change { self.new
+            ≡ record self.old { input = calling (Rename from.now to.now) self.old.input } }
+        ensures within { IsWithin self.new }
+    {
+        self.frames.rename(from, to);
+    }
+
+    /// Begins a text.
+    ///
+    /// # Errors
+    ///
+    /// [`Limit::Diversions`] if as many are in the making as may be.
+    pub fn begin_text(&mut self) -> Result<(), Limit>
+        ensures change { (result, self.new) ≡ changing (calling Open self.old.input) self.old }
+        ensures within { IsWithin self.new }
+    {
+        if !self.frames.can_open() {
+            return Err(Limit::Diversions);
+        }
+        self.frames.open();
+        Ok(())
+    }
+
+    /// Puts bytes behind the newest text in the making, if there is one.
+    ///
+    /// # Errors
+    ///
+    /// [`Limit::Store`] if there would be too many bytes.
+    pub fn add(&mut self, text: &[u8]) -> Result<(), Limit>
+        ensures change { (result, self.new) ≡ changing (adding text.now self.old.input) self.old }
+        ensures within { IsWithin self.new }
+    {
+        match self.frames.newest() {
+            Some(id) => self.frames.push_open(id, text),
+            None => Ok(()),
+        }
+    }
+
+    /// Takes at once bytes of plain text of the source that stand ready, and puts them behind the
+    /// newest text in the making, if there is one: no more than the limits on bytes and on the
+    /// store have room for. Nothing happens where anything is ahead or looked at; whether anything
+    /// is half read isn't looked at.
+    #[inline(always)]
+    pub fn add_front<S: ByteSource>(&mut self, source: &mut S)
+        ensures adds { AddsFront (S.gives source.old) (S.gives source.new) self.old self.new }
+        ensures notes { S.notes source.new ≡ S.notes source.old }
+        ensures failures { S.failures source.new ≡ S.failures source.old }
+        ensures within { IsWithin self.new }
+    {
+        if self.frames.is_empty() && self.looked.is_none() {
+            self.add_ready(source);
+        }
+    }
+
+    /// The same where the source's next byte is the next one.
+    #[inline(never)]
+    fn add_ready<S: ByteSource>(&mut self, source: &mut S)
+        requires none_ahead { is_none_ahead self.old.input.ahead ≡ true }
+        requires none_looked { self.old.looked ≡ None }
+        ensures adds { AddsFront (S.gives source.old) (S.gives source.new) self.old self.new }
+        ensures notes { S.notes source.new ≡ S.notes source.old }
+        ensures failures { S.failures source.new ≡ S.failures source.old }
+        ensures within { IsWithin self.new }
+    {
+        let room = self.limits.store as usize - self.frames.stored();
+        let allowed = self.limits.bytes - self.charge;
+        let text = text_ready(source, room.min(allowed as usize));
+        let count = text.len();
+        if count == 0 {
+            return;
+        }
+        match self.add(text) {
+            Ok(()) => self.pass_source(source, count),
+            Err(_) => {}
+        }
+    }
+
+    /// Ends the newest text in the making, if there is one: it is put behind the body of a name, or
+    /// is its body from now on.
+    ///
+    /// # Errors
+    ///
+    /// [`Limit::Names`] if the name is new and there are as many as may be.
+    pub fn enter(&mut self, name: &Name, append: bool) -> Result<(), Limit>
+        ensures change { (result, self.new)
+            ≡ changing (entering name.now append self.old.input) self.old }
+        ensures within { IsWithin self.new }
+    {
+        match self.frames.newest() {
+            Some(id) => self.frames.enter(id, name, append),
+            None => Ok(()),
+        }
+    }
+
+    /// Drops the newest text in the making, if there is one.
+    pub fn drop_text(&mut self)
+        ensures change { self.new ≡ record self.old { input = dropping self.old.input } }
+        ensures within { IsWithin self.new }
+    {
+        if let Some(id) = self.frames.newest() {
+            self.frames.drop_open(id);
+        }
+    }
+}
+
+/// Bytes of plain text of the source that stand ready, so many at the most.
+#[inline(always)]
+fn text_ready<S: ByteSource>(source: &S, most: usize) -> &[u8]
+    ensures bytes { result.now ≡ take (length result.now) (S.ready source.now) }
+    ensures among { length result.now ≤ length (S.ready source.now) }
+    ensures few { length result.now ≤ most }
+    ensures plain { AllByRecursion (λ b. is_text_byte b ≡ true) result.now }
+{
+    let front = at_most(source.buffered(), most);
+    at_most(front, text_in_front(front))
+}

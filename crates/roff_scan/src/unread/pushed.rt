@@ -1,0 +1,93 @@
+//! Texts, bodies and events that are put in front.
+
+ghost use Rattle.std.specs.Prelude.{true, false, ◌≡◌, ◌+◌, ◌<◌, ◌≤◌, length};
+ghost use Rattle.roff_scan.specs.Input.{leaving, events_ahead, frees_ahead, most_events};
+ghost use Rattle.roff_scan.specs.Input.{most_frees, depth, pushing, putting_back, freeing};
+ghost use Rattle.roff_scan.specs.Input.Names.{body_named};
+
+use super::Unread;
+use super::results::drop_kept;
+use roff_num::{Limit, Name};
+
+impl<E: Copy> Unread<E> {
+    ghost use Rattle.roff_scan.specs.Unread.{IsWithin, changing};
+
+    /// Whether as many pushed texts haven't ended as may be.
+    pub(super) fn is_deep(&self) -> bool
+        ensures deep { result ≡ true → self.now.limits.depth ≤ depth self.now.input }
+        ensures shallow { result ≡ false → depth self.now.input < self.now.limits.depth }
+    {
+        self.depth() >= self.limits.depth as usize
+    }
+
+    /// Puts a text and its end in front.
+    ///
+    /// # Errors
+    ///
+    /// [`Limit::Stack`] if its bytes don't fit, and then [`Limit::Depth`] if its end doesn't.
+    pub fn push(&mut self, text: &[u8]) -> Result<(), Limit>
+        ensures change { (result, self.new) ≡ changing (pushing text.now self.old.input) self.old }
+        ensures within { IsWithin self.new }
+    {
+        if text.len() > self.limits.stack as usize - self.pushed() {
+            return Err(Limit::Stack);
+        }
+        if self.is_deep() {
+            return Err(Limit::Depth);
+        }
+        self.frames.push(text);
+        Ok(())
+    }
+
+    /// Puts the body of a name and its end in front, as it is now: it is read where it lies,
+    /// whatever becomes of the name. A name without a body has an empty one.
+    ///
+    /// # Errors
+    ///
+    /// As for [`push`](Unread::push).
+    pub fn push_body(&mut self, name: &Name) -> Result<(), Limit>
+        ensures change { (result, self.new)
+            ≡ changing (pushing (body_named name.now self.old.input) self.old.input) self.old }
+        ensures within { IsWithin self.new }
+    {
+        let room = self.limits.stack as usize - self.pushed();
+        if self.is_deep() {
+            if self.frames.body_len(name) > room {
+                return Err(Limit::Stack);
+            }
+            return Err(Limit::Depth);
+        }
+        if !self.frames.push_body(name, room) {
+            return Err(Limit::Stack);
+        }
+        Ok(())
+    }
+
+    /// Puts an event back in front.
+    pub fn put_back(&mut self, event: E)
+        requires { events_ahead self.old.input.ahead < most_events self.old.limits.depth }
+        ensures change { self.new ≡ record self.old { input = putting_back event self.old.input } }
+        ensures within { IsWithin self.new }
+    {
+        self.frames.put_back(event);
+    }
+
+    /// Puts bytes that were taken in front again. They cost nothing.
+    pub fn free(&mut self, bytes: &[u8])
+        requires { frees_ahead self.old.input.ahead + length bytes.now ≤ most_frees }
+        ensures change { self.new ≡ record self.old { input = freeing bytes.now self.old.input } }
+        ensures within { IsWithin self.new }
+    {
+        self.frames.free(bytes);
+    }
+
+    /// Drops all that stands ahead of the source. That costs nothing.
+    pub fn leave(&mut self)
+        ensures change { self.new ≡ record self.old { input = leaving self.old.input } }
+        ensures within { IsWithin self.new }
+    {
+        self.frames.clear();
+        self.calls.clear();
+        drop_kept(&mut self.kept, 1);
+    }
+}

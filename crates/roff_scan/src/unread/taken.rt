@@ -1,0 +1,255 @@
+//! Items that are taken from the front one at a time, and bytes that are looked at.
+
+ghost use Rattle.std.specs.Prelude.{true, false, ◌≡◌, ◌<◌, ◌≤◌, None, IfSome};
+ghost use Rattle.roff_scan.specs.Waiting.{WaitsFor};
+ghost use Rattle.roff_scan.specs.Tape.{Answer, OneByte, Gives, Failed, Rises};
+ghost use Rattle.roff_scan.specs.Input.{is_none_ahead, counting};
+
+use super::calls::end_call;
+use super::{Item, Sight, Unread};
+use crate::source::{ByteSource, Taken};
+use roff_num::Limit;
+
+impl<E: Copy> Unread<E> {
+    ghost use Rattle.roff_scan.specs.Unread.{IsWithin, shown, ShowsByte, ShowsNote, ShowsEnding};
+    ghost use Rattle.roff_scan.specs.Unread.{sighted, SeesNote, SeesEnding, taking, taking_answer};
+    ghost use Rattle.roff_scan.specs.Unread.Calls.{Takes, Looks};
+
+    /// Takes the item in front. The source is asked where nothing is ahead and no byte was looked
+    /// at.
+    #[inline(always)]
+    pub fn take<S: ByteSource>(&mut self, source: &mut S) -> Item<E>
+        ensures takes { Takes (S.gives source.old) (S.gives source.new) self.old self.new
+            (shown result) }
+        ensures notes { S.notes source.new ≤ S.notes source.old }
+        ensures note { (m : _) → shown result ≡ ShowsNote m
+            → S.notes source.new < S.notes source.old }
+        ensures failures { S.failures source.old ≤ S.failures source.new }
+        ensures fault { shown result ≡ ShowsEnding Failed
+            → Rises (S.failures source.old) (S.failures source.new) }
+        ensures within { IsWithin self.new }
+    {
+        if !self.frames.is_empty() {
+            return self.take_ahead();
+        }
+        if let Some(byte) = self.looked {
+            return self.take_byte(byte);
+        }
+        match source.next_byte() {
+            Taken::Byte(byte) => self.take_byte(byte),
+            Taken::Note(note) => Item::Note(note),
+            Taken::End => Item::SourceEnd,
+            Taken::Fault => Item::Fault,
+            Taken::Stop(limit) => Item::Stop(limit),
+        }
+    }
+
+    /// Takes a byte that stands ready, ahead, looked at or in the source, if the limit on bytes
+    /// allows it. Otherwise nothing happens, and [`take`](Unread::take) tells what is in front.
+    /// Most bytes are taken so.
+    #[inline(always)]
+    pub fn take_ready<S: ByteSource>(&mut self, source: &mut S) -> Option<u8>
+        ensures takes { IfSome result (λ b.
+            Takes (S.gives source.old) (S.gives source.new) self.old self.new (ShowsByte b)) }
+        ensures kept { result ≡ None → (self.new ≡ self.old) × (source.new ≡ source.old) }
+        ensures notes { S.notes source.new ≤ S.notes source.old }
+        ensures failures { S.failures source.old ≤ S.failures source.new }
+        ensures within { IsWithin self.new }
+    {
+        if !self.frames.is_empty() {
+            return self.take_ready_ahead();
+        }
+        if self.limits.bytes == self.charge {
+            return None;
+        }
+        if let Some(byte) = self.looked {
+            self.count(byte);
+            return Some(byte);
+        }
+        match source.ready_byte() {
+            None => None,
+            Some(byte) => {
+                self.count(byte);
+                Some(byte)
+            }
+        }
+    }
+
+    /// The same of a byte ahead.
+    #[inline(always)]
+    fn take_ready_ahead(&mut self) -> Option<u8>
+        requires { is_none_ahead self.old.input.ahead ≡ false }
+        ensures takes { IfSome result (λ b.
+            (a : Answer) → (ShowsByte b, self.new) ≡ taking a self.old) }
+        ensures kept { result ≡ None → self.new ≡ self.old }
+        ensures within { IsWithin self.new }
+    {
+        if self.limits.bytes - self.charge == 0 {
+            return None;
+        }
+        match self.frames.take_ready() {
+            None => None,
+            Some(byte) => {
+                self.charge += 1;
+                Some(byte)
+            }
+        }
+    }
+
+    /// Takes a byte that stands ready, ahead or in the source, if what is half read waits for it
+    /// and the limit on bytes allows it. Otherwise nothing happens, and [`look`](Unread::look)
+    /// tells what is in front. Most bytes that end a name are taken so.
+    #[inline(always)]
+    pub fn take_waiting<S: ByteSource>(&mut self, source: &mut S) -> Option<u8>
+        ensures takes { IfSome result (λ b.
+            Takes (S.gives source.old) (S.gives source.new) self.old self.new (ShowsByte b)) }
+        ensures waits { IfSome result (λ b. WaitsFor self.old.input.half b) }
+        ensures kept { result ≡ None → (self.new ≡ self.old) × (source.new ≡ source.old) }
+        ensures notes { S.notes source.new ≤ S.notes source.old }
+        ensures failures { S.failures source.old ≤ S.failures source.new }
+        ensures within { IsWithin self.new }
+    {
+        if self.limits.bytes == self.charge {
+            return None;
+        }
+        if !self.frames.is_empty() {
+            return self.take_waiting_ahead();
+        }
+        self.take_waiting_ready(source)
+    }
+
+    /// The same of a byte ahead.
+    #[inline(always)]
+    fn take_waiting_ahead(&mut self) -> Option<u8>
+        requires room { self.old.input.charge < self.old.limits.bytes }
+        requires some { is_none_ahead self.old.input.ahead ≡ false }
+        ensures takes { IfSome result (λ b.
+            (a : Answer) → (ShowsByte b, self.new) ≡ taking a self.old) }
+        ensures waits { IfSome result (λ b. WaitsFor self.old.input.half b) }
+        ensures kept { result ≡ None → self.new ≡ self.old }
+        ensures within { IsWithin self.new }
+    {
+        match self.frames.take_waiting(&self.half) {
+            None => None,
+            Some(byte) => {
+                self.charge += 1;
+                Some(byte)
+            }
+        }
+    }
+
+    /// The same of one of the source, where nothing is ahead.
+    #[inline(always)]
+    fn take_waiting_ready<S: ByteSource>(&mut self, source: &mut S) -> Option<u8>
+        requires room { self.old.input.charge < self.old.limits.bytes }
+        requires none_ahead { is_none_ahead self.old.input.ahead ≡ true }
+        ensures takes { IfSome result (λ b.
+            Takes (S.gives source.old) (S.gives source.new) self.old self.new (ShowsByte b)) }
+        ensures waits { IfSome result (λ b. WaitsFor self.old.input.half b) }
+        ensures kept { result ≡ None → (self.new ≡ self.old) × (source.new ≡ source.old) }
+        ensures notes { S.notes source.new ≡ S.notes source.old }
+        ensures failures { S.failures source.new ≡ S.failures source.old }
+        ensures within { IsWithin self.new }
+    {
+        if self.looked.is_some() {
+            return None;
+        }
+        match source.buffered() {
+            [first, ..] => {
+                let byte = *first;
+                if !self.half.waits_for(byte) {
+                    return None;
+                }
+                self.count(byte);
+                source.pass(1);
+                Some(byte)
+            }
+            [] => None,
+        }
+    }
+
+    /// Takes a byte of the source. It stays looked at if the limit on bytes refuses it.
+    #[inline(always)]
+    fn take_byte(&mut self, byte: u8) -> Item<E>
+        ensures takes { (shown result, self.new) ≡ taking_answer (Gives (OneByte byte)) self.old }
+        ensures within { IsWithin self.new }
+    {
+        if self.charge >= self.limits.bytes {
+            self.looked = Some(byte);
+            return Item::Refused(Limit::Bytes);
+        }
+        self.count(byte);
+        Item::Byte(byte)
+    }
+
+    /// Counts a byte of the source, which isn't looked at any more.
+    #[inline(always)]
+    pub(super) fn count(&mut self, byte: u8)
+        requires { self.old.input.charge < self.old.limits.bytes }
+        ensures counts { self.new
+            ≡ record self.old { input = counting byte self.old.input; looked = None } }
+        ensures within { IsWithin self.new }
+    {
+        self.looked = None;
+        self.line = self.newlines + 1;
+        self.charge += 1;
+        if byte == b'\n' {
+            self.newlines += 1;
+        }
+    }
+
+    /// Takes the front item ahead.
+    #[inline(never)]
+    fn take_ahead(&mut self) -> Item<E>
+        requires { is_none_ahead self.old.input.ahead ≡ false }
+        ensures takes { (a : Answer) → (shown result, self.new) ≡ taking a self.old }
+        ensures note { (m : _) → shown result ≡ ShowsNote m → ⊥ }
+        ensures ending { (e : _) → shown result ≡ ShowsEnding e → ⊥ }
+        ensures within { IsWithin self.new }
+    {
+        let cost = self.frames.cost();
+        if cost > self.limits.bytes - self.charge {
+            return Item::Refused(Limit::Bytes);
+        }
+        self.charge += cost;
+        match self.frames.take() {
+            Item::Return => {
+                end_call(&mut self.calls, &mut self.kept);
+                Item::Return
+            }
+            item => item,
+        }
+    }
+
+    /// Looks at the first byte behind any ends of texts. The source is asked where none stands
+    /// ahead and no byte was looked at.
+    #[inline(never)]
+    pub fn look<S: ByteSource>(&mut self, source: &mut S) -> Sight
+        ensures looks { Looks (S.gives source.old) (S.gives source.new) self.old self.new
+            (sighted result) }
+        ensures notes { S.notes source.new ≤ S.notes source.old }
+        ensures note { (m : _) → sighted result ≡ SeesNote m
+            → S.notes source.new < S.notes source.old }
+        ensures failures { S.failures source.old ≤ S.failures source.new }
+        ensures fault { sighted result ≡ SeesEnding Failed
+            → Rises (S.failures source.old) (S.failures source.new) }
+        ensures within { IsWithin self.new }
+    {
+        if let Some(sight) = self.frames.seen() {
+            return sight;
+        }
+        if let Some(byte) = self.looked {
+            return Sight::Byte(byte);
+        }
+        match source.next_byte() {
+            Taken::Byte(byte) => {
+                self.looked = Some(byte);
+                Sight::Byte(byte)
+            }
+            Taken::Note(note) => Sight::Note(note),
+            Taken::End => Sight::SourceEnd,
+            Taken::Fault => Sight::Fault,
+            Taken::Stop(limit) => Sight::Stop(limit),
+        }
+    }
+}
