@@ -2,11 +2,12 @@
 //!
 //!     roff_rows [FOLDER]
 //!
-//! The folder, the current one at first, is this crate's `data`. Its `rows` and `examples` have for
-//! each row a document `NAME.roff`, and what the program makes of it: the output in `NAME.txt`, the
-//! messages in `NAME.messages` and the exit status in `NAME.status`. The command and its options
-//! are in `NAME.args`, a word on a line. A file that isn't there says what is usual: no output, no
-//! messages, status 0, and the command `nroff` without options. The document is standard input.
+//! The folder, the current one at first, is this crate's `data`. The folders in its `rows`, and its
+//! `examples`, have for each row a document `NAME.roff`, and what the program makes of it: the
+//! output in `NAME.txt`, the messages in `NAME.messages` and the exit status in `NAME.status`. The
+//! command and its options are in `NAME.args`, a word on a line. A file that isn't there says what
+//! is usual: no output, no messages, status 0, and the command `nroff` without options. The document
+//! is standard input.
 #![tactic(auto)]
 
 mod machine;
@@ -26,10 +27,14 @@ fn main(rt: HostRuntime) -> Result<ExitCode> {
         Some(folder) => folder,
         None => String::from_str(rt.alloc(), ".")?,
     };
+    let mut folders = Vec::new(rt.alloc());
+    for name in &names_in(&rt, format!(in rt.alloc(); "{top}/rows")?.as_str(), "")? {
+        folders.push(format!(in rt.alloc(); "rows/{name}")?)?;
+    }
+    folders.push(String::from_str(rt.alloc(), "examples")?)?;
     let mut exit = ExitCode::SUCCESS;
-    for folder in ["rows", "examples"] {
-        let path = format!(in rt.alloc(); "{top}/{folder}")?;
-        if !run_rows(&rt, path.as_str())? {
+    for folder in &folders {
+        if !run_rows(&rt, top.as_str(), folder.as_str())? {
             exit = ExitCode::FAILURE;
         }
     }
@@ -37,14 +42,19 @@ fn main(rt: HostRuntime) -> Result<ExitCode> {
 }
 
 /// Runs the rows of a folder and prints how each went. Answers whether all of them hold.
-fn run_rows<R: Files + Print + AllocGlobal + Clone + Drop>(rt: &R, folder: &str) -> Result<bool> {
+fn run_rows<R: Files + Print + AllocGlobal + Clone + Drop>(
+    rt: &R,
+    top: &str,
+    folder: &str,
+) -> Result<bool> {
     let mut all_hold = true;
-    for name in &names_in(rt, folder)? {
-        let row = Row::read(rt, format!(in rt.alloc(); "{folder}/{name}")?.as_str())?;
+    let path = format!(in rt.alloc(); "{top}/{folder}")?;
+    for name in &names_in(rt, path.as_str(), ".roff")? {
+        let row = Row::read(rt, format!(in rt.alloc(); "{path}/{name}")?.as_str())?;
         match row.difference(rt.alloc())? {
-            None => println!(rt; "{name}")?,
+            None => println!(rt; "{folder}/{name}")?,
             Some(what) => {
-                println!(rt; "{name}: the {what} differs")?;
+                println!(rt; "{folder}/{name}: the {what} differs")?;
                 all_hold = false;
             }
         }
@@ -52,12 +62,16 @@ fn run_rows<R: Files + Print + AllocGlobal + Clone + Drop>(rt: &R, folder: &str)
     Ok(all_hold)
 }
 
-/// The names of the rows in a folder, sorted.
-fn names_in<R: Files + AllocGlobal + Clone + Drop>(rt: &R, folder: &str) -> Result<Vec<String>> {
+/// The names in a folder that have this ending, without it, sorted.
+fn names_in<R: Files + AllocGlobal + Clone + Drop>(
+    rt: &R,
+    folder: &str,
+    ending: &str,
+) -> Result<Vec<String>> {
     let mut names = Vec::new(rt.alloc());
     for entry in fs::read_dir(rt, folder)? {
         let entry = entry?;
-        if let Some(name) = entry.file_name().strip_suffix(".roff") {
+        if let Some(name) = entry.file_name().strip_suffix(ending) {
             names.push(String::from_str(rt.alloc(), name)?)?;
         }
     }

@@ -1,7 +1,7 @@
 #!/usr/bin/env python3
 """Measures the built program beside the formatters that are installed, and prints tables.
 
-    bench/run [PROGRAM]
+    bench/run.py [PROGRAM]
 
 PROGRAM is crates/roff/out/roff where none is given. Documents of made-up text (make_text.py) are written into a
 temporary folder; docs/BENCHMARKS.md says what each work is. Each formatter reads them from there and writes on
@@ -322,7 +322,7 @@ def main():
         sys.exit(__doc__.strip())
     program = os.path.abspath(sys.argv[1]) if sys.argv[1:] else PROGRAM
     if not is_there(program):
-        sys.exit(f"bench/run: {program} is missing; ./roff --version builds it")
+        sys.exit(f"bench/run.py: {program} is missing; ./roff --version builds it")
     if not is_there(GNU_TIME):
         print(f"{GNU_TIME} isn't installed: no memory is measured")
     formatters, counting, aims = [ours(program, "--bytes", "1000000000"), *peers()], counter(), []

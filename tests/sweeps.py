@@ -1,13 +1,13 @@
 #!/usr/bin/env python3
 """Runs the worked rows and the examples on the built program, within each of some limits in turn:
 
-    tests/sweeps [NAME ..]
+    tests/sweeps.py [NAME ..]
 
-Each document is formatted with `--bytes`, `--store`, `--stack`, `--depth`, `--names`, `--line`, `--environments` and
-`--conditions` from 0 up to the first value with which no limit stops it. Within a smaller limit the output must be a
-beginning of what it is within the next one, and so must the messages without the one that tells of the limit. Rows
-that have options are left out, and so are those that don't end with status 0. The exit status is 1 if an output or the
-messages aren't a beginning.
+NAME is a row or a folder of rows. Each document is formatted with `--bytes`, `--store`, `--stack`, `--depth`,
+`--names`, `--line`, `--environments` and `--conditions` from 0 up to the first value with which no limit stops it.
+Within a smaller limit the output must be a beginning of what it is within the next one, and so must the messages
+without the one that tells of the limit. Rows that have options are left out, and so are those that don't end with
+status 0. The exit status is 1 if an output or the messages aren't a beginning.
 """
 import pathlib
 import subprocess
@@ -50,11 +50,13 @@ def sweep(document, limit):
 
 def main():
     if not PROGRAM.exists():
-        raise SystemExit("tests/sweeps: %s is missing; ./roff --version builds it" % PROGRAM)
+        raise SystemExit("tests/sweeps.py: %s is missing; ./roff --version builds it" % PROGRAM)
     names = set(sys.argv[1:])
     failed = runs = documents = 0
-    for document in sorted(DATA.glob("*/*.roff")):
-        if any(document.with_suffix(ending).exists() for ending in LEFT_OUT) or names and document.stem not in names:
+    for document in sorted(DATA.rglob("*.roff")):
+        if any(document.with_suffix(ending).exists() for ending in LEFT_OUT):
+            continue
+        if names and not names & {document.stem, document.parent.name}:
             continue
         documents += 1
         for limit in LIMITS:

@@ -1,7 +1,7 @@
 #!/usr/bin/env python3
 """Counts the built program's instructions by stage, and prints a table and a graph.
 
-    bench/stages [--functions] [PROGRAM]
+    bench/stages.py [--functions] [PROGRAM]
 
 PROGRAM is crates/roff/out/roff where none is given. It formats a document of 300 KB of each kind (make_text.py) under
 callgrind. A function counts for the stage that its module belongs to, and one of a library, which belongs to none, for
@@ -31,13 +31,13 @@ KINDS = ("text", "requests", "registers", "code", "macros", "loop", "skipped")
 # the calls of the environment into functions of `Formatter`.
 STAGES = {
     "turn": ["roff_tools::job", "roff_engine::engine", "roff_engine::running"],
-    "source": ["roff_scan::source", "roff_tools"],
+    "source": ["roff_source::source", "roff_tools"],
     "unread": ["roff_scan::unread", "roff_scan::frames", "roff_scan::slots"],
-    "reader": ["roff_run", "roff_scan", "roff_num"],
+    "reader": ["roff_reader", "roff_run", "roff_scan", "roff_escape", "roff_source", "roff_num"],
     "formatter": ["roff_engine"],
     "environment": [
         "roff_lines",
-        "roff_run::environments",
+        "roff_reader::environments",
         "roff_engine::formatter::Formatter::end_word",
         "roff_engine::formatter::Formatter::perform_text",
     ],
@@ -97,7 +97,7 @@ def profile(program, kind, size, folder):
     words = ["valgrind", "--tool=callgrind", f"--callgrind-out-file={path}", program, "nroff", document]
     none = subprocess.DEVNULL
     if subprocess.run(words, stdin=none, stdout=none, stderr=none).returncode != 0:
-        sys.exit(f"bench/stages: {' '.join(words)} failed")
+        sys.exit(f"bench/stages.py: {' '.join(words)} failed")
     return read_profile(path)
 
 
@@ -149,7 +149,7 @@ def main():
         sys.exit(__doc__.strip())
     program = os.path.abspath(words[0]) if words else PROGRAM
     if not os.access(program, os.X_OK):
-        sys.exit(f"bench/stages: {program} is missing; ./roff --version builds it")
+        sys.exit(f"bench/stages.py: {program} is missing; ./roff --version builds it")
     stages, functions = {}, {}
     with tempfile.TemporaryDirectory() as folder:
         for kind in KINDS:

@@ -2,7 +2,7 @@
 # Formats a real text, the GNU General Public License, with the built program, and compares its lines
 # with those of the formatters that are installed:
 #
-#     tests/real_text [KIND ..]
+#     tests/real_text.sh [KIND ..]
 #
 # The text is formatted as it is, and as a document of each other kind below: with centred lines, temporary
 # indents, tabs, other spacing, interrupted words, and in two environments; and without filling. Adjusted
@@ -16,11 +16,11 @@ text=/usr/share/common-licenses/GPL-3
 kinds='text centred temporary_indents tabs unfilled spaced interrupted environments'
 
 if [ ! -x "$program" ]; then
-    echo "tests/real_text: $program is missing; ./roff --version builds it" >&2
+    echo "tests/real_text.sh: $program is missing; ./roff --version builds it" >&2
     exit 1
 fi
 if [ ! -r "$text" ]; then
-    echo "tests/real_text: $text is missing, so there is nothing to format" >&2
+    echo "tests/real_text.sh: $text is missing, so there is nothing to format" >&2
     exit 1
 fi
 work=$(mktemp -d) || exit 1
@@ -68,7 +68,7 @@ make() {
             printf '.ev 1\n.ll 50n\n.in 6n\n.ev\n'
             awk '{ sub(/^ */, "") } !/^$/ { print; next } ++n % 5 == 2 { print ".ev 1"; next }
                  n % 5 == 4 { printf ".br\n.ev\n"; next } { print }' "$work/plain" ;;
-        *) echo "tests/real_text: no document is named $1" >&2; return 1 ;;
+        *) echo "tests/real_text.sh: no document is named $1" >&2; return 1 ;;
     esac
 }
 

@@ -1,7 +1,7 @@
 #!/usr/bin/env python3
 """Times the store of texts, of strings and macros by name, and prints a table.
 
-    bench/store
+    bench/store.py
 
 The program of crates/store_bench does each work, which its head explains. Where it is missing or older than its
 sources, it is proved and built first. All works take turns, three times each, and the best time counts; the best time
@@ -59,15 +59,15 @@ def is_outdated():
 
 
 def build():
-    print("bench/store: proving and building crates/store_bench, which takes minutes", file=sys.stderr)
+    print("bench/store.py: proving and building crates/store_bench, which takes minutes", file=sys.stderr)
     words = ["rt", "run", "--", "none", "0", "0"]
     none = subprocess.DEVNULL
     try:
         status = subprocess.run(words, cwd=CRATE, stdin=none, stdout=none, stderr=none).returncode
     except FileNotFoundError:
-        sys.exit("bench/store: building needs the command rt of the Rattle toolchain, which isn't in PATH")
+        sys.exit("bench/store.py: building needs the command rt of the Rattle toolchain, which isn't in PATH")
     if status != 0 or not os.access(PROGRAM, os.X_OK):
-        sys.exit("bench/store: the build failed; rt run in crates/store_bench says why")
+        sys.exit("bench/store.py: the build failed; rt run in crates/store_bench says why")
     os.utime(PROGRAM)
 
 
@@ -79,7 +79,7 @@ def measure(work, times):
     seconds = time.perf_counter() - began
     calls = work.calls * times // work.times
     if said != f"{work.name} {calls}\n":
-        sys.exit(f"bench/store: {' '.join(words[1:])} did {said.strip()}, and not {calls} calls")
+        sys.exit(f"bench/store.py: {' '.join(words[1:])} did {said.strip()}, and not {calls} calls")
     return seconds
 
 

@@ -1,7 +1,7 @@
 #!/bin/sh
 # Runs the built program with limits that ask for more memory than it may have:
 #
-#     tests/no_memory
+#     tests/no_memory.sh
 #
 # It can't start: it must say so, write nothing and end with status 1. The exit status is 1 if it does
 # anything else.
@@ -14,7 +14,7 @@ memory=100000
 option=--store=1000000000
 
 if [ ! -x "$program" ]; then
-    echo "tests/no_memory: $program is missing; ./roff --version builds it" >&2
+    echo "tests/no_memory.sh: $program is missing; ./roff --version builds it" >&2
     exit 1
 fi
 work=$(mktemp -d) || exit 1

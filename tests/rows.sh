@@ -1,18 +1,19 @@
 #!/bin/sh
 # Runs the worked rows and the examples on the built program, with their real files:
 #
-#     tests/rows [NAME ..]
+#     tests/rows.sh [NAME ..]
 #
-# A row is a document NAME.roff, with its output in NAME.txt, its messages in NAME.messages, its exit
-# status in NAME.status and the words of the command line in NAME.args. What isn't there is usual: no
-# output, no messages, status 0, and the command nroff. The exit status is 1 if a row differs.
+# NAME is a row or a folder of rows. A row is a document NAME.roff, with its output in NAME.txt, its
+# messages in NAME.messages, its exit status in NAME.status and the words of the command line in
+# NAME.args. What isn't there is usual: no output, no messages, status 0, and the command nroff. The
+# exit status is 1 if a row differs.
 
 top=$(CDPATH='' cd -P -- "$(dirname -- "$0")/.." && pwd -P) || exit 1
 program=$top/crates/roff/out/roff
 data=$top/crates/roff_rows/data
 
 if [ ! -x "$program" ]; then
-    echo "tests/rows: $program is missing; ./roff --version builds it" >&2
+    echo "tests/rows.sh: $program is missing; ./roff --version builds it" >&2
     exit 1
 fi
 work=$(mktemp -d) || exit 1
@@ -42,7 +43,7 @@ run_row() {
             [ $ending != status ] || echo 0 >"$wanted"
         fi
         if ! cmp -s "$wanted" "$work/$ending"; then
-            echo "FAILED: $(basename "$row"): $ending; wanted (<) and written (>):"
+            echo "FAILED: ${row#"$data"/}: $ending; wanted (<) and written (>):"
             diff "$wanted" "$work/$ending" | head -n 20
             failures=$((failures + 1))
         fi
@@ -52,10 +53,12 @@ run_row() {
 
 failures=0
 rows=0
-for document in "$data"/rows/*.roff "$data"/examples/*.roff; do
-    name=$(basename "$document" .roff)
+for document in "$data"/rows/*/*.roff "$data"/examples/*.roff; do
+    row=${document%.roff}
+    name=${row##*/}
+    folder=${row%/*}
     case " ${*:-$name} " in
-        *" $name "*) run_row "${document%.roff}" ;;
+        *" $name "* | *" ${folder##*/} "*) run_row "$row" ;;
     esac
 done
 echo "$rows rows, $failures differences"

@@ -2,7 +2,7 @@
 """Gives the built program documents that nobody would write, most of them made of escapes, conditions, strings, macros
 and environments:
 
-    tests/hostile [KIND ..]
+    tests/hostile.py [KIND ..]
 
 Some are long, some nest deeply, some end in the middle; some have each byte behind a backslash, as a delimiter and
 in other places, and some are made at random, always the same. Each document is formatted twice. Both runs must end
@@ -437,7 +437,7 @@ def check_long(folder, name):
     front, text, behind, size = LONG[name]
     times = (size - len(front + behind)) // len(text)
     if times < 4:
-        raise SystemExit("tests/hostile: %s repeats its text %d times" % (name, times))
+        raise SystemExit("tests/hostile.py: %s repeats its text %d times" % (name, times))
     options = ROOM + LESS_TO_READ.get(name, ())
     whole, wrong = formatted(folder, name, front + text * times + behind, options)
     quarter, wrong_of_quarter = formatted(folder, name + ", a quarter", front + text * (times // 4) + behind, options)
@@ -503,14 +503,14 @@ def check_random(folder, name):
 
 def main():
     if not PROGRAM.exists():
-        raise SystemExit("tests/hostile: %s is missing; ./roff --version builds it" % PROGRAM)
+        raise SystemExit("tests/hostile.py: %s is missing; ./roff --version builds it" % PROGRAM)
     if not GNU_TIME.exists():
-        raise SystemExit("tests/hostile: %s is missing, which measures" % GNU_TIME)
+        raise SystemExit("tests/hostile.py: %s is missing, which measures" % GNU_TIME)
     checks = dict.fromkeys(LONG, check_long) | dict.fromkeys(FAR, check_far) | dict.fromkeys(NESTED, check_nested)
     checks |= {"bytes": check_bytes} | dict.fromkeys(RANDOM, check_random)
     kinds = sys.argv[1:] or list(checks)
     for kind in set(kinds) - set(checks):
-        raise SystemExit("tests/hostile: no documents are named %s" % kind)
+        raise SystemExit("tests/hostile.py: no documents are named %s" % kind)
     failures = []
     with tempfile.TemporaryDirectory() as folder:
         for kind in kinds:
