@@ -1,6 +1,6 @@
 use Rattle.std.proofs.Common.{◌≡◌, ◌+◌, ◌++◌, length, map, take}
 use Rattle.roff_lines.specs.LineBytes.Fronts.{written_mark}
-use Rattle.roff_lines.proofs.line_bytes.copy_over.Given as goal
+use Rattle.roff_lines.proofs.line_bytes.spreading.copy_over.Given as goal
 
 abbrev pub invariant-loop-taken : goal.invariant-loop-taken
 invariant-loop-taken l = record {

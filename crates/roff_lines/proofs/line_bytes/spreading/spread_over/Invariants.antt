@@ -1,7 +1,7 @@
 use Rattle.std.proofs.Common.{◌≡◌, ℕ, ◌+◌, ◌-◌, ◌*◌, ◌≤◌, length}
 use Rattle.std.specs.Prelude.{◌%◌}
 use Rattle.roff_lines.specs.LineBytes.Fronts.{SpreadsOver}
-use Rattle.roff_lines.proofs.line_bytes.spread_over.Given as goal
+use Rattle.roff_lines.proofs.line_bytes.spreading.spread_over.Given as goal
 
 abbrev pub invariant-loop-taken : goal.invariant-loop-taken
 invariant-loop-taken l =

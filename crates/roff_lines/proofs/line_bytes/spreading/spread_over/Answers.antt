@@ -2,7 +2,7 @@ use Rattle.std.proofs.Common.{◌≡◌, ℕ, suc, ◌+◌, ◌*◌, ◌≤◌, 
 use Rattle.std.proofs.lemmas.List.{length-set}
 use Rattle.roff_lines.proofs.SharedColumns.{over-behind}
 use Rattle.roff_lines.proofs.SpreadsOver.{SpreadsOver-blanks, SpreadsOver-glyph, spread-mark, spread-widened}
-use Rattle.roff_lines.proofs.line_bytes.spread_over.Goals as goal
+use Rattle.roff_lines.proofs.line_bytes.spreading.spread_over.Goals as goal
 
 pub loop-taken-preserved-then-byte-gt32 : goal.loop-taken-preserved-then-byte-gt32
 loop-taken-preserved-then-byte-gt32 c =

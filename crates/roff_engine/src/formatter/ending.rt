@@ -1,0 +1,118 @@
+//! Ends of what is half read, of lines, and of the input.
+
+ghost use Rattle.std.specs.Prelude.{[]};
+ghost use Rattle.roff_engine.specs.Clauses.{DoesTaking, closing_events, sinks, end_taking};
+ghost use Rattle.roff_engine.specs.Clauses.{half_ended};
+
+use super::Formatter;
+use crate::halt::Halt;
+use crate::sink::ByteSink;
+use roff_lines::Event;
+use roff_run::{AtOnce, PageEvent};
+use roff_scan::Unread;
+
+/// What finishes the last line.
+const CLOSING: [PageEvent; 2] = [
+    PageEvent::Text(Event::WordEnd),
+    PageEvent::Text(Event::Break),
+];
+
+impl Formatter {
+    /// Ends what is half read, before a newline that stays or at the end of the input.
+    pub(crate) fn take_half_end<O: ByteSink, E: ByteSink>(
+        &mut self,
+        unread: &mut Unread<PageEvent>,
+        out: &mut O,
+        err: &mut E,
+    ) -> Result<(), Halt>
+        ensures { DoesTaking (λ k. half_ended k self.old.reader.reading unread.old.input) []
+            self.old self.new unread.old unread.new
+            (sinks (O.sunk out.old) (E.sunk err.old))
+            (sinks (O.sunk out.new) (E.sunk err.new)) result }
+    {
+        if self.reader.decides(unread) {
+            return Ok(());
+        }
+        self.end_above(unread, out, err)
+    }
+
+    /// The same where that decides no condition, or where the result is kept: in a condition it
+    /// most often means nothing.
+    #[inline(always)]
+    fn end_above<O: ByteSink, E: ByteSink>(
+        &mut self,
+        unread: &mut Unread<PageEvent>,
+        out: &mut O,
+        err: &mut E,
+    ) -> Result<(), Halt>
+        ensures { DoesTaking (λ k. half_ended k self.old.reader.reading unread.old.input) []
+            self.old self.new unread.old unread.new
+            (sinks (O.sunk out.old) (E.sunk err.old))
+            (sinks (O.sunk out.new) (E.sunk err.new)) result }
+    {
+        match self.reader.end_above(unread) {
+            AtOnce::Done => Ok(()),
+            AtOnce::Found(found) => self.take_found(found, unread, out, err),
+            AtOnce::Not => self.end_as_read(unread, out, err),
+        }
+    }
+
+    /// The same by what the reader makes of it.
+    #[inline(never)]
+    fn end_as_read<O: ByteSink, E: ByteSink>(
+        &mut self,
+        unread: &mut Unread<PageEvent>,
+        out: &mut O,
+        err: &mut E,
+    ) -> Result<(), Halt>
+        ensures { DoesTaking (λ k. half_ended k self.old.reader.reading unread.old.input) []
+            self.old self.new unread.old unread.new
+            (sinks (O.sunk out.old) (E.sunk err.old))
+            (sinks (O.sunk out.new) (E.sunk err.new)) result }
+    {
+        let read = self.reader.end_half(&self.environments, unread);
+        match &read {
+            Ok(meaning) => self.act(meaning, unread.line(), out, err),
+            Err(limit) => Err(Halt::Refused(*limit)),
+        }
+    }
+
+    /// Ends the line that is unfinished where the input ends.
+    pub(crate) fn end_input_line<O: ByteSink, E: ByteSink>(
+        &mut self,
+        unread: &mut Unread<PageEvent>,
+        out: &mut O,
+        err: &mut E,
+    ) -> Result<(), Halt>
+        ensures { DoesTaking (λ k. end_taking k self.old.reader.reading unread.old.input) []
+            self.old self.new unread.old unread.new
+            (sinks (O.sunk out.old) (E.sunk err.old))
+            (sinks (O.sunk out.new) (E.sunk err.new)) result }
+    {
+        match self.reader.end_line_of_input(&self.environments, unread) {
+            Ok(meaning) => self.act(&meaning, unread.line(), out, err),
+            Err(limit) => Err(Halt::Refused(limit)),
+        }
+    }
+
+    /// The end of the input: an unfinished line ends, and the pending line is placed.
+    pub(crate) fn finish<O: ByteSink, E: ByteSink>(
+        &mut self,
+        unread: &mut Unread<PageEvent>,
+        out: &mut O,
+        err: &mut E,
+    ) -> Result<(), Halt>
+        ensures { DoesTaking (λ k. end_taking k self.old.reader.reading unread.old.input)
+            closing_events self.old self.new unread.old unread.new
+            (sinks (O.sunk out.old) (E.sunk err.old))
+            (sinks (O.sunk out.new) (E.sunk err.new)) result }
+    {
+        match self.reader.end_line_of_input(&self.environments, unread) {
+            Ok(meaning) => match self.act(&meaning, unread.line(), out, err) {
+                Ok(()) => self.perform_each(&CLOSING, out),
+                Err(halt) => Err(halt),
+            },
+            Err(limit) => Err(Halt::Refused(limit)),
+        }
+    }
+}

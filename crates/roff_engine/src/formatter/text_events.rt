@@ -1,0 +1,237 @@
+//! The events of the text, and those of a text line one behind another.
+
+ghost use Rattle.std.specs.Prelude.{[], ◌∷◌, ◌++◌, IsOkUnless, option_map};
+ghost use Rattle.roff_run.specs.Reading.TextLines.{blank_line, leading_blank_events, leading_glyph};
+ghost use Rattle.roff_run.specs.Reader.AtOnce.{text_byte_events};
+ghost use Rattle.roff_engine.specs.Clauses.{finished_of, Gap, Print, WordEnd, LineEnd, Break};
+ghost use Rattle.roff_engine.specs.Clauses.{finished_bytes};
+ghost use Rattle.roff_lines.specs.declared.event.Event.TheVariants.{Count};
+ghost use Rattle.roff_engine.specs.Clauses.{PerformsOnly, Text, Space, Puts, Sunk, Tab};
+
+use super::Formatter;
+use crate::block::Block;
+use crate::halt::Halt;
+use crate::sink::ByteSink;
+use roff_lines::{Glyph, Line};
+use roff_run::TextByte;
+
+impl Formatter {
+    /// Performs what a byte of a text line means.
+    #[inline(always)]
+    pub(super) fn perform_text_byte<O: ByteSink>(
+        &mut self,
+        byte: u8,
+        means: TextByte,
+        out: &mut O,
+    ) -> Result<(), Halt>
+        ensures { PerformsOnly (text_byte_events byte means) self.old self.new
+            (O.sunk out.old) (O.sunk out.new) result }
+    {
+        match means {
+            TextByte::Glyph(leading) => self.glyph_behind(leading, Glyph::Printed(byte)),
+            TextByte::Tab(leading) => self.tab_behind(leading),
+            TextByte::LeadingBlank(before) => self.leading_blank(before, out),
+            TextByte::LineEnd => self.end_text_line(out),
+            TextByte::BlankLine => self.blank_line(out),
+        }
+    }
+
+    /// Prints a glyph behind so many leading blanks.
+    #[inline(always)]
+    fn glyph_behind(&mut self, leading: u32, glyph: Glyph) -> Result<(), Halt>
+        ensures { (told : Sunk) →
+            PerformsOnly (leading_glyph leading ++ Text (Print glyph) ∷ [])
+            self.old self.new told told result }
+    {
+        if leading == 0 {
+            return self.glyph(glyph);
+        }
+        match self.glyph(Glyph::Blanks(leading)) {
+            Ok(()) => self.glyph(glyph),
+            Err(halt) => Err(halt),
+        }
+    }
+
+    /// Moves to the next tab stop behind so many leading blanks.
+    fn tab_behind(&mut self, leading: u32) -> Result<(), Halt>
+        ensures { (told : Sunk) → PerformsOnly (leading_glyph leading ++ Text Tab ∷ [])
+            self.old self.new told told result }
+    {
+        if leading == 0 {
+            return self.tab();
+        }
+        match self.glyph(Glyph::Blanks(leading)) {
+            Ok(()) => self.tab(),
+            Err(halt) => Err(halt),
+        }
+    }
+
+    /// A leading blank behind so many others: the first is a break.
+    #[inline(always)]
+    fn leading_blank<O: ByteSink>(&mut self, before: u32, out: &mut O) -> Result<(), Halt>
+        ensures { PerformsOnly (leading_blank_events before) self.old self.new
+            (O.sunk out.old) (O.sunk out.new) result }
+    {
+        if before == 0 {
+            return self.break_behind_word(out);
+        }
+        Ok(())
+    }
+
+    /// Ends the open word, and breaks.
+    fn break_behind_word<O: ByteSink>(&mut self, out: &mut O) -> Result<(), Halt>
+        ensures { PerformsOnly (Text WordEnd ∷ Text Break ∷ []) self.old self.new
+            (O.sunk out.old) (O.sunk out.new) result }
+    {
+        match self.end_word(out) {
+            Ok(()) => self.brk(out),
+            Err(halt) => Err(halt),
+        }
+    }
+
+    /// The end of a text line that isn't blank: the open word ends, and the line counts.
+    #[inline(always)]
+    fn end_text_line<O: ByteSink>(&mut self, out: &mut O) -> Result<(), Halt>
+        ensures { PerformsOnly (Text WordEnd ∷ Text LineEnd ∷ Text Count ∷ []) self.old self.new
+            (O.sunk out.old) (O.sunk out.new) result }
+    {
+        match self.end_word(out) {
+            Ok(()) => self.end_counted_line(out),
+            Err(halt) => Err(halt),
+        }
+    }
+
+    /// Ends a line of the input, which counts.
+    #[inline(always)]
+    fn end_counted_line<O: ByteSink>(&mut self, out: &mut O) -> Result<(), Halt>
+        ensures { PerformsOnly (Text LineEnd ∷ Text Count ∷ []) self.old self.new
+            (O.sunk out.old) (O.sunk out.new) result }
+    {
+        match self.end_line(out) {
+            Ok(()) => {
+                self.environments.in_force.lines.count();
+                Ok(())
+            }
+            Err(halt) => Err(halt),
+        }
+    }
+
+    /// The end of a blank line: the open word ends, and a break and a blank line come.
+    fn blank_line<O: ByteSink>(&mut self, out: &mut O) -> Result<(), Halt>
+        ensures { PerformsOnly blank_line self.old self.new
+            (O.sunk out.old) (O.sunk out.new) result }
+    {
+        match self.end_word(out) {
+            Ok(()) => self.break_and_space(out),
+            Err(halt) => Err(halt),
+        }
+    }
+
+    /// Breaks, and writes a blank line.
+    #[inline(always)]
+    fn break_and_space<O: ByteSink>(&mut self, out: &mut O) -> Result<(), Halt>
+        ensures { PerformsOnly (Text Break ∷ Space 1 ∷ []) self.old self.new
+            (O.sunk out.old) (O.sunk out.new) result }
+    {
+        match self.brk(out) {
+            Ok(()) => self.space(1, out),
+            Err(halt) => Err(halt),
+        }
+    }
+
+    /// Prints a glyph.
+    #[inline(always)]
+    pub(super) fn glyph(&mut self, glyph: Glyph) -> Result<(), Halt>
+        ensures { (told : Sunk) →
+            PerformsOnly (Text (Print glyph) ∷ []) self.old self.new told told result }
+    {
+        match self.environments.in_force.lines.glyph(glyph) {
+            Ok(()) => Ok(()),
+            Err(limit) => Err(Halt::Limit(limit)),
+        }
+    }
+
+    /// Moves to the next tab stop.
+    pub(super) fn tab(&mut self) -> Result<(), Halt>
+        ensures { (told : Sunk) →
+            PerformsOnly (Text Tab ∷ []) self.old self.new told told result }
+    {
+        match self.environments.in_force.lines.tab() {
+            Ok(()) => Ok(()),
+            Err(limit) => Err(Halt::Limit(limit)),
+        }
+    }
+
+    /// Ends the open word, behind which a gap of one blank stands.
+    #[inline(always)]
+    pub(super) fn gap_behind_word<O: ByteSink>(&mut self, out: &mut O) -> Result<(), Halt>
+        ensures { PerformsOnly (Text WordEnd ∷ Text (Gap 1) ∷ []) self.old self.new
+            (O.sunk out.old) (O.sunk out.new) result }
+    {
+        match self.end_word(out) {
+            Ok(()) => {
+                self.environments.in_force.lines.gap(1);
+                Ok(())
+            }
+            Err(halt) => Err(halt),
+        }
+    }
+
+    /// Ends the open word, and writes the line that it finishes.
+    pub(super) fn end_word<O: ByteSink>(&mut self, out: &mut O) -> Result<(), Halt>
+        ensures { PerformsOnly (Text WordEnd ∷ []) self.old self.new
+            (O.sunk out.old) (O.sunk out.new) result }
+    {
+        let line = self.environments.in_force.lines.end_word();
+        put_finished(&mut self.block, line, out)
+    }
+
+    /// Ends a line of the input, and writes the line that it finishes.
+    pub(super) fn end_line<O: ByteSink>(&mut self, out: &mut O) -> Result<(), Halt>
+        ensures { PerformsOnly (Text LineEnd ∷ []) self.old self.new
+            (O.sunk out.old) (O.sunk out.new) result }
+    {
+        let line = self.environments.in_force.lines.end_line();
+        put_finished(&mut self.block, line, out)
+    }
+
+    /// Finishes the pending line, and writes it.
+    pub(super) fn brk<O: ByteSink>(&mut self, out: &mut O) -> Result<(), Halt>
+        ensures { PerformsOnly (Text Break ∷ []) self.old self.new
+            (O.sunk out.old) (O.sunk out.new) result }
+    {
+        let line = self.environments.in_force.lines.brk();
+        put_finished(&mut self.block, line, out)
+    }
+
+    /// Writes blank lines.
+    pub(super) fn space<O: ByteSink>(&mut self, lines: u32, out: &mut O) -> Result<(), Halt>
+        ensures { PerformsOnly (Space lines ∷ []) self.old self.new
+            (O.sunk out.old) (O.sunk out.new) result }
+    {
+        match self.block.put_blank_lines(lines, out) {
+            Ok(()) => Ok(()),
+            Err(_) => Err(Halt::Output),
+        }
+    }
+}
+
+/// Writes the line that an event finished, if it finished one.
+#[inline(always)]
+fn put_finished<O: ByteSink>(
+    block: &mut Block,
+    line: Option<Line<'_>>,
+    out: &mut O,
+) -> Result<(), Halt>
+    ensures puts { Puts (O.sunk out.old) (O.sunk out.new)
+        (finished_bytes (option_map finished_of line.entry)) result }
+    ensures halt { IsOkUnless result Halt.Output }
+{
+    match line {
+        None => Ok(()),
+        Some(line) => match block.put_line(line, out) {
+            Ok(()) => Ok(()),
+            Err(_) => Err(Halt::Output),
+        },
+    }
+}

@@ -1,0 +1,186 @@
+//! Bytes that are taken at once: those that change nothing, and fronts of control lines.
+
+ghost use Rattle.std.specs.Prelude.{◌≡◌, ℕ, [], true, false, None};
+ghost use Rattle.roff_run.specs.ControlFronts.{BeginsControl};
+ghost use Rattle.roff_run.specs.Reading.{Passes};
+ghost use Rattle.roff_run.specs.Reading.Calls.{behind_return};
+ghost use Rattle.roff_run.specs.Stages.{EndsLine};
+ghost use Rattle.roff_scan.specs.Bytes.{is_passed};
+ghost use Rattle.roff_scan.specs.Halves.{newline_stays};
+ghost use Rattle.roff_scan.specs.Unread.{IsWithin};
+ghost use Rattle.roff_scan.specs.Unread.Calls.{PassesEnd, PassesReturn};
+ghost use Rattle.roff_engine.specs.Clauses.{Sunk, seen, due};
+
+use super::Running;
+use roff_scan::ByteSource;
+
+impl Running {
+    ghost use Rattle.roff_engine.specs.Running.Turning.{GoesFurther, GoesPast};
+
+    /// Takes bytes at once that stand in front: those of a control line's front, and those that
+    /// [`pass_line`](Running::pass_line) takes. Returns whether a line begins behind them.
+    #[inline(always)]
+    pub(crate) fn pass_over<S: ByteSource>(&mut self, source: &mut S) -> bool
+        ensures { (out err : Sunk) → GoesFurther result
+            (S.gives source.old) (S.gives source.new) (S.notes source.old) (S.notes source.new)
+            self.old self.new
+            (seen (S.failures source.old) out err) (seen (S.failures source.new) out err) }
+    {
+        if self.formatter.begins_control_line() && !self.unread.is_half_read() {
+            self.pass_control_line(source)
+        } else {
+            self.pass_line(source)
+        }
+    }
+
+    /// Takes the front of a control line at once, if it stands in front, and then bytes behind it, or
+    /// takes the end of a call. Returns whether a line begins behind them.
+    #[inline(never)]
+    fn pass_control_line<S: ByteSource>(&mut self, source: &mut S) -> bool
+        requires begins { BeginsControl self.old.formatter.reader.reading }
+        requires none_due { due self.old.formatter.reader.reading ≡ None }
+        requires none_half { self.old.unread.input.half ≡ [] }
+        ensures { (out err : Sunk) → GoesFurther result
+            (S.gives source.old) (S.gives source.new) (S.notes source.old) (S.notes source.new)
+            self.old self.new
+            (seen (S.failures source.old) out err) (seen (S.failures source.new) out err) }
+    {
+        if self.read_control_front(source) {
+            self.pass_line(source)
+        } else {
+            self.pass_return()
+        }
+    }
+
+    /// Takes the end of a call at once, if it stands in front. Returns whether it did.
+    #[inline(always)]
+    fn pass_return(&mut self) -> bool
+        ensures passes { result ≡ true → PassesReturn self.old.unread self.new.unread }
+        ensures within { result ≡ true → IsWithin self.new.unread }
+        ensures reads { result ≡ true → self.new ≡ record self.old {
+          formatter = record self.old.formatter {
+            reader = record self.old.formatter.reader {
+              reading = behind_return self.old.formatter.reader.reading;
+            };
+          };
+          unread = self.new.unread;
+        } }
+        ensures kept { result ≡ false → self.new ≡ self.old }
+    {
+        if !self.unread.pass_return() {
+            return false;
+        }
+        self.formatter.end_call();
+        true
+    }
+
+    /// Takes the front of a control line at once, if it stands in front. Whether it did.
+    #[inline(always)]
+    fn read_control_front<S: ByteSource>(&mut self, source: &mut S) -> bool
+        requires begins { BeginsControl self.old.formatter.reader.reading }
+        requires none_due { due self.old.formatter.reader.reading ≡ None }
+        requires none_half { self.old.unread.input.half ≡ [] }
+        ensures past { result ≡ true → (out err : Sunk) → GoesPast
+            (S.gives source.old) (S.gives source.new) (S.notes source.old) (S.notes source.new)
+            self.old self.new
+            (seen (S.failures source.old) out err) (seen (S.failures source.new) out err) }
+        ensures kept { result ≡ false → (self.new ≡ self.old) × (source.new ≡ source.old) }
+    {
+        self.formatter.read_control_front(&mut self.unread, source)
+    }
+
+    /// Passes over bytes that change nothing, and takes the newline behind them if it ends the line,
+    /// or takes those that [`pass_front`](Running::pass_front) takes. Returns whether a line begins
+    /// behind them.
+    #[inline(always)]
+    fn pass_line<S: ByteSource>(&mut self, source: &mut S) -> bool
+        ensures { (out err : Sunk) → GoesFurther result
+            (S.gives source.old) (S.gives source.new) (S.notes source.old) (S.notes source.new)
+            self.old self.new
+            (seen (S.failures source.old) out err) (seen (S.failures source.new) out err) }
+    {
+        match self.formatter.passes_over() {
+            Some(within_block) => self.pass_dropped(source, within_block),
+            None => {
+                self.pass_front(source);
+                self.pass_end()
+            }
+        }
+    }
+
+    /// Takes the end of a text at once, if it stands in front, and nothing is due or waits for what
+    /// follows. Returns whether it did.
+    #[inline(always)]
+    fn pass_end(&mut self) -> bool
+        ensures none_due { result ≡ true → due self.old.formatter.reader.reading ≡ None }
+        ensures stays { result ≡ true → newline_stays self.old.unread.input.half ≡ false }
+        ensures passes { result ≡ true → PassesEnd self.old.unread self.new.unread }
+        ensures within { result ≡ true → IsWithin self.new.unread }
+        ensures kept { result ≡ false → self.new ≡ self.old }
+        ensures others { self.new ≡ record self.old { unread = self.new.unread } }
+    {
+        if self.unread.newline_stays() || self.formatter.due().is_some() {
+            return false;
+        }
+        self.unread.pass_end()
+    }
+
+    /// Passes over bytes that change nothing, and takes the newline behind them if it ends the line.
+    /// Returns whether it did.
+    #[inline(never)]
+    fn pass_dropped<S: ByteSource>(&mut self, source: &mut S, within_block: bool) -> bool
+        requires passes { (b : ℕ) → is_passed within_block b ≡ true
+            → Passes self.old.formatter.reader.reading b }
+        requires ends { within_block ≡ false → EndsLine self.old.formatter.reader.reading }
+        requires none_due { due self.old.formatter.reader.reading ≡ None }
+        ensures { (out err : Sunk) → GoesFurther result
+            (S.gives source.old) (S.gives source.new) (S.notes source.old) (S.notes source.new)
+            self.old self.new
+            (seen (S.failures source.old) out err) (seen (S.failures source.new) out err) }
+    {
+        self.pass_plain(source, within_block);
+        if !within_block && !self.unread.is_half_read() {
+            self.end_dropped(source)
+        } else {
+            false
+        }
+    }
+
+    /// Passes over bytes of the source that stand ready, or of a body ahead, and change nothing, if
+    /// there are some.
+    #[inline(always)]
+    fn pass_plain<S: ByteSource>(&mut self, source: &mut S, within_block: bool)
+        requires passes { (b : ℕ) → is_passed within_block b ≡ true
+            → Passes self.old.formatter.reader.reading b }
+        requires none_due { due self.old.formatter.reader.reading ≡ None }
+        ensures past { (out err : Sunk) → GoesPast
+            (S.gives source.old) (S.gives source.new) (S.notes source.old) (S.notes source.new)
+            self.old self.new
+            (seen (S.failures source.old) out err) (seen (S.failures source.new) out err) }
+        ensures kept { self.new.formatter ≡ self.old.formatter }
+    {
+        if self.unread.is_none_ahead() {
+            self.unread.pass_over(source, within_block);
+        } else {
+            self.unread.pass_over_ahead(within_block);
+        }
+    }
+
+    /// Takes a newline at once that ends the line, if it stands in front. Returns whether it did.
+    #[inline(always)]
+    fn end_dropped<S: ByteSource>(&mut self, source: &mut S) -> bool
+        requires ends { EndsLine self.old.formatter.reader.reading }
+        requires none_due { due self.old.formatter.reader.reading ≡ None }
+        requires none_half { self.old.unread.input.half ≡ [] }
+        ensures { (out err : Sunk) → GoesFurther result
+            (S.gives source.old) (S.gives source.new) (S.notes source.old) (S.notes source.new)
+            self.old self.new
+            (seen (S.failures source.old) out err) (seen (S.failures source.new) out err) }
+    {
+        if !self.unread.pass_newline(source) {
+            return false;
+        }
+        self.formatter.begin_next_line();
+        true
+    }
+}

@@ -1,0 +1,69 @@
+//! What is due before anything more is taken.
+
+ghost use Rattle.std.specs.Prelude.{◌≡◌, ℕ, Some};
+ghost use Rattle.roff_engine.specs.Clauses.{Sunk, seen, due, Tells};
+
+use super::Running;
+use crate::report::report_text;
+use crate::sink::ByteSink;
+use roff_run::{Due, Status};
+
+impl Running {
+    ghost use Rattle.roff_engine.specs.Running.Turning.{Settles};
+
+    /// Does what is due before anything more is taken. An `Err` is the status of a run that ended.
+    #[inline(always)]
+    pub(crate) fn settle<O: ByteSink, E: ByteSink>(
+        &mut self,
+        out: &mut O,
+        err: &mut E,
+    ) -> Result<(), Status>
+        ensures { (failures : ℕ) → Settles self.old self.new
+            (seen failures (O.sunk out.old) (E.sunk err.old))
+            (seen failures (O.sunk out.new) (E.sunk err.new)) result }
+    {
+        match self.formatter.due() {
+            None => Ok(()),
+            Some(due) => self.settle_due(due, out, err),
+        }
+    }
+
+    /// The same of what is due.
+    #[inline(never)]
+    fn settle_due<O: ByteSink, E: ByteSink>(
+        &mut self,
+        what: Due,
+        out: &mut O,
+        err: &mut E,
+    ) -> Result<(), Status>
+        requires { due self.old.formatter.reader.reading ≡ Some what }
+        ensures { (failures : ℕ) → Settles self.old self.new
+            (seen failures (O.sunk out.old) (E.sunk err.old))
+            (seen failures (O.sunk out.new) (E.sunk err.new)) result }
+    {
+        match what {
+            Due::Tells { aborts } => self.tell_text(aborts, err),
+            Due::Leaves => {
+                self.unread.leave();
+                Err(self.finish(out, err))
+            }
+        }
+    }
+
+    /// Tells a message, which may end the run.
+    fn tell_text<E: ByteSink>(&mut self, aborts: bool, err: &mut E) -> Result<(), Status>
+        requires { due self.old.formatter.reader.reading ≡ Some (Tells aborts) }
+        ensures { (failures : ℕ) (out : Sunk) → Settles self.old self.new
+            (seen failures out (E.sunk err.old)) (seen failures out (E.sunk err.new)) result }
+    {
+        match report_text(self.unread.begun(), aborts, err) {
+            Ok(()) if aborts => Err(Status::Aborted),
+            Ok(()) => {
+                self.unread.begin_arguments();
+                self.formatter.begin_next_line();
+                Ok(())
+            }
+            Err(_) => Err(Status::Device),
+        }
+    }
+}

@@ -1,0 +1,176 @@
+//! Glyphs, tabs and gaps, and the open word on its way into the pending line.
+
+ghost use Rattle.std.specs.Prelude.{◌≡◌, ℕ, ◌+◌, ◌<◌, ◌≤◌, ◌^◌, ◌↔◌, not, ◌∷◌, ◌++◌, length};
+ghost use Rattle.std.specs.Prelude.{if◌then◌else◌, OnOk, OnErr, IsErr, IsOkUnless, option_map};
+ghost use Rattle.roff_lines.specs.Clauses.{Print, Tab, Gap, History, indent_by, moved};
+ghost use Rattle.roff_lines.specs.Clauses.{pending_length, shaped, text_width, gap_text};
+ghost use Rattle.roff_lines.specs.Clauses.{may_be_wide};
+
+use super::Env;
+use crate::glyph::{Glyph, kept_byte};
+use crate::line::{FURTHER_BLANK, GAP, UNPADDABLE};
+use crate::settings::Settings;
+use crate::shape::Shape;
+use crate::stretch::Stretch;
+use roff_num::Limit;
+use std::mem;
+
+/// More blanks than any line has room for: no more of a gap are counted.
+const MOST_BLANKS: u64 = 1 << 33;
+
+/// The greatest place on a line of the input, in columns, that is told from those behind it.
+const MOST_PLACE: u64 = 2147483647;
+
+impl Env {
+    ghost use Rattle.roff_lines.specs.Env.Kept.{with_word_ended, finished_by_word, word_finishes};
+    ghost use Rattle.roff_lines.specs.Env.Stands.{Stands, StandsBehind};
+
+    /// Adds a glyph to the open word, or opens one with it.
+    ///
+    /// # Errors
+    ///
+    /// [`Limit::Line`] if the pending line would pass its limit; the environment is then as it was.
+    #[inline(always)]
+    pub fn glyph(&mut self, glyph: Glyph) -> Result<(), Limit>
+        ensures stands { OnOk result (StandsBehind self.old (Print glyph) self.new) }
+        ensures limit { (line_cap : ℕ) (h : History) → Stands line_cap h self.old
+            → (IsErr result ↔ (line_cap < pending_length (Print glyph ∷ h))) }
+        ensures error { IsOkUnless result Limit.Line }
+        ensures unchanged { OnErr result (self.new ≡ self.old) }
+    {
+        let gap = if self.has_line { self.blanks } else { 0 };
+        let bytes = self.line.len() + self.word.len() + glyph.length();
+        if bytes as u64 + gap > self.cap as u64 {
+            return Err(Limit::Line);
+        }
+        match glyph {
+            Glyph::Printed(byte) => self.word.push(kept_byte(byte)),
+            Glyph::Blanks(columns) => self.word.push_times(UNPADDABLE, columns as usize),
+        }
+        self.is_open = true;
+        self.has_glyph = true;
+        self.ends_sentence = glyph.ends_sentence_behind(self.ends_sentence);
+        self.place = moved(self.place, glyph.width());
+        Ok(())
+    }
+
+    /// Adds a tab, a glyph of as many blanks as there are to the next tab stop.
+    ///
+    /// # Errors
+    ///
+    /// [`Limit::Line`] if the pending line would pass its limit; the environment is then as it was.
+    pub fn tab(&mut self) -> Result<(), Limit>
+        ensures stands { OnOk result (StandsBehind self.old Tab self.new) }
+        ensures limit { (line_cap : ℕ) (h : History) → Stands line_cap h self.old
+            → (IsErr result ↔ (line_cap < pending_length (Tab ∷ h))) }
+        ensures error { IsOkUnless result Limit.Line }
+        ensures unchanged { OnErr result (self.new ≡ self.old) }
+    {
+        let columns = self.stops.way_from(self.place);
+        self.glyph(Glyph::Blanks(columns))
+    }
+
+    /// Adds so many blanks to the gap between words.
+    pub fn gap(&mut self, blanks: u32)
+        ensures { StandsBehind self.old (Gap blanks) self.new }
+    {
+        if !self.is_open {
+            self.blanks = (self.blanks + u64::from(blanks)).min(MOST_BLANKS);
+        }
+        self.place = moved(self.place, u64::from(blanks));
+    }
+
+    /// Puts the open word into the pending line, or into a line of its own behind it.
+    pub(super) fn place_word(&mut self) -> Option<Shape>
+        ensures kept { self.new ≡ with_word_ended self.old }
+        ensures line { option_map (λ s. shaped s self.new.finished) result
+            ≡ finished_by_word self.old }
+    {
+        if self.join_word() {
+            return None;
+        }
+        let full = Shape::of(self.settings, true, self.indent, &self.line);
+        self.last_width = full.width();
+        self.finished.clear();
+        mem::swap(&mut self.finished, &mut self.line);
+        mem::swap(&mut self.line, &mut self.word);
+        self.indent = indent_of_line(self.temporary_indent, self.settings);
+        self.temporary_indent = None;
+        self.is_open = false;
+        self.blanks = 0;
+        Some(full)
+    }
+
+    /// Puts the open word into the pending line, where that finishes none. Says whether it does; else
+    /// the environment is as it was.
+    pub(super) fn join_word(&mut self) -> bool
+        ensures joins { result ≡ not (word_finishes self.old) }
+        ensures kept { self.new ≡ (if result then with_word_ended self.old else self.old) }
+    {
+        if !self.is_open {
+            return true;
+        }
+        if !self.has_line {
+            mem::swap(&mut self.line, &mut self.word);
+            self.indent = indent_of_line(self.temporary_indent, self.settings);
+            self.temporary_indent = None;
+            self.has_line = true;
+        } else if fits(
+            self.settings,
+            self.indent,
+            &self.line,
+            self.blanks,
+            &self.word,
+        ) {
+            push_gap(&mut self.line, self.blanks as usize);
+            self.line.append(&self.word);
+            self.word.clear();
+        } else {
+            return false;
+        }
+        self.is_open = false;
+        self.blanks = 0;
+        true
+    }
+}
+
+/// Whether a word fits behind a line: with the indent within the line length, and always where
+/// words aren't measured.
+fn fits(settings: Settings, indent: u32, line: &Stretch, blanks: u64, word: &Stretch) -> bool
+    requires blanks { blanks ≤ 2 ^ 33 }
+    requires line { line.now.room < 2 ^ 32 }
+    requires word { word.now.room < 2 ^ 32 }
+    ensures { let width = text_width line.now.text + blanks + text_width word.now.text in
+        result ≡ may_be_wide settings indent width }
+{
+    let width = line.width() + blanks + word.width();
+    !settings.fills() || u64::from(indent) + width <= u64::from(settings.line_length)
+}
+
+/// The indent of a line that begins: the one that is pending for it alone, else that in force.
+fn indent_of_line(temporary: Option<u32>, settings: Settings) -> u32
+    ensures { result ≡ indent_by temporary settings }
+{
+    match temporary {
+        Some(indent) => indent,
+        None => settings.indent,
+    }
+}
+
+/// A place with so many columns more.
+pub(super) fn moved(place: u32, columns: u64) -> u32
+    ensures { result ≡ moved columns place }
+{
+    u64::from(place).saturating_add(columns).min(MOST_PLACE) as u32
+}
+
+/// Adds a gap of so many blanks.
+pub(super) fn push_gap(line: &mut Stretch, blanks: usize)
+    requires { length line.old.text + blanks ≤ line.old.room }
+    ensures { line.new ≡ record line.old { text = line.old.text ++ gap_text blanks } }
+{
+    if blanks > 0 {
+        line.push(GAP);
+        line.push_times(FURTHER_BLANK, blanks - 1);
+    }
+}

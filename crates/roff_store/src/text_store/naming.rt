@@ -1,0 +1,92 @@
+//! What names stand for: bodies and requests that are set, appended to, removed and renamed.
+
+ghost use Rattle.std.specs.Prelude.{◌≡◌};
+
+use super::{Meaning, TextStore, body_len, release_body};
+use crate::strand::Strand;
+use crate::text::Entry;
+use roff_num::{Limit, Name};
+
+impl TextStore {
+    ghost use Rattle.roff_store.specs.Texts.{entry_given};
+    ghost use Rattle.roff_store.specs.TextCalls.{Append, Remove, Rename, Set, after, answered};
+
+    /// Lets a name stand for an entry from now on.
+    ///
+    /// # Errors
+    ///
+    /// [`Limit::Store`] if there would be too many bytes, else [`Limit::Names`] if the name is new
+    /// and the table is full; the store is then as it was.
+    pub fn set(&mut self, name: &Name, entry: Entry<'_>) -> Result<(), Limit>
+        ensures answer { result ≡ answered (Set name.now (entry_given entry.entry)) self.old }
+        ensures texts { self.new ≡ after (Set name.now (entry_given entry.entry)) self.old }
+    {
+        let text: &[u8] = match entry {
+            Entry::Body(text) => text,
+            Entry::Request(_) => &[],
+        };
+        let old = self.names.get(name);
+        let others = self.used - body_len(old);
+        if self.cap_bytes as usize - others < text.len() {
+            return Err(Limit::Store);
+        }
+        if old.is_none() && self.names.is_full() {
+            return Err(Limit::Names);
+        }
+        release_body(&mut self.chunks, old);
+        let meaning = match entry {
+            Entry::Body(text) => Meaning::Body(self.chunks.extend(Strand::empty(), text)),
+            Entry::Request(number) => Meaning::Request(number),
+        };
+        self.used = others + text.len();
+        self.names.put(name, meaning)
+    }
+
+    /// Puts bytes behind the body of a name (`.as`, `.am`). A request is replaced, and a name that
+    /// stands for nothing gets the bytes as its body.
+    ///
+    /// # Errors
+    ///
+    /// As for [`TextStore::set`].
+    pub fn append(&mut self, name: &Name, text: &[u8]) -> Result<(), Limit>
+        ensures answer { result ≡ answered (Append name.now text.now) self.old }
+        ensures texts { self.new ≡ after (Append name.now text.now) self.old }
+    {
+        let Some(Meaning::Body(body)) = self.names.get(name) else {
+            return self.set(name, Entry::Body(text));
+        };
+        if self.cap_bytes as usize - self.used < text.len() {
+            return Err(Limit::Store);
+        }
+        let longer = self.chunks.extend(body, text);
+        self.used += text.len();
+        self.names.put(name, Meaning::Body(longer))
+    }
+
+    /// Removes a name (`.rm`).
+    pub fn remove(&mut self, name: &Name)
+        ensures { self.new ≡ after (Remove name.now) self.old }
+    {
+        let old = self.names.get(name);
+        self.used -= body_len(old);
+        release_body(&mut self.chunks, old);
+        self.names.remove(name);
+    }
+
+    /// Lets one name stand for what another one stood for, which then stands for nothing (`.rn`).
+    /// Nothing changes where that one stands for nothing, or is the same name.
+    pub fn rename(&mut self, from: &Name, to: &Name)
+        ensures { self.new ≡ after (Rename from.now to.now) self.old }
+    {
+        if from.is_same(to) {
+            return;
+        }
+        if let Some(meaning) = self.names.get(from) {
+            let old = self.names.get(to);
+            self.used -= body_len(old);
+            release_body(&mut self.chunks, old);
+            self.names.remove(from);
+            self.names.put(to, meaning).unwrap();
+        }
+    }
+}
