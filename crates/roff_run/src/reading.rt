@@ -2,7 +2,7 @@
 
 ghost use Rattle.std.specs.Prelude.{◌≡◌, length, ◌==◌, take_while};
 ghost use Rattle.roff_run.specs.Reading.Ends.{due, line_ends_first};
-ghost use Rattle.roff_run.specs.Reading.{name_bytes};
+ghost use Rattle.roff_run.specs.ShortNames.{name_bytes};
 ghost use Rattle.roff_run.specs.ShortNames.{short_name};
 ghost use Rattle.roff_run.specs.Reading.ControlLines.{ends_name};
 ghost use Rattle.roff_scan.specs.Bytes.{blank};

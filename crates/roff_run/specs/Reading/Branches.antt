@@ -2,7 +2,8 @@
 use Rattle.std.specs.Prelude.{ℕ, ◌+◌, Bool, true, false, ◌&&◌, not, nat_le, min, Some, None, Option, if◌then◌else◌, ◌==◌}
 use Rattle.roff_scan.specs.Bytes.{newline, backslash}
 use Rattle.roff_scan.specs.Halves.{Reads, byte_read}
-use Rattle.roff_scan.specs.Input.{choosing, keeping}
+use Rattle.roff_scan.specs.Input.{choosing}
+use Rattle.roff_scan.specs.Input.Calls.{keeping}
 use Rattle.roff_scan.specs.declared.half.Decision.{Decision}
 use Rattle.roff_scan.specs.declared.half.Decision.TheVariants.{Is, OnPages}
 use Rattle.roff_scan.specs.declared.half.Read.{Read}
