@@ -1,7 +1,7 @@
 #!/usr/bin/env python3
 """Lists the contracts of the library crates, so that those of two trees can be compared wherever their functions stand:
 
-    tests/contracts [--all] [--definitions] [--names FILE] [OTHER_TREE]
+    tests/contracts.py [--all] [--definitions] [--names FILE] [OTHER_TREE]
 
 It prints a sorted list of all public functions, a line each, as `TYPE::function | signature | clauses`: those that are
 `pub`, those of public traits, and those of each `impl` of a trait, with the ghost members of these and the ghost fields
@@ -239,7 +239,7 @@ def renamed(listed, file):
     """The list with the names that the file gives in place of the old ones."""
     pairs = [line.split() for line in file.read_text(encoding="utf-8").splitlines() if line.strip()]
     if any(len(pair) != 2 for pair in pairs):
-        raise SystemExit("tests/contracts: each line of %s has two words, OLD NEW" % file)
+        raise SystemExit("tests/contracts.py: each line of %s has two words, OLD NEW" % file)
     new = dict(pairs)
     words = re.compile(r"(?<![\w'-])(%s)(?![\w'-])" % "|".join(map(re.escape, new)))
     change = lambda text: words.sub(lambda it: new[it[1]], text)
@@ -275,7 +275,7 @@ def compare(here, there, other):
 
 
 def main():
-    words = argparse.ArgumentParser(prog="tests/contracts")
+    words = argparse.ArgumentParser(prog="tests/contracts.py")
     words.add_argument("--all", action="store_true", help="private functions too, if they have clauses")
     words.add_argument("--definitions", action="store_true", help="the definitions of specs/ in place of functions")
     words.add_argument("--names", type=pathlib.Path, metavar="FILE", help="lines OLD NEW: names that were changed")
@@ -291,7 +291,7 @@ def main():
         return 0
     there = listed(given.other, given.all)
     if not there:
-        raise SystemExit("tests/contracts: %s has no crates to compare" % given.other)
+        raise SystemExit("tests/contracts.py: %s has no crates to compare" % given.other)
     return compare(here, renamed(there, given.names) if given.names else there, given.other)
 
 

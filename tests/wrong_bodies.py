@@ -1,7 +1,7 @@
 #!/usr/bin/env python3
 """Tries the wrong bodies of wrong-bodies/, which the gate leaves out: the check must refuse each by a contract.
 
-    tests/wrong_bodies [--list] [CRATE ..]
+    tests/wrong_bodies.py [--list] [CRATE ..]
 
 Those of the crates named, or of all, are put into a copy of the repository in a temporary folder, in place of the
 wrong bodies in must-fail/, and `rt must-fail` tries them there. The copy begins with what checks left in the crates'
@@ -166,7 +166,7 @@ def report(crates, found):
 
 
 def main():
-    words = argparse.ArgumentParser(prog="tests/wrong_bodies", usage="%(prog)s [--list] [CRATE ..]")
+    words = argparse.ArgumentParser(prog="tests/wrong_bodies.py", usage="%(prog)s [--list] [CRATE ..]")
     words.add_argument("--list", action="store_true", help="only list and count them")
     words.add_argument("crates", nargs="*", metavar="CRATE", help="a crate with wrong bodies; all, if none is named")
     given = words.parse_args()
