@@ -6,6 +6,7 @@ ghost use Rattle.roff_run.specs.Clauses.{EnvironmentsOf, LineStart, PageUnread, 
 ghost use Rattle.roff_run.specs.Clauses.{interrupted, first_unread, taking, due, line_ends_first};
 ghost use Rattle.roff_run.specs.Clauses.{behind_return};
 
+mod above;
 mod ahead;
 mod arguments;
 mod at_once;

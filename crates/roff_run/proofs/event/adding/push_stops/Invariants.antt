@@ -1,6 +1,6 @@
 use Rattle.std.proofs.Common.{◌≡◌, ◌≤◌, ◌+◌, ◌++◌, length}
 use Rattle.roff_run.proofs.TabStops.{stop_events}
-use Rattle.roff_run.proofs.event.push_stops.Given as goal
+use Rattle.roff_run.proofs.event.adding.push_stops.Given as goal
 
 abbrev pub invariant-loop-column : goal.invariant-loop-column
 invariant-loop-column l = record {

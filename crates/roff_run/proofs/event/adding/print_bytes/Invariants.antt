@@ -1,6 +1,6 @@
 use Rattle.std.proofs.Common.{◌≡◌, ◌≤◌, ◌+◌, ◌++◌, length}
 use Rattle.roff_run.proofs.Printing.{prints}
-use Rattle.roff_run.proofs.event.print_bytes.Given as goal
+use Rattle.roff_run.proofs.event.adding.print_bytes.Given as goal
 
 abbrev pub invariant-loop-byte : goal.invariant-loop-byte
 invariant-loop-byte l = record {

@@ -1,7 +1,7 @@
 use Rattle.std.proofs.Common.{◌≡◌, ◌∷◌, ◌+◌, length, rules, refl, arith, sym, ◌∙◌, length-append}
 use Rattle.std.proofs.lemmas.List.{nil_from_length}
 use Rattle.roff_run.proofs.Printing.{prints-none, prints-split}
-use Rattle.roff_run.proofs.event.print_bytes.Goals as goal
+use Rattle.roff_run.proofs.event.adding.print_bytes.Goals as goal
 
 pub loop-byte-init : goal.loop-byte-init
 loop-byte-init c = record { items = refl; room = c.requires }

@@ -1,7 +1,7 @@
 use Rattle.std.proofs.Common.{sym}
 use Rattle.roff_scan.specs.Input.{holding_text}
 use Rattle.roff_run.proofs.ReadAtOnce.{refused-stays}
-use Rattle.roff_run.proofs.reader.at_once.goes_on_above.Goals as goal
+use Rattle.roff_run.proofs.reader.above.goes_on_above.Goals as goal
 
 pub returns-in-Err : goal.returns-in-Err
 returns-in-Err c =

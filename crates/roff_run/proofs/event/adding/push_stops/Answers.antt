@@ -1,7 +1,7 @@
 use Rattle.std.proofs.Common.{◌≡◌, ◌∷◌, ◌+◌, length, rules, refl, arith, sym, ◌∙◌, length-append}
 use Rattle.std.proofs.lemmas.List.{nil_from_length}
 use Rattle.roff_run.proofs.TabStops.{stop_events-none, stop_events-split}
-use Rattle.roff_run.proofs.event.push_stops.Goals as goal
+use Rattle.roff_run.proofs.event.adding.push_stops.Goals as goal
 
 pub loop-column-init : goal.loop-column-init
 loop-column-init c = record { items = refl; room = c.requires }

@@ -1,0 +1,113 @@
+//! What is read behind something.
+
+ghost use Rattle.std.specs.Prelude.{◌≡◌};
+ghost use Rattle.roff_run.specs.Reading.{PageInput, reading_behind, branch_of, counted_if};
+ghost use Rattle.roff_run.specs.Reading.{going_on, kept_taking, dropped_taking, skipping_taking};
+ghost use Rattle.roff_run.specs.Reading.{behind_return};
+ghost use Rattle.roff_run.specs.Registers.{Known};
+ghost use Rattle.roff_run.specs.declared.reading.Reading.TheVariants.{Control as BehindControl};
+
+use super::{Reading, ends_name};
+use crate::request::LineReading;
+
+impl Reading {
+    /// Where a branch of a condition begins, which is read or skipped.
+    pub(crate) fn branch(is_read: bool) -> Reading
+        ensures { result ≡ branch_of is_read }
+    {
+        if is_read {
+            Reading::Branch
+        } else {
+            Reading::Skipping {
+                opened: 0,
+                closed: 0,
+                behind: false,
+            }
+        }
+    }
+
+    /// What is read behind a request's line, by how that is read.
+    pub(crate) fn behind_line(line: LineReading) -> Reading
+        ensures { result ≡ reading_behind line }
+    {
+        match line {
+            LineReading::ByLastLine => Reading::Exiting,
+            LineReading::ByArguments => Reading::LineStart,
+            LineReading::ByCondition { .. } => Reading::LineStart,
+            LineReading::ByElse => Reading::LineStart,
+            LineReading::ByLines(_) => Reading::LineStart,
+            LineReading::ByMessage { .. } => Reading::LineStart,
+            LineReading::ByString { .. } => Reading::LineStart,
+        }
+    }
+
+    /// What is read behind a byte of a branch that is skipped, in which so many braces were opened
+    /// and closed.
+    #[inline(always)]
+    pub(crate) fn behind_skipped(opened: u32, closed: u32, behind: bool, byte: u8) -> Reading
+        ensures { (i : PageInput) → skipping_taking i opened closed behind byte ≡ going_on i result }
+    {
+        if behind {
+            return Reading::Skipping {
+                opened: counted_if(byte == b'{', opened),
+                closed: counted_if(byte == b'}', closed),
+                behind: false,
+            };
+        }
+        if byte == b'\n' && opened <= closed {
+            return Reading::LineStart;
+        }
+        Reading::Skipping {
+            opened,
+            closed,
+            behind: byte == b'\\',
+        }
+    }
+
+    /// What is read behind a byte behind a control line's dot or apostrophe, and the blanks there.
+    pub(crate) fn behind_control(breaks: bool, byte: u8) -> Reading
+        ensures { (k : Known) (i : PageInput)
+            → kept_taking k (BehindControl breaks) i byte ≡ going_on i result }
+    {
+        if byte == b' ' || byte == b'\t' {
+            Reading::Control { breaks }
+        } else if ends_name(byte) {
+            Reading::behind_dropped(byte)
+        } else {
+            Reading::Name {
+                breaks,
+                first: byte,
+            }
+        }
+    }
+
+    /// What is read behind the end of a body that a line called: a line begins, unless a control line
+    /// is being read.
+    pub(crate) fn behind_return(self) -> Reading
+        ensures { result ≡ behind_return self }
+    {
+        match self {
+            Reading::Branch | Reading::Braced | Reading::Text(_) => Reading::LineStart,
+            reading => reading,
+        }
+    }
+
+    /// What is read behind a byte of a line that is dropped.
+    pub(crate) fn behind_dropped(byte: u8) -> Reading
+        ensures { (i : PageInput) → dropped_taking i byte ≡ going_on i result }
+    {
+        if byte == b'\n' {
+            Reading::LineStart
+        } else {
+            Reading::Dropped
+        }
+    }
+}
+
+/// A count of braces, with one more if this is so.
+#[inline(always)]
+fn counted_if(so: bool, count: u32) -> u32
+    ensures { result ≡ counted_if so count }
+{
+    if so { count.saturating_add(1) } else { count }
+}
