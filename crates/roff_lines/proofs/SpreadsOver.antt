@@ -1,8 +1,8 @@
 -- A text that is written over blanks, byte by byte.
-use Rattle.std.proofs.Common.{◌≡◌, ℕ, zero, suc, ◌+◌, ◌-◌, ◌*◌, ◌<◌, ◌≤◌, List, [], ◌∷◌, ◌++◌, length, take, drop, slice_index_or, slice_set, replicate, refl, sym, ap, ◌∙◌, arith, append_assoc, append-nil}
+use Rattle.std.proofs.Common.{◌≡◌, ℕ, zero, suc, ◌+◌, ◌-◌, ◌*◌, ◌<◌, ◌≤◌, List, [], ◌∷◌, ◌++◌, length, take, drop, slice_index_or, slice_set, replicate, refl, sym, ap, ◌∙◌, arith, append_assoc}
 use Rattle.std.specs.Prelude.{◌%◌}
 use Rattle.std.proofs.Math.Seq.{drop-cons, set-append_seam, take-append_seam, take-append-add}
-use Rattle.std.proofs.lemmas.List.{length-append, length-replicate, length-take, replicate-append-replicate, take-append-drop, take_all}
+use Rattle.std.proofs.lemmas.List.{length-append, length-replicate, length-take, replicate-append-replicate, take_all}
 use Rattle.roff_lines.specs.Columns.{spaces, spread}
 use Rattle.roff_lines.specs.LineBytes.Fronts.{Moves, SpreadsOver, WritesOver}
 use Rattle.roff_lines.proofs.GlyphsInFront.{spread-glyph}
@@ -26,19 +26,6 @@ pub spread-mark : (spare gaps i b : ℕ) (rest : List ℕ) → b ≤ 1 → sprea
 spread-mark spare gaps i zero rest low = refl
 spread-mark spare gaps i (suc zero) rest low = refl
 spread-mark spare gaps i (suc (suc b)) rest low = absurd (omega arith)
-
--- nothing is written yet
-pub SpreadsOver-nothing : (spare gaps passed start : ℕ) (text out : List ℕ) → start ≤ length out → drop start out ≡ spaces (length out - start)
-    → SpreadsOver spare gaps passed passed 0 start start text out out
-SpreadsOver-nothing spare gaps passed start text out within blank = record {
-  moved = [];
-  place = omega arith;
-  within = within;
-  written =
-      sym (ap (λ (xs : List ℕ). xs ++ spaces (length out - start)) (append-nil (take start out))
-      ∙ ap (λ (xs : List ℕ). take start out ++ xs) (sym blank) ∙ take-append-drop start out);
-  rest = refl;
-}
 
 module _ (spare gaps passed passed_then taken start end : ℕ) (text out out_then : List ℕ)
     (s : SpreadsOver spare gaps passed passed_then taken start end text out out_then) (more : taken < length text) where

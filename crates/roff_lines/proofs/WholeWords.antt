@@ -302,7 +302,3 @@ module _ (k : Kept) (room : ℕ) (line : k.has_line ≡ true) (closed : k.is_ope
       joined = ap (λ (xs : List ℕ). take told bytes ++ xs) is_rest ∙ take-append-drop told bytes;
       told = subst (Tells (take told bytes) k) (ap (λ (text : List ℕ). with_words text k) take-text ∙ sym told_new) TellsWords-told.tells;
     }
-
--- where nothing is told
-pub TellsFront-nothing : (bytes : List ℕ) (k : Kept) → TellsFront bytes bytes k k
-TellsFront-nothing bytes k = record { front = []; joined = refl; told = record { quiet = λ line_cap h s. tt; stands = λ line_cap h s. s } }

@@ -351,13 +351,3 @@ Took-append first old new taken more took then_took = record {
   some = then_took.some;
   some_given = then_took.some_given;
 }
-
--- nothing was taken yet
-pub Took-nothing : (gives : Tape → Type 0) (t : Tape) → gives t → Took gives gives []
-Took-nothing gives t may = record { before = λ t may. may; some = t; some_given = may }
-
--- a call behind others took its items behind theirs
-pub Took-then-asked : (first old new : Tape → Type 0) (taken : List Item) (asked : Bool) (a : Answer) → Took first old taken → Asked old new asked a
-    → Took first new (taken ++ items_asked asked a)
-Took-then-asked first old new taken asked a took answers =
-    Took-append first old new taken (items_asked asked a) took (Took-asked old new took.some took.some_given asked a answers)

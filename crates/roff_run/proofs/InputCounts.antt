@@ -251,10 +251,6 @@ first_passed-texts l rs i there texts same few none none_there =
     (first_not Diversions (behind_making l now) _ (ap (λ (n : ℕ). nat_lt l.diversions (n - 1)) same ∙ making.0)
     (first_not Store (behind_store l now) _ (not_above l.store (stored there) (stored now) few (stored_few l there names_there.1)) store.1))
 
--- taking an item raises no count
-pub input_refusal-taking : (l : Limits) (a : Answer) (u : Unread PageEvent) → input_refusal l u.input ≡ None → input_refusal l (taking a u).1.input ≡ None
-input_refusal-taking l a u none = input_refusal-no_more l (taking a u).1.input u.input (NoMore-taking a u) none
-
 pub first_passed-taking : (l : Limits) (rs : AllRegisters) (a : Answer) (u : Unread PageEvent)
     → first_passed l (counts_in rs u.input) ≡ None → first_passed l (counts_in rs (taking a u).1.input) ≡ None
 first_passed-taking l rs a u none = first_passed-no_more l rs (taking a u).1.input u.input (NoMore-taking a u) none

@@ -1,6 +1,5 @@
 pub mod EnvironmentRing
 pub mod TabStops
-pub mod BreakEvents
 pub mod Leads
 pub mod Beginnings
 pub mod PerformedOrStopped

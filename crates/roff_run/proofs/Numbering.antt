@@ -1,5 +1,5 @@
 -- Number registers that are set and removed, by the arguments that are given.
-use Rattle.std.proofs.Common.{◌≡◌, ℕ, ℤ, Bool, true, false, cond, List, [], ◌∷◌, ◌++◌, map, take, drop, slice_get, IfSome, Some, Result, arith, ap, refl, sym, ◌∙◌}
+use Rattle.std.proofs.Common.{◌≡◌, ℕ, ℤ, Bool, true, false, cond, List, [], ◌∷◌, ◌++◌, take, drop, slice_get, IfSome, Some, Result, arith, ap, refl, sym, ◌∙◌}
 use Rattle.std.specs.Prelude.{filter}
 use Rattle.std.proofs.lemmas.List.{take-append-drop}
 use Rattle.std.proofs.lemmas.List.Elements.{filter-append}
@@ -7,12 +7,11 @@ use Rattle.std.proofs.lemmas.Bool.Decides.{nat_tests}
 use Rattle.roff_num.specs.declared.num.Num.{Num}
 use Rattle.roff_num.specs.declared.num.NumFault.{NumFault}
 use Rattle.roff_num.specs.declared.num.Scale.TheVariants.{Units}
-use Rattle.roff_scan.specs.Arguments.{has_byte, kept, kept_by_place}
 use Rattle.roff_run.specs.Numbers.{value_beside}
 use Rattle.roff_run.specs.Registers.{Known, value_in_force}
 use Rattle.roff_run.specs.Request.Coded.{register_named}
 use Rattle.roff_run.specs.Requests.Effects.{Done}
-use Rattle.roff_run.specs.Requests.Numbering.{if_named, increment_given, name_given, names_given, set_register, set_to}
+use Rattle.roff_run.specs.Requests.Numbering.{if_named, increment_given, set_register, set_to}
 
 -- an argument that has a byte gives a name
 if_named-some : (c : ℕ) (text : List ℕ) (done : Done) → if_named (c ∷ text) done ≡ done
@@ -66,7 +65,3 @@ filter-end p n xs =
     ∙ ap (λ (ys : List (List ℕ)). filter p (take n xs) ++ ys) (filter-filter p (drop n xs))
     ∙ sym (filter-append p (take n xs) (drop n xs))
     ∙ ap (filter p) (take-append-drop n xs)
-
--- the arguments that are kept give all names
-pub names_given-kept : (texts : List (List ℕ)) → names_given (kept texts) ≡ names_given texts
-names_given-kept texts = ap (map name_given) (filter-end has_byte kept_by_place texts)

@@ -33,7 +33,7 @@ use Rattle.roff_run.specs.declared.reader.Meaning.{Meaning}
 use Rattle.roff_run.specs.declared.reading.Reading.{Reading}
 use Rattle.roff_run.specs.declared.reading.Reading.TheVariants.{StringName, StringText, Telling}
 use Rattle.roff_run.specs.declared.reading.ShortName.{ShortName}
-use Rattle.roff_run.proofs.InputCounts.{NoMore, first_passed-few_names, input_refusal-no_more}
+use Rattle.roff_run.proofs.InputCounts.{first_passed-few_names}
 use Rattle.roff_run.proofs.TakesAs.{Takes-elsewhere, few_names, passed_none, passed_one}
 
 -- what is no unit there
@@ -77,22 +77,6 @@ IsInputNow-elsewhere : (i j : PageInput) (before behind : PageUnread) (result : 
     → IsInputNow i (record before { input = j }) behind result → IsInputNow i before behind result
 IsInputNow-elsewhere i j before behind (Ok done) now = now
 IsInputNow-elsewhere i j before behind (Err limit) now = now
-
-pub InputBecame-behind : (f : PageInput → PageInput) (j : PageInput) (before mid behind : PageUnread) (result : Result (Unit {0}) Limit)
-    → mid ≡ record before { input = j } → (result, behind) ≡ changing (f mid.input) mid → InputBecame (f j) before behind result
-InputBecame-behind f j before mid behind result came changes = record {
-  becomes = λ within.
-      let there : PageUnread = record before { input = j } in
-      let changed : (result, behind) ≡ changing (f j) there = subst (λ (u : PageUnread). (result, behind) ≡ changing (f u.input) u) came changes in
-      IsInputNow-elsewhere (f j) j before behind result (IsInputNow-changing (f j) there behind result changed);
-}
-
--- the input counts for no more
-pub InputBecame-no_more : (i : PageInput) (before behind : PageUnread) (done : Unit {0}) → NoMore i before.input → behind ≡ record before { input = i }
-    → InputBecame i before behind (Ok done)
-InputBecame-no_more i before behind done less came = record {
-  becomes = λ within. (came, input_refusal-no_more before.limits i before.input less within);
-}
 
 -- no limit refuses the input of a reader that is ready
 pub refused_none : (r : Capped) (u : PageUnread) → IsReady r u → input_refusal u.limits u.input ≡ None

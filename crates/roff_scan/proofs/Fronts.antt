@@ -45,10 +45,6 @@ begins front bytes most is =
       few = omega (arith, cut);
     }
 
--- none of them
-pub begins-none : (bytes : List ℕ) (most : ℕ) → Begins [] bytes most
-begins-none bytes most = record { same = refl; among = omega arith; few = omega arith }
-
 -- what begins a beginning begins the whole
 begins-further : (front given bytes : List ℕ) (most : ℕ) → Begins front given most → given ≡ take (length given) bytes → Begins front bytes most
 begins-further front given bytes most front_begins is =

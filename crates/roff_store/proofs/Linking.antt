@@ -1,6 +1,6 @@
 -- How the slots are linked into their buckets, and one is taken out.
-use Rattle.std.proofs.Common.{◌≡◌, ◌≢◌, ℕ, zero, suc, ◌+◌, ◌<◌, ◌≤◌, true, false, List, [], ◌∷◌, ◌++◌, length, take, set, get_or, replicate, Some, refl, sym, ap, ◌∙◌, arith, length-take-le}
-use Rattle.std.proofs.lemmas.List.{length-set, take_all, take_more, take_more_set, map-set, length-map, map_push, get_or-replicate, length-replicate}
+use Rattle.std.proofs.Common.{◌≡◌, ◌≢◌, ℕ, zero, suc, ◌+◌, ◌<◌, true, false, List, [], ◌∷◌, ◌++◌, length, take, set, get_or, replicate, Some, refl, sym, ap, ◌∙◌, arith, length-take-le}
+use Rattle.std.proofs.lemmas.List.{length-set, take_more, take_more_set, map-set, length-map, map_push, get_or-replicate, length-replicate}
 use Rattle.std.proofs.lemmas.Option.{slice_get_within}
 use Rattle.std.specs.List.{slice_get}
 use Rattle.roff_store.specs.declared.name_table.Slot.{Slot}
@@ -9,7 +9,7 @@ use Rattle.roff_store.specs.Named.{Named}
 use Rattle.roff_store.specs.NameTable.Slots.{entries_in, slot_bucket, buckets_of, links_of, AreLinked, IsIndexed}
 use Rattle.roff_store.proofs.Slots.{all_used, get_or-map_at, map-set_same, slot_bucket-used, entries_in-set_older}
 use Rattle.roff_store.proofs.Search.{link_at}
-use Rattle.roff_store.proofs.Links.{AreLinked-none, AreLinked-push, AreLinked-unlink_head, AreLinked-unlink_newer}
+use Rattle.roff_store.proofs.Links.{AreLinked-push, AreLinked-unlink_head, AreLinked-unlink_newer}
 
 -- heads that are all 0
 pub clear_heads : (heads : List ℕ) (count : ℕ) → heads ≡ replicate count 0
@@ -22,11 +22,6 @@ pub record Linked {E : Type 0} (entries : Named E) (slots : List (Slot E)) (head
   pub same : entries_in slots ≡ entries
   pub full : length entries ≡ length slots
   pub index : AreLinked (take place (buckets_of slots)) (take place (links_of slots)) heads
-
--- none are linked as it begins
-pub Linked-start : {E : Type 0} (slots : List (Slot E)) (heads : List ℕ) → length (entries_in slots) ≡ length slots
-    → length heads ≡ bucket_count → ((bucket : ℕ) → bucket < bucket_count → get_or heads bucket 0 ≡ 0) → Linked (entries_in slots) slots heads 0
-Linked-start slots heads full long clear = record { same = refl; full = full; index = AreLinked-none heads long clear }
 
 -- one more is linked, in front of its bucket
 pub Linked-step : {E : Type 0} (entries : Named E) (slots : List (Slot E)) (heads : List ℕ) (place : ℕ) (slot : Slot E)
@@ -58,14 +53,6 @@ Linked-step {E} entries slots heads place slot here below linked =
         take_more_set (links_of slots) place head (omega arith),
       ) (rw front at pushed);
     }
-
--- all are linked as it ends
-pub Linked-all : {E : Type 0} (entries : Named E) (slots : List (Slot E)) (heads : List ℕ) (place : ℕ) → length slots ≤ place
-    → Linked entries slots heads place → IsIndexed slots heads
-Linked-all entries slots heads place end linked =
-    let long : length (buckets_of slots) ≡ length slots = length-map slots slot_bucket in
-    let long_links : length (links_of slots) ≡ length slots = length-map slots (λ s. s.older) in
-    rw (take_all place (buckets_of slots) (omega arith), take_all place (links_of slots) (omega arith)) at linked.index
 
 -- a slot added behind the others is indexed too
 pub IsIndexed-push : {E : Type 0} (slots : List (Slot E)) (heads : List ℕ) (slot : Slot E) → IsIndexed slots heads

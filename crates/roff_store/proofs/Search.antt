@@ -66,22 +66,6 @@ pub record Reached {E : Type 0} (slots : List (Slot E)) (heads : List ℕ) (buck
   pub same : (k : ℕ) → last ≡ k + 1 → get_or (buckets_of slots) k 0 ≡ bucket
   pub from : MatchOption newer (get_or heads bucket 0 ≡ last) (λ k. LeadsTo slots k bucket last)
 
--- it begins at the last slot of the bucket
-pub Reached-start : {E : Type 0} (slots : List (Slot E)) (heads : List ℕ) (bucket place : ℕ) → IsIndexed slots heads
-    → bucket < bucket_count → place < length slots → get_or (buckets_of slots) place 0 ≡ bucket
-    → Reached slots heads bucket place None (get_or heads bucket 0)
-Reached-start slots heads bucket place index small inside lies =
-    let first = index.head bucket small in
-    let long : length (buckets_of slots) ≡ length slots = length-map slots slot_bucket in
-    let low = first.within in
-    let apart = first.none_behind place in
-    record {
-      above = grind arith;
-      within = omega arith;
-      same = first.same;
-      from = refl;
-    }
-
 -- and goes on where that is another slot
 pub Reached-step : {E : Type 0} (slots : List (Slot E)) (heads : List ℕ) (bucket place : ℕ) (newer : Option ℕ) (last at : ℕ) (slot : Slot E)
     → IsIndexed slots heads → bucket < bucket_count → get_or (buckets_of slots) place 0 ≡ bucket → Reached slots heads bucket place newer last

@@ -6,7 +6,7 @@ use Rattle.std.proofs.lemmas.List.{length-append}
 use Rattle.roff_num.specs.declared.limit.Limit.{Limit}
 use Rattle.roff_num.specs.declared.limit.Limit.TheVariants.{Names, Store}
 use Rattle.roff_store.specs.Named.{Table, admitted, entry_of, has_room, with_entry}
-use Rattle.roff_store.specs.TextCalls.{Set, PushOpen, Enter, answered, made, open_text, text_before, within_bytes}
+use Rattle.roff_store.specs.TextCalls.{Set, Enter, answered, made, open_text, text_before, within_bytes}
 use Rattle.roff_store.specs.TextLaws.{IsCounted}
 use Rattle.roff_store.specs.Texts.{Entry, Body, Texts, used}
 use Rattle.roff_store.proofs.CountedTexts.{before-few, bytes-with, sum-dropped}
@@ -64,10 +64,6 @@ pub answered-set : (name : List ℕ) (entry : Entry) (t : Texts) → IsCounted t
     → answered (Set name entry) t ≡ answer_of (made (Set name entry) t)
 answered-set name entry t counted =
     ap (within_bytes (made (Set name entry) t)) (admitted-counts name entry t.names counted.names)
-
-pub answered-push : (id : ℕ) (bytes : List ℕ) (t : Texts) → IsCounted t
-    → answered (PushOpen id bytes) t ≡ answer_of (made (PushOpen id bytes) t)
-answered-push id bytes t counted = ap (within_bytes (made (PushOpen id bytes) t)) (sym (few_answer t counted.names))
 
 -- a text that is entered makes no more bytes
 pub enter-bytes : (id : ℕ) (name : List ℕ) (append : Bool) (t : Texts) → IsCounted t → used (made (Enter id name append) t) ≤ t.cap_bytes
