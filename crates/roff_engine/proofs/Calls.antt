@@ -7,7 +7,7 @@ use Rattle.roff_scan.specs.Tape.{Tape, Item, Answer, OneByte, OneNote, Gives, En
 use Rattle.roff_scan.specs.Unread.{Asked, Shown, Sighted, SeesByte, SeesNothing, SeesNote, SeesEnding, asks_to_take, asks_to_look, answer_behind, looked_then, shown_ahead, looking, looking_past, seen_ahead, taking, taking_answer}
 use Rattle.roff_engine.specs.Engine.Outcome.{IsLeftOf}
 use Rattle.roff_engine.specs.Running.Turning.{AsksFirst}
-use Rattle.roff_run.specs.Reading.Taking.{PageInput}
+use Rattle.roff_run.specs.Reading.Items.{PageInput}
 use Rattle.roff_run.specs.Reader.Taken.{PageUnread}
 use Rattle.roff_run.specs.Registers.{AllRegisters}
 use Rattle.roff_run.specs.declared.event.PageEvent.{PageEvent}

@@ -14,7 +14,7 @@ use Rattle.roff_run.specs.Output.{PageHistory, written}
 use Rattle.roff_run.specs.Reader.Taken.{IsReady, PageUnread}
 use Rattle.roff_run.specs.Reading.{Passes}
 use Rattle.roff_run.specs.Reading.Ends.{due}
-use Rattle.roff_run.specs.Reading.Taking.{PageInput}
+use Rattle.roff_run.specs.Reading.Items.{PageInput}
 use Rattle.roff_run.specs.Run.{State, Leads, initial}
 use Rattle.roff_run.specs.TurnsToCome.{turns_to_come}
 use Rattle.roff_run.specs.declared.reading.Reading.{Reading}

@@ -11,7 +11,7 @@ use Rattle.roff_scan.specs.Unread.Calls.{PassesAhead}
 use Rattle.roff_run.specs.Reader.Taken.{PageUnread}
 use Rattle.roff_run.specs.Reading.{Passes}
 use Rattle.roff_run.specs.Reading.Ends.{due}
-use Rattle.roff_run.specs.Reading.Taking.{PageInput}
+use Rattle.roff_run.specs.Reading.Items.{PageInput}
 use Rattle.roff_run.specs.declared.event.PageEvent.{PageEvent}
 use Rattle.roff_run.specs.Run.{State, Leads}
 use Rattle.roff_run.specs.TurnsToCome.{turns_to_come}

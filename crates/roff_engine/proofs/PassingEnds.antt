@@ -15,7 +15,7 @@ use Rattle.roff_scan.specs.Unread.Calls.{PassesEnd, PassesReturn, Takes}
 use Rattle.roff_run.specs.Reader.Taken.{PageUnread}
 use Rattle.roff_run.specs.Reading.Calls.{behind_return}
 use Rattle.roff_run.specs.Reading.Ends.{due}
-use Rattle.roff_run.specs.Reading.Taking.{PageInput}
+use Rattle.roff_run.specs.Reading.Items.{PageInput}
 use Rattle.roff_run.specs.Registers.{AllRegisters}
 use Rattle.roff_run.specs.Run.{Leads, State, in_front_taken, made, step, stopped_by, unless_refused, waiting}
 use Rattle.roff_run.specs.Run.Counts.{counts_in, first_passed}

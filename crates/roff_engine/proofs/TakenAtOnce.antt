@@ -10,7 +10,7 @@ use Rattle.roff_engine.proofs.Performed.{told_then_performed}
 use Rattle.roff_run.specs.Reader.AtOnce.{TakesAtOnce, only_events}
 use Rattle.roff_run.specs.Reader.State.{ReaderState}
 use Rattle.roff_run.specs.Reader.Taken.{PageUnread, TakesAs}
-use Rattle.roff_run.specs.Reading.Taking.{Taking}
+use Rattle.roff_run.specs.Reading.Items.{Taking}
 use Rattle.roff_run.specs.Registers.{Known}
 use Rattle.roff_run.specs.declared.environments.Environments.{Environments as EnvironmentsOf}
 use Rattle.roff_run.specs.declared.event.PageEvent.{PageEvent}

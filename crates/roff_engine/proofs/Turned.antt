@@ -9,7 +9,7 @@ use Rattle.roff_scan.specs.Unread.Calls.{OfSource, OfTexts, PassesFront, PassesS
 use Rattle.roff_run.specs.Reader.State.{ReaderState}
 use Rattle.roff_run.specs.Reader.Taken.{IsReady, PageUnread}
 use Rattle.roff_run.specs.Reading.Ends.{due}
-use Rattle.roff_run.specs.Reading.Taking.{PageInput}
+use Rattle.roff_run.specs.Reading.Items.{PageInput}
 use Rattle.roff_run.specs.Registers.{AllRegisters, Known}
 use Rattle.roff_run.specs.Registers.Capped.{Capped}
 use Rattle.roff_run.specs.declared.event.PageEvent.{PageEvent}

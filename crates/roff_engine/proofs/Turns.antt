@@ -17,7 +17,7 @@ use Rattle.roff_run.specs.Output.{PageHistory}
 use Rattle.roff_run.specs.Reader.Taken.{PageUnread}
 use Rattle.roff_run.specs.Reading.{interrupted}
 use Rattle.roff_run.specs.Reading.Ends.{line_ends_first}
-use Rattle.roff_run.specs.Reading.Taking.{PageInput}
+use Rattle.roff_run.specs.Reading.Items.{PageInput}
 use Rattle.roff_run.specs.declared.reading.Reading.{Reading}
 use Rattle.roff_run.specs.declared.reading.Reading.TheVariants.{Arguments as InArguments}
 use Rattle.roff_run.specs.Run.{State, ahead_taken, byte_taken, ending_input, half_ends, in_front_taken, input_ended, known, made}

@@ -17,7 +17,7 @@ use Rattle.roff_run.specs.declared.status.Status.TheVariants.{Device, Limit as L
 use Rattle.roff_run.specs.Messages.{message_line}
 use Rattle.roff_run.specs.Output.{PageHistory}
 use Rattle.roff_run.specs.Reader.Taken.{PageUnread}
-use Rattle.roff_run.specs.Reading.Taking.{PageInput}
+use Rattle.roff_run.specs.Reading.Items.{PageInput}
 use Rattle.roff_run.specs.Run.{State, awaited, awaited_of_source, byte_taken, front_seen, half_ends, in_front_taken, known, made, step, waiting}
 use Rattle.roff_engine.specs.declared.running.Running.{Running as Coded}
 use Rattle.roff_engine.specs.Engine.Outcome.{Seen, seen}

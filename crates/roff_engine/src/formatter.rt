@@ -9,7 +9,7 @@ ghost use Rattle.roff_run.specs.ControlFronts.{BeginsControl};
 ghost use Rattle.roff_run.specs.Stages.{Adds, EndsLine, Holds, HoldsIfFewer, Ignores, ReadsHalves};
 ghost use Rattle.roff_run.specs.Stages.{ReadsPast, TakesHalf, TurnsFront, counts_blanks};
 ghost use Rattle.roff_run.specs.Reading.{Passes};
-ghost use Rattle.roff_run.specs.Reading.Taking.{Taking};
+ghost use Rattle.roff_run.specs.Reading.Items.{Taking};
 ghost use Rattle.roff_run.specs.Reading.TextLines.{blank_line, leading_blank_events, leading_glyph};
 ghost use Rattle.roff_run.specs.Reader.AtOnce.{IsReadAbove, text_byte_events};
 ghost use Rattle.roff_run.specs.Reader.Taken.{PageUnread};

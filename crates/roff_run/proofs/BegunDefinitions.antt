@@ -14,7 +14,7 @@ use Rattle.roff_run.specs.Reader.State.{ReaderState}
 use Rattle.roff_run.specs.Reader.Taken.{InputBecame, PageUnread, TakesAs}
 use Rattle.roff_run.specs.Reading.Arguments.{arguments_ended, line_ended}
 use Rattle.roff_run.specs.Reading.Definitions.{definition_begun, definition_grown}
-use Rattle.roff_run.specs.Reading.Taking.{PageInput, Taking}
+use Rattle.roff_run.specs.Reading.Items.{PageInput, Taking}
 use Rattle.roff_run.specs.Registers.{Known}
 use Rattle.roff_run.specs.ShortNames.{name_or_none}
 use Rattle.roff_run.specs.declared.reader.Meaning.{Meaning}

@@ -21,7 +21,7 @@ use Rattle.roff_run.proofs.TextTaken.{text_line-reads}
 use Rattle.roff_run.specs.Reader.State.{ReaderState}
 use Rattle.roff_run.specs.Reader.Taken.{PageUnread}
 use Rattle.roff_run.specs.Reading.{taking}
-use Rattle.roff_run.specs.Reading.Taking.{PageInput, going_on, meaning_events}
+use Rattle.roff_run.specs.Reading.Items.{PageInput, going_on, meaning_events}
 use Rattle.roff_run.specs.Reading.TextLines.{most_leading}
 use Rattle.roff_run.specs.Registers.{Known}
 use Rattle.roff_run.specs.Requests.{Text}

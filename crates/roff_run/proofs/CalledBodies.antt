@@ -14,7 +14,7 @@ use Rattle.roff_run.specs.Reader.State.{ReaderState}
 use Rattle.roff_run.specs.Reader.Taken.{PageUnread, TakesAs}
 use Rattle.roff_run.specs.Reading.Calls.{call_found, call_unit, holding_call}
 use Rattle.roff_run.specs.Reading.Escapes.{argument_named}
-use Rattle.roff_run.specs.Reading.Taking.{PageInput, going_on}
+use Rattle.roff_run.specs.Reading.Items.{PageInput, going_on}
 use Rattle.roff_run.specs.Reading.Units.{holding, no_unit_found, settling}
 use Rattle.roff_run.specs.Registers.{Known}
 use Rattle.roff_run.specs.declared.reader.Meaning.{Meaning}

@@ -24,7 +24,7 @@ use Rattle.roff_run.specs.Reader.State.{ReaderState}
 use Rattle.roff_run.specs.Reader.Taken.{PageUnread, Takes, TakesAs, Took}
 use Rattle.roff_run.specs.Reading.Beginnings.{at_start, beginning_found, first_escape, first_taking, going_on_told, line_begun, line_begun_as}
 use Rattle.roff_run.specs.Reading.Branches.{condition_found, decided, is_so, kept_if, skipping_taking}
-use Rattle.roff_run.specs.Reading.Taking.{PageInput, Taking, behind_events}
+use Rattle.roff_run.specs.Reading.Items.{PageInput, Taking, behind_events}
 use Rattle.roff_run.specs.Reading.TextLines.{character_printed, escape_meant, escape_taking, text_taking}
 use Rattle.roff_run.specs.Reading.Units.{no_unit_found}
 use Rattle.roff_run.specs.Registers.{AllRegisters, Known, changed_by_all}

@@ -19,8 +19,8 @@ use Rattle.roff_run.specs.Reader.State.{ReaderState}
 use Rattle.roff_run.specs.Reader.Taken.{InputBecame, PageUnread, Takes, TakesAs}
 use Rattle.roff_run.specs.Reading.DefinedLines.{behind_definition, definition_found, definition_line, definition_unit}
 use Rattle.roff_run.specs.Reading.Definitions.{definition_grown}
+use Rattle.roff_run.specs.Reading.Items.{PageInput, Taking, going_on}
 use Rattle.roff_run.specs.Reading.Strings.{string_entered}
-use Rattle.roff_run.specs.Reading.Taking.{PageInput, Taking, going_on}
 use Rattle.roff_run.specs.Reading.Units.{no_unit_found}
 use Rattle.roff_run.specs.ShortNames.{name_bytes}
 use Rattle.roff_run.specs.Registers.{AllRegisters, Known, changed_by_all}

@@ -8,7 +8,7 @@ use Rattle.roff_store.specs.TextCalls.{Remove, Rename, moved_to}
 use Rattle.roff_store.specs.Texts.{Entry, bytes_in, bytes_of}
 use Rattle.roff_store.proofs.Calls.{length-with_entry_le, length-without_entry_le}
 use Rattle.roff_run.specs.Reading.Arguments.{calling_all}
-use Rattle.roff_run.specs.Reading.Taking.{PageInput}
+use Rattle.roff_run.specs.Reading.Items.{PageInput}
 use Rattle.roff_run.specs.Request.Coded.{calls_of}
 use Rattle.roff_run.specs.Requests.Naming.{removals}
 use Rattle.roff_run.specs.Requests.Numbering.{names_given}

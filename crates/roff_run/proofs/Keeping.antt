@@ -35,8 +35,8 @@ use Rattle.roff_run.specs.Reading.ControlLines.{ends_name, line_taking, called_t
 use Rattle.roff_run.specs.Reading.DefinedLines.{behind_definition, definition_unit, definition_line, definition_found}
 use Rattle.roff_run.specs.Reading.Definitions.{definition_dropped, definition_grown}
 use Rattle.roff_run.specs.Reading.Ends.{end_taking, line_ends_first}
+use Rattle.roff_run.specs.Reading.Items.{PageInput, Taking}
 use Rattle.roff_run.specs.Reading.Strings.{string_entered, string_line_ended}
-use Rattle.roff_run.specs.Reading.Taking.{PageInput, Taking}
 use Rattle.roff_run.specs.Reading.TextLines.{on_line}
 use Rattle.roff_run.specs.Reading.Units.{no_unit_found}
 use Rattle.roff_run.specs.Registers.{Known}

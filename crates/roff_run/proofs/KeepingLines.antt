@@ -24,9 +24,9 @@ use Rattle.roff_run.specs.declared.request.Request.{Request}
 use Rattle.roff_run.specs.Reading.Arguments.{unit_found, arguments_ended, arguments_found, reading_behind, calling_all, ended_by}
 use Rattle.roff_run.specs.Reading.Calls.{holding_call, call_unit, call_found}
 use Rattle.roff_run.specs.Reading.Definitions.{lines_begun, definition_begun, definition_named, definition_dropped, definition_grown}
+use Rattle.roff_run.specs.Reading.Items.{PageInput, going_on}
 use Rattle.roff_run.specs.Reading.Messages.{message_found, message_unit}
 use Rattle.roff_run.specs.Reading.Strings.{name_read, string_begun, string_emptied, string_entered, string_grown, string_line_ended, string_name_behind, string_name_found, string_name_or_text, string_name_unit, string_text_found, string_unit}
-use Rattle.roff_run.specs.Reading.Taking.{PageInput, going_on}
 use Rattle.roff_run.specs.Reading.Units.{settling, no_unit_found, holding}
 use Rattle.roff_scan.specs.Arguments.{no_arguments}
 use Rattle.roff_store.specs.TextCalls.{Call, DropOpen, PushOpen, Enter}

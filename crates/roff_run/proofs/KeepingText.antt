@@ -28,7 +28,7 @@ use Rattle.roff_run.specs.Reading.Beginnings.{line_begun, first_taking, first_es
 use Rattle.roff_run.specs.Reading.Branches.{skipping_taking, branch_of}
 use Rattle.roff_run.specs.Reading.ControlLines.{dropped_taking}
 use Rattle.roff_run.specs.Reading.Escapes.{argument_named, asking, measuring}
-use Rattle.roff_run.specs.Reading.Taking.{PageInput, Taking, going_on}
+use Rattle.roff_run.specs.Reading.Items.{PageInput, Taking, going_on}
 use Rattle.roff_run.specs.Reading.TextLines.{glyph_taking, blank_taking, text_taking, escape_meant, escape_taking, character_printed, character_taking, name_taking, text_found}
 use Rattle.roff_run.specs.Registers.{Known, known_behind, step_changes, text_of_register}
 use Rattle.roff_run.specs.Requests.{PageEvent}

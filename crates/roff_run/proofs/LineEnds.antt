@@ -13,7 +13,7 @@ use Rattle.roff_run.proofs.ControlFronts.{reads-front, stage_with}
 use Rattle.roff_run.specs.Reader.State.{ReaderState}
 use Rattle.roff_run.specs.Reader.Taken.{PageUnread}
 use Rattle.roff_run.specs.Reading.Ends.{due}
-use Rattle.roff_run.specs.Reading.Taking.{going_on}
+use Rattle.roff_run.specs.Reading.Items.{going_on}
 use Rattle.roff_run.specs.Stages.{EndsLine, Here, Onward, ReadsPast, Stage, Turned, input_at}
 use Rattle.roff_run.specs.declared.reading.Reading.{Reading}
 use Rattle.roff_run.specs.declared.reading.Reading.TheVariants.{Dropped, LineStart, Skipping}

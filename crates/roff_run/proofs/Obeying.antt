@@ -20,7 +20,7 @@ use Rattle.roff_run.specs.Output.{PageHistory}
 use Rattle.roff_run.specs.Reader.State.{ReaderState}
 use Rattle.roff_run.specs.Reader.Taken.{ChangedTo, PageUnread, Refused, TakesAs, Took, behind_changes}
 use Rattle.roff_run.specs.Reading.Arguments.{calling_all, ended_by, line_ended, reading_behind}
-use Rattle.roff_run.specs.Reading.Taking.{PageInput}
+use Rattle.roff_run.specs.Reading.Items.{PageInput}
 use Rattle.roff_run.specs.Registers.{AllRegisters, Change, Remove, changed_by_all}
 use Rattle.roff_run.specs.Registers.Capped.{Capped, is_past_cap, with_change}
 use Rattle.roff_run.specs.Request.Coded.{calls_of, changes_of, effect_of}

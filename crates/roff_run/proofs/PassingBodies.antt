@@ -11,7 +11,7 @@ use Rattle.roff_run.proofs.InputCounts.{NoMore-item_taken, first_passed-no_more}
 use Rattle.roff_run.proofs.Interpolation.{taken_as-going_on, bytes_ahead_are_taken}
 use Rattle.roff_run.specs.InterpolationLaws.{TakesItems}
 use Rattle.roff_run.specs.Reading.{Passes}
-use Rattle.roff_run.specs.Reading.Taking.{PageInput, Taking}
+use Rattle.roff_run.specs.Reading.Items.{PageInput, Taking}
 use Rattle.roff_run.specs.Registers.{AllRegisters}
 use Rattle.roff_run.specs.Requests.{PageEvent}
 use Rattle.roff_run.specs.Run.{State, after, known_at, made, step, taken_as, unless_refused}

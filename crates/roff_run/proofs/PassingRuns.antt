@@ -11,7 +11,7 @@ use Rattle.roff_scan.specs.Tape.{Tape, OneByte, items_then}
 use Rattle.roff_run.proofs.Interpolation.{taken_as-going_on, bytes_of_the_source_are_taken}
 use Rattle.roff_run.specs.InterpolationLaws.{TakesItems}
 use Rattle.roff_run.specs.Reading.{Passes}
-use Rattle.roff_run.specs.Reading.Taking.{PageInput, Taking}
+use Rattle.roff_run.specs.Reading.Items.{PageInput, Taking}
 use Rattle.roff_run.specs.TurnsToCome.{turns_within}
 use Rattle.roff_run.specs.Run.{State, after, known_at, made, step, taken_as, unless_refused}
 use Rattle.roff_run.specs.Run.Counts.{counts_in, first_passed}

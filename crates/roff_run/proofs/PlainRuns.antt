@@ -17,7 +17,7 @@ use Rattle.roff_run.specs.InterpolationLaws.{TakesItems}
 use Rattle.roff_run.specs.Laws.{EnvironmentsWithin, IsWithin}
 use Rattle.roff_run.specs.Environments.{environments}
 use Rattle.roff_run.specs.Reading.Ends.{due}
-use Rattle.roff_run.specs.Reading.Taking.{PageInput, Taking}
+use Rattle.roff_run.specs.Reading.Items.{PageInput, Taking}
 use Rattle.roff_run.specs.Requests.{PageEvent}
 use Rattle.roff_run.specs.Run.{State, after, byte_taken, known, made, step, taken_as}
 use Rattle.roff_run.specs.Stages.{Stage, Turns, input_at}

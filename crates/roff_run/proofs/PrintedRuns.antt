@@ -22,7 +22,7 @@ use Rattle.roff_run.proofs.PassingBodies.{behind_byte, within-byte}
 use Rattle.roff_run.specs.Environments.{Environments, environments}
 use Rattle.roff_run.specs.Output.{PageHistory, finished_bytes, text_of, written}
 use Rattle.roff_run.specs.Reading.Ends.{due}
-use Rattle.roff_run.specs.Reading.Taking.{PageInput, Taking, meaning_events}
+use Rattle.roff_run.specs.Reading.Items.{PageInput, Taking, meaning_events}
 use Rattle.roff_run.specs.Registers.{AllRegisters}
 use Rattle.roff_run.specs.Requests.{PageEvent, Text}
 use Rattle.roff_run.specs.Run.{State, Leads, byte_taken, known_at, made, step, taken_as, unless_refused}

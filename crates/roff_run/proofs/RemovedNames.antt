@@ -8,7 +8,7 @@ use Rattle.roff_scan.specs.Input.{calling}
 use Rattle.roff_store.specs.TextCalls.{Call, Remove}
 use Rattle.roff_run.specs.Reader.Taken.{PageUnread}
 use Rattle.roff_run.specs.Reading.Arguments.{calling_all}
-use Rattle.roff_run.specs.Reading.Taking.{PageInput}
+use Rattle.roff_run.specs.Reading.Items.{PageInput}
 use Rattle.roff_run.specs.Request.Coded.{name_in}
 use Rattle.roff_run.specs.Requests.Naming.{removals}
 use Rattle.roff_run.specs.Requests.Numbering.{name_given, names_given}

@@ -9,7 +9,7 @@ use Rattle.roff_run.specs.ConditionLaws.{is_whole, escapes_among, MayEnd, AreKep
 use Rattle.roff_run.specs.Quoting.{both, taking_all}
 use Rattle.roff_run.specs.Reading.{kept_taking, taking}
 use Rattle.roff_run.specs.Reading.Branches.{counted_if, most_braces, skipping_taking}
-use Rattle.roff_run.specs.Reading.Taking.{PageInput, Taking, going_on}
+use Rattle.roff_run.specs.Reading.Items.{PageInput, Taking, going_on}
 use Rattle.roff_run.specs.Registers.{Known}
 use Rattle.roff_run.specs.declared.reading.Reading.{Reading}
 use Rattle.roff_run.specs.declared.reading.Reading.TheVariants.{LineStart, Skipping}

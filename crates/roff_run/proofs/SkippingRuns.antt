@@ -17,7 +17,7 @@ use Rattle.roff_run.specs.Laws.{IsWithin}
 use Rattle.roff_run.specs.Reading.{taking}
 use Rattle.roff_run.specs.Reading.Branches.{most_braces}
 use Rattle.roff_run.specs.Reading.Ends.{due}
-use Rattle.roff_run.specs.Reading.Taking.{PageInput, Taking, going_on}
+use Rattle.roff_run.specs.Reading.Items.{PageInput, Taking, going_on}
 use Rattle.roff_run.specs.Run.{State, known_at, made, taken_as, step, after}
 use Rattle.roff_run.specs.declared.reading.Reading.{Reading}
 use Rattle.roff_run.specs.declared.reading.Reading.TheVariants.{LineStart, Skipping}

@@ -22,8 +22,8 @@ use Rattle.roff_store.specs.Texts.{newest}
 use Rattle.roff_run.specs.Reader.State.{ReaderState}
 use Rattle.roff_run.specs.Reader.Taken.{InputBecame, PageUnread, TakesAs}
 use Rattle.roff_run.specs.ShortNames.{name_at}
+use Rattle.roff_run.specs.Reading.Items.{PageInput, Taking, going_on}
 use Rattle.roff_run.specs.Reading.Strings.{name_read, string_begun, string_grown, string_name_behind, string_unit}
-use Rattle.roff_run.specs.Reading.Taking.{PageInput, Taking, going_on}
 use Rattle.roff_run.specs.Reading.Units.{holding}
 use Rattle.roff_run.specs.declared.reading.Reading.TheVariants.{StringName, StringText}
 use Rattle.roff_run.specs.declared.reading.ShortName.{ShortName}

@@ -35,9 +35,9 @@ use Rattle.roff_run.specs.Reading.Beginnings.{beginning_text, escape_begun, firs
 use Rattle.roff_run.specs.Reading.ControlLines.{line_taking}
 use Rattle.roff_run.specs.Reading.Ends.{end_taking, last_line_ended}
 use Rattle.roff_run.specs.Reading.Escapes.{interpolating}
+use Rattle.roff_run.specs.Reading.Items.{PageInput, Taking, behind_events, going_on, meaning_events}
 use Rattle.roff_run.specs.Reading.Messages.{message_found}
 use Rattle.roff_run.specs.Reading.Strings.{string_line_ended}
-use Rattle.roff_run.specs.Reading.Taking.{PageInput, Taking, behind_events, going_on, meaning_events}
 use Rattle.roff_run.specs.Reading.Units.{no_unit_found, settling}
 use Rattle.roff_run.specs.Registers.{AllRegisters, Known, changed_by_all, is_page, is_read_only, known_behind, step_changes, step_messages, stepped_page, text_of_register}
 use Rattle.roff_run.specs.Registers.Capped.{Capped}

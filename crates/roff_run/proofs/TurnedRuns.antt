@@ -16,7 +16,7 @@ use Rattle.roff_run.proofs.PlainRuns.{behind_byte, behind_bytes, behind_bytes-co
 use Rattle.roff_run.proofs.TurnsToCome.{turns_within-byte}
 use Rattle.roff_run.specs.Reading.{taking}
 use Rattle.roff_run.specs.Reading.Ends.{due}
-use Rattle.roff_run.specs.Reading.Taking.{PageInput, Taking}
+use Rattle.roff_run.specs.Reading.Items.{PageInput, Taking}
 use Rattle.roff_run.specs.Registers.{AllRegisters, Known}
 use Rattle.roff_run.specs.Requests.{PageEvent}
 use Rattle.roff_run.specs.Run.{State, after, known, made, step, taken_as, unless_refused}

@@ -10,7 +10,7 @@ use Rattle.roff_scan.specs.Unread.{Unread, Shown, ShowsByte, ShowsEnd, ShowsRetu
 use Rattle.roff_scan.specs.Half.{Half}
 use Rattle.roff_run.specs.Reading.{half_ended, taking as byte_taking}
 use Rattle.roff_run.specs.Reading.Ends.{end_taking, line_ends_first}
-use Rattle.roff_run.specs.Reading.Taking.{PageInput}
+use Rattle.roff_run.specs.Reading.Items.{PageInput}
 use Rattle.roff_run.specs.Registers.{Known}
 use Rattle.roff_run.specs.Requests.{PageEvent}
 use Rattle.roff_run.specs.declared.reading.Reading.{Reading}

@@ -11,7 +11,7 @@ use Rattle.roff_store.specs.Texts.{Entry, Body}
 use Rattle.roff_run.specs.InterpolationLaws.{StandsForItself, TakesItems}
 use Rattle.roff_run.specs.Laws.{IsWithin}
 use Rattle.roff_run.specs.Reading.ControlLines.{ends_name}
-use Rattle.roff_run.specs.Reading.Taking.{PageInput}
+use Rattle.roff_run.specs.Reading.Items.{PageInput}
 use Rattle.roff_run.specs.Requests.{PageEvent}
 use Rattle.roff_run.specs.Run.{State, after}
 use Rattle.roff_run.specs.ShortNames.{name_bytes}

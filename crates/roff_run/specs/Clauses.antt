@@ -15,9 +15,9 @@ pub use Rattle.roff_run.specs.Reading.DefinedLines.{behind_definition, definitio
 pub use Rattle.roff_run.specs.Reading.Definitions.{lines_begun, definition_begun, definition_cut, definition_grown}
 pub use Rattle.roff_run.specs.Reading.Ends.{end_taking, due, line_ends_first, interrupted_end}
 pub use Rattle.roff_run.specs.Reading.Escapes.{asking, interpolating, measuring, putting_nothing, putting_string, putting_argument}
+pub use Rattle.roff_run.specs.Reading.Items.{PageInput, going_on, meaning_events, telling}
 pub use Rattle.roff_run.specs.Reading.Messages.{message_found, message_unit}
 pub use Rattle.roff_run.specs.Reading.Strings.{name_read, string_begun, string_emptied, string_entered, string_grown, string_line_ended, string_name_behind, string_name_found, string_name_or_text, string_name_unit, string_text_found, string_unit}
-pub use Rattle.roff_run.specs.Reading.Taking.{PageInput, going_on, meaning_events, telling}
 pub use Rattle.roff_run.specs.Reading.TextLines.{name_taking, text_found, on_line}
 pub use Rattle.roff_run.specs.Reading.Units.{holding, no_unit_found}
 pub use Rattle.roff_run.specs.ShortNames.{name_at}

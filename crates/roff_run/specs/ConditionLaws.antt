@@ -11,7 +11,7 @@ use Rattle.roff_run.specs.InterpolationLaws.{TakesItems}
 use Rattle.roff_run.specs.Laws.{IsWithin}
 use Rattle.roff_run.specs.Quoting.{taking_all}
 use Rattle.roff_run.specs.Reading.Branches.{branch_of, most_braces}
-use Rattle.roff_run.specs.Reading.Taking.{PageInput, going_on}
+use Rattle.roff_run.specs.Reading.Items.{PageInput, going_on}
 use Rattle.roff_run.specs.Registers.{Known}
 use Rattle.roff_run.specs.Run.{State, after}
 use Rattle.roff_run.specs.declared.reading.Reading.TheVariants.{LineStart, Skipping}

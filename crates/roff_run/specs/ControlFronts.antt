@@ -6,7 +6,7 @@ use Rattle.roff_scan.specs.declared.half.ConditionPart.TheVariants.{Choice}
 use Rattle.roff_scan.specs.Unread.Calls.{IsFront, front_bytes}
 use Rattle.roff_run.specs.Reader.Taken.{PageUnread}
 use Rattle.roff_run.specs.Reading.{taking}
-use Rattle.roff_run.specs.Reading.Taking.{PageInput, Taking, going_on}
+use Rattle.roff_run.specs.Reading.Items.{PageInput, Taking, going_on}
 use Rattle.roff_run.specs.Registers.{Known}
 use Rattle.roff_run.specs.declared.reader.ahead.ControlFront.{ControlFront}
 use Rattle.roff_run.specs.declared.reading.Reading.{Reading}

@@ -13,7 +13,7 @@ use Rattle.roff_run.specs.Definitions.{end_mark, ends_mark}
 use Rattle.roff_run.specs.InterpolationLaws.{StandsForItself, TakesItems}
 use Rattle.roff_run.specs.Laws.{IsWithin}
 use Rattle.roff_run.specs.Reading.DefinedLines.{behind_definition}
-use Rattle.roff_run.specs.Reading.Taking.{PageInput, going_on}
+use Rattle.roff_run.specs.Reading.Items.{PageInput, going_on}
 use Rattle.roff_run.specs.Registers.{Known}
 use Rattle.roff_run.specs.Requests.{PageEvent}
 use Rattle.roff_run.specs.Run.{State, known, taken_as, after}

@@ -4,8 +4,8 @@ use Rattle.roff_scan.specs.Arguments.{no_arguments}
 use Rattle.roff_scan.specs.Bytes.{blank, newline}
 use Rattle.roff_run.specs.InterpolationLaws.{StandsForItself}
 use Rattle.roff_run.specs.Quoting.{taking_all}
+use Rattle.roff_run.specs.Reading.Items.{PageInput, Taking}
 use Rattle.roff_run.specs.Reading.Messages.{message_text_read}
-use Rattle.roff_run.specs.Reading.Taking.{PageInput, Taking}
 use Rattle.roff_run.specs.Registers.{Known}
 use Rattle.roff_run.specs.declared.reading.Reading.TheVariants.{Telling, Told}
 

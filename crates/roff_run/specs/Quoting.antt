@@ -7,7 +7,7 @@ use Rattle.roff_run.specs.InterpolationLaws.{StandsForItself}
 use Rattle.roff_run.specs.Reading.{taking}
 use Rattle.roff_run.specs.Reading.Arguments.{ended_by}
 use Rattle.roff_run.specs.Reading.Definitions.{lines_begun}
-use Rattle.roff_run.specs.Reading.Taking.{PageInput, Taking, going_on}
+use Rattle.roff_run.specs.Reading.Items.{PageInput, Taking, going_on}
 use Rattle.roff_run.specs.Registers.{Known}
 use Rattle.roff_run.specs.Requests.{Effect, request_effect, row_of}
 use Rattle.roff_run.specs.declared.request.LineReading.{LineReading}

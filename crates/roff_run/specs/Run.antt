@@ -1,5 +1,5 @@
 -- The run: a machine of small steps over the source's tape.
-use Rattle.std.specs.Prelude.{◌≡◌, ℕ, zero, suc, ◌+◌, Bool, true, false, not, List, ◌∷◌, ◌++◌, length, nat_lt, Option, Some, None, if◌then◌else◌}
+use Rattle.std.specs.Prelude.{◌≡◌, ℕ, zero, suc, ◌+◌, Bool, true, false, not, List, [], ◌∷◌, ◌++◌, length, nat_lt, Option, Some, None, if◌then◌else◌}
 use Rattle.roff_lines.specs.Events.{settings_after}
 use Rattle.roff_lines.specs.LastLine.{last_width}
 use Rattle.roff_lines.specs.Places.{input_place}
@@ -21,8 +21,8 @@ use Rattle.roff_run.specs.Output.{PageHistory, text_of, written}
 use Rattle.roff_run.specs.Reading.{taking, half_ended, interrupted}
 use Rattle.roff_run.specs.Reading.Calls.{behind_return}
 use Rattle.roff_run.specs.Reading.Ends.{end_taking, due, line_ends_first}
+use Rattle.roff_run.specs.Reading.Items.{PageInput, Taking}
 use Rattle.roff_run.specs.Reading.Messages.{message_text_read}
-use Rattle.roff_run.specs.Reading.Taking.{PageInput, Taking}
 use Rattle.roff_run.specs.Registers.{AllRegisters, Known, no_registers, changed_by_all}
 use Rattle.roff_run.specs.Requests.{PageEvent, Text, Effect, first_entries, requests}
 use Rattle.roff_run.specs.declared.message.Message.{Message}

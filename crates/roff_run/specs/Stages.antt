@@ -18,7 +18,7 @@ use Rattle.roff_run.specs.Reader.State.{ReaderState}
 use Rattle.roff_run.specs.Reader.Taken.{PageUnread}
 use Rattle.roff_run.specs.Reading.{taking}
 use Rattle.roff_run.specs.Reading.Ends.{due}
-use Rattle.roff_run.specs.Reading.Taking.{PageInput, going_on}
+use Rattle.roff_run.specs.Reading.Items.{PageInput, going_on}
 use Rattle.roff_run.specs.Reading.TextLines.{most_leading}
 use Rattle.roff_run.specs.Reading.Units.{holding}
 use Rattle.roff_run.specs.Registers.{Known}

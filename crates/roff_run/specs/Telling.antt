@@ -4,7 +4,7 @@ use Rattle.roff_lines.specs.declared.event.Event.TheVariants.{Print, WordEnd, Ga
 use Rattle.roff_lines.specs.declared.glyph.Glyph.TheVariants.{Printed}
 use Rattle.roff_run.specs.Environments.{PageHistory}
 use Rattle.roff_run.specs.Reading.{taking}
-use Rattle.roff_run.specs.Reading.Taking.{PageInput, meaning_events}
+use Rattle.roff_run.specs.Reading.Items.{PageInput, meaning_events}
 use Rattle.roff_run.specs.Registers.{Known}
 use Rattle.roff_run.specs.Requests.{PageEvent, Text}
 use Rattle.roff_run.specs.declared.reading.Reading.{Reading}

@@ -4,7 +4,7 @@ use Rattle.roff_scan.specs.Half.{Half, Condition}
 use Rattle.roff_scan.specs.Input.{Ahead, ByteAhead, FreeAhead, EndAhead, ReturnAhead, DoAhead}
 use Rattle.roff_scan.specs.Unread.{Unread}
 use Rattle.roff_scan.specs.declared.half.ConditionPart.TheVariants.{Decided}
-use Rattle.roff_run.specs.Reading.Taking.{PageInput}
+use Rattle.roff_run.specs.Reading.Items.{PageInput}
 use Rattle.roff_run.specs.Requests.{PageEvent}
 use Rattle.roff_run.specs.declared.reading.Reading.{Reading}
 use Rattle.roff_run.specs.declared.reading.Reading.TheVariants.{Name, Arguments as InArguments, Telling, Told, Calling, Defining}

@@ -11,7 +11,7 @@ ghost use Rattle.roff_run.specs.Reading.Branches.{branch_of, counted_if, skippin
 ghost use Rattle.roff_run.specs.Reading.Calls.{behind_return};
 ghost use Rattle.roff_run.specs.Reading.ControlLines.{dropped_taking, ends_name};
 ghost use Rattle.roff_run.specs.Reading.Ends.{due, line_ends_first};
-ghost use Rattle.roff_run.specs.Reading.Taking.{PageInput, going_on, meaning_events};
+ghost use Rattle.roff_run.specs.Reading.Items.{PageInput, going_on, meaning_events};
 ghost use Rattle.roff_run.specs.Reading.TextLines.{brace_taking, character_taking, escape_taking};
 ghost use Rattle.roff_run.specs.Reading.TextLines.{fresh_line, glyph_taking, glyphs_taking};
 ghost use Rattle.roff_run.specs.Reading.TextLines.{blank_taking, leading_blank_events};

@@ -13,7 +13,7 @@ use Rattle.roff_engine.specs.declared.halt.Halt.TheVariants.{Limit as Limited, R
 use Rattle.roff_engine.specs.Engine.Outcome.{Seen, AppendsBetween, NoFewerFaults, OutputStops, Reaches, seen}
 use Rattle.roff_run.specs.Messages.{message_lines}
 use Rattle.roff_run.specs.Output.{PageHistory, written}
-use Rattle.roff_run.specs.Reading.Taking.{PageInput, Taking}
+use Rattle.roff_run.specs.Reading.Items.{PageInput, Taking}
 use Rattle.roff_run.specs.Registers.{AllRegisters, Known}
 use Rattle.roff_run.specs.declared.event.PageEvent.{PageEvent}
 use Rattle.roff_run.specs.declared.event.PageEvent.TheVariants.{Text}

@@ -9,7 +9,7 @@ use Rattle.roff_run.specs.Environments.{PageHistory}
 use Rattle.roff_run.specs.Events.Meant.{events_meant}
 use Rattle.roff_run.specs.Environments.Standing.{StandFor}
 use Rattle.roff_run.specs.declared.environments.Environments.{Environments as EnvironmentsOf}
-use Rattle.roff_run.specs.Reading.Taking.{PageInput, Taking}
+use Rattle.roff_run.specs.Reading.Items.{PageInput, Taking}
 use Rattle.roff_run.specs.Registers.{Change, Known, changed_by_all}
 use Rattle.roff_run.specs.Registers.Capped.{Capped, is_past_cap}
 use Rattle.roff_run.specs.Requests.{PageEvent}

@@ -1,8 +1,7 @@
 -- The arguments of requests, and the end of a request's line (manual, sections 1.1 and 7.3).
-use Rattle.std.specs.Prelude.{Bool, List, ◌∷◌, if◌then◌else◌, ◌==◌}
+use Rattle.std.specs.Prelude.{Bool, List, [], ◌∷◌, if◌then◌else◌, ◌==◌}
 use Rattle.roff_scan.specs.Arguments.{no_arguments}
 use Rattle.roff_scan.specs.Bytes.{newline}
-use Rattle.roff_scan.specs.Halves.{Reads}
 use Rattle.roff_scan.specs.Input.{calling, arguments_given}
 use Rattle.roff_scan.specs.declared.half.CopyUnit.{CopyUnit}
 use Rattle.roff_scan.specs.declared.half.CopyUnit.TheVariants.{Byte, Kept}
@@ -15,7 +14,7 @@ use Rattle.roff_run.specs.declared.request.Request.{Request}
 use Rattle.roff_run.specs.declared.request.LineReading.{LineReading}
 use Rattle.roff_run.specs.declared.request.LineReading.TheVariants.{ByLastLine, ByLines}
 use Rattle.roff_run.specs.Reading.Definitions.{lines_begun}
-use Rattle.roff_run.specs.Reading.Taking.{PageInput, Taking, going_on}
+use Rattle.roff_run.specs.Reading.Items.{PageInput, Taking, going_on}
 use Rattle.roff_run.specs.Reading.Units.{holding, settling, no_unit_found}
 use Rattle.roff_run.specs.Registers.{Known}
 use Rattle.roff_run.specs.Requests.{Effect, row_of, request_effect}
@@ -60,7 +59,3 @@ abbrev pub arguments_found : Known → PageInput → Bool → Request → Read �
 arguments_found k i breaks request (Unit unit) = unit_found k i breaks request unit
 arguments_found k i breaks request (Escape b) = unit_found k i breaks request (Kept b)
 arguments_found k i breaks request found = no_unit_found k (settling i) (InArguments breaks request) found
-
--- what something reads behind a request's name, with what is half read then
-abbrev pub arguments_read_on : Known → PageInput → Bool → Request → Reads → Taking
-arguments_read_on k i breaks request r = arguments_found k (record i { half = r.1 }) breaks request r.0

@@ -1,8 +1,7 @@
 -- Where a line begins, or a branch: control lines and text lines (manual, sections 1.1, 4.2 and 16).
-use Rattle.std.specs.Prelude.{ℕ, true, false, List, ◌∷◌, Some, None, Option, if◌then◌else◌, ◌==◌}
+use Rattle.std.specs.Prelude.{ℕ, true, false, List, [], ◌∷◌, Some, None, Option, if◌then◌else◌, ◌==◌}
 use Rattle.roff_lines.specs.declared.event.Event.TheVariants.{Resume}
 use Rattle.roff_scan.specs.Bytes.{newline, blank, apostrophe, dot}
-use Rattle.roff_scan.specs.Halves.{Reads}
 use Rattle.roff_scan.specs.Input.{holding_text}
 use Rattle.roff_scan.specs.declared.escapes.NameUse.{NameUse}
 use Rattle.roff_scan.specs.declared.escapes.NameUse.TheVariants.{Character, Font, LeftOut as NameLeftOut}
@@ -14,7 +13,7 @@ use Rattle.roff_run.specs.declared.reading.Reading.{Reading}
 use Rattle.roff_run.specs.declared.reading.Reading.TheVariants.{LineStart, Branch, Braced, Control}
 use Rattle.roff_run.specs.declared.reading.TextLine.{TextLine}
 use Rattle.roff_run.specs.Reading.Escapes.{measuring, asking}
-use Rattle.roff_run.specs.Reading.Taking.{PageInput, Taking, going_on, behind_events, telling}
+use Rattle.roff_run.specs.Reading.Items.{PageInput, Taking, going_on, behind_events, telling}
 use Rattle.roff_run.specs.Reading.TextLines.{fresh_line, on_line, other_taking, motion_taking, text_taking, left_out_taking, escape_taking, character_taking}
 use Rattle.roff_run.specs.Registers.{Known}
 use Rattle.roff_run.specs.Requests.{PageEvent, Text}
@@ -84,7 +83,3 @@ beginning_found k i reading (Motion columns remark) = beginning_text k (λ line.
 beginning_found k i reading (Measures width) = measuring i reading width
 beginning_found k i reading (Tells remark) = telling i reading remark
 beginning_found k i reading (Decides decision freed) = going_on i reading
-
--- what something reads there, with what is half read then
-abbrev pub beginning_read : Known → PageInput → Reading → Reads → Taking
-beginning_read k i reading r = beginning_found k (record i { half = r.1 }) reading r.0

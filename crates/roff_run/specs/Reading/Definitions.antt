@@ -1,9 +1,9 @@
 -- The lines by which macros are defined, or that are ignored, and where their text begins (manual, section 7.1).
-use Rattle.std.specs.Prelude.{ℕ, Bool, false, List, ◌∷◌, Some, None, Option}
+use Rattle.std.specs.Prelude.{ℕ, Bool, false, List, [], ◌∷◌, Some, None, Option}
 use Rattle.roff_scan.specs.Arguments.{no_arguments}
 use Rattle.roff_scan.specs.Input.{adding, dropping}
+use Rattle.roff_run.specs.Reading.Items.{PageInput, Taking, going_on}
 use Rattle.roff_run.specs.Reading.Strings.{string_begun}
-use Rattle.roff_run.specs.Reading.Taking.{PageInput, Taking, going_on}
 use Rattle.roff_run.specs.ShortNames.{name_at, name_or_none}
 use Rattle.roff_run.specs.declared.message.Message.TheVariants.{DefinitionNotEnded}
 use Rattle.roff_run.specs.declared.reading.Reading.TheVariants.{LineStart, Defining}

@@ -1,12 +1,12 @@
 -- What is due before anything more is taken, and the end of the input (manual, section 20).
-use Rattle.std.specs.Prelude.{Bool, true, false, List, ◌∷◌, Some, None, Option}
+use Rattle.std.specs.Prelude.{Bool, true, false, List, [], ◌∷◌, Some, None, Option}
 use Rattle.roff_lines.specs.declared.event.Event.TheVariants.{Resume}
 use Rattle.roff_scan.specs.Bytes.{newline}
 use Rattle.roff_scan.specs.Input.{arguments_given}
 use Rattle.roff_run.specs.Reading.{kept_taking}
 use Rattle.roff_run.specs.Reading.Definitions.{definition_cut}
+use Rattle.roff_run.specs.Reading.Items.{PageInput, Taking, meaning_events}
 use Rattle.roff_run.specs.Reading.Strings.{string_entered, string_line_ended}
-use Rattle.roff_run.specs.Reading.Taking.{PageInput, Taking, meaning_events}
 use Rattle.roff_run.specs.Reading.TextLines.{text_line_end}
 use Rattle.roff_run.specs.ShortNames.{name_at}
 use Rattle.roff_run.specs.declared.reading.Due.{Due}

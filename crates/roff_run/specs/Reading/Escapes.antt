@@ -1,11 +1,11 @@
 -- What is read in the place of an escape: registers, strings, arguments and widths (manual, sections 7, 8 and 11).
-use Rattle.std.specs.Prelude.{ℕ, get_or, ◌-◌, ◌&&◌, nat_le, List, ◌∷◌, decimal, Some, None, Option, if◌then◌else◌}
+use Rattle.std.specs.Prelude.{ℕ, get_or, ◌-◌, ◌&&◌, nat_le, List, [], ◌∷◌, decimal, Some, None, Option, if◌then◌else◌}
 use Rattle.roff_scan.specs.Input.{pushing, body_named, arguments_live}
 use Rattle.roff_scan.specs.declared.escapes.NameUse.{NameUse}
 use Rattle.roff_scan.specs.declared.escapes.NameUse.TheVariants.{Register, Text as OfText, Argument as OfArgument}
 use Rattle.roff_store.specs.declared.register.Direction.{Direction}
 use Rattle.roff_run.specs.declared.reading.Reading.{Reading}
-use Rattle.roff_run.specs.Reading.Taking.{PageInput, Taking, going_on}
+use Rattle.roff_run.specs.Reading.Items.{PageInput, Taking, going_on}
 use Rattle.roff_run.specs.Registers.{Known, known_behind, step_changes, step_messages, text_of_register}
 
 -- a register is read in the place of its escape: it is stepped first, and its text is put in front

@@ -1,9 +1,8 @@
 -- The strings that lines define: their names and their texts (manual, section 7).
-use Rattle.std.specs.Prelude.{Bool, true, false, ◌&&◌, reverse, Some, None, Option, if◌then◌else◌, ◌==◌}
+use Rattle.std.specs.Prelude.{Bool, true, false, ◌&&◌, reverse, Some, None, Option, if◌then◌else◌, ◌==◌, []}
 use Rattle.roff_scan.specs.Arguments.{no_arguments}
 use Rattle.roff_scan.specs.Bytes.{newline, blank, quote}
 use Rattle.roff_scan.specs.Half.{unit_bytes}
-use Rattle.roff_scan.specs.Halves.{Reads}
 use Rattle.roff_scan.specs.Input.{texts_of, calling, adding, entering, arguments_given}
 use Rattle.roff_scan.specs.declared.half.CopyUnit.{CopyUnit}
 use Rattle.roff_scan.specs.declared.half.CopyUnit.TheVariants.{Byte, Kept}
@@ -11,7 +10,7 @@ use Rattle.roff_scan.specs.declared.half.Read.{Read}
 use Rattle.roff_scan.specs.declared.half.Read.TheVariants.{Unit, Escape}
 use Rattle.roff_store.specs.TextCalls.{Open, Set}
 use Rattle.roff_store.specs.Texts.{Body, has_body}
-use Rattle.roff_run.specs.Reading.Taking.{PageInput, Taking, going_on}
+use Rattle.roff_run.specs.Reading.Items.{PageInput, Taking, going_on}
 use Rattle.roff_run.specs.Reading.Units.{holding, settling, no_unit_found}
 use Rattle.roff_run.specs.ShortNames.{name_at, name_bytes}
 use Rattle.roff_run.specs.declared.reading.Reading.TheVariants.{LineStart, StringName, StringText}
@@ -81,16 +80,8 @@ string_name_found k i appends (Unit unit) = string_name_unit i appends unit
 string_name_found k i appends (Escape b) = string_name_unit i appends (Kept b)
 string_name_found k i appends found = no_unit_found k (settling i) (StringName appends) found
 
--- what something reads there, with what is half read then
-abbrev pub string_name_read : Known → PageInput → Bool → Reads → Taking
-string_name_read k i appends r = string_name_found k (record i { half = r.1 }) appends r.0
-
 -- what was found of the text
 abbrev pub string_text_found : Known → PageInput → Option ShortName → Bool → Bool → Read → Taking
 string_text_found k i name appends is_front (Unit unit) = string_unit i name appends is_front unit
 string_text_found k i name appends is_front (Escape b) = string_unit i name appends is_front (Kept b)
 string_text_found k i name appends is_front found = no_unit_found k i (StringText name appends is_front) found
-
--- what something reads of it, with what is half read then
-abbrev pub string_text_read : Known → PageInput → Option ShortName → Bool → Bool → Reads → Taking
-string_text_read k i name appends is_front r = string_text_found k (record i { half = r.1 }) name appends is_front r.0

@@ -1,12 +1,11 @@
 -- Text lines: glyphs, blanks, tabs and escapes (manual, sections 4.1, 4.2, 9.1, 10.1 and 11.1).
-use Rattle.std.specs.Prelude.{ℕ, ℤ, pos, ◌+◌, true, false, ◌||◌, List, ◌∷◌, ◌++◌, map, min, Some, None, Option, if◌then◌else◌, ◌==◌}
+use Rattle.std.specs.Prelude.{ℕ, ℤ, pos, ◌+◌, true, false, ◌||◌, List, [], ◌∷◌, ◌++◌, map, min, Some, None, Option, if◌then◌else◌, ◌==◌}
 use Rattle.roff_lines.specs.declared.event.Event.TheVariants.{Print, Tab, WordEnd, Gap, LineEnd, Count, Break}
 use Rattle.roff_lines.specs.declared.glyph.Glyph.{Glyph}
 use Rattle.roff_lines.specs.declared.glyph.Glyph.TheVariants.{Printed, Blanks}
 use Rattle.roff_scan.specs.Bytes.{tab, newline, blank, backslash, is_silent}
 use Rattle.roff_scan.specs.Characters.{character}
 use Rattle.roff_scan.specs.Escapes.{escape_of}
-use Rattle.roff_scan.specs.Halves.{Reads}
 use Rattle.roff_scan.specs.Input.{holding_text}
 use Rattle.roff_scan.specs.declared.escapes.Escape.{Escape as Kind}
 use Rattle.roff_scan.specs.declared.escapes.Escape.TheVariants.{Prints, Blank, NoWidth, Tab as GivesTab, Interrupts, Brace, LeftOut as IsLeftOut, Text as BeginsText}
@@ -26,7 +25,7 @@ use Rattle.roff_run.specs.declared.reading.Reading.{Reading}
 use Rattle.roff_run.specs.declared.reading.Reading.TheVariants.{LineStart, Text as InText, Dropped}
 use Rattle.roff_run.specs.declared.reading.TextLine.{TextLine}
 use Rattle.roff_run.specs.Reading.Escapes.{measuring, asking}
-use Rattle.roff_run.specs.Reading.Taking.{PageInput, Taking, going_on, meaning_events, telling}
+use Rattle.roff_run.specs.Reading.Items.{PageInput, Taking, going_on, meaning_events, telling}
 use Rattle.roff_run.specs.Registers.{Known, in_units, greatest_number}
 use Rattle.roff_run.specs.Requests.{PageEvent, Text, Space, Interrupt, saying}
 
@@ -114,7 +113,8 @@ abbrev pub blank_taking : PageInput → TextLine → Taking
 blank_taking i line =
     if line.has_glyph then meaning_events i (InText line) (Text WordEnd ∷ Text (Gap 1) ∷ [])
     else
-      meaning_events i (InText (record line { leading = min (line.leading + 1) most_leading })) (leading_blank_events line.leading)
+      meaning_events i (InText (record line { leading = min (line.leading + 1) most_leading }))
+      (leading_blank_events line.leading)
 
 -- a byte of a text line
 abbrev pub text_taking : PageInput → TextLine → ℕ → Taking
@@ -174,7 +174,3 @@ text_found k i line (Motion columns remark) = motion_taking i line columns remar
 text_found k i line (Measures width) = measuring i (InText line) width
 text_found k i line (Tells remark) = telling i (InText line) remark
 text_found k i line (Decides decision freed) = going_on i (InText line)
-
--- what something reads of a text line, with what is half read then
-abbrev pub text_read : Known → PageInput → TextLine → Reads → Taking
-text_read k i line r = text_found k (record i { half = r.1 }) line r.0

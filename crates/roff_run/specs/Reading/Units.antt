@@ -6,7 +6,7 @@ use Rattle.roff_scan.specs.declared.half.Read.{Read}
 use Rattle.roff_scan.specs.declared.half.Read.TheVariants.{Holds, Asks, Measures, Tells}
 use Rattle.roff_run.specs.declared.reading.Reading.{Reading}
 use Rattle.roff_run.specs.Reading.Escapes.{measuring, asking}
-use Rattle.roff_run.specs.Reading.Taking.{PageInput, Taking, going_on, telling}
+use Rattle.roff_run.specs.Reading.Items.{PageInput, Taking, going_on, telling}
 use Rattle.roff_run.specs.Registers.{Known}
 
 -- a unit is held

@@ -1,7 +1,7 @@
 -- What the code of a text line does, as the definition has it.
 use Rattle.std.specs.Option.{option_to_list}
 use Rattle.roff_run.specs.Events.Lines.{line_events}
-use Rattle.roff_run.specs.Reading.Taking.{PageInput, Taking}
+use Rattle.roff_run.specs.Reading.Items.{PageInput, Taking}
 use Rattle.roff_run.specs.Requests.{saying}
 use Rattle.roff_run.specs.declared.reading.TextStep.{TextStep}
 

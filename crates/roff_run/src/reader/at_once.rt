@@ -6,7 +6,7 @@ ghost use Rattle.roff_scan.specs.declared.escapes.NameUse.TheVariants.{Register,
 ghost use Rattle.roff_run.specs.Reader.AtOnce.{GoesOnAbove, IsReadAbove, TakesAtOnce, only_events};
 ghost use Rattle.roff_run.specs.Reader.AtOnce.{AsksAbove, PutsAbove, text_byte_events};
 ghost use Rattle.roff_run.specs.Reading.Beginnings.{line_begun};
-ghost use Rattle.roff_run.specs.Reading.Taking.{PageInput, meaning_events};
+ghost use Rattle.roff_run.specs.Reading.Items.{PageInput, meaning_events};
 ghost use Rattle.roff_run.specs.Reading.TextLines.{text_taking};
 ghost use Rattle.roff_run.specs.Stages.{TurnsFront, counts_blanks};
 ghost use Rattle.roff_run.specs.Clauses.{EnvironmentsOf, LineStart, NameOf, PageUnread, TakesAs, kept_taking};

@@ -1,6 +1,6 @@
 use Rattle.std.proofs.Common.{[], Ok, refl}
 use Rattle.roff_run.specs.Reading.{half_ended}
-use Rattle.roff_run.specs.Reading.Taking.{Taking}
+use Rattle.roff_run.specs.Reading.Items.{Taking}
 use Rattle.roff_run.specs.Registers.{Known}
 use Rattle.roff_engine.proofs.TakenAtOnce.{at_once_done, performs_nothing, taken_behind_nothing}
 use Rattle.roff_engine.proofs.formatter.Formatter.end_above.Goals as goal

@@ -1,7 +1,7 @@
 use Rattle.std.proofs.Common.{[], Ok, refl, ap}
 use Rattle.roff_run.specs.Reader.State.{ReaderState}
 use Rattle.roff_run.specs.Reading.{half_ended}
-use Rattle.roff_run.specs.Reading.Taking.{Taking}
+use Rattle.roff_run.specs.Reading.Items.{Taking}
 use Rattle.roff_run.specs.Registers.{Known}
 use Rattle.roff_engine.specs.declared.formatter.Formatter.{Formatter}
 use Rattle.roff_engine.proofs.TakenAtOnce.{at_once_done, not_at_once, performs_nothing, taken_at_once, taken_behind_nothing}

@@ -1,5 +1,5 @@
 use Rattle.std.proofs.Common.{[], refl}
-use Rattle.roff_run.specs.Reading.Taking.{going_on}
+use Rattle.roff_run.specs.Reading.Items.{going_on}
 use Rattle.roff_run.proofs.TakesAs.{TakesAs-meant}
 use Rattle.roff_run.proofs.reader.Reader.ask.Goals as goal
 

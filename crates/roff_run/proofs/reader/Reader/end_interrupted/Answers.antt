@@ -3,7 +3,7 @@ use Rattle.roff_lines.specs.declared.event.Event.TheVariants.{Resume}
 use Rattle.roff_run.specs.Events.Meant.{few_meant}
 use Rattle.roff_run.specs.Reader.State.{ReaderState}
 use Rattle.roff_run.specs.Reading.Ends.{interrupted_end}
-use Rattle.roff_run.specs.Reading.Taking.{going_on, meaning_events}
+use Rattle.roff_run.specs.Reading.Items.{going_on, meaning_events}
 use Rattle.roff_run.specs.Requests.{PageEvent, Text}
 use Rattle.roff_run.specs.declared.reading.TextLine.{TextLine}
 use Rattle.roff_run.proofs.TakesAs.{TakesAs-asked, TakesAs-meant}

@@ -2,7 +2,7 @@ use Rattle.std.proofs.Common.{◌≡◌, true, false, rules, refl, [], sym, ap, 
 use Rattle.roff_run.specs.Registers.{Known}
 use Rattle.roff_run.specs.Reading.{kept_taking}
 use Rattle.roff_run.specs.Reading.ControlLines.{behind_called, behind_name, ends_name, name_ended_taking}
-use Rattle.roff_run.specs.Reading.Taking.{Taking}
+use Rattle.roff_run.specs.Reading.Items.{Taking}
 use Rattle.roff_run.specs.Requests.{row_of}
 use Rattle.roff_run.specs.declared.reading.Reading.TheVariants.{Calling, Dropped, Name}
 use Rattle.roff_run.specs.declared.reading.ShortName.{ShortName}

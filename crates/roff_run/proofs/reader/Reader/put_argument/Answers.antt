@@ -3,7 +3,7 @@ use Rattle.std.proofs.lemmas.Bool.{ltb-false, ltb-true}
 use Rattle.roff_scan.specs.Input.{argument_live, arguments_live, pushing}
 use Rattle.roff_run.specs.Reader.Taken.{TakesAs}
 use Rattle.roff_run.specs.Reading.Escapes.{argument_named}
-use Rattle.roff_run.specs.Reading.Taking.{going_on}
+use Rattle.roff_run.specs.Reading.Items.{going_on}
 use Rattle.roff_run.proofs.CalledBodies.{argument_named-digit, argument_named-other}
 use Rattle.roff_run.proofs.TakesAs.{TakesAs-changed, TakesAs-not_changed}
 use Rattle.roff_run.proofs.reader.Reader.put_argument.Goals.{in-49-to-57+in_ok-push_argument-in-49-to-57, in_default+in_ok-push-in_default, in_default-via-then-as_bytes-lt1, in_default-via-else-as_bytes-lt1+then-this-lt2+then-this-lt49, in_default-via-else-as_bytes-lt1+then-this-lt2+else-this-lt49+else-this-lt58, in_default-via-else-as_bytes-lt1+else-this-lt2}

@@ -2,7 +2,7 @@ use Rattle.std.proofs.Common.{◌≡◌, ◌∙◌, ◌<◌, ◌≤◌, length, 
 use Rattle.std.proofs.lemmas.List.{length-reverse}
 use Rattle.roff_run.specs.Reader.Taken.{PageUnread, TakesAs}
 use Rattle.roff_run.specs.Reading.Calls.{call_unit, holding_call}
-use Rattle.roff_run.specs.Reading.Taking.{going_on}
+use Rattle.roff_run.specs.Reading.Items.{going_on}
 use Rattle.roff_run.specs.declared.reading.Reading.TheVariants.{Calling}
 use Rattle.roff_run.proofs.CalledBodies.{TakesAs-call_full, TakesAs-call_held, TakesAs-call_not_held, TakesAs-call_other, TakesAs-call_quote}
 use Rattle.roff_run.proofs.reader.Reader.read_unit_of_call.Goals.{in-Byte-eq34, in_default, then-len-lt-CALL_ARGUMENTS+in_ok-hold, else-len-lt-CALL_ARGUMENTS}

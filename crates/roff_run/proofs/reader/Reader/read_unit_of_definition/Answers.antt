@@ -3,8 +3,8 @@ use Rattle.roff_scan.specs.Half.{unit_bytes}
 use Rattle.roff_run.specs.Definitions.{end_mark, front_of, line_from, matched_behind}
 use Rattle.roff_run.specs.Reading.DefinedLines.{behind_definition, definition_line, definition_unit}
 use Rattle.roff_run.specs.Reading.Definitions.{definition_grown}
+use Rattle.roff_run.specs.Reading.Items.{going_on}
 use Rattle.roff_run.specs.Reading.Strings.{string_entered}
-use Rattle.roff_run.specs.Reading.Taking.{going_on}
 use Rattle.roff_run.specs.declared.definition.DefinitionLine.TheVariants.{IsLast, IsText, MayBeLast}
 use Rattle.roff_run.specs.declared.reading.Reading.TheVariants.{Defining}
 use Rattle.roff_run.proofs.BegunDefinitions.{front_of-few}

@@ -1,7 +1,7 @@
 use Rattle.std.proofs.Common.{◌≡◌, false, rules}
 use Rattle.roff_scan.specs.Input.{holding_plain}
+use Rattle.roff_run.specs.Reading.Items.{going_on}
 use Rattle.roff_run.specs.Reading.Messages.{message_unit}
-use Rattle.roff_run.specs.Reading.Taking.{going_on}
 use Rattle.roff_run.specs.declared.reading.Reading.TheVariants.{Telling}
 use Rattle.roff_run.proofs.Strings.{message_unit-held}
 use Rattle.roff_run.proofs.TakesAs.{TakesAs-as}

@@ -1,6 +1,6 @@
 use Rattle.std.proofs.Common.{◌≡◌, Ok, Err, false, rules}
+use Rattle.roff_run.specs.Reading.Items.{going_on}
 use Rattle.roff_run.specs.Reading.Strings.{string_grown, string_unit}
-use Rattle.roff_run.specs.Reading.Taking.{going_on}
 use Rattle.roff_run.specs.declared.reading.Reading.TheVariants.{StringText}
 use Rattle.roff_run.proofs.Strings.{TakesAs-became, TakesAs-not_became, string_unit-grown}
 use Rattle.roff_run.proofs.TakesAs.{TakesAs-as}

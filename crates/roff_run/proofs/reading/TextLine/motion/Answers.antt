@@ -1,6 +1,6 @@
 use Rattle.std.proofs.Common.{List, ap, ◌∙◌}
 use Rattle.std.specs.Option.{option_to_list}
-use Rattle.roff_run.specs.Reading.Taking.{Taking}
+use Rattle.roff_run.specs.Reading.Items.{Taking}
 use Rattle.roff_run.specs.Reading.TextLines.{glyph_taking}
 use Rattle.roff_run.specs.declared.message.Message.{Message}
 use Rattle.roff_lines.specs.declared.glyph.Glyph.TheVariants.{Blanks}

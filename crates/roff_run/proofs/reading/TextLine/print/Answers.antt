@@ -1,5 +1,5 @@
 use Rattle.std.proofs.Common.{true, List, ◌++◌, sym, ap, ◌∙◌}
-use Rattle.roff_run.specs.Reading.Taking.{meaning_events}
+use Rattle.roff_run.specs.Reading.Items.{meaning_events}
 use Rattle.roff_run.specs.Reading.TextLines.{leading_glyph}
 use Rattle.roff_run.specs.Requests.{PageEvent}
 use Rattle.roff_run.specs.declared.reading.Reading.TheVariants.{Text}
