@@ -26,16 +26,11 @@ use Rattle.roff_run.specs.Output.{PageHistory}
 use Rattle.roff_run.specs.Reader.State.{ReaderState}
 use Rattle.roff_run.specs.Reader.Taken.{Became, IsReady, PageUnread}
 use Rattle.roff_run.specs.Reading.{half_ended, interrupted}
-use Rattle.roff_run.specs.Reading.Arguments.{arguments_read_on}
-use Rattle.roff_run.specs.Reading.Beginnings.{at_start, beginning_read}
-use Rattle.roff_run.specs.Reading.Branches.{condition_read}
-use Rattle.roff_run.specs.Reading.Calls.{call_read}
-use Rattle.roff_run.specs.Reading.DefinedLines.{definition_read}
+use Rattle.roff_run.specs.Reading.Beginnings.{at_start}
 use Rattle.roff_run.specs.Reading.Ends.{line_ends_first}
 use Rattle.roff_run.specs.Reading.Items.{PageInput, Taking, going_on}
-use Rattle.roff_run.specs.Reading.Messages.{message_read}
-use Rattle.roff_run.specs.Reading.Strings.{string_name_read, string_text_read}
-use Rattle.roff_run.specs.Reading.TextLines.{on_line, text_read}
+use Rattle.roff_run.specs.Reading.TextLines.{on_line}
+use Rattle.roff_run.specs.Reading.Found.{read_in}
 use Rattle.roff_run.specs.Reading.Units.{settling}
 use Rattle.roff_run.specs.Registers.{AllRegisters, Known}
 use Rattle.roff_run.specs.Run.{State, initial, ahead_taken, ending_as, half_ends, input_ended, known_at, made, step, taken_as, unless_refused, grown}
@@ -285,26 +280,26 @@ Acts-as does other line old new now behind r same acts = record {
 
 -- the line stays where a half read item ends with nothing half read
 line-nothing_ended : (k : Known) (reading : Reading) (i : PageInput) → i.half ≡ [] → (half_ended k reading i).input.line ≡ i.line
-line-nothing_ended k LineStart i none = subst (λ (half : List Half). (beginning_read k i LineStart (reading_ended (at_start k) half)).input.line ≡ i.line) (sym none) refl
-line-nothing_ended k Branch i none = subst (λ (half : List Half). (beginning_read k i Branch (reading_ended (at_start k) half)).input.line ≡ i.line) (sym none) refl
-line-nothing_ended k Braced i none = subst (λ (half : List Half). (beginning_read k i Braced (reading_ended (at_start k) half)).input.line ≡ i.line) (sym none) refl
-line-nothing_ended k (InText line) i none = subst (λ (half : List Half). (text_read k i line (reading_ended (on_line k line) half)).input.line ≡ i.line) (sym none) refl
+line-nothing_ended k LineStart i none = subst (λ (half : List Half). (read_in k LineStart i (reading_ended (at_start k) half)).input.line ≡ i.line) (sym none) refl
+line-nothing_ended k Branch i none = subst (λ (half : List Half). (read_in k Branch i (reading_ended (at_start k) half)).input.line ≡ i.line) (sym none) refl
+line-nothing_ended k Braced i none = subst (λ (half : List Half). (read_in k Braced i (reading_ended (at_start k) half)).input.line ≡ i.line) (sym none) refl
+line-nothing_ended k (InText line) i none = subst (λ (half : List Half). (read_in k (InText line) i (reading_ended (on_line k line) half)).input.line ≡ i.line) (sym none) refl
 line-nothing_ended k (Control breaks) i none = refl
 line-nothing_ended k (Name breaks byte) i none = refl
 line-nothing_ended k (InArguments breaks request) i none =
-    subst (λ (half : List Half). (arguments_read_on k i breaks request (reading_ended AboveArguments half)).input.line ≡ i.line) (sym none) refl
+    subst (λ (half : List Half). (read_in k (InArguments breaks request) i (reading_ended AboveArguments half)).input.line ≡ i.line) (sym none) refl
 line-nothing_ended k (Deciding keeping) i none =
-    subst (λ (half : List Half). (condition_read k i keeping (reading_ended AboveArguments half)).input.line ≡ i.line) (sym none) refl
+    subst (λ (half : List Half). (read_in k (Deciding keeping) i (reading_ended AboveArguments half)).input.line ≡ i.line) (sym none) refl
 line-nothing_ended k (StringName appends) i none =
-    subst (λ (half : List Half). (string_name_read k i appends (reading_ended AboveArguments half)).input.line ≡ i.line) (sym none) refl
+    subst (λ (half : List Half). (read_in k (StringName appends) i (reading_ended AboveArguments half)).input.line ≡ i.line) (sym none) refl
 line-nothing_ended k (Calling name) i none =
-    subst (λ (half : List Half). (call_read k i name (reading_ended AboveArguments half)).input.line ≡ i.line) (sym none) refl
+    subst (λ (half : List Half). (read_in k (Calling name) i (reading_ended AboveArguments half)).input.line ≡ i.line) (sym none) refl
 line-nothing_ended k (StringText name appends is_front) i none =
-    subst (λ (half : List Half). (string_text_read k i name appends is_front (reading_ended AboveCopy half)).input.line ≡ i.line) (sym none) refl
+    subst (λ (half : List Half). (read_in k (StringText name appends is_front) i (reading_ended AboveCopy half)).input.line ≡ i.line) (sym none) refl
 line-nothing_ended k (Defining name appends end matched) i none =
-    subst (λ (half : List Half). (definition_read k i name appends end matched (reading_ended AboveCopy half)).input.line ≡ i.line) (sym none) refl
+    subst (λ (half : List Half). (read_in k (Defining name appends end matched) i (reading_ended AboveCopy half)).input.line ≡ i.line) (sym none) refl
 line-nothing_ended k (Telling aborts is_front) i none =
-    subst (λ (half : List Half). (message_read k i aborts is_front (reading_ended AboveCopy half)).input.line ≡ i.line) (sym none) refl
+    subst (λ (half : List Half). (read_in k (Telling aborts is_front) i (reading_ended AboveCopy half)).input.line ≡ i.line) (sym none) refl
 line-nothing_ended k (Told aborts) i none = refl
 line-nothing_ended k Exiting i none = refl
 line-nothing_ended k (Skipping opened closed behind) i none = refl

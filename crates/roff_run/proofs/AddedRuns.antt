@@ -23,9 +23,9 @@ use Rattle.roff_run.proofs.TextBytes.{is_other, kept-text}
 use Rattle.roff_run.specs.Reader.State.{ReaderState}
 use Rattle.roff_run.specs.Reader.Taken.{PageUnread}
 use Rattle.roff_run.specs.Reading.{interrupted, kept_taking, taking}
-use Rattle.roff_run.specs.Reading.DefinedLines.{definition_read}
 use Rattle.roff_run.specs.Reading.Definitions.{definition_grown}
 use Rattle.roff_run.specs.Reading.Ends.{due}
+use Rattle.roff_run.specs.Reading.Found.{read_in}
 use Rattle.roff_run.specs.Reading.Items.{PageInput, going_on}
 use Rattle.roff_run.specs.Registers.{Known}
 use Rattle.roff_run.specs.Stages.{Adds, Growing, Here, Ignores, Onward, ReadsPast, Stage, TextsGrow, Turned, TurnsFront, input_at, stage_of, with_stage_of}
@@ -41,8 +41,8 @@ grows-text name appends end b k i text none_half =
     let bare : PageInput = record i { half = [] } in
     ap (λ (c : Bool). if c then going_on (interrupted reading i) reading else kept_taking k reading i b)
     (kept-text (nat_lt b 32) (b == 127) (b == backslash) (not (b == newline || b == tab || is_silent b)) text)
-    ∙ ap (λ (half : List Half). definition_read k i name appends end None (byte_read AboveCopy half b)) none_half
-    ∙ ap (λ (c : Bool). definition_read k i name appends end None (if c then (GoesOn, Backslash ∷ []) else (GivesUnit (Byte b), [])))
+    ∙ ap (λ (half : List Half). read_in k (Defining name appends end None) i (byte_read AboveCopy half b)) none_half
+    ∙ ap (λ (c : Bool). read_in k (Defining name appends end None) i (if c then (GoesOn, Backslash ∷ []) else (GivesUnit (Byte b), [])))
     (is_other b backslash text refl)
     ∙ ap (λ (c : Bool). going_on (definition_grown name (b ∷ []) bare) (Defining name appends end (if c then Some 0 else None)))
     (is_other b newline text refl)

@@ -31,9 +31,10 @@ use Rattle.roff_run.specs.CallLaws.{BeginsLine, BelongsToName, BodiesAreCalled, 
 use Rattle.roff_run.specs.InterpolationLaws.{StandsForItself}
 use Rattle.roff_run.specs.Laws.{IsWithin}
 use Rattle.roff_run.specs.Reading.{kept_taking, taking}
-use Rattle.roff_run.specs.Reading.Calls.{call_read, holding_call}
+use Rattle.roff_run.specs.Reading.Calls.{holding_call}
 use Rattle.roff_run.specs.Reading.ControlLines.{behind_called, called_taking, ends_name, name_ended_taking, name_whole_taking}
 use Rattle.roff_run.specs.Reading.Ends.{due}
+use Rattle.roff_run.specs.Reading.Found.{read_in}
 use Rattle.roff_run.specs.Reading.Items.{PageInput, Taking, going_on}
 use Rattle.roff_run.specs.Reading.Units.{settling}
 use Rattle.roff_run.specs.Registers.{Known}
@@ -187,7 +188,7 @@ turns-call names name a texts b itself k i =
     ap (λ (c : Bool). if c then (GoesOn, Backslash ∷ []) else (GivesUnit (Byte b), [])) (not-first (b == backslash) (is_dropped b || b == newline) itself) in
     let others : Taking = if b == quote then going_on (holding_call (Byte b) here) reading else going_on (holding_call (Byte b) (settling here)) reading in
     ap (λ (c : Bool). if c then going_on (settling here) reading else kept_taking k reading here b) (not-first (is_dropped b) (b == newline) read)
-    ∙ ap (call_read k here name) unit
+    ∙ ap (read_in k (Calling name) here) unit
     ∙ ap (λ (c : Bool). if c then going_on (calling_body (body_named (name_bytes name) here) here) LineStart else others) (not-second (is_dropped b) (b == newline) read)
     ∙ ap (λ (j : PageInput). if b == quote then going_on j reading else going_on (holding_call (Byte b) (settling here)) reading)
     (holding-if (nat_le 9 (length a.whole)) here a (only_kept (with_argument_byte a b)))

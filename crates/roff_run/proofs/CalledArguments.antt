@@ -1,6 +1,6 @@
 -- Bytes behind the name of a body that a line calls are held in the arguments of the line.
-use Rattle.std.proofs.Common.{◌≡◌, ℕ, ◌+◌, ◌<◌, ◌≤◌, ◌==◌, Bool, true, false, inl, inr, List, [], ◌∷◌, length, take, drop, refl, sym, ap, ◌∙◌, arith}
-use Rattle.std.specs.Prelude.{if◌then◌else◌, filter, reverse, nat_le}
+use Rattle.std.proofs.Common.{◌≡◌, ℕ, ◌+◌, ◌<◌, ◌≤◌, ◌==◌, Bool, false, inl, inr, List, [], ◌∷◌, length, take, drop, refl, sym, ap, ◌∙◌, arith}
+use Rattle.std.specs.Prelude.{if◌then◌else◌, filter, reverse}
 use Rattle.std.proofs.lemmas.Bool.{cases_Bool, lt-leb}
 use Rattle.std.proofs.lemmas.List.{length-append, length-drop, length-reverse, length-take}
 use Rattle.std.proofs.lemmas.List.Sums.{count_by-le-length, length-filter}
@@ -15,8 +15,9 @@ use Rattle.roff_scan.specs.declared.half.CopyUnit.TheVariants.{Byte}
 use Rattle.roff_scan.specs.declared.half.Read.TheVariants.{GoesOn, Unit as GivesUnit}
 use Rattle.roff_scan.specs.declared.half.Surroundings.TheVariants.{Arguments as AboveArguments}
 use Rattle.roff_run.specs.Reading.{kept_taking}
-use Rattle.roff_run.specs.Reading.Calls.{call_read, call_unit, holding_call}
-use Rattle.roff_run.specs.Reading.Items.{PageInput, Taking, going_on}
+use Rattle.roff_run.specs.Reading.Calls.{call_unit, holding_call}
+use Rattle.roff_run.specs.Reading.Found.{read_in}
+use Rattle.roff_run.specs.Reading.Items.{PageInput, going_on}
 use Rattle.roff_run.specs.Reading.Units.{holding, settling}
 use Rattle.roff_run.specs.Registers.{Known}
 use Rattle.roff_run.specs.declared.reading.Reading.TheVariants.{Calling}
@@ -95,7 +96,7 @@ call-byte k name i b none few no_escape no_newline =
     let unit : byte_read AboveArguments [] b ≡ (GivesUnit (Byte b), []) =
     ap (λ (c : Bool). if c then (GoesOn, Backslash ∷ []) else (GivesUnit (Byte b), [])) no_escape in
     sym
-    (ap (λ (half : List Half). call_read k i name (byte_read AboveArguments half b)) none
-    ∙ ap (call_read k i name) unit
+    (ap (λ (half : List Half). read_in k (Calling name) i (byte_read AboveArguments half b)) none
+    ∙ ap (read_in k (Calling name) i) unit
     ∙ held-unit bare b few name no_newline
     ∙ ap (λ (half : List Half). going_on (holding (Byte b) (record i { half = half })) (Calling name)) (sym none))

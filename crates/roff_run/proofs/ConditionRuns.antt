@@ -15,8 +15,8 @@ use Rattle.roff_run.proofs.HeldRuns.{passed-counted}
 use Rattle.roff_run.specs.Reader.State.{ReaderState}
 use Rattle.roff_run.specs.Reader.Taken.{PageUnread}
 use Rattle.roff_run.specs.Reading.{interrupted, kept_taking}
-use Rattle.roff_run.specs.Reading.Branches.{condition_read}
 use Rattle.roff_run.specs.Reading.Ends.{due}
+use Rattle.roff_run.specs.Reading.Found.{read_in}
 use Rattle.roff_run.specs.Reading.Items.{PageInput, going_on}
 use Rattle.roff_run.specs.Stages.{Here, Onward, ReadsPast, Stage, TakesHalf, Turned, input_at, stage_of, with_stage_of}
 use Rattle.roff_run.specs.declared.reading.Reading.{Reading}
@@ -26,10 +26,10 @@ use Rattle.roff_run.specs.declared.reading.Reading.TheVariants.{Deciding}
 takes-deciding : (keeps : Bool) → TakesHalf (Deciding keeps)
 takes-deciding keeps k i b next (IsRead reads) =
     ap (λ (c : Bool). if c then going_on (interrupted (Deciding keeps) i) (Deciding keeps) else kept_taking k (Deciding keeps) i b) reads.stands
-    ∙ ap (condition_read k i keeps) (reads.goes_on AboveArguments)
+    ∙ ap (read_in k (Deciding keeps) i) (reads.goes_on AboveArguments)
 takes-deciding keeps k i b next (IsHeld top holds is) =
     ap (λ (c : Bool). if c then going_on (interrupted (Deciding keeps) i) (Deciding keeps) else kept_taking k (Deciding keeps) i b) holds.stands
-    ∙ ap (condition_read k i keeps) (holds.holds AboveArguments)
+    ∙ ap (read_in k (Deciding keeps) i) (holds.holds AboveArguments)
     ∙ ap (λ (half : List Half). going_on (record i { half = half }) (Deciding keeps)) (sym is)
 
 pub takes_where : (reading : Reading) (keeps : Bool) → reading ≡ Deciding keeps → TakesHalf reading

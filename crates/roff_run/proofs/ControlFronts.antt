@@ -20,9 +20,10 @@ use Rattle.roff_run.specs.ControlFronts.{BeginsControl, LeadsTo, StandsReady, co
 use Rattle.roff_run.specs.Reader.State.{ReaderState}
 use Rattle.roff_run.specs.Reader.Taken.{PageUnread}
 use Rattle.roff_run.specs.Reading.{kept_taking}
-use Rattle.roff_run.specs.Reading.Beginnings.{at_start, beginning_read}
+use Rattle.roff_run.specs.Reading.Beginnings.{at_start}
 use Rattle.roff_run.specs.Reading.ControlLines.{behind_called, ends_name, name_ended_taking, name_whole_taking}
 use Rattle.roff_run.specs.Reading.Ends.{due}
+use Rattle.roff_run.specs.Reading.Found.{read_in}
 use Rattle.roff_run.specs.Reading.Items.{PageInput, going_on}
 use Rattle.roff_run.specs.Requests.{called_by}
 use Rattle.roff_run.specs.Stages.{Here, Onward, ReadsPast, Stage, Turned, Turns, input_at, stage_of, with_stage_of}
@@ -33,26 +34,26 @@ use Rattle.roff_run.specs.declared.reading.ShortName.{ShortName}
 -- where a line begins, or a branch, or its rest behind its brace, a control line may begin
 begins-line_start : BeginsControl LineStart
 begins-line_start k i true none_half =
-    ap (λ (half : List Half). beginning_read k i LineStart (byte_read (at_start k) half 46)) none_half
+    ap (λ (half : List Half). read_in k LineStart i (byte_read (at_start k) half 46)) none_half
     ∙ ap (λ (half : List Half). going_on (record i { half = half }) (Control true)) (sym none_half)
 begins-line_start k i false none_half =
-    ap (λ (half : List Half). beginning_read k i LineStart (byte_read (at_start k) half 39)) none_half
+    ap (λ (half : List Half). read_in k LineStart i (byte_read (at_start k) half 39)) none_half
     ∙ ap (λ (half : List Half). going_on (record i { half = half }) (Control false)) (sym none_half)
 
 begins-branch : BeginsControl Branch
 begins-branch k i true none_half =
-    ap (λ (half : List Half). beginning_read k i Branch (byte_read (at_start k) half 46)) none_half
+    ap (λ (half : List Half). read_in k Branch i (byte_read (at_start k) half 46)) none_half
     ∙ ap (λ (half : List Half). going_on (record i { half = half }) (Control true)) (sym none_half)
 begins-branch k i false none_half =
-    ap (λ (half : List Half). beginning_read k i Branch (byte_read (at_start k) half 39)) none_half
+    ap (λ (half : List Half). read_in k Branch i (byte_read (at_start k) half 39)) none_half
     ∙ ap (λ (half : List Half). going_on (record i { half = half }) (Control false)) (sym none_half)
 
 begins-braced : BeginsControl Braced
 begins-braced k i true none_half =
-    ap (λ (half : List Half). beginning_read k i Braced (byte_read (at_start k) half 46)) none_half
+    ap (λ (half : List Half). read_in k Braced i (byte_read (at_start k) half 46)) none_half
     ∙ ap (λ (half : List Half). going_on (record i { half = half }) (Control true)) (sym none_half)
 begins-braced k i false none_half =
-    ap (λ (half : List Half). beginning_read k i Braced (byte_read (at_start k) half 39)) none_half
+    ap (λ (half : List Half). read_in k Braced i (byte_read (at_start k) half 39)) none_half
     ∙ ap (λ (half : List Half). going_on (record i { half = half }) (Control false)) (sym none_half)
 
 pub begins_at_start : (reading : Reading) → reading ≡ LineStart → BeginsControl reading

@@ -11,14 +11,16 @@ use Rattle.roff_store.specs.Named.{Named}
 use Rattle.roff_store.specs.TextCalls.{Call}
 use Rattle.roff_store.specs.Texts.{Entry}
 use Rattle.roff_run.specs.Definitions.{ends_mark}
-use Rattle.roff_run.specs.Reading.Arguments.{arguments_ended, arguments_read_on, calling_all, ended_by, line_ended}
+use Rattle.roff_run.specs.Reading.Arguments.{arguments_ended, calling_all, ended_by, line_ended}
 use Rattle.roff_run.specs.Reading.Branches.{branch_taking, reads_else}
 use Rattle.roff_run.specs.Reading.ControlLines.{called_taking, line_taking}
 use Rattle.roff_run.specs.Reading.DefinedLines.{behind_definition}
+use Rattle.roff_run.specs.Reading.Found.{read_in}
 use Rattle.roff_run.specs.Reading.Items.{PageInput, Taking}
 use Rattle.roff_run.specs.Registers.{AllRegisters, Change, Known, changed_by_all}
 use Rattle.roff_run.specs.Requests.{Back, Effect, called_by, meant_by, request_effect, row_of}
 use Rattle.roff_run.specs.Requests.Effects.{happens, no_such_environment}
+use Rattle.roff_run.specs.declared.reading.Reading.TheVariants.{Arguments as InArguments}
 use Rattle.roff_run.specs.declared.reading.ShortName.{ShortName}
 use Rattle.roff_run.specs.declared.request.Called.{Called}
 use Rattle.roff_run.specs.declared.request.Called.TheVariants.{Request as ARequest, Body as ABody, Nothing as Unknown}
@@ -140,7 +142,7 @@ LeavesTexts-branch k i false = record { at_blank = still i _ refl refl; at_tab =
 
 -- the byte behind the name of a request that reads arguments
 LeavesTexts-arguments : (k : Known) (i : PageInput) (breaks : Bool) (request : Request)
-    → BehindMark (λ b. LeavesTexts i (arguments_read_on k (beginning_line i) breaks request (byte_read AboveArguments [] b)))
+    → BehindMark (λ b. LeavesTexts i (read_in k (InArguments breaks request) (beginning_line i) (byte_read AboveArguments [] b)))
 LeavesTexts-arguments k i breaks request = record {
   at_blank = still i _ refl refl;
   at_tab = still i _ refl refl;

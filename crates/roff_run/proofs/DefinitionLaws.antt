@@ -32,8 +32,9 @@ use Rattle.roff_run.specs.InterpolationLaws.{StandsForItself}
 use Rattle.roff_run.specs.Laws.{IsWithin}
 use Rattle.roff_run.specs.Output.{PageHistory}
 use Rattle.roff_run.specs.Reading.{kept_taking, taking}
-use Rattle.roff_run.specs.Reading.DefinedLines.{behind_definition, definition_line, definition_read, definition_unit}
+use Rattle.roff_run.specs.Reading.DefinedLines.{behind_definition, definition_line, definition_unit}
 use Rattle.roff_run.specs.Reading.Definitions.{definition_grown}
+use Rattle.roff_run.specs.Reading.Found.{read_in}
 use Rattle.roff_run.specs.Reading.Items.{PageInput, Taking, going_on}
 use Rattle.roff_run.specs.Reading.Strings.{string_entered}
 use Rattle.roff_run.specs.Registers.{AllRegisters, Known}
@@ -116,7 +117,7 @@ reads-unit names d a text matched half unit b k i is_kept reads =
     let reading : Reading = Defining d.name d.appends d.end matched in
     let here : PageInput = record (input_at names (defining d a text matched) i) { half = half } in
     ap (λ (c : Bool). if c then going_on here reading else kept_taking k reading here b) is_kept
-    ∙ ap (definition_read k here d.name d.appends d.end matched) reads
+    ∙ ap (read_in k (Defining d.name d.appends d.end matched) here) reads
 
 -- a byte that is no backslash gives itself
 reads-itself : (b : ℕ) → (b == backslash) ≡ false → byte_read AboveCopy [] b ≡ (GivesUnit (Byte b), [])

@@ -22,8 +22,9 @@ use Rattle.roff_run.proofs.TurnedRuns.{counted-bytes_taken}
 use Rattle.roff_run.specs.Reader.State.{ReaderState}
 use Rattle.roff_run.specs.Reader.Taken.{PageUnread}
 use Rattle.roff_run.specs.Reading.{kept_taking}
-use Rattle.roff_run.specs.Reading.Arguments.{arguments_ended, arguments_read_on}
+use Rattle.roff_run.specs.Reading.Arguments.{arguments_ended}
 use Rattle.roff_run.specs.Reading.Ends.{due}
+use Rattle.roff_run.specs.Reading.Found.{read_in}
 use Rattle.roff_run.specs.Reading.Items.{PageInput, going_on}
 use Rattle.roff_run.specs.Reading.Units.{holding, settling}
 use Rattle.roff_run.specs.Requests.{row_of}
@@ -40,8 +41,8 @@ holds_arguments breaks request b plain = λ k i none_half.
     let bare : PageInput = record i { half = [] } in
     let none = none_of_three (b == backslash) (is_dropped b) (b == newline) plain in
     ap (λ (c : Bool). if c then going_on (settling i) reading else kept_taking k reading i b) none.1.0
-    ∙ ap (λ (half : List Half). arguments_read_on k i breaks request (byte_read AboveArguments half b)) none_half
-    ∙ ap (λ (c : Bool). arguments_read_on k i breaks request (if c then (GoesOn, Backslash ∷ []) else (GivesUnit (Byte b), [])))
+    ∙ ap (λ (half : List Half). read_in k (InArguments breaks request) i (byte_read AboveArguments half b)) none_half
+    ∙ ap (λ (c : Bool). read_in k (InArguments breaks request) i (if c then (GoesOn, Backslash ∷ []) else (GivesUnit (Byte b), [])))
     none.0
     ∙ ap (λ (c : Bool). if c then arguments_ended k bare breaks request (row_of request).line else going_on (holding (Byte b) bare) reading)
     none.1.1

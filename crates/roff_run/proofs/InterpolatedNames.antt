@@ -24,12 +24,13 @@ use Rattle.roff_store.specs.declared.register.Direction.TheVariants.{Up, Down}
 use Rattle.roff_run.specs.declared.reading.Reading.{Reading}
 use Rattle.roff_run.specs.declared.reading.Reading.TheVariants.{LineStart, Branch, Braced, Text as InText, Control, Name as NameOf, Arguments as InArguments, Deciding, StringName, StringText, Skipping, Dropped, Telling, Told, Exiting, Calling, Defining}
 use Rattle.roff_run.specs.declared.reading.TextLine.{TextLine}
-use Rattle.roff_run.proofs.Interpolation.{AtLast, Behind, FindsAtLast, Fits-IsWithin, FromAhead, FromSource, IsRead, IsRead-itself, Means, Origin, ReadsEscapes, AtBeginning, AtBranch, AtBraced, OnText, OnArguments, OnCondition, OnStringName, OnCall, OnStringText, OnDefinition, OnMessage, ReadsEscapes-reads_escapes, above, after-escape, ahead_at, going, input_of, interrupted-arguments, is-going, is_no_newline, line_behind, not-first, read_in, settled_for, settled_for-settled_for, settled_input, source_behind, tape_at, taking-reads}
+use Rattle.roff_run.proofs.Interpolation.{AtLast, Behind, FindsAtLast, Fits-IsWithin, FromAhead, FromSource, IsRead, IsRead-itself, Means, Origin, ReadsEscapes, AtBeginning, AtBranch, AtBraced, OnText, OnArguments, OnCondition, OnStringName, OnCall, OnStringText, OnDefinition, OnMessage, ReadsEscapes-reads_escapes, after-escape, ahead_at, going, input_of, interrupted-arguments, is-going, is_no_newline, line_behind, not-first, settled_for, settled_for-settled_for, settled_input, source_behind, tape_at, taking-reads}
 use Rattle.roff_run.specs.InterpolationLaws.{TakesItems, StandsForItself, IsEscapeOf, Short, Long, ShortString, LongString, OfArgument, reads_text, reads_escapes, reads_in_condition, reads_above, stepped, text_named, with_text_ahead, EscapesReadAsTexts, EscapesOfTheSourceReadAsTexts, EscapesOfTextReadAsTexts}
 use Rattle.roff_run.specs.Laws.{IsWithin}
 use Rattle.roff_run.specs.Reading.{taking, interrupted}
 use Rattle.roff_run.specs.Reading.Beginnings.{first_name}
 use Rattle.roff_run.specs.Reading.Escapes.{asking}
+use Rattle.roff_run.specs.Reading.Found.{place_in, read_in}
 use Rattle.roff_run.specs.Reading.Items.{PageInput, Taking}
 use Rattle.roff_run.specs.Reading.TextLines.{name_taking}
 use Rattle.roff_run.specs.Registers.{Known, text_of_register}
@@ -235,7 +236,7 @@ read_in-asks k _ i half asks name of (OnMessage aborts is_front) = refl
 
 -- a byte that asks for it
 taking-asks : (k : Known) (reading : Reading) (i : PageInput) (b : ℕ) (half : List Half) (asks : NameUse) (name : Option (List ℕ))
-    → Interpolates asks → ReadsEscapes reading → IsRead b → byte_read (above k reading) i.half b ≡ (Asks asks name, half)
+    → Interpolates asks → ReadsEscapes reading → IsRead b → byte_read (place_in k reading) i.half b ≡ (Asks asks name, half)
     → taking k reading i b ≡ asking k (settled_input reading half i) reading asks name
 taking-asks k reading i b half asks name of on read reads =
     taking-reads k reading i b on read ∙ ap (read_in k reading i) reads ∙ read_in-asks k reading i half asks name of on
@@ -315,7 +316,7 @@ charge-asked s reading from a half charge line _ name AnArgument = refl
 -- an escape is read as its text, where a run takes items
 escape-going : (l : Limits) (s : State) (reading : Reading) (from : Origin) (a : Arguments)
     (asks : NameUse) (name : List ℕ) (names : List Half) (bytes : List ℕ) (charge line : ℕ)
-    → Interpolates asks → ReadsEscapes reading → reads_above names ≡ true → AsksAtLast (above (known s) reading) asks name names (Backslash ∷ names) bytes
+    → Interpolates asks → ReadsEscapes reading → reads_above names ≡ true → AsksAtLast (place_in (known s) reading) asks name names (Backslash ∷ names) bytes
     → let first : State = going s reading from (backslash ∷ bytes) a names charge line in
     let read : State = read_from from asks name (length (backslash ∷ bytes)) first in
     IsWithin l first → IsWithin l read → after l (length (backslash ∷ bytes)) first ≡ read
@@ -327,7 +328,7 @@ escape-going l s reading from a asks name names bytes charge line of on are last
     let is : read ≡ t = read_from-asked s reading from (backslash ∷ bytes) a names charge (length (backslash ∷ bytes)) line asks name of on in
     let within_t : IsWithin l t = subst (IsWithin l) is within_read in
     let charged : t.input.charge ≡ total = charge-asked s reading from (settled_for reading a) names total (line_behind from s line) asks name of in
-    after-escape l s reading from a (Asks asks (Some name)) names names bytes charge line t on (goes_on-names names are) (byte_read-backslash (above (known s) reading) names are)
+    after-escape l s reading from a (Asks asks (Some name)) names names bytes charge line t on (goes_on-names names are) (byte_read-backslash (place_in (known s) reading) names are)
     last (omega (arith, within_t.bytes, charged)) (Fits-IsWithin l first within)
     (means-asks s reading from (settled_for reading a) total (line_behind from s line) asks name names of on (settled_for-settled_for reading a on))
     (Fits-IsWithin l t within_t)
@@ -335,7 +336,7 @@ escape-going l s reading from a asks name names bytes charge line of on are last
 
 -- and in any state of such a run
 escape-reads : (l : Limits) (s : State) (from : Origin) (asks : NameUse) (name bytes : List ℕ)
-    → Interpolates asks → TakesItems s → ReadsEscapes s.reading → reads_above s.input.half ≡ true → AsksAtLast (above (known s) s.reading) asks name s.input.half (Backslash ∷ s.input.half) bytes
+    → Interpolates asks → TakesItems s → ReadsEscapes s.reading → reads_above s.input.half ≡ true → AsksAtLast (place_in (known s) s.reading) asks name s.input.half (Backslash ∷ s.input.half) bytes
     → s.input.ahead ≡ ahead_at from (backslash ∷ bytes) → s.tape ≡ tape_at from (backslash ∷ bytes) s.tape
     → let read : State = read_from from asks name (length (backslash ∷ bytes)) s in
     IsWithin l s → IsWithin l read → after l (length (backslash ∷ bytes)) s ≡ read
@@ -354,32 +355,32 @@ escapes_read_from : (l : Limits) (s : State) (from : Origin) (asks : NameUse) (n
     IsWithin l s → IsWithin l read → after l (length escape) s ≡ read
 escapes_read_from l s from _ _ _ (Short step x may plain) takes are few reads ahead tape =
     let on : ReadsEscapes s.reading = ReadsEscapes-reads_escapes s.reading reads in
-    let base : Surroundings = above (known s) s.reading in
+    let base : Surroundings = place_in (known s) s.reading in
     escape-reads l s from (Register step) (x ∷ []) (110 ∷ sign step ++ x ∷ []) (ARegister step) takes on are
     (asks-signed base step (x ∷ []) (x ∷ []) s.input.half few
     (AtLast (Name (Register step) Nothing ∷ s.input.half) x (IsRead-itself x may) (is_no_newline x may) (byte_read-short base step x s.input.half are plain))) ahead tape
 escapes_read_from l s from _ _ _ (Long step x y first second) takes are few reads ahead tape =
     let on : ReadsEscapes s.reading = ReadsEscapes-reads_escapes s.reading reads in
-    let base : Surroundings = above (known s) s.reading in
+    let base : Surroundings = place_in (known s) s.reading in
     escape-reads l s from (Register step) (x ∷ y ∷ []) (110 ∷ sign step ++ 40 ∷ x ∷ y ∷ []) (ARegister step) takes on are
     (asks-signed base step (x ∷ y ∷ []) (40 ∷ x ∷ y ∷ []) s.input.half few
     (Behind _ _ 40 (x ∷ y ∷ []) refl refl (byte_read-opening base step s.input.half) refl (asks-opened base (Register step) x y s.input.half are first second))) ahead tape
 escapes_read_from l s from _ _ _ (ShortString x may no_opening) takes are few reads ahead tape =
     let on : ReadsEscapes s.reading = ReadsEscapes-reads_escapes s.reading reads in
-    let base : Surroundings = above (known s) s.reading in
+    let base : Surroundings = place_in (known s) s.reading in
     escape-reads l s from OfText (x ∷ []) (42 ∷ x ∷ []) AString takes on are
     (asks-string base (x ∷ []) (x ∷ []) s.input.half few
     (AtLast (Name OfText Nothing ∷ s.input.half) x (IsRead-itself x may) (is_no_newline x may)
     (byte_read-string base x s.input.half are (not-first (x == backslash) (is_dropped x || x == newline) may) no_opening))) ahead tape
 escapes_read_from l s from _ _ _ (LongString x y first second) takes are few reads ahead tape =
     let on : ReadsEscapes s.reading = ReadsEscapes-reads_escapes s.reading reads in
-    let base : Surroundings = above (known s) s.reading in
+    let base : Surroundings = place_in (known s) s.reading in
     escape-reads l s from OfText (x ∷ y ∷ []) (42 ∷ 40 ∷ x ∷ y ∷ []) AString takes on are
     (asks-string base (x ∷ y ∷ []) (40 ∷ x ∷ y ∷ []) s.input.half few
     (Behind _ _ 40 (x ∷ y ∷ []) refl refl refl refl (asks-opened base OfText x y s.input.half are first second))) ahead tape
 escapes_read_from l s from _ _ _ (OfArgument x may) takes are few reads ahead tape =
     let on : ReadsEscapes s.reading = ReadsEscapes-reads_escapes s.reading reads in
-    let base : Surroundings = above (known s) s.reading in
+    let base : Surroundings = place_in (known s) s.reading in
     escape-reads l s from Argument (x ∷ []) (36 ∷ x ∷ []) AnArgument takes on are
     (asks-argument base (x ∷ []) (x ∷ []) s.input.half few
     (AtLast (Name Argument Nothing ∷ s.input.half) x (IsRead-itself x may) (is_no_newline x may)

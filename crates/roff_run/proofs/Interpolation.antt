@@ -11,8 +11,9 @@ use Rattle.roff_scan.proofs.Settling.{settled-only_kept, held-only_kept-settled}
 use Rattle.roff_scan.specs.Arguments.{Arguments, settled, only_kept, held}
 use Rattle.roff_scan.specs.Bytes.{newline, backslash, is_dropped}
 use Rattle.roff_scan.specs.Conditions.{ends_condition, is_decided}
-use Rattle.roff_scan.specs.Halves.{Reads, byte_read, decides_now, newline_stays, seen_stays}
+use Rattle.roff_scan.specs.Halves.{byte_read, decides_now, newline_stays, seen_stays}
 use Rattle.roff_scan.specs.Input.{Ahead, ByteAhead, EndAhead, cost, counting, item_taken, pushed, depth, results}
+use Rattle.roff_scan.specs.Input.Names.{names_added, stored}
 use Rattle.roff_scan.specs.Input.Names.{names_added, stored}
 use Rattle.roff_scan.specs.Tape.{Tape, Answer, Gives, OneByte, front, items_then}
 use Rattle.roff_scan.specs.Unread.{seen_ahead}
@@ -22,7 +23,6 @@ use Rattle.roff_scan.specs.declared.half.ConditionPart.TheVariants.{Choice, Expr
 use Rattle.roff_scan.specs.declared.half.Read.{Read}
 use Rattle.roff_scan.specs.declared.half.Read.TheVariants.{GoesOn}
 use Rattle.roff_scan.specs.declared.half.Surroundings.{Surroundings}
-use Rattle.roff_scan.specs.declared.half.Surroundings.TheVariants.{Arguments as AboveArguments, Copy as AboveCopy}
 use Rattle.roff_run.specs.declared.reading.Reading.{Reading}
 use Rattle.roff_run.specs.declared.reading.Reading.TheVariants.{LineStart, Branch, Braced, Text as InText, Control, Name as NameOf, Arguments as InArguments, Deciding, StringName, StringText, Skipping, Dropped, Telling, Told, Exiting, Calling, Defining}
 use Rattle.roff_run.specs.declared.reading.ShortName.{ShortName}
@@ -32,16 +32,9 @@ use Rattle.roff_run.specs.declared.status.Status.{Status}
 use Rattle.roff_run.specs.InterpolationLaws.{TakesItems, BytesAheadAreTaken, BytesOfTheSourceAreTaken, StandsForItself, reads_escapes, with_source_behind, cost_of_all, TextsCostTheirBytesAndOne}
 use Rattle.roff_run.specs.Laws.{IsWithin}
 use Rattle.roff_run.specs.Reading.{taking, kept_taking, interrupted}
-use Rattle.roff_run.specs.Reading.Arguments.{arguments_read_on}
-use Rattle.roff_run.specs.Reading.Beginnings.{at_start, beginning_read}
-use Rattle.roff_run.specs.Reading.Branches.{condition_read}
-use Rattle.roff_run.specs.Reading.Calls.{call_read}
-use Rattle.roff_run.specs.Reading.DefinedLines.{definition_read}
 use Rattle.roff_run.specs.Reading.Ends.{due}
 use Rattle.roff_run.specs.Reading.Items.{PageInput, Taking, going_on}
-use Rattle.roff_run.specs.Reading.Messages.{message_read}
-use Rattle.roff_run.specs.Reading.Strings.{string_name_read, string_text_read}
-use Rattle.roff_run.specs.Reading.TextLines.{on_line, text_read}
+use Rattle.roff_run.specs.Reading.Found.{place_in, read_in}
 use Rattle.roff_run.specs.Registers.{AllRegisters, Known}
 use Rattle.roff_run.specs.Requests.{PageEvent}
 use Rattle.roff_run.specs.Run.{State, known, made, byte_taken, front_seen, half_ends, awaited, awaited_of_source, answered, moved, in_front_taken, taking_ahead, taking_byte, taken_as, grown, unless_refused, stopped_by, item_read, step, after}
@@ -217,18 +210,6 @@ pub data ReadsEscapes : Reading → Type 0 where
       → ReadsEscapes (Defining name appends end matched)
   OnMessage : (aborts is_front : Bool) → ReadsEscapes (Telling aborts is_front)
 
--- and what they stand above there: a text line at a place, arguments, or what is copied
-abbrev pub above : Known → Reading → Surroundings
-above k (InText line) = on_line k line
-above k (InArguments breaks request) = AboveArguments
-above k (Deciding keeps) = AboveArguments
-above k (StringName appends) = AboveArguments
-above k (Calling name) = AboveArguments
-above k (StringText name appends is_front) = AboveCopy
-above k (Defining name appends end matched) = AboveCopy
-above k (Telling aborts is_front) = AboveCopy
-above k reading = at_start k
-
 -- there nothing is due
 pub none_due-reads : (reading : Reading) → ReadsEscapes reading → due reading ≡ None
 none_due-reads _ AtBeginning = refl
@@ -243,21 +224,9 @@ none_due-reads _ (OnStringText string appends is_front) = refl
 none_due-reads _ (OnDefinition string appends end matched) = refl
 none_due-reads _ (OnMessage aborts is_front) = refl
 
--- what something reads there, with what is half read then
-abbrev pub read_in : Known → Reading → PageInput → Reads → Taking
-read_in k (InText line) i r = text_read k i line r
-read_in k (InArguments breaks request) i r = arguments_read_on k i breaks request r
-read_in k (Deciding keeps) i r = condition_read k i keeps r
-read_in k (StringName appends) i r = string_name_read k i appends r
-read_in k (Calling name) i r = call_read k i name r
-read_in k (StringText name appends is_front) i r = string_text_read k i name appends is_front r
-read_in k (Defining name appends end matched) i r = definition_read k i name appends end matched r
-read_in k (Telling aborts is_front) i r = message_read k i aborts is_front r
-read_in k reading i r = beginning_read k i reading r
-
 -- a byte that isn't dropped
 kept_taking-reads : (k : Known) (reading : Reading) (i : PageInput) (b : ℕ) → ReadsEscapes reading
-    → kept_taking k reading i b ≡ read_in k reading i (byte_read (above k reading) i.half b)
+    → kept_taking k reading i b ≡ read_in k reading i (byte_read (place_in k reading) i.half b)
 kept_taking-reads k _ i b AtBeginning = refl
 kept_taking-reads k _ i b AtBranch = refl
 kept_taking-reads k _ i b AtBraced = refl
@@ -272,7 +241,7 @@ kept_taking-reads k _ i b (OnMessage aborts is_front) = refl
 
 -- a byte that is read
 pub taking-reads : (k : Known) (reading : Reading) (i : PageInput) (b : ℕ) → ReadsEscapes reading → IsRead b
-    → taking k reading i b ≡ read_in k reading i (byte_read (above k reading) i.half b)
+    → taking k reading i b ≡ read_in k reading i (byte_read (place_in k reading) i.half b)
 taking-reads k reading i b on read =
     ap (λ (d : Bool). if d then going_on (interrupted reading i) reading else kept_taking k reading i b) (not-first (is_dropped b) (b == newline) read)
     ∙ kept_taking-reads k reading i b on
@@ -305,7 +274,7 @@ read_in-nothing k _ i half (OnMessage aborts is_front) = refl
 
 -- a byte that finds nothing
 taking-nothing : (k : Known) (reading : Reading) (i : PageInput) (b : ℕ) (half : List Half) → ReadsEscapes reading
-    → IsRead b → byte_read (above k reading) i.half b ≡ (GoesOn, half) → taking k reading i b ≡ going_on (settled_input reading half i) reading
+    → IsRead b → byte_read (place_in k reading) i.half b ≡ (GoesOn, half) → taking k reading i b ≡ going_on (settled_input reading half i) reading
 taking-nothing k reading i b half on read reads =
     taking-reads k reading i b on read ∙ ap (read_in k reading i) reads ∙ read_in-nothing k reading i half on
 
@@ -363,7 +332,7 @@ pub data FindsAtLast (base : Surroundings) (found : Read) (behind : List Half) :
 -- a byte that finds this leads to that state
 abbrev pub Means : State → Reading → Origin → Arguments → ℕ → ℕ → Read → List Half → State → Type 0
 Means s reading from a charge line found behind t =
-    (half : List Half) (b : ℕ) → IsRead b → byte_read (above (known s) reading) half b ≡ (found, behind) → byte_taken b (going s reading from [] a half charge line) ≡ t
+    (half : List Half) (b : ℕ) → IsRead b → byte_read (place_in (known s) reading) half b ≡ (found, behind) → byte_taken b (going s reading from [] a half charge line) ≡ t
 
 -- behind a byte
 Fits-behind : (l : Limits) (registers : AllRegisters) (s : State) (from : Origin) (b : ℕ) (bytes : List ℕ) (a there : Arguments) (half other : List Half) (charge more line next : ℕ)
@@ -376,7 +345,7 @@ Fits-behind l registers s (FromSource tape) b bytes a there half other charge mo
 -- the steps at them
 after-finds : (l : Limits) (s : State) (reading : Reading) (from : Origin) (a : Arguments) (line : ℕ)
     (found : Read) (behind half : List Half) (bytes : List ℕ) (charge total : ℕ) (t : State)
-    → ReadsEscapes reading → settled_for reading a ≡ a → line_behind from s line ≡ line → FindsAtLast (above (known s) reading) found behind half bytes
+    → ReadsEscapes reading → settled_for reading a ≡ a → line_behind from s line ≡ line → FindsAtLast (place_in (known s) reading) found behind half bytes
     → charge + length bytes ≡ total → total ≤ l.bytes → Fits l s.registers (input_of s from bytes a half charge line)
     → Means s reading from a total line found behind t → Fits l t.registers t.input
     → after l (length bytes) (going s reading from bytes a half charge line) ≡ t
@@ -430,8 +399,8 @@ held-settled_for _ a (OnMessage aborts is_front) = refl
 -- the steps at an escape, where a backslash begins one
 pub after-escape : (l : Limits) (s : State) (reading : Reading) (from : Origin) (a : Arguments)
     (found : Read) (half behind : List Half) (bytes : List ℕ) (charge line : ℕ) (t : State)
-    → ReadsEscapes reading → seen_stays half (Some backslash) ≡ false → byte_read (above (known s) reading) half backslash ≡ (GoesOn, Backslash ∷ half)
-    → FindsAtLast (above (known s) reading) found behind (Backslash ∷ half) bytes
+    → ReadsEscapes reading → seen_stays half (Some backslash) ≡ false → byte_read (place_in (known s) reading) half backslash ≡ (GoesOn, Backslash ∷ half)
+    → FindsAtLast (place_in (known s) reading) found behind (Backslash ∷ half) bytes
     → charge + length (backslash ∷ bytes) ≤ l.bytes → Fits l s.registers (input_of s from (backslash ∷ bytes) a half charge line)
     → Means s reading from (settled_for reading a) (charge + length (backslash ∷ bytes)) (line_behind from s line) found behind t
     → Fits l t.registers t.input → after l (length (backslash ∷ bytes)) (going s reading from (backslash ∷ bytes) a half charge line) ≡ t

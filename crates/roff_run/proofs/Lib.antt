@@ -30,7 +30,7 @@ pub mod Numbering
 pub mod InputCounts
 pub mod TurnsToCome
 pub mod TakesAs
-pub mod FoundIn
+pub mod Placed
 pub mod ReadAtOnce
 pub mod Obeying
 pub mod Deciding

@@ -19,7 +19,7 @@ use Rattle.roff_run.specs.MessageLaws.{MessagesAreTheirTexts, TellsText, without
 use Rattle.roff_run.specs.Quoting.{taking_all}
 use Rattle.roff_run.specs.Reading.{kept_taking, taking}
 use Rattle.roff_run.specs.Reading.Items.{PageInput, Taking, going_on}
-use Rattle.roff_run.specs.Reading.Messages.{message_read}
+use Rattle.roff_run.specs.Reading.Found.{read_in}
 use Rattle.roff_run.specs.Registers.{Known}
 use Rattle.roff_run.specs.declared.reading.Reading.{Reading}
 use Rattle.roff_run.specs.declared.reading.Reading.TheVariants.{Telling, Told}
@@ -40,7 +40,7 @@ taking-message k aborts is_front i a b itself =
     let unit : byte_read AboveCopy [] b ≡ (GivesUnit (Byte b), []) =
     ap (λ (c : Bool). if c then (GoesOn, Backslash ∷ []) else (GivesUnit (Byte b), [])) (not-first (b == backslash) (is_dropped b || b == newline) itself) in
     ap (λ (c : Bool). if c then going_on held reading else kept_taking k reading held b) (not-first (is_dropped b) (b == newline) read)
-    ∙ ap (message_read k held aborts is_front) unit
+    ∙ ap (read_in k (Telling aborts is_front) held) unit
     ∙ ap (λ (c : Bool). if c then going_on held (Told aborts) else others) (not-second (is_dropped b) (b == newline) read)
 
 -- behind a byte the others tell what is left

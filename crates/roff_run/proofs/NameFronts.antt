@@ -13,10 +13,11 @@ use Rattle.roff_run.proofs.HeldRuns.{passed-counted}
 use Rattle.roff_run.specs.Reader.State.{ReaderState}
 use Rattle.roff_run.specs.Reader.Taken.{PageUnread}
 use Rattle.roff_run.specs.Reading.{interrupted, kept_taking}
-use Rattle.roff_run.specs.Reading.Beginnings.{at_start, beginning_read}
+use Rattle.roff_run.specs.Reading.Beginnings.{at_start}
 use Rattle.roff_run.specs.Reading.Ends.{due}
 use Rattle.roff_run.specs.Reading.Items.{PageInput, going_on}
-use Rattle.roff_run.specs.Reading.TextLines.{on_line, text_read}
+use Rattle.roff_run.specs.Reading.TextLines.{on_line}
+use Rattle.roff_run.specs.Reading.Found.{read_in}
 use Rattle.roff_run.specs.Stages.{Here, Onward, ReadsHalves, ReadsPast, Stage, Turned, input_at, stage_of, with_stage_of}
 use Rattle.roff_run.specs.declared.reading.Reading.{Reading}
 use Rattle.roff_run.specs.declared.reading.Reading.TheVariants.{LineStart, Branch, Text as InText}
@@ -26,17 +27,17 @@ use Rattle.roff_run.specs.declared.reading.TextLine.{TextLine}
 reads-line_start : ReadsHalves LineStart
 reads-line_start k i b next kept reads =
     ap (λ (c : Bool). if c then going_on (interrupted LineStart i) LineStart else kept_taking k LineStart i b) kept
-    ∙ ap (beginning_read k i LineStart) (reads (at_start k))
+    ∙ ap (read_in k LineStart i) (reads (at_start k))
 
 reads-branch : ReadsHalves Branch
 reads-branch k i b next kept reads =
     ap (λ (c : Bool). if c then going_on (interrupted Branch i) Branch else kept_taking k Branch i b) kept
-    ∙ ap (beginning_read k i Branch) (reads (at_start k))
+    ∙ ap (read_in k Branch i) (reads (at_start k))
 
 reads-text_line : (line : TextLine) → ReadsHalves (InText line)
 reads-text_line line k i b next kept reads =
     ap (λ (c : Bool). if c then going_on (interrupted (InText line) i) (InText line) else kept_taking k (InText line) i b) kept
-    ∙ ap (text_read k i line) (reads (on_line k line))
+    ∙ ap (read_in k (InText line) i) (reads (on_line k line))
 
 pub reads_at_start : (reading : Reading) → reading ≡ LineStart → ReadsHalves reading
 reads_at_start reading is = subst ReadsHalves (sym is) reads-line_start

@@ -20,8 +20,9 @@ use Rattle.roff_run.specs.declared.reading.Reading.{Reading}
 use Rattle.roff_run.specs.InterpolationLaws.{StandsForItself}
 use Rattle.roff_run.specs.Quoting.{both, given_taking, taking_all, RequestsGetQuotedArguments}
 use Rattle.roff_run.specs.Reading.{taking, kept_taking}
-use Rattle.roff_run.specs.Reading.Arguments.{arguments_ended, arguments_read_on}
+use Rattle.roff_run.specs.Reading.Arguments.{arguments_ended}
 use Rattle.roff_run.specs.Reading.Definitions.{definition_named, lines_begun}
+use Rattle.roff_run.specs.Reading.Found.{read_in}
 use Rattle.roff_run.specs.Reading.Items.{PageInput, Taking, going_on}
 use Rattle.roff_run.specs.Reading.Units.{holding, settling}
 use Rattle.roff_run.specs.ShortNames.{name_at, name_or_none}
@@ -49,7 +50,7 @@ taking-argument k breaks request i a b itself =
     let unit : byte_read AboveArguments [] b ≡ (GivesUnit (Byte b), []) =
     ap (λ (c : Bool). if c then (GoesOn, Backslash ∷ []) else (GivesUnit (Byte b), [])) (not-first (b == backslash) (is_dropped b || b == newline) itself) in
     ap (λ (c : Bool). if c then going_on (settling held) reading else kept_taking k reading held b) (not-first (is_dropped b) (b == newline) read)
-    ∙ ap (arguments_read_on k held breaks request) unit
+    ∙ ap (read_in k (InArguments breaks request) held) unit
     ∙ ap (λ (c : Bool). if c then arguments_ended k held breaks request (row_of request).line else going_on (holding (Byte b) held) reading) (not-second (is_dropped b) (b == newline) read)
     ∙ ap (λ (arguments : Arguments). going_on (record i { half = []; arguments = arguments }) reading) (only_kept-with_unit a (Byte b))
 

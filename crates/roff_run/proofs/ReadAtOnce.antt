@@ -10,7 +10,9 @@ use Rattle.roff_scan.specs.Bytes.{backslash, is_dropped, newline}
 use Rattle.roff_scan.specs.Half.{Half, Backslash}
 use Rattle.roff_scan.specs.Escapes.{is_copied}
 use Rattle.roff_scan.specs.Halves.{byte_read, reading_ended}
-use Rattle.roff_scan.specs.Input.{holding_text, with_half}
+use Rattle.roff_scan.specs.Input.{holding_text}
+use Rattle.roff_scan.specs.Input.Names.{body_named}
+use Rattle.roff_scan.specs.Input.Calls.{calling_body}
 use Rattle.roff_scan.specs.Input.Calls.{calling_body}
 use Rattle.roff_scan.specs.Input.Names.{body_named}
 use Rattle.roff_scan.specs.Unread.{EndsDecided, changing, input_refusal, reading, unless_passed}
@@ -28,15 +30,14 @@ use Rattle.roff_run.specs.Environments.Standing.{StandFor}
 use Rattle.roff_run.specs.Events.Meant.{events_meant, none_meant}
 use Rattle.roff_run.specs.Reader.Above.{reads_above}
 use Rattle.roff_run.specs.Reader.AtOnce.{AsksAbove, GoesOnAbove, IsReadAbove, MeansNothing, TakesAtOnce, only_events}
-use Rattle.roff_run.specs.Reader.Found.{found_in, place_in}
 use Rattle.roff_run.specs.Reader.State.{ReaderState}
 use Rattle.roff_run.specs.Reader.Taken.{PageUnread, TakesAs, Took}
 use Rattle.roff_run.specs.Reading.{half_ended, kept_taking, taking}
-use Rattle.roff_run.specs.Reading.Arguments.{arguments_ended, arguments_read_on}
-use Rattle.roff_run.specs.Reading.Beginnings.{at_start, beginning_read, first_name}
+use Rattle.roff_run.specs.Reading.Arguments.{arguments_ended}
+use Rattle.roff_run.specs.Reading.Beginnings.{at_start, first_name}
 use Rattle.roff_run.specs.Reading.Branches.{branch_of}
-use Rattle.roff_run.specs.Reading.Calls.{call_read}
 use Rattle.roff_run.specs.Reading.Escapes.{asking}
+use Rattle.roff_run.specs.Reading.Found.{found_in, place_in, read_in}
 use Rattle.roff_run.specs.Reading.Items.{PageInput, Taking, going_on, meaning_events}
 use Rattle.roff_run.specs.Reading.TextLines.{name_taking}
 use Rattle.roff_run.specs.Reading.Units.{holding}
@@ -54,7 +55,7 @@ use Rattle.roff_run.specs.declared.reading.Reading.TheVariants.{StringName, Stri
 use Rattle.roff_run.specs.declared.reading.ShortName.{ShortName}
 use Rattle.roff_run.specs.declared.reading.TextLine.{TextLine}
 use Rattle.roff_run.specs.declared.request.Request.{Request}
-use Rattle.roff_run.proofs.FoundIn.{above-placed, half_ended-placed, kept-placed}
+use Rattle.roff_run.proofs.Placed.{above-placed, kept-placed}
 use Rattle.roff_run.proofs.TakesAs.{TakesAs-as, TakesAs-changed, TakesAs-ended_at, TakesAs-meant, TakesAs-read_at, TakesAs-where, taking-of}
 
 -- what is taken as one of two that are equal is taken as the other
@@ -146,13 +147,13 @@ none_half half is = nil_from_length half (eqb-true (length half) 0 (not-false (l
 -- where nothing is half read, a dot begins a control line
 pub begins-dot : (k : Known) (i : PageInput) → i.half ≡ [] → kept_taking k LineStart i 46 ≡ going_on i (Control true)
 begins-dot k i none =
-    ap (λ (half : List Half). beginning_read k i LineStart (byte_read (at_start k) half 46)) none
+    ap (λ (half : List Half). read_in k LineStart i (byte_read (at_start k) half 46)) none
     ∙ ap (λ (half : List Half). going_on (record i { half = half }) (Control true)) (sym none)
 
 -- and an apostrophe one whose requests don't break
 pub begins-apostrophe : (k : Known) (i : PageInput) → i.half ≡ [] → kept_taking k LineStart i 39 ≡ going_on i (Control false)
 begins-apostrophe k i none =
-    ap (λ (half : List Half). beginning_read k i LineStart (byte_read (at_start k) half 39)) none
+    ap (λ (half : List Half). read_in k LineStart i (byte_read (at_start k) half 39)) none
     ∙ ap (λ (half : List Half). going_on (record i { half = half }) (Control false)) (sym none)
 
 -- a newline ends a line that calls a body
@@ -160,7 +161,7 @@ pub ends-call : (k : Known) (i : PageInput) (name : ShortName) → i.half ≡ []
     → going_on (calling_body (body_named (name_bytes name) i) i) LineStart ≡ kept_taking k (Calling name) i 10
 ends-call k i name none =
     ap (λ (half : List Half). going_on (calling_body (body_named (name_bytes name) (record i { half = half })) (record i { half = half })) LineStart) none
-    ∙ ap (λ (half : List Half). call_read k i name (byte_read AboveArguments half 10)) (sym none)
+    ∙ ap (λ (half : List Half). read_in k (Calling name) i (byte_read AboveArguments half 10)) (sym none)
 
 -- another byte behind a request's name is held, but for a backslash
 pub holds-byte : (k : Known) (breaks : Bool) (request : Request) (i : PageInput) (b : ℕ) → i.half ≡ []
@@ -172,8 +173,8 @@ holds-byte k breaks request i b none no_escape no_newline =
     let unit : byte_read AboveArguments [] b ≡ (GivesUnit (Byte b), []) =
     ap (λ (c : Bool). if c then (GoesOn, Backslash ∷ []) else (GivesUnit (Byte b), [])) no_escape in
     sym
-    (ap (λ (half : List Half). arguments_read_on k i breaks request (byte_read AboveArguments half b)) none
-    ∙ ap (arguments_read_on k i breaks request) unit
+    (ap (λ (half : List Half). read_in k (InArguments breaks request) i (byte_read AboveArguments half b)) none
+    ∙ ap (read_in k (InArguments breaks request) i) unit
     ∙ ap (λ (c : Bool). if c then arguments_ended k bare breaks request (row_of request).line else going_on (holding (Byte b) bare) reading) no_newline
     ∙ ap (λ (half : List Half). going_on (holding (Byte b) (record i { half = half })) reading) (sym none))
 
@@ -298,10 +299,8 @@ module _ (keeps : Bool) (old : ReaderState) (before mid : PageUnread) (found : R
     (ends : (found, mid) ≡ reading (reading_ended AboveArguments before.input.half) before) where
   ended-taken : (es : EnvironmentsOf) → TakesFound (λ k. half_ended k old.reading before.input) es old before mid found
   ended-taken es new end result takes =
-      TakesAs-as (λ k. found_in k (with_half (reading_ended (place_in k old.reading) before.input.half).1 before.input) old.reading (reading_ended (place_in k old.reading) before.input.half).0)
-      (λ k. half_ended k old.reading before.input) es old new before end result (λ k. half_ended-placed k before.input old.reading)
-      (TakesAs-ended_at (λ k i f. found_in k i old.reading f) (λ k. place_in k old.reading) AboveArguments es
-      (λ l h rs i stands. ap (place_in (known_at h rs i)) (sym deciding)) old new before mid end found result ends takes)
+      TakesAs-ended_at (λ k i f. found_in k i old.reading f) (λ k. place_in k old.reading) AboveArguments es
+      (λ l h rs i stands. ap (place_in (known_at h rs i)) (sym deciding)) old new before mid end found result ends takes
 
   -- by how far it was read at once
   pub ended-above : (es : EnvironmentsOf) (behind : PageUnread) (answer : AtOnce) → GoesOnAbove found mid behind answer
@@ -328,7 +327,7 @@ module _ (b : ℕ) (place : Surroundings) (es : EnvironmentsOf) (old : ReaderSta
   found-taken : (new : ReaderState) (end : PageUnread) (result : Result Meaning Limit) → TakesAs (λ k. found_in k mid.input old.reading found) es old new mid end result
       → TakesAs (λ k. taking k old.reading before.input b) es old new before end result
   found-taken new end result takes =
-      TakesAs-as (λ k. found_in k (with_half (byte_read (place_in k old.reading) before.input.half b).1 before.input) old.reading (byte_read (place_in k old.reading) before.input.half b).0)
+      TakesAs-as (λ k. read_in k old.reading before.input (byte_read (place_in k old.reading) before.input.half b))
       (λ k. taking k old.reading before.input b) es old new before end result
       (λ k. kept-placed k before.input old.reading b (above-placed old.reading above) ∙ taking-of k old.reading before.input b false kept)
       (TakesAs-read_at (λ k i found. found_in k i old.reading found) (λ k. place_in k old.reading) place es is_place old new before mid end found result b reads takes)

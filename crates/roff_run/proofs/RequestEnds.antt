@@ -5,7 +5,8 @@ use Rattle.roff_scan.specs.Half.{Half}
 use Rattle.roff_scan.specs.Halves.{byte_read}
 use Rattle.roff_scan.specs.declared.half.Surroundings.TheVariants.{Arguments as AboveArguments}
 use Rattle.roff_run.specs.Reading.{taking}
-use Rattle.roff_run.specs.Reading.Arguments.{arguments_ended, arguments_read_on}
+use Rattle.roff_run.specs.Reading.Arguments.{arguments_ended}
+use Rattle.roff_run.specs.Reading.Found.{read_in}
 use Rattle.roff_run.specs.Reading.Items.{PageInput}
 use Rattle.roff_run.specs.Registers.{Known}
 use Rattle.roff_run.specs.Requests.{row_of}
@@ -17,4 +18,4 @@ pub ends-request : (k : Known) (i : PageInput) (breaks : Bool) (request : Reques
     → arguments_ended k i breaks request (row_of request).line ≡ taking k (InArguments breaks request) i newline
 ends-request k i breaks request none =
     ap (λ (half : List Half). arguments_ended k (record i { half = half }) breaks request (row_of request).line) none
-    ∙ sym (ap (λ (half : List Half). arguments_read_on k i breaks request (byte_read AboveArguments half newline)) none)
+    ∙ sym (ap (λ (half : List Half). read_in k (InArguments breaks request) i (byte_read AboveArguments half newline)) none)

@@ -12,7 +12,8 @@ use Rattle.roff_scan.specs.declared.half.CopyUnit.TheVariants.{Byte}
 use Rattle.roff_scan.specs.declared.half.Read.TheVariants.{GoesOn, Unit as GivesUnit}
 use Rattle.roff_run.specs.Reading.{interrupted, kept_taking}
 use Rattle.roff_run.specs.Reading.Items.{PageInput, Taking, going_on, meaning_events}
-use Rattle.roff_run.specs.Reading.TextLines.{blank_taking, glyph_taking, on_line, other_taking, tab_taking, text_line_end, text_read, text_taking}
+use Rattle.roff_run.specs.Reading.TextLines.{blank_taking, glyph_taking, on_line, other_taking, tab_taking, text_line_end, text_taking}
+use Rattle.roff_run.specs.Reading.Found.{read_in}
 use Rattle.roff_run.specs.Requests.{Text}
 use Rattle.roff_run.specs.Telling.{Prints, byte_events}
 use Rattle.roff_run.specs.declared.reading.Reading.{Reading}
@@ -70,8 +71,8 @@ prints-plain has_other has_brace b text = λ k i none_half.
     let line : TextLine = line_of has_other has_brace in
     ap (λ (c : Bool). if c then going_on (interrupted (InText line) i) (InText line) else kept_taking k (InText line) i b)
     (kept-text (nat_lt b 32) (b == 127) (b == backslash) (not (b == newline || b == tab || is_silent b)) text)
-    ∙ ap (λ (half : List Half). text_read k i line (byte_read (on_line k line) half b)) none_half
-    ∙ ap (λ (c : Bool). text_read k i line (if c then (GoesOn, Backslash ∷ []) else (GivesUnit (Byte b), []))) (is_other b backslash text refl)
+    ∙ ap (λ (half : List Half). read_in k (InText line) i (byte_read (on_line k line) half b)) none_half
+    ∙ ap (λ (c : Bool). read_in k (InText line) i (if c then (GoesOn, Backslash ∷ []) else (GivesUnit (Byte b), []))) (is_other b backslash text refl)
     ∙ ap (λ (half : List Half). text_taking (record i { half = half }) line b) (sym none_half)
     ∙ told-kept i has_other has_brace b text
 

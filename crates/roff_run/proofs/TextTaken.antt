@@ -7,9 +7,10 @@ use Rattle.roff_scan.specs.Halves.{byte_read}
 use Rattle.roff_scan.specs.declared.half.CopyUnit.TheVariants.{Byte}
 use Rattle.roff_scan.specs.declared.half.Read.TheVariants.{GoesOn, Unit as GivesUnit}
 use Rattle.roff_run.specs.Reading.{interrupted, kept_taking, taking}
-use Rattle.roff_run.specs.Reading.Beginnings.{at_start, beginning_read, beginning_text, going_on_told, line_begun, line_begun_as}
+use Rattle.roff_run.specs.Reading.Beginnings.{at_start, beginning_text, going_on_told, line_begun, line_begun_as}
 use Rattle.roff_run.specs.Reading.Items.{PageInput, behind_events, going_on}
-use Rattle.roff_run.specs.Reading.TextLines.{fresh_line, on_line, text_read, text_taking}
+use Rattle.roff_run.specs.Reading.TextLines.{fresh_line, on_line, text_taking}
+use Rattle.roff_run.specs.Reading.Found.{read_in}
 use Rattle.roff_run.specs.Registers.{Known}
 use Rattle.roff_run.specs.declared.reading.Reading.TheVariants.{Control, LineStart, Text as InText}
 use Rattle.roff_run.specs.declared.reading.TextLine.{TextLine}
@@ -19,8 +20,8 @@ pub text_line-reads : (k : Known) (i : PageInput) (line : TextLine) (b : ℕ) �
     → taking k (InText line) i b ≡ text_taking i line b
 text_line-reads k i line b none_half kept no_escape =
     ap (λ (c : Bool). if c then going_on (interrupted (InText line) i) (InText line) else kept_taking k (InText line) i b) kept
-    ∙ ap (λ (half : List Half). text_read k i line (byte_read (on_line k line) half b)) none_half
-    ∙ ap (λ (c : Bool). text_read k i line (if c then (GoesOn, Backslash ∷ []) else (GivesUnit (Byte b), []))) no_escape
+    ∙ ap (λ (half : List Half). read_in k (InText line) i (byte_read (on_line k line) half b)) none_half
+    ∙ ap (λ (c : Bool). read_in k (InText line) i (if c then (GoesOn, Backslash ∷ []) else (GivesUnit (Byte b), []))) no_escape
     ∙ ap (λ (half : List Half). text_taking (record i { half = half }) line b) (sym none_half)
 
 -- where a line begins
@@ -29,8 +30,8 @@ pub line_start-reads : (k : Known) (i : PageInput) (b : ℕ) → i.half ≡ [] �
 line_start-reads k i b none_half kept no_escape =
     sym
     (ap (λ (c : Bool). if c then going_on (interrupted LineStart i) LineStart else kept_taking k LineStart i b) kept
-    ∙ ap (λ (half : List Half). beginning_read k i LineStart (byte_read (at_start k) half b)) none_half
-    ∙ ap (λ (c : Bool). beginning_read k i LineStart (if c then (GoesOn, Backslash ∷ []) else (GivesUnit (Byte b), []))) no_escape
+    ∙ ap (λ (half : List Half). read_in k LineStart i (byte_read (at_start k) half b)) none_half
+    ∙ ap (λ (c : Bool). read_in k LineStart i (if c then (GoesOn, Backslash ∷ []) else (GivesUnit (Byte b), []))) no_escape
     ∙ ap (λ (half : List Half). line_begun k (record i { half = half }) b) (sym none_half))
 
 -- the first of a text line, if it is no dot and no apostrophe, and no interrupted line goes on

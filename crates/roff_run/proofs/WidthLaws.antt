@@ -25,12 +25,13 @@ use Rattle.roff_scan.specs.Unread.{seen_ahead}
 use Rattle.roff_scan.specs.declared.half.Read.TheVariants.{GoesOn, Measures}
 use Rattle.roff_scan.specs.declared.half.Surroundings.{Surroundings}
 use Rattle.roff_scan.specs.declared.half.Surroundings.TheVariants.{Text as AboveText, Arguments as AboveArguments, Copy as AboveCopy}
-use Rattle.roff_run.proofs.Interpolation.{Fits-IsWithin, FindsAtLast, AtLast, Behind, FromAhead, FromSource, IsRead, IsRead-itself, Means, Origin, ReadsEscapes, AtBeginning, AtBranch, AtBraced, OnText, OnArguments, OnCondition, OnStringName, OnCall, OnStringText, OnDefinition, OnMessage, ReadsEscapes-reads_escapes, above, after-escape, ahead_at, going, input_of, interrupted-arguments, is-going, is_no_newline, line_behind, not-first, not-second, read_in, settled_for, settled_for-settled_for, settled_input, source_behind, step-byte, tape_at, taken_as-going_on, taking-reads, made-Fits, none_due-reads, step-TakesItems}
+use Rattle.roff_run.proofs.Interpolation.{Fits-IsWithin, FindsAtLast, AtLast, Behind, FromAhead, FromSource, IsRead, IsRead-itself, Means, Origin, ReadsEscapes, AtBeginning, AtBranch, AtBraced, OnText, OnArguments, OnCondition, OnStringName, OnCall, OnStringText, OnDefinition, OnMessage, ReadsEscapes-reads_escapes, after-escape, ahead_at, going, input_of, interrupted-arguments, is-going, is_no_newline, line_behind, not-first, not-second, settled_for, settled_for-settled_for, settled_input, source_behind, step-byte, tape_at, taken_as-going_on, taking-reads, made-Fits, none_due-reads, step-TakesItems}
 use Rattle.roff_run.specs.InterpolationLaws.{TakesItems, StandsForItself, reads_escapes}
 use Rattle.roff_run.specs.Laws.{IsWithin}
 use Rattle.roff_run.specs.Output.{text_of}
 use Rattle.roff_run.specs.Reading.{taking, half_ended}
 use Rattle.roff_run.specs.Reading.Escapes.{measuring}
+use Rattle.roff_run.specs.Reading.Found.{place_in, read_in}
 use Rattle.roff_run.specs.Reading.Items.{PageInput, Taking}
 use Rattle.roff_run.specs.Registers.{Known}
 use Rattle.roff_run.specs.Requests.{PageEvent}
@@ -57,7 +58,7 @@ read_in-measures k _ i half width (OnMessage aborts is_front) = refl
 
 -- a byte that ends a text that is measured
 taking-measures : (k : Known) (reading : Reading) (i : PageInput) (b width : ℕ) (half : List Half) → ReadsEscapes reading
-    → IsRead b → byte_read (above k reading) i.half b ≡ (Measures width, half) → taking k reading i b ≡ measuring (settled_input reading half i) reading width
+    → IsRead b → byte_read (place_in k reading) i.half b ≡ (Measures width, half) → taking k reading i b ≡ measuring (settled_input reading half i) reading width
 taking-measures k reading i b width half on read reads =
     taking-reads k reading i b on read ∙ ap (read_in k reading i) reads ∙ read_in-measures k reading i half width on
 
@@ -122,7 +123,7 @@ step-delimiter l s reading from a d width is_deep half charge line on may within
     width_from-measured s reading from (d ∷ []) a text half charge 1 line width on in
     let within_t : IsWithin l t = subst (IsWithin l) is within_read in
     step-byte l s reading from d [] a text charge line t (none_due-reads reading on) may (not-second (is_dropped d) (d == newline) may) within_t.bytes
-    (means-measures s reading from a (charge + 1) next width half on text d may (byte_read-delimiter (above (known s) reading) d width is_deep half))
+    (means-measures s reading from a (charge + 1) next width half on text d may (byte_read-delimiter (place_in (known s) reading) d width is_deep half))
     (Fits-IsWithin l t within_t)
     ∙ sym is
 
@@ -148,28 +149,12 @@ pub widths_of_the_source_read_as_digits : WidthsOfTheSourceReadAsDigits
 widths_of_the_source_read_as_digits l s d width is_deep half tape may takes reads measures none stands =
     delimiter-reads l s (FromSource tape) d width is_deep half may takes reads measures none stands
 
--- what is half read ends
-half_ended-reads : (k : Known) (reading : Reading) (i : PageInput) → ReadsEscapes reading
-    → half_ended k reading i ≡ read_in k reading i (reading_ended (above k reading) i.half)
-half_ended-reads k _ i AtBeginning = refl
-half_ended-reads k _ i AtBranch = refl
-half_ended-reads k _ i AtBraced = refl
-half_ended-reads k _ i (OnText line) = refl
-half_ended-reads k _ i (OnArguments breaks request) = refl
-half_ended-reads k _ i (OnCondition keeps) = refl
-half_ended-reads k _ i (OnStringName appends) = refl
-half_ended-reads k _ i (OnCall string) = refl
-half_ended-reads k _ i (OnStringText string appends is_front) = refl
-half_ended-reads k _ i (OnDefinition string appends end matched) = refl
-half_ended-reads k _ i (OnMessage aborts is_front) = refl
-
 -- the end of a text that is measured
 half_ended-measures : (k : Known) (reading : Reading) (i : PageInput) (delimiter : Option ℕ) (width : ℕ) (is_deep : Bool) (half : List Half)
     → ReadsEscapes reading → i.half ≡ Width delimiter width is_deep ∷ half
     → half_ended k reading i ≡ measuring (settled_input reading half i) reading width
 half_ended-measures k reading i delimiter width is_deep half on measures =
-    half_ended-reads k reading i on
-    ∙ ap (λ (h : List Half). read_in k reading i (reading_ended (above k reading) h)) measures
+    ap (λ (h : List Half). read_in k reading i (reading_ended (place_in k reading) h)) measures
     ∙ read_in-measures k reading i half width on
 
 -- where it ends so, its end is the step
@@ -263,7 +248,7 @@ reads_escapes-measures_texts (Told aborts) is = absurd (cc)
 reads_escapes-measures_texts Exiting is = absurd (cc)
 
 -- above a text line and above arguments widths are read, but not where a string's text is copied
-reads_widths-above : (k : Known) (reading : Reading) → ReadsEscapes reading → measures_texts reading ≡ true → reads_widths (above k reading) ≡ true
+reads_widths-above : (k : Known) (reading : Reading) → ReadsEscapes reading → measures_texts reading ≡ true → reads_widths (place_in k reading) ≡ true
 reads_widths-above k _ AtBeginning reads = refl
 reads_widths-above k _ AtBranch reads = refl
 reads_widths-above k _ AtBraced reads = refl
@@ -309,7 +294,7 @@ after-width l s reading from a d text charge line on reads may plain within with
     subst (λ (b : Arguments). Means s reading from there total next (Measures (text_units text)) [] (measured s reading from b [] total next (text_units text)))
     (settled_for-settled_for reading a on) (means-measures s reading from there total next (text_units text) [] on) in
     after-escape l s reading from a (Measures (text_units text)) [] [] (119 ∷ d ∷ text ++ d ∷ []) charge line t on refl refl
-    (finds-escape (above (known s) reading) d text (reads_widths-above (known s) reading on reads) may plain) within_t.bytes
+    (finds-escape (place_in (known s) reading) d text (reads_widths-above (known s) reading on reads) may plain) within_t.bytes
     (Fits-IsWithin l (going s reading from escape a [] charge line) within) means (Fits-IsWithin l t within_t)
     ∙ sym is
 

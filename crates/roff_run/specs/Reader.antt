@@ -2,5 +2,4 @@
 pub mod State
 pub mod Taken
 pub mod Above
-pub mod Found
 pub mod AtOnce

@@ -10,7 +10,7 @@ use Rattle.roff_scan.specs.declared.half.Read.TheVariants.{Asks, GoesOn, Holds}
 use Rattle.roff_lines.specs.declared.event.Event.TheVariants.{Count, LineEnd, Print, Tab, WordEnd}
 use Rattle.roff_lines.specs.declared.glyph.Glyph.TheVariants.{Printed}
 use Rattle.roff_run.specs.Events.Meant.{few_meant}
-use Rattle.roff_run.specs.Reader.Found.{found_in}
+use Rattle.roff_run.specs.Reading.Found.{found_in}
 use Rattle.roff_run.specs.Reader.State.{ReaderState}
 use Rattle.roff_run.specs.Reader.Taken.{PageUnread, TakesAs}
 use Rattle.roff_run.specs.Reading.Escapes.{asking}

@@ -2,7 +2,8 @@
 use Rattle.std.specs.Prelude.{Bool, List, [], ◌∷◌, if◌then◌else◌, ◌==◌}
 use Rattle.roff_scan.specs.Arguments.{no_arguments}
 use Rattle.roff_scan.specs.Bytes.{newline}
-use Rattle.roff_scan.specs.Halves.{Reads}
+use Rattle.roff_scan.specs.Input.Names.{calling}
+use Rattle.roff_scan.specs.Input.Calls.{arguments_given}
 use Rattle.roff_scan.specs.Input.Names.{calling}
 use Rattle.roff_scan.specs.Input.Calls.{arguments_given}
 use Rattle.roff_scan.specs.declared.half.CopyUnit.{CopyUnit}
@@ -61,7 +62,3 @@ abbrev pub arguments_found : Known → PageInput → Bool → Request → Read �
 arguments_found k i breaks request (Unit unit) = unit_found k i breaks request unit
 arguments_found k i breaks request (Escape b) = unit_found k i breaks request (Kept b)
 arguments_found k i breaks request found = no_unit_found k (settling i) (InArguments breaks request) found
-
--- what something reads behind a request's name, with what is half read then
-abbrev pub arguments_read_on : Known → PageInput → Bool → Request → Reads → Taking
-arguments_read_on k i breaks request r = arguments_found k (record i { half = r.1 }) breaks request r.0

@@ -2,7 +2,6 @@
 use Rattle.std.specs.Prelude.{ℕ, true, false, List, [], ◌∷◌, Some, None, Option, if◌then◌else◌, ◌==◌}
 use Rattle.roff_lines.specs.declared.event.Event.TheVariants.{Resume}
 use Rattle.roff_scan.specs.Bytes.{newline, blank, apostrophe, dot}
-use Rattle.roff_scan.specs.Halves.{Reads}
 use Rattle.roff_scan.specs.Input.{holding_text}
 use Rattle.roff_scan.specs.declared.escapes.NameUse.{NameUse}
 use Rattle.roff_scan.specs.declared.escapes.NameUse.TheVariants.{Character, Font, LeftOut as NameLeftOut}
@@ -84,7 +83,3 @@ beginning_found k i reading (Motion columns remark) = beginning_text k (λ line.
 beginning_found k i reading (Measures width) = measuring i reading width
 beginning_found k i reading (Tells remark) = telling i reading remark
 beginning_found k i reading (Decides decision freed) = going_on i reading
-
--- what something reads there, with what is half read then
-abbrev pub beginning_read : Known → PageInput → Reading → Reads → Taking
-beginning_read k i reading r = beginning_found k (record i { half = r.1 }) reading r.0

@@ -1,7 +1,7 @@
 -- Conditions, and the branches that are read or skipped (manual, section 16).
 use Rattle.std.specs.Prelude.{ℕ, ◌+◌, Bool, true, false, ◌&&◌, not, nat_le, min, Some, None, Option, if◌then◌else◌, ◌==◌}
 use Rattle.roff_scan.specs.Bytes.{newline, backslash}
-use Rattle.roff_scan.specs.Halves.{Reads, byte_read}
+use Rattle.roff_scan.specs.Halves.{byte_read}
 use Rattle.roff_scan.specs.Input.{choosing}
 use Rattle.roff_scan.specs.Input.Calls.{keeping}
 use Rattle.roff_scan.specs.declared.half.Decision.{Decision}
@@ -11,8 +11,8 @@ use Rattle.roff_scan.specs.declared.half.Read.TheVariants.{Decides}
 use Rattle.roff_scan.specs.declared.half.Surroundings.TheVariants.{Arguments as AboveArguments}
 use Rattle.roff_run.specs.declared.reading.Reading.{Reading}
 use Rattle.roff_run.specs.declared.reading.Reading.TheVariants.{LineStart, Branch, Deciding, Skipping}
-use Rattle.roff_run.specs.Reading.Beginnings.{at_start, beginning_read}
-use Rattle.roff_run.specs.Reading.Items.{PageInput, Taking, going_on}
+use Rattle.roff_run.specs.Reading.Beginnings.{at_start, beginning_found}
+use Rattle.roff_run.specs.Reading.Items.{PageInput, Taking, going_on, read_by}
 use Rattle.roff_run.specs.Reading.Units.{no_unit_found}
 use Rattle.roff_run.specs.Registers.{Known, is_page_odd}
 
@@ -40,7 +40,7 @@ branch_of false = Skipping 0 0 false
 
 -- its first byte
 abbrev pub branch_taking : Known → PageInput → Bool → ℕ → Taking
-branch_taking k i true b = beginning_read k i Branch (byte_read (at_start k) i.half b)
+branch_taking k i true b = read_by (λ j. beginning_found k j Branch) i (byte_read (at_start k) i.half b)
 branch_taking k i false b = skipping_taking i 0 0 false b
 
 -- whether a condition is so that asks this
@@ -62,15 +62,11 @@ abbrev pub condition_found : Known → PageInput → Bool → Read → Taking
 condition_found k i keeps (Decides decision freed) = decided k (kept_if keeps (is_so k decision) i) (is_so k decision) freed
 condition_found k i keeps found = no_unit_found k i (Deciding keeps) found
 
--- what something reads of a condition, with what is half read then
-abbrev pub condition_read : Known → PageInput → Bool → Reads → Taking
-condition_read k i keeps r = condition_found k (record i { half = r.1 }) keeps r.0
-
 -- the first byte of a condition behind a name of one byte: one that isn't there is false
 abbrev pub condition_begun : Known → PageInput → Bool → ℕ → Taking
 condition_begun k i keeps b =
     if b == newline then condition_found k i keeps (Decides (Is false) (Some b))
-    else condition_read k i keeps (byte_read AboveArguments (choosing i).half b)
+    else read_by (λ j. condition_found k j keeps) i (byte_read AboveArguments (choosing i).half b)
 
 -- whether the other branch is read: a result was kept, and was that it isn't so
 abbrev pub reads_else : Option Bool → Bool

@@ -1,7 +1,8 @@
 -- Lines that call bodies: strings and macros (manual, sections 7.2 and 7.3).
 use Rattle.std.specs.Prelude.{nat_le, length, if◌then◌else◌, ◌==◌}
 use Rattle.roff_scan.specs.Bytes.{newline, quote}
-use Rattle.roff_scan.specs.Halves.{Reads}
+use Rattle.roff_scan.specs.Input.Names.{body_named}
+use Rattle.roff_scan.specs.Input.Calls.{calling_body}
 use Rattle.roff_scan.specs.Input.Names.{body_named}
 use Rattle.roff_scan.specs.Input.Calls.{calling_body}
 use Rattle.roff_scan.specs.declared.half.CopyUnit.{CopyUnit}
@@ -33,10 +34,6 @@ abbrev pub call_found : Known → PageInput → ShortName → Read → Taking
 call_found k i name (Unit unit) = call_unit i name unit
 call_found k i name (Escape b) = call_unit i name (Kept b)
 call_found k i name found = no_unit_found k (settling i) (Calling name) found
-
--- what something reads there, with what is half read then
-abbrev pub call_read : Known → PageInput → ShortName → Reads → Taking
-call_read k i name r = call_found k (record i { half = r.1 }) name r.0
 
 -- what is read behind the end of a body that a line called: a line begins, unless a control line is being read
 abbrev pub behind_return : Reading → Reading

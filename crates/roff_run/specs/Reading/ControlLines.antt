@@ -12,12 +12,12 @@ use Rattle.roff_run.specs.declared.request.LineReading.{LineReading}
 use Rattle.roff_run.specs.declared.request.LineReading.TheVariants.{ByArguments, ByCondition, ByElse, ByLastLine, ByMessage, ByString, ByLines}
 use Rattle.roff_run.specs.declared.request.Called.{Called}
 use Rattle.roff_run.specs.declared.request.Called.TheVariants.{Request as ARequest, Body as ABody, Nothing as Unknown}
-use Rattle.roff_run.specs.Reading.Arguments.{arguments_read_on}
+use Rattle.roff_run.specs.Reading.Arguments.{arguments_found}
 use Rattle.roff_run.specs.Reading.Branches.{branch_of, branch_taking, condition_begun, reads_else}
-use Rattle.roff_run.specs.Reading.Calls.{call_read}
-use Rattle.roff_run.specs.Reading.Items.{PageInput, Taking, going_on}
-use Rattle.roff_run.specs.Reading.Messages.{message_read}
-use Rattle.roff_run.specs.Reading.Strings.{string_name_read}
+use Rattle.roff_run.specs.Reading.Calls.{call_found}
+use Rattle.roff_run.specs.Reading.Items.{PageInput, Taking, going_on, read_by}
+use Rattle.roff_run.specs.Reading.Messages.{message_found}
+use Rattle.roff_run.specs.Reading.Strings.{string_name_found}
 use Rattle.roff_run.specs.Registers.{Known}
 use Rattle.roff_run.specs.Requests.{called_by, row_of}
 
@@ -31,18 +31,23 @@ ends_name b = b == blank || (b == tab || (b == newline || b == backslash))
 
 -- the first byte behind a request's name, by how its line is read
 abbrev pub line_taking : Known → PageInput → Bool → Request → LineReading → ℕ → Taking
-line_taking k i breaks request ByArguments b = arguments_read_on k i breaks request (byte_read AboveArguments i.half b)
+line_taking k i breaks request ByArguments b =
+    read_by (λ j. arguments_found k j breaks request) i (byte_read AboveArguments i.half b)
 line_taking k i breaks request (ByCondition keeps) b = condition_begun k i keeps b
-line_taking k i breaks request (ByString appends) b = string_name_read k i appends (byte_read AboveArguments i.half b)
-line_taking k i breaks request ByLastLine b = arguments_read_on k i breaks request (byte_read AboveArguments i.half b)
-line_taking k i breaks request (ByMessage aborts) b = message_read k i aborts true (byte_read AboveCopy i.half b)
-line_taking k i breaks request (ByLines lines) b = arguments_read_on k i breaks request (byte_read AboveArguments i.half b)
+line_taking k i breaks request (ByString appends) b =
+    read_by (λ j. string_name_found k j appends) i (byte_read AboveArguments i.half b)
+line_taking k i breaks request ByLastLine b =
+    read_by (λ j. arguments_found k j breaks request) i (byte_read AboveArguments i.half b)
+line_taking k i breaks request (ByMessage aborts) b =
+    read_by (λ j. message_found k j aborts true) i (byte_read AboveCopy i.half b)
+line_taking k i breaks request (ByLines lines) b =
+    read_by (λ j. arguments_found k j breaks request) i (byte_read AboveArguments i.half b)
 line_taking k i breaks request ByElse b = branch_taking k (without_last i) (reads_else (kept_last i)) b
 
 -- a byte behind a name that stands for this: a request is read on, a body is called, and any other line is dropped
 abbrev pub called_taking : Known → PageInput → Bool → Called → ℕ → Taking
 called_taking k i breaks (ARequest request) b = line_taking k i breaks request (row_of request).line b
-called_taking k i breaks (ABody name) b = call_read k i name (byte_read AboveArguments i.half b)
+called_taking k i breaks (ABody name) b = read_by (λ j. call_found k j name) i (byte_read AboveArguments i.half b)
 called_taking k i breaks Unknown b = dropped_taking i b
 
 -- a byte behind a name that it doesn't belong to

@@ -1,7 +1,6 @@
 -- The lines of a macro's definition, and the one that ends it (manual, section 7.1).
 use Rattle.std.specs.Prelude.{ℕ, Bool, true, List, ◌++◌, Some, None, Option}
 use Rattle.roff_scan.specs.Half.{unit_bytes}
-use Rattle.roff_scan.specs.Halves.{Reads}
 use Rattle.roff_scan.specs.Input.{beginning_line}
 use Rattle.roff_scan.specs.declared.half.CopyUnit.{CopyUnit}
 use Rattle.roff_scan.specs.declared.half.CopyUnit.TheVariants.{Kept}
@@ -43,7 +42,3 @@ abbrev pub definition_found : Known → PageInput → Option ShortName → Bool 
 definition_found k i name appends end matched (Unit unit) = definition_line k i name appends end matched unit
 definition_found k i name appends end matched (Escape b) = definition_line k i name appends end matched (Kept b)
 definition_found k i name appends end matched found = no_unit_found k i (Defining name appends end matched) found
-
--- what something reads of it, with what is half read then
-abbrev pub definition_read : Known → PageInput → Option ShortName → Bool → Option ShortName → Option ℕ → Reads → Taking
-definition_read k i name appends end matched r = definition_found k (record i { half = r.1 }) name appends end matched r.0

@@ -2,6 +2,7 @@
 use Rattle.std.specs.Prelude.{ℕ, Bool, false, List, [], ◌∷◌, Some, None, Option}
 use Rattle.roff_scan.specs.Arguments.{no_arguments}
 use Rattle.roff_scan.specs.Input.Names.{adding, dropping}
+use Rattle.roff_scan.specs.Input.Names.{adding, dropping}
 use Rattle.roff_run.specs.Reading.Items.{PageInput, Taking, going_on}
 use Rattle.roff_run.specs.Reading.Strings.{string_begun}
 use Rattle.roff_run.specs.ShortNames.{name_at, name_or_none}

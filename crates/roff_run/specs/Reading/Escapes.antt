@@ -3,6 +3,8 @@ use Rattle.std.specs.Prelude.{ℕ, get_or, ◌-◌, ◌&&◌, nat_le, List, [], 
 use Rattle.roff_scan.specs.Input.{pushing}
 use Rattle.roff_scan.specs.Input.Names.{body_named}
 use Rattle.roff_scan.specs.Input.Calls.{arguments_live}
+use Rattle.roff_scan.specs.Input.Names.{body_named}
+use Rattle.roff_scan.specs.Input.Calls.{arguments_live}
 use Rattle.roff_scan.specs.declared.escapes.NameUse.{NameUse}
 use Rattle.roff_scan.specs.declared.escapes.NameUse.TheVariants.{Register, Text as OfText, Argument as OfArgument}
 use Rattle.roff_store.specs.declared.register.Direction.{Direction}

@@ -1,6 +1,8 @@
 -- What one item of the input does: what is read behind it, and what it means (manual, section 1.1).
 use Rattle.std.specs.Prelude.{List, [], ◌∷◌, ◌++◌}
+use Rattle.roff_scan.specs.Halves.{Reads}
 use Rattle.roff_scan.specs.Input.{Input}
+use Rattle.roff_scan.specs.declared.half.Read.{Read}
 use Rattle.roff_scan.specs.declared.half.Remark.{Remark}
 use Rattle.roff_run.specs.Messages.{remark_message}
 use Rattle.roff_run.specs.declared.reading.Reading.{Reading}
@@ -35,3 +37,7 @@ telling i reading remark = record {
   reading = reading;
   effect = saying (remark_message remark ∷ []) [];
 }
+
+-- what something read does this, with what is half read then
+abbrev pub read_by : (PageInput → Read → Taking) → PageInput → Reads → Taking
+read_by does i r = does (record i { half = r.1 }) r.0

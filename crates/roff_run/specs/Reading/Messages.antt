@@ -1,7 +1,6 @@
 -- The texts of messages (manual, section 20).
 use Rattle.std.specs.Prelude.{ℕ, Bool, true, false, ◌&&◌, List, reverse, if◌then◌else◌, ◌==◌}
 use Rattle.roff_scan.specs.Bytes.{newline, blank}
-use Rattle.roff_scan.specs.Halves.{Reads}
 use Rattle.roff_scan.specs.Input.{holding_plain}
 use Rattle.roff_scan.specs.declared.half.CopyUnit.{CopyUnit}
 use Rattle.roff_scan.specs.declared.half.CopyUnit.TheVariants.{Byte, Kept}
@@ -25,10 +24,6 @@ abbrev pub message_found : Known → PageInput → Bool → Bool → Read → Ta
 message_found k i aborts is_front (Unit unit) = message_unit i aborts is_front unit
 message_found k i aborts is_front (Escape b) = message_unit i aborts is_front (Kept b)
 message_found k i aborts is_front found = no_unit_found k i (Telling aborts is_front) found
-
--- what something reads of it, with what is half read then
-abbrev pub message_read : Known → PageInput → Bool → Bool → Reads → Taking
-message_read k i aborts is_front r = message_found k (record i { half = r.1 }) aborts is_front r.0
 
 -- the text of a message, as it was read
 abbrev pub message_text_read : PageInput → List ℕ

@@ -3,7 +3,8 @@ use Rattle.std.specs.Prelude.{Bool, true, false, ◌&&◌, reverse, Some, None, 
 use Rattle.roff_scan.specs.Arguments.{no_arguments}
 use Rattle.roff_scan.specs.Bytes.{newline, blank, quote}
 use Rattle.roff_scan.specs.Half.{unit_bytes}
-use Rattle.roff_scan.specs.Halves.{Reads}
+use Rattle.roff_scan.specs.Input.Names.{texts_of, calling, adding, entering}
+use Rattle.roff_scan.specs.Input.Calls.{arguments_given}
 use Rattle.roff_scan.specs.Input.Names.{texts_of, calling, adding, entering}
 use Rattle.roff_scan.specs.Input.Calls.{arguments_given}
 use Rattle.roff_scan.specs.declared.half.CopyUnit.{CopyUnit}
@@ -82,16 +83,8 @@ string_name_found k i appends (Unit unit) = string_name_unit i appends unit
 string_name_found k i appends (Escape b) = string_name_unit i appends (Kept b)
 string_name_found k i appends found = no_unit_found k (settling i) (StringName appends) found
 
--- what something reads there, with what is half read then
-abbrev pub string_name_read : Known → PageInput → Bool → Reads → Taking
-string_name_read k i appends r = string_name_found k (record i { half = r.1 }) appends r.0
-
 -- what was found of the text
 abbrev pub string_text_found : Known → PageInput → Option ShortName → Bool → Bool → Read → Taking
 string_text_found k i name appends is_front (Unit unit) = string_unit i name appends is_front unit
 string_text_found k i name appends is_front (Escape b) = string_unit i name appends is_front (Kept b)
 string_text_found k i name appends is_front found = no_unit_found k i (StringText name appends is_front) found
-
--- what something reads of it, with what is half read then
-abbrev pub string_text_read : Known → PageInput → Option ShortName → Bool → Bool → Reads → Taking
-string_text_read k i name appends is_front r = string_text_found k (record i { half = r.1 }) name appends is_front r.0

@@ -6,7 +6,6 @@ use Rattle.roff_lines.specs.declared.glyph.Glyph.TheVariants.{Printed, Blanks}
 use Rattle.roff_scan.specs.Bytes.{tab, newline, blank, backslash, is_silent}
 use Rattle.roff_scan.specs.Characters.{character}
 use Rattle.roff_scan.specs.Escapes.{escape_of}
-use Rattle.roff_scan.specs.Halves.{Reads}
 use Rattle.roff_scan.specs.Input.{holding_text}
 use Rattle.roff_scan.specs.declared.escapes.Escape.{Escape as Kind}
 use Rattle.roff_scan.specs.declared.escapes.Escape.TheVariants.{Prints, Blank, NoWidth, Tab as GivesTab, Interrupts, Brace, LeftOut as IsLeftOut, Text as BeginsText}
@@ -175,7 +174,3 @@ text_found k i line (Motion columns remark) = motion_taking i line columns remar
 text_found k i line (Measures width) = measuring i (InText line) width
 text_found k i line (Tells remark) = telling i (InText line) remark
 text_found k i line (Decides decision freed) = going_on i (InText line)
-
--- what something reads of a text line, with what is half read then
-abbrev pub text_read : Known → PageInput → TextLine → Reads → Taking
-text_read k i line r = text_found k (record i { half = r.1 }) line r.0

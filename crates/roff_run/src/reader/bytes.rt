@@ -7,7 +7,7 @@ ghost use Rattle.roff_run.specs.Requests.{Text};
 ghost use Rattle.roff_run.specs.Registers.{Known as KnownOf};
 ghost use Rattle.roff_run.specs.Clauses.{Passes, TakesAs, meaning_events, is_passed, kept_taking};
 ghost use Rattle.roff_run.specs.Clauses.{taking, due};
-ghost use Rattle.roff_run.specs.Reader.Found.{has_place};
+ghost use Rattle.roff_run.specs.Reading.Found.{has_place};
 ghost use Rattle.roff_run.specs.Telling.{Prints};
 ghost use Rattle.roff_run.specs.Stages.{Adds, EndsLine, Holds, HoldsIfFewer, Ignores, ReadsHalves};
 ghost use Rattle.roff_run.specs.Stages.{TakesHalf};

@@ -2,7 +2,7 @@
 
 ghost use Rattle.std.specs.Prelude.{◌≡◌};
 ghost use Rattle.roff_num.specs.declared.limits.Limits.{Limits};
-ghost use Rattle.roff_run.specs.Reader.Found.{found_in, place_in};
+ghost use Rattle.roff_run.specs.Reading.Found.{found_in, place_in};
 ghost use Rattle.roff_run.specs.Clauses.{AllRegisters, PageHistory, PageInput, StandFor, TakesAs};
 ghost use Rattle.roff_run.specs.Clauses.{known_at};
 

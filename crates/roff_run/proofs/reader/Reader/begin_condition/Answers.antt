@@ -7,7 +7,9 @@ use Rattle.roff_scan.specs.declared.half.Read.TheVariants.{Decides}
 use Rattle.roff_scan.specs.declared.half.Surroundings.TheVariants.{Arguments as AboveArguments}
 use Rattle.roff_scan.proofs.TextsHeld.{texts_held-byte_read}
 use Rattle.roff_run.specs.Reader.Taken.{PageUnread, TakesAs}
-use Rattle.roff_run.specs.Reading.Branches.{condition_begun, condition_found, condition_read}
+use Rattle.roff_run.specs.Reading.Branches.{condition_begun, condition_found}
+use Rattle.roff_run.specs.Reading.Found.{read_in}
+use Rattle.roff_run.specs.declared.reading.Reading.TheVariants.{Deciding}
 use Rattle.roff_run.proofs.TakesAs.{NoMore-choosing, TakesAs-as, TakesAs-less, TakesAs-read}
 use Rattle.roff_run.proofs.reader.Reader.begin_condition.Goals as goal
 
@@ -37,7 +39,7 @@ returns c =
     let At : PageUnread → Type 0 = λ v. TakesAs (λ k.
     condition_found k (with_half (byte_read AboveArguments v.input.half b).1 v.input) keeps (byte_read AboveArguments v.input.half b).0)
     es old done.new.self v done.new.unread done.result in
-    TakesAs-as (λ k. condition_read k u.input keeps (byte_read AboveArguments (choosing u.input).half b)) (λ k. condition_begun k u.input keeps b) es old done.new.self
+    TakesAs-as (λ k. read_in k (Deciding keeps) u.input (byte_read AboveArguments (choosing u.input).half b)) (λ k. condition_begun k u.input keeps b) es old done.new.self
     u done.new.unread done.result (λ k. rw goes_on refl)
-    (TakesAs-less (choosing u.input) (λ k. condition_read k u.input keeps (byte_read AboveArguments (choosing u.input).half b)) es old done.new.self u done.new.unread done.result
+    (TakesAs-less (choosing u.input) (λ k. read_in k (Deciding keeps) u.input (byte_read AboveArguments (choosing u.input).half b)) es old done.new.self u done.new.unread done.result
     (NoMore-choosing u.input) refl refl (subst At c.begin_condition.ensures.change took))

@@ -1,5 +1,5 @@
 use Rattle.std.proofs.Common.{◌≡◌, ◌∙◌, ap, rules, sym}
-use Rattle.roff_run.specs.Reader.Found.{place_in}
+use Rattle.roff_run.specs.Reading.Found.{place_in}
 use Rattle.roff_run.specs.Run.{known_at}
 use Rattle.roff_run.specs.declared.reading.Reading.{Reading}
 use Rattle.roff_run.specs.declared.reading.Reading.TheVariants.{Branch, Braced, LineStart, Text as InText}

@@ -2,9 +2,11 @@ use Rattle.std.proofs.Common.{[], sym, ap, ◌∙◌}
 use Rattle.roff_scan.specs.Halves.{byte_read}
 use Rattle.roff_scan.specs.declared.half.Surroundings.TheVariants.{Arguments as AboveArguments}
 use Rattle.roff_scan.proofs.TextsHeld.{texts_held-byte_read}
-use Rattle.roff_run.specs.Reading.Calls.{call_found, call_read}
+use Rattle.roff_run.specs.Reading.Calls.{call_found}
 use Rattle.roff_run.specs.Reading.ControlLines.{called_taking, line_taking, name_ended_taking}
+use Rattle.roff_run.specs.Reading.Found.{read_in}
 use Rattle.roff_run.specs.Requests.{row_of}
+use Rattle.roff_run.specs.declared.reading.Reading.TheVariants.{Calling}
 use Rattle.roff_run.specs.declared.request.Called.{Called}
 use Rattle.roff_run.proofs.TakesAs.{TakesAs-as, TakesAs-meant, TakesAs-read}
 use Rattle.roff_run.proofs.reader.Reader.read_behind_name.Goals as goal
@@ -29,7 +31,7 @@ returns-in-Body c =
     let name = c.in-Body.name in
     let read = c.read_byte-found in
     let done = c.read_call in
-    TakesAs-as (λ k. call_read k u.input name (byte_read AboveArguments u.input.half b)) (λ k. name_ended_taking k u.input breaks c.args.name b) es old done.new.self
+    TakesAs-as (λ k. read_in k (Calling name) u.input (byte_read AboveArguments u.input.half b)) (λ k. name_ended_taking k u.input breaks c.args.name b) es old done.new.self
     u done.new.unread done.result (λ k. ap (λ (called : Called). called_taking k u.input breaks called b) c.in-Body.ensures)
     (TakesAs-read (λ k i found. call_found k i name found) (byte_read AboveArguments u.input.half b) es old done.new.self u read.new.self done.new.unread
     read.result done.result read.ensures.reading (texts_held-byte_read AboveArguments b u.input.half) done.ensures)

@@ -1,9 +1,9 @@
 use Rattle.std.proofs.Common.{◌≡◌, ◌∙◌, [], ap, refl, rules}
-use Rattle.roff_run.specs.Reader.Found.{found_in}
+use Rattle.roff_run.specs.Reading.Found.{found_in}
 use Rattle.roff_run.specs.Reader.State.{ReaderState}
 use Rattle.roff_run.specs.declared.reading.Reading.{Reading}
 use Rattle.roff_run.specs.declared.reading.Reading.TheVariants.{StringName, StringText, LineStart, Branch, Braced, Text as InText, Arguments as InArguments, Deciding, Telling, Calling, Defining}
-use Rattle.roff_run.proofs.FoundIn.{found-elsewhere}
+use Rattle.roff_run.proofs.Placed.{found-elsewhere}
 use Rattle.roff_run.proofs.TakesAs.{TakesAs-meant, TakesAs-where}
 use Rattle.roff_run.proofs.reader.Reader.read_found.Goals as goal
 

@@ -1,5 +1,6 @@
--- What a byte, or the end of what is half read, gives what is read: the cases of `kept_taking` and `half_ended`, in two steps.
+-- How a byte is read above what is read, and what does that which was found there.
 use Rattle.std.specs.Prelude.{Bool, true, false, pos}
+use Rattle.roff_scan.specs.Halves.{Reads}
 use Rattle.roff_scan.specs.declared.half.Read.{Read}
 use Rattle.roff_scan.specs.declared.half.Surroundings.{Surroundings}
 use Rattle.roff_scan.specs.declared.half.Surroundings.TheVariants.{Text as AboveText, Arguments as AboveArguments, Copy as AboveCopy}
@@ -8,7 +9,7 @@ use Rattle.roff_run.specs.Reading.Beginnings.{at_start, beginning_found}
 use Rattle.roff_run.specs.Reading.Branches.{condition_found}
 use Rattle.roff_run.specs.Reading.Calls.{call_found}
 use Rattle.roff_run.specs.Reading.DefinedLines.{definition_found}
-use Rattle.roff_run.specs.Reading.Items.{PageInput, Taking, going_on}
+use Rattle.roff_run.specs.Reading.Items.{PageInput, Taking, going_on, read_by}
 use Rattle.roff_run.specs.Reading.Messages.{message_found}
 use Rattle.roff_run.specs.Reading.Strings.{string_name_found, string_text_found}
 use Rattle.roff_run.specs.Reading.TextLines.{on_line, text_found}
@@ -55,3 +56,7 @@ found_in k i (Telling aborts is_front) found = message_found k i aborts is_front
 found_in k i (Calling name) found = call_found k i name found
 found_in k i (Defining name appends end matched) found = definition_found k i name appends end matched found
 found_in k i reading found = going_on i reading
+
+-- what something reads there does, with what is half read then
+abbrev pub read_in : Known → Reading → PageInput → Reads → Taking
+read_in k reading i r = read_by (λ j. found_in k j reading) i r

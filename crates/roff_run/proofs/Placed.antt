@@ -1,11 +1,10 @@
--- What a byte, or the end of what is half read, gives what is read, in two steps.
+-- What is read where something may be half read above it, and where nothing is.
 use Rattle.std.proofs.Common.{◌≡◌, ℕ, Bool, true, Option, refl}
-use Rattle.roff_scan.specs.Halves.{byte_read, reading_ended}
-use Rattle.roff_scan.specs.Input.{with_half}
+use Rattle.roff_scan.specs.Halves.{byte_read}
 use Rattle.roff_scan.specs.declared.half.Read.{Read}
 use Rattle.roff_run.specs.Reader.Above.{reads_above}
-use Rattle.roff_run.specs.Reader.Found.{found_in, has_place, place_in}
-use Rattle.roff_run.specs.Reading.{half_ended, kept_taking}
+use Rattle.roff_run.specs.Reading.{kept_taking}
+use Rattle.roff_run.specs.Reading.Found.{found_in, has_place, place_in, read_in}
 use Rattle.roff_run.specs.Reading.Items.{PageInput, going_on}
 use Rattle.roff_run.specs.Registers.{Known}
 use Rattle.roff_run.specs.declared.reading.Reading.{Reading}
@@ -16,7 +15,7 @@ use Rattle.roff_run.specs.declared.request.Request.{Request}
 
 -- a byte is read by what is half read, and does what was found
 pub kept-placed : (k : Known) (i : PageInput) (r : Reading) (b : ℕ) → has_place r ≡ true
-    → found_in k (with_half (byte_read (place_in k r) i.half b).1 i) r (byte_read (place_in k r) i.half b).0 ≡ kept_taking k r i b
+    → read_in k r i (byte_read (place_in k r) i.half b) ≡ kept_taking k r i b
 kept-placed k i LineStart b is = refl
 kept-placed k i Branch b is = refl
 kept-placed k i Braced b is = refl
@@ -35,28 +34,7 @@ kept-placed k i (Telling aborts is_front) b is = refl
 kept-placed k i (Told aborts) b is = cc
 kept-placed k i Exiting b is = cc
 
--- so does the end of what is half read
-pub half_ended-placed : (k : Known) (i : PageInput) (r : Reading)
-    → found_in k (with_half (reading_ended (place_in k r) i.half).1 i) r (reading_ended (place_in k r) i.half).0 ≡ half_ended k r i
-half_ended-placed k i LineStart = refl
-half_ended-placed k i Branch = refl
-half_ended-placed k i Braced = refl
-half_ended-placed k i (InText line) = refl
-half_ended-placed k i (Control breaks) = refl
-half_ended-placed k i (Name breaks first) = refl
-half_ended-placed k i (InArguments breaks request) = refl
-half_ended-placed k i (Deciding keeps) = refl
-half_ended-placed k i (StringName appends) = refl
-half_ended-placed k i (StringText name appends is_front) = refl
-half_ended-placed k i (Calling name) = refl
-half_ended-placed k i (Defining name appends end matched) = refl
-half_ended-placed k i (Skipping opened closed behind) = refl
-half_ended-placed k i Dropped = refl
-half_ended-placed k i (Telling aborts is_front) = refl
-half_ended-placed k i (Told aborts) = refl
-half_ended-placed k i Exiting = refl
-
--- where nothing is half read, whatever was found changes nothing
+-- elsewhere whatever was found changes nothing
 pub found-elsewhere : (k : Known) (i : PageInput) (r : Reading) (found : Read)
     → (r ≡ LineStart → ⊥)
     → (r ≡ Branch → ⊥)
