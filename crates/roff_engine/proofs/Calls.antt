@@ -4,7 +4,8 @@ use Rattle.std.specs.Prelude.{nat_lt, is_none, ◌&&◌}
 use Rattle.roff_scan.specs.Halves.{decides_now}
 use Rattle.roff_scan.specs.Input.{Ahead, ByteAhead, FreeAhead, EndAhead, ReturnAhead, DoAhead, cost, item_taken}
 use Rattle.roff_scan.specs.Tape.{Tape, Item, Answer, OneByte, OneNote, Gives, Ends, items_then}
-use Rattle.roff_scan.specs.Unread.{Asked, Shown, Sighted, SeesByte, SeesNothing, SeesNote, SeesEnding, asks_to_take, asks_to_look, answer_behind, looked_then, shown_ahead, looking, looking_past, seen_ahead, taking, taking_answer}
+use Rattle.roff_scan.specs.Unread.{Asked, asks_to_take, asks_to_look, answer_behind, looked_then, looking, looking_past, taking, taking_answer}
+use Rattle.roff_scan.specs.Shown.{Shown, Sighted, SeesByte, SeesNothing, SeesNote, SeesEnding, shown_ahead, seen_ahead}
 use Rattle.roff_engine.specs.Engine.Outcome.{IsLeftOf}
 use Rattle.roff_engine.specs.Running.Turning.{AsksFirst}
 use Rattle.roff_run.specs.Reading.Items.{PageInput}

@@ -10,7 +10,8 @@ use Rattle.roff_scan.specs.Halves.{newline_stays}
 use Rattle.roff_scan.specs.Input.{Ahead, EndAhead, ReturnAhead, is_none_ahead, item_taken}
 use Rattle.roff_scan.specs.Tape.{Tape}
 use Rattle.roff_scan.proofs.Asking.{takes_ahead}
-use Rattle.roff_scan.specs.Unread.{IsWithin, ShowsEnd, ShowsRefusal, taking_first}
+use Rattle.roff_scan.specs.Unread.{IsWithin, taking_first}
+use Rattle.roff_scan.specs.Shown.{ShowsEnd, ShowsRefusal}
 use Rattle.roff_scan.specs.Unread.Calls.{PassesEnd, PassesReturn, Takes}
 use Rattle.roff_run.specs.Reader.Taken.{PageUnread}
 use Rattle.roff_run.specs.Reading.Calls.{behind_return}

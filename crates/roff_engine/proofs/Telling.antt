@@ -9,7 +9,7 @@ use Rattle.roff_lines.specs.Env.Stands.{Stands}
 use Rattle.roff_lines.specs.Telling.{QuietlyTold, bytes_told}
 use Rattle.roff_lines.specs.declared.env.Env.{Env}
 use Rattle.roff_num.specs.declared.limits.Limits.{Limits}
-use Rattle.roff_scan.proofs.Passing.{take_while-plain}
+use Rattle.roff_scan.proofs.PlainBytes.{take_while-plain}
 use Rattle.roff_scan.specs.Bytes.{is_text_byte}
 use Rattle.roff_scan.specs.Input.{Ahead, ByteAhead, bytes_taken, lines_taken}
 use Rattle.roff_scan.specs.Tape.{Tape, OneByte, items_then}

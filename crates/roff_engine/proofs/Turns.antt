@@ -4,8 +4,10 @@ use Rattle.std.specs.Prelude.{IsOkUnless, not, true, ◌==◌}
 use Rattle.roff_num.specs.declared.limit.Limit.{Limit}
 use Rattle.roff_num.specs.declared.limits.Limits.{Limits}
 use Rattle.roff_scan.specs.Input.{DoAhead}
-use Rattle.roff_scan.specs.Tape.{Tape, Item, Ended, Failed, Stopped, Rises, items_then}
-use Rattle.roff_scan.specs.Unread.{Shown, ShowsByte, ShowsEnd, ShowsReturn, ShowsDo, ShowsNote, ShowsEnding, ShowsRefusal, asks_to_take, taking}
+use Rattle.roff_scan.specs.Tape.{Tape, Item, Ended, Failed, Stopped, items_then}
+use Rattle.roff_num.specs.Faults.{Rises}
+use Rattle.roff_scan.specs.Unread.{asks_to_take, taking}
+use Rattle.roff_scan.specs.Shown.{Shown, ShowsByte, ShowsEnd, ShowsReturn, ShowsDo, ShowsNote, ShowsEnding, ShowsRefusal}
 use Rattle.roff_scan.specs.Unread.Calls.{Takes}
 use Rattle.roff_scan.specs.Half.{Half}
 use Rattle.roff_run.specs.declared.event.PageEvent.{PageEvent}

@@ -6,8 +6,10 @@ use Rattle.roff_num.specs.declared.limit.Limit.{Limit}
 use Rattle.roff_num.specs.declared.limits.Limits.{Limits}
 use Rattle.roff_scan.specs.Halves.{newline_stays, seen_stays, decides_now}
 use Rattle.roff_scan.specs.Input.{Ahead, ByteAhead, FreeAhead, EndAhead, ReturnAhead, DoAhead}
-use Rattle.roff_scan.specs.Tape.{Tape, Item, Answer, Gives, Ends, OneByte, OneNote, Ended, Failed, Stopped, Rises, items_then}
-use Rattle.roff_scan.specs.Unread.{Shown, ShowsByte, ShowsDo, ShowsEnd, ShowsRefusal, ShowsReturn, Sighted, SeesByte, SeesNothing, SeesNote, SeesEnding, asks_to_look, asks_to_take, looking, seen_ahead, taking}
+use Rattle.roff_scan.specs.Tape.{Tape, Item, Answer, Gives, Ends, OneByte, OneNote, Ended, Failed, Stopped, items_then}
+use Rattle.roff_num.specs.Faults.{Rises}
+use Rattle.roff_scan.specs.Unread.{asks_to_look, asks_to_take, looking, taking}
+use Rattle.roff_scan.specs.Shown.{Shown, ShowsByte, ShowsDo, ShowsEnd, ShowsRefusal, ShowsReturn, Sighted, SeesByte, SeesNothing, SeesNote, SeesEnding, seen_ahead}
 use Rattle.roff_scan.specs.Unread.Calls.{Looks, Takes}
 use Rattle.roff_scan.specs.Waiting.{WaitsFor}
 use Rattle.roff_run.specs.declared.event.PageEvent.{PageEvent}

@@ -1,7 +1,7 @@
 -- What sinks tell of what was written to them.
 use Rattle.std.specs.Prelude.{◌≡◌, ℕ, ◌≤◌, List, ◌++◌, Option, Result, OnOk, OnErr}
 use Rattle.std.specs.Io.KnownBytes.{Appends}
-use Rattle.roff_scan.specs.Tape.{Rises}
+use Rattle.roff_num.specs.Faults.{Rises}
 
 -- what a sink tells: the bytes that were written, where it tells them, and how many faults it had
 pub record Sunk : Type 0 where

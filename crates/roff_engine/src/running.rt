@@ -5,7 +5,7 @@ ghost use Rattle.roff_run.specs.Run.{ahead_taken, awaited, byte_taken, in_front_
 ghost use Rattle.roff_run.specs.Run.{waiting};
 ghost use Rattle.roff_scan.specs.Halves.{newline_stays};
 ghost use Rattle.roff_scan.specs.Input.{DoAhead};
-ghost use Rattle.roff_scan.specs.Unread.{seen_ahead};
+ghost use Rattle.roff_scan.specs.Shown.{seen_ahead};
 ghost use Rattle.roff_engine.specs.Clauses.{Puts, seen, due, Device};
 
 mod ending;

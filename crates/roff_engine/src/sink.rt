@@ -4,7 +4,7 @@ ghost use Rattle.std.specs.Prelude.{◌≡◌, ◌+◌, ◌<◌, ◌≤◌, OnOk
 ghost use Rattle.std.specs.Prelude.{length, min, take};
 ghost use Rattle.std.specs.Io.KnownBytes.{Appends, Keeps};
 ghost use Rattle.roff_engine.specs.Sinks.{Puts, Sunk};
-ghost use Rattle.roff_scan.specs.Tape.{last_count};
+ghost use Rattle.roff_num.specs.Faults.{last_count};
 
 use std::io::Write;
 use std::marker::Model;

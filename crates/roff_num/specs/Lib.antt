@@ -6,6 +6,8 @@ pub mod LimitNames
 pub mod LimitValues
 pub mod Lists
 pub mod Names
+pub mod ShortNames
+pub mod Faults
 pub mod Rounding
 pub mod Ranges
 pub mod Operators

@@ -31,7 +31,7 @@ use Rattle.roff_run.specs.Registers.{Known}
 use Rattle.roff_run.specs.Stages.{Adds, Growing, Here, Ignores, Onward, ReadsPast, Stage, TextsGrow, Turned, TurnsFront, input_at, stage_of, with_stage_of}
 use Rattle.roff_run.specs.declared.reading.Reading.{Reading}
 use Rattle.roff_run.specs.declared.reading.Reading.TheVariants.{Defining}
-use Rattle.roff_run.specs.declared.reading.ShortName.{ShortName}
+use Rattle.roff_num.specs.declared.short_name.ShortName.{ShortName}
 
 -- a byte of text where the line isn't the last one and nothing is half read
 grows-text : (name : Option ShortName) (appends : Bool) (end : Option ShortName) (b : ℕ) (k : Known) (i : PageInput) → is_text_byte b ≡ true → i.half ≡ []

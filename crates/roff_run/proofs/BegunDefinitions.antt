@@ -17,9 +17,9 @@ use Rattle.roff_run.specs.Reading.Arguments.{arguments_ended, line_ended}
 use Rattle.roff_run.specs.Reading.Definitions.{definition_begun, definition_grown}
 use Rattle.roff_run.specs.Reading.Items.{PageInput, Taking}
 use Rattle.roff_run.specs.Registers.{Known}
-use Rattle.roff_run.specs.ShortNames.{name_or_none}
+use Rattle.roff_num.specs.ShortNames.{name_or_none}
 use Rattle.roff_run.specs.declared.reader.Meaning.{Meaning}
-use Rattle.roff_run.specs.declared.reading.ShortName.{ShortName}
+use Rattle.roff_num.specs.declared.short_name.ShortName.{ShortName}
 use Rattle.roff_run.specs.declared.request.LineReading.{LineReading}
 use Rattle.roff_run.specs.declared.request.LineReading.TheVariants.{ByArguments, ByCondition, ByElse, ByLastLine, ByMessage, ByString, ByLines}
 use Rattle.roff_run.specs.declared.request.LinesFor.{LinesFor}

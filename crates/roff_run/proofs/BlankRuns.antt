@@ -7,7 +7,7 @@ use Rattle.std.proofs.lemmas.List.Folds.{length-prefix_len}
 use Rattle.std.proofs.lemmas.List.Sums.{prefix_len-le-length}
 use Rattle.std.proofs.lemmas.List.{length-take-le}
 use Rattle.roff_lines.specs.declared.event.Event.TheVariants.{Break, Gap, WordEnd}
-use Rattle.roff_scan.proofs.Passing.{take_while-plain}
+use Rattle.roff_scan.proofs.PlainBytes.{take_while-plain}
 use Rattle.roff_scan.specs.Arguments.{Arguments}
 use Rattle.roff_scan.specs.Bytes.{blank, newline}
 use Rattle.roff_scan.specs.Half.{Half}

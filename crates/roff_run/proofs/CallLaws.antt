@@ -40,11 +40,11 @@ use Rattle.roff_run.specs.Reading.Units.{settling}
 use Rattle.roff_run.specs.Registers.{Known}
 use Rattle.roff_run.specs.Requests.{called_as, called_by}
 use Rattle.roff_run.specs.Run.{State, after, byte_taken, known, taken_as}
-use Rattle.roff_run.specs.ShortNames.{name_bytes}
+use Rattle.roff_num.specs.ShortNames.{name_bytes}
 use Rattle.roff_run.specs.Stages.{Stage, Turns, input_at}
 use Rattle.roff_run.specs.declared.reading.Reading.{Reading}
 use Rattle.roff_run.specs.declared.reading.Reading.TheVariants.{Calling, Control, Dropped, LineStart, Name}
-use Rattle.roff_run.specs.declared.reading.ShortName.{ShortName}
+use Rattle.roff_num.specs.declared.short_name.ShortName.{ShortName}
 use Rattle.roff_run.specs.declared.request.Called.{Called}
 use Rattle.roff_run.specs.declared.request.Called.TheVariants.{Body as ABody, Nothing as Unknown}
 

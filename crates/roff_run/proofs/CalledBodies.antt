@@ -19,7 +19,7 @@ use Rattle.roff_run.specs.Reading.Units.{holding, no_unit_found, settling}
 use Rattle.roff_run.specs.Registers.{Known}
 use Rattle.roff_run.specs.declared.reader.Meaning.{Meaning}
 use Rattle.roff_run.specs.declared.reading.Reading.TheVariants.{Calling}
-use Rattle.roff_run.specs.declared.reading.ShortName.{ShortName}
+use Rattle.roff_num.specs.declared.short_name.ShortName.{ShortName}
 use Rattle.roff_run.proofs.Strings.{other}
 use Rattle.roff_run.proofs.TakesAs.{TakesAs-as, TakesAs-changed, TakesAs-meant, TakesAs-not_changed, TakesAs-settled}
 

@@ -29,7 +29,7 @@ use Rattle.roff_run.specs.Requests.{called_by}
 use Rattle.roff_run.specs.Stages.{Here, Onward, ReadsPast, Stage, Turned, Turns, input_at, stage_of, with_stage_of}
 use Rattle.roff_run.specs.declared.reading.Reading.{Reading}
 use Rattle.roff_run.specs.declared.reading.Reading.TheVariants.{LineStart, Branch, Braced, Control, Dropped, Name}
-use Rattle.roff_run.specs.declared.reading.ShortName.{ShortName}
+use Rattle.roff_num.specs.declared.short_name.ShortName.{ShortName}
 
 -- where a line begins, or a branch, or its rest behind its brace, a control line may begin
 begins-line_start : BeginsControl LineStart

@@ -21,7 +21,7 @@ use Rattle.roff_run.specs.Registers.{AllRegisters, Change, Known, changed_by_all
 use Rattle.roff_run.specs.Requests.{Back, Effect, called_by, meant_by, request_effect, row_of}
 use Rattle.roff_run.specs.Requests.Effects.{happens, no_such_environment}
 use Rattle.roff_run.specs.declared.reading.Reading.TheVariants.{Arguments as InArguments}
-use Rattle.roff_run.specs.declared.reading.ShortName.{ShortName}
+use Rattle.roff_num.specs.declared.short_name.ShortName.{ShortName}
 use Rattle.roff_run.specs.declared.request.Called.{Called}
 use Rattle.roff_run.specs.declared.request.Called.TheVariants.{Request as ARequest, Body as ABody, Nothing as Unknown}
 use Rattle.roff_run.specs.declared.request.LineReading.{LineReading}

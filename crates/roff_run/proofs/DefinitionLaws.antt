@@ -39,12 +39,12 @@ use Rattle.roff_run.specs.Reading.Items.{PageInput, Taking, going_on}
 use Rattle.roff_run.specs.Reading.Strings.{string_entered}
 use Rattle.roff_run.specs.Registers.{AllRegisters, Known}
 use Rattle.roff_run.specs.Run.{State, after, byte_taken, known, known_at, taken_as}
-use Rattle.roff_run.specs.ShortNames.{name_bytes}
+use Rattle.roff_num.specs.ShortNames.{name_bytes}
 use Rattle.roff_run.specs.Stages.{Stage, input_at}
 use Rattle.roff_run.specs.declared.definition.DefinitionLine.TheVariants.{IsLast, IsText, MayBeLast}
 use Rattle.roff_run.specs.declared.reading.Reading.{Reading}
 use Rattle.roff_run.specs.declared.reading.Reading.TheVariants.{Defining}
-use Rattle.roff_run.specs.declared.reading.ShortName.{ShortName}
+use Rattle.roff_num.specs.declared.short_name.ShortName.{ShortName}
 
 -- a definition: what it defines and how, what ends it, and the texts in the making, of which its own is the last
 record Definition : Type 0 where

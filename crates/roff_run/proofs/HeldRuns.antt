@@ -2,8 +2,10 @@
 use Rattle.std.proofs.Common.{◌≡◌, ℕ, ◌==◌, Bool, true, List, [], ◌∷◌, Option, None, Some, refl, sym, ap, subst, ◌∙◌, arith}
 use Rattle.std.specs.Prelude.{if◌then◌else◌}
 use Rattle.std.specs.List.{AllByRecursion}
-use Rattle.roff_scan.proofs.HeldFronts.{held-byte, held-byte_least, none_of_three}
-use Rattle.roff_scan.specs.Arguments.{Arguments, HeldFewer, bytes_held, is_argument_byte, only_kept, with_argument_byte}
+use Rattle.roff_scan.proofs.HeldFronts.{held-byte_least, none_of_three}
+use Rattle.roff_scan.proofs.HeldBytes.{held-byte}
+use Rattle.roff_scan.specs.Arguments.{Arguments, HeldFewer, bytes_held, only_kept, with_argument_byte}
+use Rattle.roff_scan.specs.Bytes.{is_argument_byte}
 use Rattle.roff_scan.specs.Bytes.{backslash, is_dropped, newline}
 use Rattle.roff_scan.specs.Half.{Half, Backslash}
 use Rattle.roff_scan.specs.Halves.{byte_read}
@@ -31,7 +33,7 @@ use Rattle.roff_run.specs.Requests.{row_of}
 use Rattle.roff_run.specs.Stages.{Here, Holds, HoldsIfFewer, Onward, ReadsPast, Stage, Turned, input_at, stage_of, with_stage_of}
 use Rattle.roff_run.specs.declared.reading.Reading.{Reading}
 use Rattle.roff_run.specs.declared.reading.Reading.TheVariants.{Arguments as InArguments, Calling}
-use Rattle.roff_run.specs.declared.reading.ShortName.{ShortName}
+use Rattle.roff_num.specs.declared.short_name.ShortName.{ShortName}
 use Rattle.roff_run.specs.declared.request.Request.{Request}
 
 -- a byte that is held as it is read, behind a request's name

@@ -7,10 +7,12 @@ use Rattle.roff_num.specs.declared.limit.Limit.TheVariants.{Stack, Depth, Condit
 use Rattle.roff_num.specs.declared.limits.Limits.{Limits}
 use Rattle.roff_scan.specs.Arguments.{held, settled, no_arguments}
 use Rattle.roff_scan.specs.Half.{texts_held}
-use Rattle.roff_scan.specs.Input.{Ahead, ByteAhead, FreeAhead, EndAhead, ReturnAhead, DoAhead, counting, item_taken, leaving, pushed, depth, results, bytes_ahead, ends_ahead, calls_behind, kept_behind, kept_below, live_bytes}
+use Rattle.roff_scan.specs.Input.{Ahead, ByteAhead, FreeAhead, EndAhead, ReturnAhead, DoAhead, counting, item_taken, leaving, pushed, depth, results, bytes_ahead, ends_ahead, calls_behind, kept_behind, kept_below}
+use Rattle.roff_scan.specs.Arguments.{live_bytes}
 use Rattle.roff_scan.specs.Input.Names.{names_added, stored}
 use Rattle.roff_scan.specs.Tape.{Answer, Gives, Ends, OneByte, OneNote}
-use Rattle.roff_scan.specs.Unread.{Unread, IsWithin, Shown, taking, taking_answer, answer_behind, input_refusal}
+use Rattle.roff_scan.specs.Unread.{Unread, IsWithin, taking, taking_answer, answer_behind, input_refusal}
+use Rattle.roff_scan.specs.Shown.{Shown}
 use Rattle.roff_store.specs.Named.{Named}
 use Rattle.roff_store.specs.Texts.{Entry, bytes_in}
 use Rattle.roff_scan.proofs.KeptArguments.{held-only_kept, held-settled}

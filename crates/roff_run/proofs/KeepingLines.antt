@@ -15,12 +15,12 @@ use Rattle.roff_scan.specs.declared.half.Read.{Read}
 use Rattle.roff_scan.specs.declared.half.Read.TheVariants.{GoesOn, Unit as GivesUnit, Holds, Escape, Asks, Motion, Measures, Tells, Decides}
 use Rattle.roff_run.specs.declared.reading.Reading.{Reading}
 use Rattle.roff_run.specs.declared.reading.Reading.TheVariants.{LineStart, Arguments as InArguments, StringName, StringText, Telling, Calling, Defining}
-use Rattle.roff_run.specs.declared.reading.ShortName.{ShortName}
+use Rattle.roff_num.specs.declared.short_name.ShortName.{ShortName}
 use Rattle.roff_run.specs.declared.request.LineReading.{LineReading}
 use Rattle.roff_run.specs.declared.request.LineReading.TheVariants.{ByArguments, ByCondition, ByElse, ByLastLine, ByMessage, ByString, ByLines}
 use Rattle.roff_run.specs.declared.request.LinesFor.{LinesFor}
 use Rattle.roff_run.specs.declared.request.LinesFor.TheVariants.{Macro, Nobody}
-use Rattle.roff_run.specs.ShortNames.{name_at, name_bytes, name_or_none}
+use Rattle.roff_num.specs.ShortNames.{name_at, name_bytes, name_or_none}
 use Rattle.roff_run.specs.declared.request.Request.{Request}
 use Rattle.roff_run.specs.Reading.Arguments.{unit_found, arguments_ended, arguments_found, reading_behind, calling_all, ended_by}
 use Rattle.roff_run.specs.Reading.Calls.{holding_call, call_unit, call_found}

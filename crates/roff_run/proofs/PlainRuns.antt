@@ -7,7 +7,8 @@ use Rattle.roff_scan.specs.Arguments.{Arguments, held}
 use Rattle.roff_scan.specs.Bytes.{newline}
 use Rattle.roff_scan.specs.Half.{Half, texts_held}
 use Rattle.roff_scan.specs.Halves.{seen_stays}
-use Rattle.roff_scan.specs.Input.{Ahead, ByteAhead, bytes_ahead, ends_ahead, lines_taken, live_bytes}
+use Rattle.roff_scan.specs.Input.{Ahead, ByteAhead, bytes_ahead, ends_ahead, lines_taken}
+use Rattle.roff_scan.specs.Arguments.{live_bytes}
 use Rattle.roff_scan.specs.Tape.{Tape}
 use Rattle.roff_store.specs.Named.{Named}
 use Rattle.roff_store.specs.Texts.{Entry, bytes_in}

@@ -25,10 +25,10 @@ use Rattle.roff_run.specs.Reading.Definitions.{definition_named, lines_begun}
 use Rattle.roff_run.specs.Reading.Found.{read_in}
 use Rattle.roff_run.specs.Reading.Items.{PageInput, Taking, going_on}
 use Rattle.roff_run.specs.Reading.Units.{holding, settling}
-use Rattle.roff_run.specs.ShortNames.{name_at, name_or_none}
+use Rattle.roff_num.specs.ShortNames.{name_at, name_or_none}
 use Rattle.roff_run.specs.Registers.{Known}
 use Rattle.roff_run.specs.Requests.{row_of}
-use Rattle.roff_run.specs.declared.reading.ShortName.{ShortName}
+use Rattle.roff_num.specs.declared.short_name.ShortName.{ShortName}
 use Rattle.roff_run.specs.declared.request.LineReading.{LineReading}
 use Rattle.roff_run.specs.declared.request.LineReading.TheVariants.{ByArguments, ByCondition, ByElse, ByLastLine, ByLines, ByMessage, ByString}
 use Rattle.roff_run.specs.declared.request.LinesFor.{LinesFor}

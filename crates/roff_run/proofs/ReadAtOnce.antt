@@ -44,7 +44,7 @@ use Rattle.roff_run.specs.Reading.Units.{holding}
 use Rattle.roff_run.specs.Registers.{AllRegisters, Known}
 use Rattle.roff_run.specs.Requests.{PageEvent, row_of}
 use Rattle.roff_run.specs.Run.{known_at}
-use Rattle.roff_run.specs.ShortNames.{name_bytes}
+use Rattle.roff_num.specs.ShortNames.{name_bytes}
 use Rattle.roff_run.specs.declared.environments.Environments.{Environments as EnvironmentsOf}
 use Rattle.roff_run.specs.declared.message.Message.{Message}
 use Rattle.roff_run.specs.declared.reader.AtOnce.{AtOnce}
@@ -52,7 +52,7 @@ use Rattle.roff_run.specs.declared.reader.AtOnce.TheVariants.{Done, Found, Not}
 use Rattle.roff_run.specs.declared.reader.Meaning.{Meaning}
 use Rattle.roff_run.specs.declared.reading.Reading.{Reading}
 use Rattle.roff_run.specs.declared.reading.Reading.TheVariants.{StringName, StringText, LineStart, Branch, Braced, Text as InText, Control, Name, Arguments as InArguments, Deciding, Skipping, Dropped, Telling, Told, Exiting, Calling, Defining}
-use Rattle.roff_run.specs.declared.reading.ShortName.{ShortName}
+use Rattle.roff_num.specs.declared.short_name.ShortName.{ShortName}
 use Rattle.roff_run.specs.declared.reading.TextLine.{TextLine}
 use Rattle.roff_run.specs.declared.request.Request.{Request}
 use Rattle.roff_run.proofs.Placed.{above-placed, kept-placed}

@@ -11,8 +11,8 @@ use Rattle.roff_num.specs.declared.num.Num.{Num}
 use Rattle.roff_store.proofs.Entries.{bytes_eq_tells, entry_of-with_entry, entry_of-without_entry}
 use Rattle.roff_store.specs.Named.{entry_of, with_entry, without_entry}
 use Rattle.roff_store.specs.Registers.{Registers, next_value, register_of, unset_register, with_format, with_setting, with_step}
-use Rattle.roff_store.specs.declared.register.Direction.{Direction}
-use Rattle.roff_store.specs.declared.register.Direction.TheVariants.{Up, Down}
+use Rattle.roff_num.specs.declared.direction.Direction.{Direction}
+use Rattle.roff_num.specs.declared.direction.Direction.TheVariants.{Up, Down}
 use Rattle.roff_store.specs.declared.register.Register.{Register}
 use Rattle.roff_run.specs.declared.message.Message.{Message}
 use Rattle.roff_run.specs.declared.message.Message.TheVariants.{BadNumber}

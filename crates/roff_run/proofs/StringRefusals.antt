@@ -10,7 +10,8 @@ use Rattle.roff_num.specs.declared.limit.Limit.TheVariants.{Stack, Depth, Divers
 use Rattle.roff_num.specs.declared.limits.Limits.{Limits}
 use Rattle.roff_scan.specs.Arguments.{Arguments, held, no_arguments, settled_at, with_byte_at, with_unit, with_whole}
 use Rattle.roff_scan.specs.Half.{texts_held, unit_bytes}
-use Rattle.roff_scan.specs.Input.{bytes_ahead, depth, live_bytes, pushed, results}
+use Rattle.roff_scan.specs.Input.{bytes_ahead, depth, pushed, results}
+use Rattle.roff_scan.specs.Arguments.{live_bytes}
 use Rattle.roff_scan.specs.Input.Names.{adding, calling, calling_on, names_added, stored}
 use Rattle.roff_scan.specs.Unread.{input_refusal}
 use Rattle.roff_scan.specs.declared.arguments.Place.{Place}
@@ -22,12 +23,12 @@ use Rattle.roff_store.specs.TextCalls.{Open, PushOpen}
 use Rattle.roff_store.specs.Texts.{newest}
 use Rattle.roff_run.specs.Reader.State.{ReaderState}
 use Rattle.roff_run.specs.Reader.Taken.{InputBecame, PageUnread, TakesAs}
-use Rattle.roff_run.specs.ShortNames.{name_at}
+use Rattle.roff_num.specs.ShortNames.{name_at}
 use Rattle.roff_run.specs.Reading.Items.{PageInput, Taking, going_on}
 use Rattle.roff_run.specs.Reading.Strings.{name_read, string_begun, string_grown, string_name_behind, string_unit}
 use Rattle.roff_run.specs.Reading.Units.{holding}
 use Rattle.roff_run.specs.declared.reading.Reading.TheVariants.{StringName, StringText}
-use Rattle.roff_run.specs.declared.reading.ShortName.{ShortName}
+use Rattle.roff_num.specs.declared.short_name.ShortName.{ShortName}
 use Rattle.roff_run.proofs.InputCounts.{NoMore, NoMore-released, input_refusal-no_more, not_above, one_of}
 use Rattle.roff_run.proofs.Strings.{TakesAs-not_became, other, refused_none}
 use Rattle.roff_run.proofs.TakesAs.{TakesAs-as}

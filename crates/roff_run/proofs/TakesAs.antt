@@ -25,7 +25,7 @@ use Rattle.roff_scan.proofs.TextsHeld.{texts_held-byte_read, texts_held-reading_
 use Rattle.roff_store.proofs.Entries.{length-with_entry}
 use Rattle.roff_store.specs.Named.{with_entry, entry_of}
 use Rattle.roff_store.specs.Registers.{Registers, register_of, with_step, next_value}
-use Rattle.roff_store.specs.declared.register.Direction.{Direction}
+use Rattle.roff_num.specs.declared.direction.Direction.{Direction}
 use Rattle.roff_store.specs.declared.register.Register.{Register}
 use Rattle.roff_run.specs.Output.{PageHistory}
 use Rattle.roff_run.specs.Reader.State.{ReaderState}
@@ -50,7 +50,7 @@ use Rattle.roff_run.specs.declared.message.Message.{Message}
 use Rattle.roff_run.specs.declared.reader.Meaning.{Meaning}
 use Rattle.roff_run.specs.declared.reading.Reading.{Reading}
 use Rattle.roff_run.specs.declared.reading.Reading.TheVariants.{StringName, StringText, LineStart, Branch, Braced, Text as InText, Control, Name, Arguments as InArguments, Deciding, Skipping, Dropped, Telling, Told, Exiting, Calling, Defining}
-use Rattle.roff_run.specs.declared.reading.ShortName.{ShortName}
+use Rattle.roff_num.specs.declared.short_name.ShortName.{ShortName}
 use Rattle.roff_run.specs.declared.reading.TextLine.{TextLine}
 use Rattle.roff_run.specs.declared.reading.TextStep.{TextStep}
 use Rattle.roff_run.specs.declared.registers.Facts.{Facts}

@@ -6,7 +6,8 @@ use Rattle.roff_num.specs.declared.limit.Limit.TheVariants.{Bytes}
 use Rattle.roff_scan.specs.Halves.{newline_stays}
 use Rattle.roff_scan.specs.Input.{Ahead, ByteAhead, FreeAhead, EndAhead, ReturnAhead, DoAhead, cost, item_taken}
 use Rattle.roff_scan.specs.Tape.{Answer, Gives, Ends, OneByte, OneNote}
-use Rattle.roff_scan.specs.Unread.{Unread, Shown, ShowsByte, ShowsEnd, ShowsReturn, ShowsDo, ShowsNote, ShowsEnding, ShowsRefusal, taking, taking_answer, answer_behind}
+use Rattle.roff_scan.specs.Unread.{Unread, taking, taking_answer, answer_behind}
+use Rattle.roff_scan.specs.Shown.{Shown, ShowsByte, ShowsEnd, ShowsReturn, ShowsDo, ShowsNote, ShowsEnding, ShowsRefusal}
 use Rattle.roff_scan.specs.Half.{Half}
 use Rattle.roff_run.specs.Reading.{half_ended, taking as byte_taking}
 use Rattle.roff_run.specs.Reading.Ends.{end_taking, line_ends_first}

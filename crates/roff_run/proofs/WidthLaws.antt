@@ -21,7 +21,7 @@ use Rattle.roff_scan.specs.Halves.{Reads, byte_read, decides_now, newline_stays,
 use Rattle.roff_scan.specs.Input.{pushing, Ahead}
 use Rattle.roff_scan.specs.Measures.{byte_columns, most_width, wider}
 use Rattle.roff_scan.specs.Tape.{Answer}
-use Rattle.roff_scan.specs.Unread.{seen_ahead}
+use Rattle.roff_scan.specs.Shown.{seen_ahead}
 use Rattle.roff_scan.specs.declared.half.Read.TheVariants.{GoesOn, Measures}
 use Rattle.roff_scan.specs.declared.half.Surroundings.{Surroundings}
 use Rattle.roff_scan.specs.declared.half.Surroundings.TheVariants.{Text as AboveText, Arguments as AboveArguments, Copy as AboveCopy}

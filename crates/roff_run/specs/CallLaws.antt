@@ -15,9 +15,9 @@ use Rattle.roff_run.specs.Reading.ControlLines.{ends_name}
 use Rattle.roff_run.specs.Reading.Items.{PageInput}
 use Rattle.roff_run.specs.Requests.{PageEvent}
 use Rattle.roff_run.specs.Run.{State, after}
-use Rattle.roff_run.specs.ShortNames.{name_bytes}
+use Rattle.roff_num.specs.ShortNames.{name_bytes}
 use Rattle.roff_run.specs.declared.reading.Reading.TheVariants.{LineStart}
-use Rattle.roff_run.specs.declared.reading.ShortName.{ShortName}
+use Rattle.roff_num.specs.declared.short_name.ShortName.{ShortName}
 
 -- a run stands where a line begins: it takes items, nothing is half read, and no argument is held
 pub record BeginsLine (s : State) : Type 0 where

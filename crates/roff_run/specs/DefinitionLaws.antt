@@ -18,9 +18,9 @@ use Rattle.roff_run.specs.Reading.Items.{PageInput, going_on}
 use Rattle.roff_run.specs.Registers.{Known}
 use Rattle.roff_run.specs.Requests.{PageEvent}
 use Rattle.roff_run.specs.Run.{State, known, taken_as, after}
-use Rattle.roff_run.specs.ShortNames.{name_bytes}
+use Rattle.roff_num.specs.ShortNames.{name_bytes}
 use Rattle.roff_run.specs.declared.reading.Reading.TheVariants.{LineStart, Defining}
-use Rattle.roff_run.specs.declared.reading.ShortName.{ShortName}
+use Rattle.roff_num.specs.declared.short_name.ShortName.{ShortName}
 
 -- whether a line ends a definition with this mark: the mark stands in front of it, and behind that the line ends, or a blank or
 -- a tab comes

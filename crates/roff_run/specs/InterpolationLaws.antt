@@ -14,7 +14,7 @@ use Rattle.roff_scan.specs.declared.escapes.NameUse.TheVariants.{Register, Text 
 use Rattle.roff_scan.specs.declared.half.ConditionPart.{ConditionPart}
 use Rattle.roff_scan.specs.declared.half.ConditionPart.TheVariants.{Choice, Expression, Compared, Decided}
 use Rattle.roff_scan.specs.Tape.{Tape, Gives, OneByte, front, items_then}
-use Rattle.roff_store.specs.declared.register.Direction.{Direction}
+use Rattle.roff_num.specs.declared.direction.Direction.{Direction}
 use Rattle.roff_run.specs.Laws.{IsWithin}
 use Rattle.roff_run.specs.Messages.{message_lines}
 use Rattle.roff_run.specs.Reading.{interrupted}

@@ -10,7 +10,6 @@ pub mod Environments
 pub mod EnvironmentLaws
 pub mod RequestLaws
 pub mod Request
-pub mod ShortNames
 pub mod Definitions
 pub mod Reading
 pub mod Telling

@@ -4,7 +4,7 @@ use Rattle.roff_num.specs.RegisterText.{register_text}
 use Rattle.roff_num.specs.declared.format.Format.{Format}
 use Rattle.roff_num.specs.declared.num.Num.{Num}
 use Rattle.roff_store.specs.Named.{entry_of}
-use Rattle.roff_store.specs.declared.register.Direction.{Direction}
+use Rattle.roff_num.specs.declared.direction.Direction.{Direction}
 use Rattle.roff_run.specs.Registers.{AllRegisters, Known, Change, SetTo, FormatAs, Remove, StepBy, changed_by, changed_by_all, is_page, is_read_only, known_behind, settable, step_changes, step_messages, text_of_register}
 
 -- a value that is set is read back as its text in the register's format

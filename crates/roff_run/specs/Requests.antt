@@ -13,8 +13,8 @@ use Rattle.roff_run.specs.declared.request.Request.TheVariants.{Abort, Adjust, A
 use Rattle.roff_run.specs.declared.request.Called.{Called}
 use Rattle.roff_run.specs.declared.request.Called.TheVariants.{Request as ARequest, Body as ABody, Nothing as Unknown}
 use Rattle.roff_run.specs.declared.request.LinesFor.TheVariants.{Macro, Nobody}
-use Rattle.roff_run.specs.declared.reading.ShortName.{ShortName}
-use Rattle.roff_run.specs.ShortNames.{name_bytes}
+use Rattle.roff_num.specs.declared.short_name.ShortName.{ShortName}
+use Rattle.roff_num.specs.ShortNames.{name_bytes}
 pub use Rattle.roff_run.specs.Requests.Effects.{Effect, doing, saying, Done, Ignored, Does, nothing, setting, left_out, meant_by}
 use Rattle.roff_run.specs.Requests.Adjustment.{adjust, centre}
 use Rattle.roff_run.specs.Requests.Spacing.{space_down, line_spacing}

@@ -3,7 +3,7 @@
 ghost use Rattle.std.specs.Prelude.{◌≡◌, ◌∷◌, [], drop};
 ghost use Rattle.roff_run.specs.Definitions.{end_mark, ends_mark, front_of, line_from, line_with, matched_behind};
 
-use crate::reading::ShortName;
+use roff_num::ShortName;
 use arrayvec::ArrayVec;
 use roff_scan::CopyUnit;
 

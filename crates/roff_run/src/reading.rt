@@ -2,8 +2,8 @@
 
 ghost use Rattle.std.specs.Prelude.{◌≡◌, length, ◌==◌, take_while};
 ghost use Rattle.roff_run.specs.Reading.Ends.{due, line_ends_first};
-ghost use Rattle.roff_run.specs.ShortNames.{name_bytes};
-ghost use Rattle.roff_run.specs.ShortNames.{short_name};
+ghost use Rattle.roff_num.specs.ShortNames.{name_bytes};
+ghost use Rattle.roff_num.specs.ShortNames.{short_name};
 ghost use Rattle.roff_run.specs.Reading.ControlLines.{ends_name};
 ghost use Rattle.roff_scan.specs.Bytes.{blank};
 ghost use Rattle.roff_run.specs.Reader.Above.{reads_above};
@@ -16,7 +16,7 @@ use crate::event::LineEvents;
 use crate::message::Message;
 use crate::request::Request;
 use roff_lines::Glyph;
-use roff_num::Name;
+use roff_num::{Name, ShortName};
 
 /// What is being read of a line.
 #[derive(Clone, Copy, Debug, PartialEq, Eq)]
@@ -119,13 +119,6 @@ pub enum TextByte {
     BlankLine,
 }
 
-/// A name of one or two bytes.
-#[derive(Clone, Copy, Debug, PartialEq, Eq)]
-pub(crate) struct ShortName {
-    pub(crate) first: u8,
-    pub(crate) second: Option<u8>,
-}
-
 /// What stands on a text line so far.
 #[derive(Clone, Copy, Debug, PartialEq, Eq)]
 pub(crate) struct TextLine {
@@ -187,28 +180,6 @@ impl Reading {
             Reading::Deciding { .. } => true,
             _ => false,
         }
-    }
-}
-
-impl ShortName {
-    /// The name that an argument gives: its first two bytes.
-    pub(crate) fn of(text: &[u8]) -> Option<ShortName>
-        ensures { result ≡ short_name text.now }
-    {
-        let first = text.first()?;
-        Some(ShortName {
-            first: *first,
-            second: text.get(1).copied(),
-        })
-    }
-
-    /// The same as a name.
-    pub(crate) fn name(self) -> Name
-        ensures { result ≡ name_bytes self }
-    {
-        let bytes = [self.first, self.second.unwrap_or(0)];
-        let count = if self.second.is_some() { 2 } else { 1 };
-        Name::new(&bytes[..count]).unwrap()
     }
 }
 

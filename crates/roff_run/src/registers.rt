@@ -15,8 +15,8 @@ use crate::message::Message;
 use crate::reading::TextLine;
 use read_only::{is_read_only, query_of};
 use roff_lines::Settings;
-use roff_num::{Format, Limit, Name, Num, NumText, write_num};
-use roff_store::{Direction, RegTable, Register};
+use roff_num::{Direction, Format, Limit, Name, Num, NumText, write_num};
+use roff_store::{RegTable, Register};
 use std::alloc::{AllocError, Global};
 use std::marker::Model;
 

@@ -14,7 +14,7 @@ mod spacing;
 mod switching;
 mod tabs;
 
-use crate::reading::ShortName;
+use roff_num::ShortName;
 use LineReading::{ByArguments, ByCondition, ByElse, ByLastLine, ByLines, ByMessage, ByString};
 use Request::{LeftOut, WithoutEffect};
 pub(crate) use effects::{Changes, Done, Effect, Known};

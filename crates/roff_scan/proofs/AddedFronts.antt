@@ -14,7 +14,7 @@ use Rattle.roff_scan.specs.Tape.{Tape}
 use Rattle.roff_scan.specs.Unread.{Unread, changing, input_refusal, unless_passed}
 use Rattle.roff_scan.specs.Unread.Calls.{AddsFront, IsFront, NoNewline, OfSource, OfTexts, PassesSource, front_bytes}
 use Rattle.roff_scan.proofs.Fronts.{next-ready}
-use Rattle.roff_scan.proofs.Passing.{take_while-plain}
+use Rattle.roff_scan.proofs.PlainBytes.{take_while-plain}
 use Rattle.roff_store.specs.TextCalls.{PushOpen}
 use Rattle.roff_store.specs.Texts.{newest}
 

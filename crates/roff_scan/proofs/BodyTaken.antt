@@ -8,7 +8,7 @@ use Rattle.roff_scan.specs.Frames.Bodies.{leases_in, with_bodies}
 use Rattle.roff_scan.specs.Frames.Calls.{TakesFront}
 use Rattle.roff_scan.specs.Frames.Kept.{Framed, Gives, IsSound, kept_by}
 use Rattle.roff_scan.specs.Slots.Held.{Held}
-use Rattle.roff_scan.specs.Unread.{ShowsByte}
+use Rattle.roff_scan.specs.Shown.{ShowsByte}
 use Rattle.roff_scan.specs.declared.frames.Frame.{Frame}
 use Rattle.roff_scan.specs.declared.frames.Frame.TheVariants.{Body}
 use Rattle.roff_scan.proofs.Bodies.{rest_is}

@@ -2,7 +2,7 @@
 use Rattle.std.proofs.Common.{◌≡◌, ℕ, ◌+◌, ◌*◌, ◌≤◌, List, [], ◌∷◌, ◌++◌, length, length-append, length-drop, take, drop, suc, refl, sym, ap, arith}
 use Rattle.std.proofs.lemmas.List.{take_at, drop_at, length-take-le}
 use Rattle.roff_scan.specs.Arguments.{total_length}
-use Rattle.roff_scan.specs.Input.{live_bytes}
+use Rattle.roff_scan.specs.Arguments.{live_bytes}
 use Rattle.roff_scan.specs.ArgumentTexts.Ends.{texts_ending, EndWithin}
 use Rattle.roff_scan.specs.Calls.Kept.{calls_in, IsOnTop, AreStacked}
 use Rattle.roff_scan.specs.declared.calls.CallStart.{CallStart}

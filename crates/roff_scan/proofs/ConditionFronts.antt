@@ -3,24 +3,17 @@ use Rattle.std.proofs.Common.{◌≡◌, ℕ, suc, ◌+◌, ◌==◌, ◌≤◌,
 use Rattle.std.specs.Prelude.{codes, nat_le}
 use Rattle.std.proofs.Math.Seq.{take-suc}
 use Rattle.std.proofs.lemmas.Bool.{and_parts, leb-true, lt-leb, ne_eqb}
-use Rattle.std.proofs.lemmas.List.{take-take}
 use Rattle.roff_scan.specs.Bytes.{backslash, blank, is_digit, is_dropped, is_silent, newline, tab}
 use Rattle.roff_scan.specs.ConditionFronts.{ByteTaken, HalvesTaken, HoldsOn, IsHeld, IsRead, NothingTaken, TakesByte, TakesFront, TakesOn, is_of_expression}
 use Rattle.roff_scan.specs.Conditions.{begins_expression, expression_over, is_among, to_decide}
 use Rattle.roff_scan.specs.Half.{Half, Backslash, Condition, Reads as ReadsOf, text_held, texts_held}
 use Rattle.roff_scan.specs.HalfTexts.{IsOnTop, KeptHalves}
-use Rattle.roff_scan.specs.Input.{pushed}
-use Rattle.roff_scan.specs.Tape.{Tape}
-use Rattle.roff_scan.specs.Unread.{Unread, IsWithin}
-use Rattle.roff_scan.specs.Unread.Calls.{IsFront, NoNewline, PassesFront, TakesHalves, front_bytes, next_bytes}
 use Rattle.roff_scan.specs.declared.half.ConditionPart.{ConditionPart}
 use Rattle.roff_scan.specs.declared.half.ConditionPart.TheVariants.{Choice, Compared, Expression}
 use Rattle.roff_scan.specs.declared.half.CopyUnit.TheVariants.{Byte}
 use Rattle.roff_scan.specs.declared.half.Decision.TheVariants.{Is, OnPages}
 use Rattle.roff_scan.specs.declared.half.HalfRead.TheVariants.{Condition as ConditionRead}
 use Rattle.roff_scan.specs.declared.half.Read.TheVariants.{GoesOn, Holds}
-use Rattle.roff_scan.proofs.Fronts.{passes_none}
-use Rattle.roff_scan.proofs.HalfFronts.{half-behind, passes-half, with_read}
 
 -- one byte more is held of a condition
 held-one : (part later : ConditionPart) (text : List ℕ) (rest : List Half) (b : ℕ)
@@ -171,55 +164,6 @@ pub TakesFront-ended : (bytes : List ℕ) (count b : ℕ) (old now new : KeptHal
 TakesFront-ended bytes count b old now new is_taken takes isnt byte = subst (TakesFront bytes count old) (sym (byte.kept isnt)) takes
 
 -- no newline is taken so
-taken-plain : (half next : List Half) (b : ℕ) → TakesOn half b next → (b == newline) ≡ false
+pub taken-plain : (half next : List Half) (b : ℕ) → TakesOn half b next → (b == newline) ≡ false
 taken-plain half next b (IsRead reads) = reads.no_newline
 taken-plain half next b (IsHeld top holds is) = holds.no_newline
-
-HalvesTaken-plain : (half last : List Half) (bytes : List ℕ) → HalvesTaken half bytes last → NoNewline bytes
-HalvesTaken-plain _ last _ (NothingTaken half) = tt
-HalvesTaken-plain half _ _ (ByteTaken _ next last b bytes takes others) = (taken-plain half next b takes, HalvesTaken-plain next last bytes others)
-
-module _ {E : Type 0} where
-  -- no count is above its limit where bytes were taken of which there is room for each
-  pub IsWithin-taken : (u : Unread E) (half : List Half) (count : ℕ) → IsWithin u → texts_held half ≤ texts_held u.input.half + count
-      → pushed u.input + count ≤ u.limits.stack → IsWithin (with_read half u)
-  IsWithin-taken u half count within held room = record {
-    charge = within.charge;
-    newlines = within.newlines;
-    pushed = omega (arith, room, held);
-    depth = within.depth;
-    results = within.results;
-    stored = within.stored;
-    names = within.names;
-    making = within.making;
-  }
-
-  module _ (ready : List ℕ) (u : Unread E) (front : List ℕ) (count : ℕ) (among : length front ≤ length (next_bytes u.input.ahead u.looked ready))
-      (same : front ≡ take (length front) (next_bytes u.input.ahead u.looked ready)) (few : count ≤ length front) where
-    -- the first of the bytes that were lent stand in front
-    pub taken_in_front : u.input.charge + length front ≤ u.limits.bytes → IsFront count ready u
-    taken_in_front allowed = record { among = omega (arith, among, few); within = omega (arith, allowed, few) }
-
-    first_taken : take count front ≡ front_bytes count ready u
-    first_taken = ap (take count) same ∙ take-take count (length front) (next_bytes u.input.ahead u.looked ready) few
-
-    module _ (half : List Half) (taken : HalvesTaken u.input.half (take count front) half) where
-      -- none of them is a newline
-      pub taken_no_newline : NoNewline (front_bytes count ready u)
-      taken_no_newline = subst NoNewline first_taken (HalvesTaken-plain u.input.half half (take count front) taken)
-
-      -- and they were taken
-      pub takes_halves : (old new : Tape → Type 0) (after : Unread E) → PassesFront old new (front_bytes count ready u) (with_read half u) after → TakesHalves old new u after
-      takes_halves old new after passed =
-          let bytes : List ℕ = take count front in
-          let passes : PassesFront old new bytes (with_read half u) after =
-          subst (λ (xs : List ℕ). PassesFront old new xs (with_read half u) after) (sym first_taken) passed in
-          record {
-            bytes = bytes;
-            taken = subst (λ (h : List Half). HalvesTaken u.input.half bytes h) (sym (half-behind old new bytes half u after passes)) taken;
-            passes = passes-half old new bytes half u after passes;
-          }
-
-  -- where none are in front, none are taken
-  pub takes_none : (gives : Tape → Type 0) (u : Unread E) → u.input.charge ≤ u.limits.bytes → TakesHalves gives gives u u
-  takes_none gives u within = record { bytes = []; taken = NothingTaken u.input.half; passes = passes_none [] u gives 0 refl within }

@@ -1,49 +1,20 @@
 -- Bytes that stand in front: those of a slice, and what is left of the input behind so many of them.
-use Rattle.std.proofs.Common.{◌≡◌, ℕ, zero, suc, ◌+◌, ◌-◌, ◌==◌, ◌≤◌, ◌<◌, Bool, true, false, if◌then◌else◌, List, [], ◌∷◌, ◌++◌, length, map, take, drop, min, get_or, take_while, Option, Some, None, refl, sym, ap, subst, ◌∙◌, arith, length-take}
-use Rattle.std.specs.List.{list_all, prefix_len}
+use Rattle.std.proofs.Common.{◌≡◌, ℕ, ◌+◌, ◌-◌, ◌==◌, ◌≤◌, Bool, true, false, if◌then◌else◌, List, [], ◌∷◌, ◌++◌, length, map, take, drop, Option, Some, None, refl, sym, ap, subst, ◌∙◌, arith}
 use Rattle.std.specs.Prelude.{is_some}
-use Rattle.std.proofs.Math.Bool.{cond}
-use Rattle.std.proofs.lemmas.Bool.{and_parts}
-use Rattle.std.proofs.lemmas.List.Folds.{length-prefix_len}
-use Rattle.std.proofs.lemmas.List.Sums.{prefix_len-drop_all, prefix_len-drop_no, prefix_len-drop_yes}
-use Rattle.std.proofs.lemmas.List.{drop-drop, length-drop, length-map, length-take-le, take-append-le, take-take, take_min}
-use Rattle.std.proofs.Math.Seq.{drop-append_seam}
-use Rattle.roff_scan.specs.Bytes.{is_text_byte, newline}
-use Rattle.roff_scan.specs.Frames.Bodies.{with_bodies}
-use Rattle.roff_scan.specs.Frames.Kept.{Framed}
-use Rattle.roff_scan.specs.Input.{Ahead, ByteAhead, FreeAhead, EndAhead, ReturnAhead, DoAhead, Input, counting, first, is_none_ahead, leading, lines_taken, returns_ahead}
-use Rattle.roff_scan.specs.Slots.Held.{Held}
+use Rattle.std.proofs.lemmas.List.{length-take-le, take-take}
+use Rattle.roff_scan.specs.Bytes.{newline}
+use Rattle.roff_scan.specs.Input.{Ahead, ByteAhead, Input, counting, is_none_ahead, leading, lines_taken, returns_ahead}
 use Rattle.roff_scan.specs.Tape.{Tape, OneByte, Took}
 use Rattle.roff_scan.specs.Unread.{Unread, IsWithin}
 use Rattle.roff_scan.specs.Unread.Calls.{IsFront, NoNewline, PassesFront, OfTexts, PassesSource, front_bytes, next_bytes}
-use Rattle.roff_scan.specs.declared.frames.Frame.{Frame}
-use Rattle.roff_scan.specs.declared.frames.Frame.TheVariants.{Body}
-use Rattle.roff_scan.proofs.BodyTaken.{with_body-first}
 use Rattle.roff_scan.proofs.Counts.{returns_ahead-bytes}
 use Rattle.roff_scan.proofs.PassingAhead.{IsWithin-behind, behind_bytes, bytes_taken-is}
-use Rattle.roff_store.specs.declared.text.LeaseId.{LeaseId}
-use Rattle.roff_store.specs.Texts.{Texts, lease_bytes, lease_of}
+use Rattle.roff_scan.proofs.Leading.{Begins, begins, leading-parted}
 
 -- no byte was looked at
 pub nothing_looked : (looked : Option ℕ) → is_some looked ≡ false → looked ≡ None
 nothing_looked None is = refl
 nothing_looked (Some b) is = cc
-
--- these bytes begin others, and are no more than so many
-pub record Begins (front bytes : List ℕ) (most : ℕ) : Type 0 where
-  pub same : front ≡ take (length front) bytes
-  pub among : length front ≤ length bytes
-  pub few : length front ≤ most
-
--- so many of them
-pub begins : (front bytes : List ℕ) (most : ℕ) → front ≡ take most bytes → Begins front bytes most
-begins front bytes most is =
-    let cut : length front ≡ min most (length bytes) = ap length is ∙ length-take most bytes in
-    record {
-      same = is ∙ sym (ap (λ n. take n bytes) cut ∙ take_min most bytes);
-      among = omega (arith, cut);
-      few = omega (arith, cut);
-    }
 
 -- what begins a beginning begins the whole
 begins-further : (front given bytes : List ℕ) (most : ℕ) → Begins front given most → given ≡ take (length given) bytes → Begins front bytes most
@@ -56,66 +27,6 @@ begins-further front given bytes most front_begins is =
     }
 
 module _ {E : Type 0} where
-  -- bytes stand in front of what is behind them
-  leading-parted : (count : ℕ) (items : List (Ahead E)) → count ≤ length (leading items)
-      → items ≡ map ByteAhead (take count (leading items)) ++ drop count items
-  leading-parted zero items few = refl
-  leading-parted (suc n) [] few = absurd (omega (arith, few))
-  leading-parted (suc n) (ByteAhead b ∷ items) few = ap (λ (rest : List (Ahead E)). ByteAhead b ∷ rest) (leading-parted n items (omega (arith, few)))
-  leading-parted (suc n) (FreeAhead b ∷ items) few = absurd (omega (arith, few))
-  leading-parted (suc n) (EndAhead ∷ items) few = absurd (omega (arith, few))
-  leading-parted (suc n) (ReturnAhead ∷ items) few = absurd (omega (arith, few))
-  leading-parted (suc n) (DoAhead event ∷ items) few = absurd (omega (arith, few))
-
-  -- as many fewer stand in front behind some of them
-  pub leading-fewer : (count : ℕ) (items : List (Ahead E)) → count ≤ length (leading items)
-      → length (leading (drop count items)) ≡ length (leading items) - count
-  leading-fewer zero items few = omega arith
-  leading-fewer (suc n) [] few = absurd (omega (arith, few))
-  leading-fewer (suc n) (ByteAhead b ∷ items) few = leading-fewer n items (omega (arith, few)) ∙ omega arith
-  leading-fewer (suc n) (FreeAhead b ∷ items) few = absurd (omega (arith, few))
-  leading-fewer (suc n) (EndAhead ∷ items) few = absurd (omega (arith, few))
-  leading-fewer (suc n) (ReturnAhead ∷ items) few = absurd (omega (arith, few))
-  leading-fewer (suc n) (DoAhead event ∷ items) few = absurd (omega (arith, few))
-
-  -- bytes in front of items are those in front
-  leading-bytes : (bytes : List ℕ) (items : List (Ahead E)) → leading (map ByteAhead bytes ++ items) ≡ bytes ++ leading items
-  leading-bytes [] items = refl
-  leading-bytes (b ∷ bytes) items = ap (λ (rest : List ℕ). b ∷ rest) (leading-bytes bytes items)
-
-  -- where a byte is in front, something is ahead
-  pub some-ahead : (count : ℕ) (items : List (Ahead E)) → 1 ≤ count → count ≤ length (leading items) → is_none_ahead items ≡ false
-  some-ahead count [] some few = absurd (omega (arith, some, few))
-  some-ahead count (item ∷ items) some few = refl
-
-  -- what a body in front gives stands in front
-  pub leading-body : (t : Texts) (full : Held (Frame E)) (id : LeaseId) (front : List ℕ) → Some (DoAhead (Body id)) ≡ first full.ahead
-      → front ≡ take (length front) (lease_bytes (lease_of id.0 t)) → front ≡ take (length front) (leading (with_bodies t full.ahead))
-  leading-body t full id front is same =
-      let bytes : List ℕ = lease_bytes (lease_of id.0 t) in
-      let behind : List (Ahead E) = with_bodies t (drop 1 full.ahead) in
-      let whole : leading (with_bodies t full.ahead) ≡ bytes ++ leading behind =
-      ap (λ (h : Held (Frame E)). leading (with_bodies t h.ahead)) (with_body-first full id is) ∙ leading-bytes bytes behind in
-      let cut : Begins front bytes (length front) = begins front bytes (length front) same in
-      same ∙ sym (ap (take (length front)) whole ∙ take-append-le (length front) bytes (leading behind) cut.among)
-
-  -- so many bytes in front of items
-  drop-bytes : (bytes : List ℕ) (count : ℕ) (items : List (Ahead E)) → length bytes ≡ count → drop count (map ByteAhead bytes ++ items) ≡ items
-  drop-bytes bytes count items is =
-      let same : count ≡ length (map {B = Ahead E} ByteAhead bytes) = sym (length-map bytes ByteAhead ∙ is) in
-      ap (λ (n : ℕ). drop n (map ByteAhead bytes ++ items)) same ∙ drop-append_seam (map ByteAhead bytes) items
-
-  -- so many bytes were in front, and are taken
-  pub drop-taken : (old new : Framed E) (bytes : List ℕ) (count : ℕ) → length bytes ≡ count → old ≡ record new { ahead = map ByteAhead bytes ++ new.ahead }
-      → new ≡ record old { ahead = drop count old.ahead }
-  drop-taken old new bytes count is taken =
-      subst (λ (f : Framed E). new ≡ record f { ahead = drop count f.ahead }) (sym taken)
-      (ap (λ (items : List (Ahead E)). record new { ahead = items }) (sym (drop-bytes bytes count new.ahead is)))
-
-  -- one item was in front, and is taken
-  pub drop-first : (old new : Framed E) (item : Ahead E) → old ≡ record new { ahead = item ∷ new.ahead } → new ≡ record old { ahead = drop 1 old.ahead }
-  drop-first old new item taken = subst (λ (f : Framed E). new ≡ record f { ahead = drop 1 f.ahead }) (sym taken) refl
-
   -- the bytes ahead come next, where something is ahead
   next-ahead : (items : List (Ahead E)) (looked : Option ℕ) (ready : List ℕ) → is_none_ahead items ≡ false → next_bytes items looked ready ≡ leading items
   next-ahead [] looked ready some = cc
@@ -251,45 +162,3 @@ module _ {E : Type 0} (ready : List ℕ) (u : Unread E) where
             input = ap (λ (i : Input E). record u { input = i }) (sym (lines_taken-is (front_bytes count ready u) count u.input length-front_bytes some plain));
             within = allowed;
           }
-
--- one byte more of plain text
-pub text-more : (bytes : List ℕ) (count : ℕ) → count < length bytes → is_text_byte (get_or bytes count 0) ≡ true
-    → count + prefix_len is_text_byte (drop count bytes) ≡ prefix_len is_text_byte bytes
-    → count + 1 + prefix_len is_text_byte (drop (count + 1) bytes) ≡ prefix_len is_text_byte bytes
-text-more bytes count inside is so_far = let more = prefix_len-drop_yes is_text_byte bytes count 0 inside is in omega (arith, more, so_far)
-
--- bytes in front that all are text
-prefix_len-all : (xs : List ℕ) (n : ℕ) → n ≤ length xs → list_all is_text_byte (take n xs) ≡ true
-    → prefix_len is_text_byte xs ≡ n + prefix_len is_text_byte (drop n xs)
-prefix_len-all xs zero few all = omega arith
-prefix_len-all [] (suc n) few all = absurd (omega (arith, few))
-prefix_len-all (x ∷ xs) (suc n) few all =
-    let parts = and_parts (is_text_byte x) (list_all is_text_byte (take n xs)) all in
-    let rest = prefix_len-all xs n (omega (arith, few)) parts.1 in
-    ap (λ (c : Bool). cond c (1 + prefix_len is_text_byte xs) 0) parts.0 ∙ omega (arith, rest)
-
--- so many more stand in front that all are text
-pub text-step : (bytes front : List ℕ) (count step : ℕ) → front ≡ take (count + step - count) (drop count bytes) → count + step ≤ length bytes → list_all is_text_byte front ≡ true
-    → count + prefix_len is_text_byte (drop count bytes) ≡ prefix_len is_text_byte bytes
-    → count + step + prefix_len is_text_byte (drop (count + step) bytes) ≡ prefix_len is_text_byte bytes
-text-step bytes front count step is inside all so_far =
-    let some : count + step - count ≡ step = omega arith in
-    let text = ap (λ (n : ℕ). list_all is_text_byte (take n (drop count bytes))) (sym some) ∙ ap (list_all is_text_byte) (sym is) ∙ all in
-    let more = prefix_len-all (drop count bytes) step (omega (arith, length-drop count bytes, inside)) text in
-    let behind = ap (prefix_len is_text_byte) (drop-drop step count bytes) in
-    omega (arith, more, behind, so_far)
-
--- as many as stand in front, where none more does
-text-all : (bytes : List ℕ) (count more : ℕ) → more ≡ 0 → count + more ≡ prefix_len is_text_byte bytes → count ≡ length (take_while is_text_byte bytes)
-text-all bytes count more none so_far = omega (arith, none, so_far, length-prefix_len is_text_byte bytes)
-
--- at the end of the bytes
-pub text-ended : (bytes : List ℕ) (count : ℕ) → length bytes ≤ count → count + prefix_len is_text_byte (drop count bytes) ≡ prefix_len is_text_byte bytes
-    → count ≡ length (take_while is_text_byte bytes)
-text-ended bytes count past = text-all bytes count (prefix_len is_text_byte (drop count bytes)) (prefix_len-drop_all is_text_byte bytes count past)
-
--- before a byte that is none
-pub text-stopped : (bytes : List ℕ) (count : ℕ) → count < length bytes → is_text_byte (get_or bytes count 0) ≡ false
-    → count + prefix_len is_text_byte (drop count bytes) ≡ prefix_len is_text_byte bytes → count ≡ length (take_while is_text_byte bytes)
-text-stopped bytes count inside stops =
-    text-all bytes count (prefix_len is_text_byte (drop count bytes)) (prefix_len-drop_no is_text_byte bytes count 0 inside stops)

@@ -1,4 +1,5 @@
 pub mod Giving
+pub mod PlainBytes
 pub mod Nesting
 pub mod NamesRead
 pub mod NestedHalves
@@ -37,10 +38,15 @@ pub mod BodyTaken
 pub mod Pushed
 pub mod Seeing
 pub mod NamedTexts
+pub mod Leading
+pub mod GivenFronts
+pub mod HeldBytes
 pub mod Fronts
 pub mod HeldFronts
 pub mod HalfFronts
 pub mod ConditionFronts
+pub mod NamesInFront
+pub mod ConditionsInFront
 pub mod PushedFronts
 pub mod Newlines
 pub mod TextEnds

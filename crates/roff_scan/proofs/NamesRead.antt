@@ -18,8 +18,8 @@ use Rattle.roff_scan.specs.declared.half.NamePart.TheVariants.{Nothing, Opened, 
 use Rattle.roff_scan.specs.declared.half.Read.{Read}
 use Rattle.roff_scan.specs.declared.half.Read.TheVariants.{GoesOn, Asks}
 use Rattle.roff_scan.specs.declared.half.Surroundings.{Surroundings}
-use Rattle.roff_store.specs.declared.register.Direction.{Direction}
-use Rattle.roff_store.specs.declared.register.Direction.TheVariants.{Up, Down}
+use Rattle.roff_num.specs.declared.direction.Direction.{Direction}
+use Rattle.roff_num.specs.declared.direction.Direction.TheVariants.{Up, Down}
 
 -- where all are names each of them counts
 names_in-names : (names : List Half) → are_all_names names ≡ true → names_in names ≡ length names

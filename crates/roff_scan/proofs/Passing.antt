@@ -1,59 +1,18 @@
 -- Bytes that are passed over: how many they are, and what is counted of them.
-use Rattle.std.proofs.Common.{◌≡◌, ◌==◌, ℕ, ◌+◌, ◌-◌, ◌≤◌, Bool, true, false, not, ◌&&◌, List, [], ◌∷◌, ◌++◌, append_assoc, cond, count_by, min, map, if◌then◌else◌, Option, Some, None, length, length-take, take, take_while, refl, sym, ap, subst, arith, inl, inr, ◌∙◌}
-use Rattle.std.specs.Prelude.{is_none, unwrap_or}
-use Rattle.std.proofs.Math.Bool.{or-false}
+use Rattle.std.proofs.Common.{◌≡◌, ◌==◌, ℕ, ◌+◌, ◌-◌, ◌≤◌, Bool, true, false, ◌&&◌, List, [], ◌∷◌, ◌++◌, append_assoc, cond, count_by, min, map, if◌then◌else◌, Option, Some, None, length, length-take, take, take_while, refl, sym, ap, subst, arith, inl, inr, ◌∙◌}
+use Rattle.std.specs.Prelude.{is_none}
 use Rattle.std.proofs.lemmas.List.Folds.{length-prefix_len}
-use Rattle.std.proofs.lemmas.List.Sums.{prefix_len_is, prefix_len-le-length, sum_by-cons, take_while-cons}
-use Rattle.std.specs.List.{AllByRecursion}
-use Rattle.memchr.specs.Find.{IsFirstByte, is_byte, is_byte2}
+use Rattle.std.proofs.lemmas.List.Sums.{prefix_len-le-length, sum_by-cons}
 use Rattle.std.proofs.Math.Seq.{take-append_seam}
 use Rattle.std.proofs.lemmas.List.{nil_from_length, take_min}
-use Rattle.roff_scan.specs.Bytes.{backslash, newline, is_passed}
+use Rattle.roff_scan.specs.Bytes.{newline, is_passed}
 use Rattle.roff_scan.specs.Input.{Ahead, Input, is_none_ahead, counting, lines_taken}
 use Rattle.roff_scan.specs.Half.{Half}
 use Rattle.roff_scan.specs.Tape.{Tape, OneByte, Took}
 use Rattle.roff_scan.specs.Unread.{Unread, IsWithin, is_bare}
 use Rattle.roff_scan.specs.Unread.Calls.{IsBare, PassesOver}
 use Rattle.roff_scan.proofs.Giving.{none_at_all}
-
--- a byte that isn't found
-not_found : (t : Bool) → (t ≡ true → ⊥) → not t ≡ true
-not_found false unfound = refl
-not_found true unfound = absurd (unfound refl)
-
--- up to the first byte that is found all are passed, and if none is found all of them
-passed_before : (test p : ℕ → Bool) → ((b : ℕ) → p b ≡ not (test b)) → (bytes : List ℕ) (found : Option ℕ) → IsFirstByte test bytes found
-    → unwrap_or found (length bytes) ≡ length (take_while p bytes)
-passed_before test p same bytes None none =
-    sym (length-prefix_len p bytes ∙ prefix_len_is p bytes (length bytes) 0 (omega arith)
-    (λ k lt. same _ ∙ not_found _ (none k (omega arith) lt))
-    (λ lt. absurd (omega arith)))
-passed_before test p same bytes (Some at) first =
-    sym (length-prefix_len p bytes ∙ prefix_len_is p bytes at 0 (omega arith)
-    (λ k lt. same _ ∙ not_found _ (first.0.before k (omega arith) lt))
-    (λ lt. same _ ∙ ap not first.1))
-
--- within a block a backslash ends them
-pub passed_len_in_block : (bytes : List ℕ) (found : Option ℕ) (within_block : Bool) → within_block ≡ true → IsFirstByte (is_byte backslash) bytes found
-    → unwrap_or found (length bytes) ≡ length (take_while (is_passed within_block) bytes)
-passed_len_in_block bytes found true is first = passed_before (is_byte backslash) (is_passed true) (λ b. ap not (or-false (b == backslash))) bytes found first
-passed_len_in_block bytes found false is first = cc
-
--- and elsewhere a newline too
-pub passed_len_in_line : (bytes : List ℕ) (found : Option ℕ) (within_block : Bool) → within_block ≡ false → IsFirstByte (is_byte2 backslash newline) bytes found
-    → unwrap_or found (length bytes) ≡ length (take_while (is_passed within_block) bytes)
-passed_len_in_line bytes found true is first = cc
-passed_len_in_line bytes found false is first = passed_before (is_byte2 backslash newline) (is_passed false) (λ b. refl) bytes found first
-
--- the bytes in front that pass a test pass it
-plain_front : (p : ℕ → Bool) (b : ℕ) (t : Bool) (front : List ℕ) → p b ≡ t → AllByRecursion (λ c. p c ≡ true) front
-    → AllByRecursion (λ c. p c ≡ true) (cond t (b ∷ front) [])
-plain_front p b true front passes plain = (passes, plain)
-plain_front p b false front passes plain = tt
-
-pub take_while-plain : (p : ℕ → Bool) (bytes : List ℕ) → AllByRecursion (λ b. p b ≡ true) (take_while p bytes)
-take_while-plain p [] = tt
-take_while-plain p (b ∷ bytes) = rw (take_while-cons p b bytes) (plain_front p b (p b) (take_while p bytes) refl (take_while-plain p bytes))
+use Rattle.roff_scan.proofs.PlainBytes.{take_while-plain}
 
 -- a newline in front, if it is one, is counted
 newlines_and : (before : ℕ) (is : Bool) (p : ℕ → Bool) (b : ℕ) (front : List ℕ) → p b ≡ is

@@ -2,7 +2,7 @@
 use Rattle.std.proofs.Common.{get_or, ◌≡◌, ◌<◌, ℕ, List, [], ◌∷◌, ◌++◌, length, map, refl, arith, All, Some, None, ap, ◌∙◌, sym, subst}
 use Rattle.std.specs.Prelude.{Option, take}
 use Rattle.roff_scan.specs.Input.{Ahead, ByteAhead, FreeAhead, EndAhead, ReturnAhead, DoAhead, first_but_ends}
-use Rattle.roff_scan.specs.Unread.{Sighted, SeesByte, seen_ahead}
+use Rattle.roff_scan.specs.Shown.{Sighted, SeesByte, seen_ahead}
 use Rattle.roff_scan.specs.Frames.Bodies.{items_of, leases_in, with_bodies}
 use Rattle.roff_scan.specs.Frames.Kept.{Framed, Gives, IsSound, kept_by}
 use Rattle.roff_scan.specs.declared.frames.Frame.{Frame}

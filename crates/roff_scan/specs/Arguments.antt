@@ -1,10 +1,10 @@
 -- The arguments of a control line (manual, section 7.3).
-use Rattle.std.specs.Prelude.{◌≡◌, ℕ, ◌+◌, ◌<◌, Bool, true, false, not, ◌||◌, List, [], ◌∷◌, ◌++◌, length, reverse, take, drop, filter, slice_get, if◌then◌else◌, ◌==◌, Option, None, Some, ⊤}
-use Rattle.roff_scan.specs.Bytes.{blank, quote, backslash, newline, is_dropped}
+use Rattle.std.specs.Prelude.{◌≡◌, ℕ, ◌+◌, ◌<◌, Bool, true, false, List, [], ◌∷◌, ◌++◌, length, reverse, take, drop, filter, slice_get, if◌then◌else◌, ◌==◌, Option, None, Some, ⊤}
 use Rattle.roff_scan.specs.declared.arguments.Place.{Place}
 use Rattle.roff_scan.specs.declared.arguments.Place.TheVariants.{Between, InPlain, InQuotes, BehindQuote}
 use Rattle.roff_scan.specs.declared.half.CopyUnit.{CopyUnit}
 use Rattle.roff_scan.specs.declared.half.CopyUnit.TheVariants.{Byte, Kept}
+use Rattle.roff_scan.specs.Bytes.{blank, quote, backslash}
 
 -- the arguments read, and the one being read, each the newest first
 pub record Arguments : Type 0 where
@@ -123,10 +123,6 @@ kept texts = kept_behind kept_by_place texts
 abbrev pub only_kept : Arguments → Arguments
 only_kept a = record a { whole = reverse (kept (reverse a.whole)) }
 
--- a byte of a line that is held as it is read: neither a backslash, a newline nor one that is dropped
-abbrev pub is_argument_byte : ℕ → Bool
-is_argument_byte b = not (b == backslash || (is_dropped b || b == newline))
-
 -- what is kept of the arguments behind such bytes of the line
 abbrev pub bytes_held : List ℕ → Arguments → Arguments
 bytes_held [] a = a
@@ -146,3 +142,8 @@ HeldFewer most (b ∷ bytes) a = AreFewer most a × HeldFewer most bytes (only_k
 abbrev pub FirstArgumentsAreKept : Type 0
 FirstArgumentsAreKept =
     (texts : List (List ℕ)) (index : ℕ) → index < kept_by_place → slice_get (kept texts) index ≡ slice_get texts index
+
+-- the bytes of the arguments of calls that aren't over
+abbrev pub live_bytes : List (List (List ℕ)) → ℕ
+live_bytes [] = 0
+live_bytes (arguments ∷ calls) = total_length arguments + live_bytes calls

@@ -45,3 +45,7 @@ is_passed within_block b = not (b == backslash || (not within_block && b == newl
 -- a byte of plain text: neither a control byte, DEL nor a backslash
 abbrev pub is_text_byte : ℕ → Bool
 is_text_byte b = not (nat_lt b 32 || (b == 127 || b == backslash))
+
+-- a byte of a line that is held as it is read: neither a backslash, a newline nor one that is dropped
+abbrev pub is_argument_byte : ℕ → Bool
+is_argument_byte b = not (b == backslash || (is_dropped b || b == newline))

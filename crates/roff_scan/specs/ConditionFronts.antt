@@ -1,7 +1,7 @@
 -- Bytes of a condition that change only what is half read: those its expression holds, and the fronts of names in it (manual,
 -- sections 7.2 and 16).
 use Rattle.std.specs.Prelude.{◌≡◌, ℕ, ◌+◌, ◌≤◌, Bool, true, false, ◌&&◌, ◌||◌, not, List, [], ◌∷◌, length, take, Some, ◌==◌}
-use Rattle.roff_scan.specs.Arguments.{is_argument_byte}
+use Rattle.roff_scan.specs.Bytes.{is_argument_byte}
 use Rattle.roff_scan.specs.Bytes.{blank, is_dropped, newline, tab}
 use Rattle.roff_scan.specs.Half.{Half, text_held, texts_held}
 use Rattle.roff_scan.specs.HalfFronts.{ReadsOn}

@@ -13,8 +13,8 @@ use Rattle.roff_scan.specs.declared.half.Read.{Read}
 use Rattle.roff_scan.specs.declared.half.Read.TheVariants.{GoesOn, Unit as GivesUnit, Holds, Escape, Asks, Motion, Measures, Tells, Decides}
 use Rattle.roff_scan.specs.declared.half.Surroundings.{Surroundings}
 use Rattle.roff_scan.specs.declared.half.Surroundings.TheVariants.{Arguments as InArguments}
-use Rattle.roff_store.specs.declared.register.Direction.{Direction}
-use Rattle.roff_store.specs.declared.register.Direction.TheVariants.{Up, Down}
+use Rattle.roff_num.specs.declared.direction.Direction.{Direction}
+use Rattle.roff_num.specs.declared.direction.Direction.TheVariants.{Up, Down}
 
 -- what a byte finds, if it finds something, stands before what the others find
 abbrev pub found_before : Read → List Read → List Read

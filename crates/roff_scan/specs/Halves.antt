@@ -3,7 +3,7 @@
 --
 -- Units of copy mode are handed down from what stands above: a byte, or an escape that is kept.
 use Rattle.std.specs.Prelude.{ℕ, ℤ, pos, Bool, true, false, ◌&&◌, ◌||◌, not, List, [], ◌∷◌, take, nat_le, Option, Some, None, if◌then◌else◌, ◌==◌}
-use Rattle.roff_store.specs.declared.register.Direction.TheVariants.{Up, Down}
+use Rattle.roff_num.specs.declared.direction.Direction.TheVariants.{Up, Down}
 use Rattle.roff_scan.specs.Bytes.{start_of_text, tab, newline, quote, dot, backslash, is_digit, is_dropped}
 use Rattle.roff_scan.specs.Conditions.{byte_of_condition, condition_ended, ends_at_backslash, is_decided, ends_at_newline, ends_condition, is_read_in_arguments, unit_of_condition}
 use Rattle.roff_scan.specs.Escapes.{escape_of, is_copied}

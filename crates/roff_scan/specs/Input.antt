@@ -6,13 +6,13 @@
 pub mod Calls
 pub mod Names
 use Rattle.std.specs.Prelude.{ℕ, ◌+◌, ◌*◌, Bool, true, false, List, [], ◌∷◌, ◌++◌, drop, length, map, Option, Some, None, if◌then◌else◌, ◌==◌, nat_le}
-use Rattle.roff_scan.specs.Arguments.{Arguments, no_arguments, only_kept, held, with_plain, total_length}
 use Rattle.roff_scan.specs.Bytes.{newline}
 use Rattle.roff_scan.specs.Half.{Half, Condition, texts_held, text_held}
 use Rattle.roff_scan.specs.declared.half.ConditionPart.TheVariants.{Choice}
 use Rattle.roff_scan.specs.declared.half.CopyUnit.{CopyUnit}
 use Rattle.roff_store.specs.Named.{Named}
 use Rattle.roff_store.specs.Texts.{Entry}
+use Rattle.roff_scan.specs.Arguments.{Arguments, no_arguments, only_kept, held, with_plain, live_bytes}
 
 -- an item ahead of the source
 pub data Ahead (E : Type 0) : Type 0 where
@@ -135,11 +135,6 @@ most_events most_texts = 3 * (most_texts + 1)
 -- for so many bytes that stand in front again there is room
 abbrev pub most_frees : ℕ
 most_frees = 21
-
--- the bytes of the arguments of calls that aren't over
-abbrev pub live_bytes : List (List (List ℕ)) → ℕ
-live_bytes [] = 0
-live_bytes (arguments ∷ calls) = total_length arguments + live_bytes calls
 
 -- what counts in the limit on the stack: unread pushed bytes, the texts that are held while they are read, and the arguments
 -- of the bodies that lines called and that haven't ended

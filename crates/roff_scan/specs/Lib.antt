@@ -18,6 +18,7 @@ pub mod ArgumentList
 pub mod Quoting
 pub mod Waiting
 pub mod Input
+pub mod Shown
 pub mod Calls
 pub mod Slots
 pub mod Frames

@@ -1,5 +1,5 @@
 -- What a source gives: its tape, the items to come and how they end.
-use Rattle.std.specs.Prelude.{◌≡◌, ℕ, ◌-◌, ◌^◌, ◌+◌, ◌≤◌, List, [], ◌∷◌, ◌++◌, min}
+use Rattle.std.specs.Prelude.{◌≡◌, ℕ, ◌+◌, List, [], ◌∷◌, ◌++◌}
 use Rattle.roff_num.specs.declared.limit.Limit.{Limit}
 use Rattle.roff_scan.specs.declared.source.Taken.{Taken}
 use Rattle.roff_scan.specs.declared.source.Taken.TheVariants.{Byte, Note, End, Fault, Stop}
@@ -72,11 +72,3 @@ pub record Took (old new : Tape → Type 0) (taken : List Item) : Type 0 where
   pub before : (t : Tape) → new t → old (items_then taken t)
   pub some : Tape
   pub some_given : new some
-
--- the last value of a count of failures, at which it stays
-abbrev pub last_count : ℕ
-last_count = 2 ^ 64 - 1
-
--- the count of failures rose, or stood at its last value
-abbrev pub Rises : ℕ → ℕ → Type 0
-Rises old new = min (old + 1) last_count ≤ new

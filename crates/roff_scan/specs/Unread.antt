@@ -10,18 +10,15 @@ use Rattle.roff_num.specs.declared.limit.Limit.TheVariants.{Bytes, Stack, Depth,
 use Rattle.roff_num.specs.declared.limits.Limits.{Limits}
 use Rattle.roff_scan.specs.Bytes.{is_passed}
 use Rattle.roff_scan.specs.Halves.{Reads, reading_ended}
-use Rattle.roff_scan.specs.Input.{with_half, Input, initial_input, is_none_ahead, Ahead, ByteAhead, FreeAhead, EndAhead, ReturnAhead, DoAhead, cost, counting, item_taken, pushed, depth, results}
+use Rattle.roff_scan.specs.Input.{with_half, Input, initial_input, is_none_ahead, Ahead, cost, counting, item_taken, pushed, depth, results}
 use Rattle.roff_scan.specs.Input.Names.{stored, names_added}
 use Rattle.roff_store.specs.Texts.{Texts}
-use Rattle.roff_scan.specs.Tape.{Tape, Answer, Answers, Gives, Ends, OneByte, OneNote, Ending, Ended, Failed, Stopped, items_then}
+use Rattle.roff_scan.specs.Tape.{Tape, Answer, Answers, Gives, Ends, OneByte, OneNote, items_then}
 use Rattle.roff_scan.specs.declared.half.Decision.TheVariants.{Is}
 use Rattle.roff_scan.specs.declared.half.Read.{Read}
 use Rattle.roff_scan.specs.declared.half.Read.TheVariants.{Decides}
 use Rattle.roff_scan.specs.declared.half.Surroundings.{Surroundings}
-use Rattle.roff_scan.specs.declared.unread.Item.{Item}
-use Rattle.roff_scan.specs.declared.unread.Item.TheVariants.{Byte, End, Return, Do, Note, SourceEnd, Fault, Stop, Refused}
-use Rattle.roff_scan.specs.declared.unread.Sight.{Sight}
-use Rattle.roff_scan.specs.declared.unread.Sight.TheVariants.{Byte as SightOfByte, Nothing as SightOfNothing, Note as SightOfNote, SourceEnd as SightOfEnd, Fault as SightOfFault, Stop as SightOfStop}
+use Rattle.roff_scan.specs.Shown.{no_texts, Shown, shown_ahead, Sighted, seen_ahead, ShowsByte, ShowsNote, ShowsEnding, ShowsRefusal, SeesByte, SeesNote, SeesEnding}
 
 -- the unread input
 pub record Unread (E : Type 0) : Type 0 where
@@ -40,18 +37,6 @@ pub record IsWithin {E : Type 0} (u : Unread E) : Type 0 where
   pub stored : stored u.input ≤ u.limits.store
   pub names : names_added u.input ≤ u.limits.names
   pub making : length u.input.open_texts ≤ u.limits.diversions + 1
-
--- no name stands for anything; there is room for so many that the limit doesn't count
-abbrev pub no_texts : Limits → ℕ → Texts
-no_texts l first_names = record {
-  names = record { entries = []; cap = l.names + first_names };
-  open_texts = [];
-  leases = [];
-  cap_bytes = l.store;
-  cap_kept = l.stack;
-  cap_open = l.diversions + 1;
-  cap_leases = l.depth;
-}
 
 -- the texts of an input, as a store within these limits has them
 abbrev pub texts_within : {E : Type 0} → Limits → Input E → Texts
@@ -94,43 +79,6 @@ abbrev pub Asked : (old new : Tape → Type 0) → Bool → Answer → Type 0
 Asked old new true a = Answers old new a
 Asked old new false a = Stays old new
 
--- what a call shows that takes an item
-pub data Shown (E : Type 0) : Type 0 where
-  -- a byte, from wherever it comes
-  ShowsByte : (b : ℕ) → Shown E
-  -- the end of a pushed text
-  ShowsEnd : Shown E
-  -- the end of a body that a line called
-  ShowsReturn : Shown E
-  -- an event that was put back
-  ShowsDo : (event : E) → Shown E
-  -- a message of the source's
-  ShowsNote : (message : List ℕ) → Shown E
-  -- how the source's items end
-  ShowsEnding : (ending : Ending) → Shown E
-  -- nothing: one item more would pass a limit
-  ShowsRefusal : (limit : Limit) → Shown E
-
--- what the code shows
-abbrev pub shown : {E : Type 0} → Item E → Shown E
-shown (Byte b) = ShowsByte b
-shown End = ShowsEnd
-shown Return = ShowsReturn
-shown (Do event) = ShowsDo event
-shown (Note message) = ShowsNote message.items
-shown SourceEnd = ShowsEnding Ended
-shown Fault = ShowsEnding Failed
-shown (Stop limit) = ShowsEnding (Stopped limit)
-shown (Refused limit) = ShowsRefusal limit
-
--- what an item ahead shows
-abbrev pub shown_ahead : {E : Type 0} → Ahead E → Shown E
-shown_ahead (ByteAhead b) = ShowsByte b
-shown_ahead (FreeAhead b) = ShowsByte b
-shown_ahead EndAhead = ShowsEnd
-shown_ahead ReturnAhead = ShowsReturn
-shown_ahead (DoAhead event) = ShowsDo event
-
 -- an item ahead is taken, unless it would pass the limit on bytes
 abbrev pub taking_ahead : {E : Type 0} → Ahead E → List (Ahead E) → Unread E → Shown E × Unread E
 taking_ahead item behind u =
@@ -159,32 +107,6 @@ taking a u = taking_first u.input.ahead a u
 -- whether the source is asked for what stands in front: nothing is ahead, and no byte was looked at
 abbrev pub asks_to_take : {E : Type 0} → Unread E → Bool
 asks_to_take u = is_none_ahead u.input.ahead && is_none u.looked
-
--- what a call shows that looks ahead: the first byte behind any ends of texts
-pub data Sighted : Type 0 where
-  SeesByte : (b : ℕ) → Sighted
-  -- an event that was put back hides what stands behind it
-  SeesNothing : Sighted
-  SeesNote : (message : List ℕ) → Sighted
-  SeesEnding : (ending : Ending) → Sighted
-
--- what the code shows
-abbrev pub sighted : Sight → Sighted
-sighted (SightOfByte b) = SeesByte b
-sighted SightOfNothing = SeesNothing
-sighted (SightOfNote message) = SeesNote message.items
-sighted SightOfEnd = SeesEnding Ended
-sighted SightOfFault = SeesEnding Failed
-sighted (SightOfStop limit) = SeesEnding (Stopped limit)
-
--- what is seen of the items ahead; none where only ends of texts are there
-abbrev pub seen_ahead : {E : Type 0} → List (Ahead E) → Option Sighted
-seen_ahead [] = None
-seen_ahead (ByteAhead b ∷ items) = Some (SeesByte b)
-seen_ahead (FreeAhead b ∷ items) = Some (SeesByte b)
-seen_ahead (EndAhead ∷ items) = seen_ahead items
-seen_ahead (ReturnAhead ∷ items) = seen_ahead items
-seen_ahead (DoAhead event ∷ items) = Some SeesNothing
 
 -- what is seen of the source by its answer; a byte stays, and was looked at
 abbrev pub looking_at : {E : Type 0} → Answer → Unread E → Sighted × Unread E

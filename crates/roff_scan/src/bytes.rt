@@ -3,7 +3,7 @@
 ghost use Rattle.std.specs.Prelude.{◌≡◌, ◌==◌, ◌≤◌, ◌<◌, ◌+◌, ◌^◌, count_by, drop, length, take};
 ghost use Rattle.std.specs.Prelude.{take_while};
 ghost use Rattle.std.specs.List.{list_all, prefix_len};
-ghost use Rattle.roff_scan.specs.Arguments.{is_argument_byte};
+ghost use Rattle.roff_scan.specs.Bytes.{is_argument_byte};
 ghost use Rattle.roff_scan.specs.Bytes.{is_dropped, is_passed, is_silent, is_text_byte, newline};
 
 use memchr::{memchr, memchr2};

@@ -3,7 +3,7 @@
 ghost use Rattle.std.specs.Prelude.{◌≡◌, ◌+◌, ◌<◌, ◌≤◌, ◌∷◌, [], drop, length, IfOk};
 ghost use Rattle.roff_scan.specs.Arguments.{total_length};
 ghost use Rattle.roff_scan.specs.ArgumentList.{listed};
-ghost use Rattle.roff_scan.specs.Input.{live_bytes};
+ghost use Rattle.roff_scan.specs.Arguments.{live_bytes};
 
 use crate::arguments::ArgumentList;
 use std::alloc::{AllocError, Global};

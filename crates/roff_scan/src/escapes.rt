@@ -4,7 +4,7 @@ ghost use Rattle.std.specs.Prelude.{◌≡◌, ◌==◌, find};
 ghost use Rattle.std.specs.Option.{option_copied};
 ghost use Rattle.roff_scan.specs.Escapes.{escape_of, is_copied};
 
-use roff_store::Direction;
+use roff_num::Direction;
 
 /// What an escape is, by the byte behind its backslash.
 #[derive(Clone, Copy, Debug, PartialEq, Eq)]

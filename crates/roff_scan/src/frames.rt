@@ -27,11 +27,11 @@ pub(crate) enum Frame<E> {
 
 /// How a line calls the body of a name.
 #[derive(Clone, Copy)]
-pub(crate) struct Called {
+pub struct Called {
     /// How many bytes are put in front: those of the body, and the newline behind them.
-    pub(crate) len: usize,
+    pub len: usize,
     /// Whether a newline is put behind the body: it has bytes, and none at its end.
-    pub(crate) lacks_newline: bool,
+    pub lacks_newline: bool,
 }
 
 /// What stands ahead of the source, and the texts by name. All its memory is reserved as it is
@@ -55,7 +55,7 @@ impl<E> Model for Frames<E> {
 }
 
 impl<E: Copy> Frames<E> {
-    ghost use Rattle.roff_scan.specs.Unread.{no_texts};
+    ghost use Rattle.roff_scan.specs.Shown.{no_texts};
 
     /// Nothing stands ahead, and no name stands for anything. There is room for so many names
     /// beyond the limit.

@@ -28,7 +28,7 @@ ghost use Rattle.roff_scan.specs.declared.half.Read.TheVariants.{Unit as GivesUn
 ghost use Rattle.roff_scan.specs.declared.half.Remark.TheVariants.{BackwardMotion, BadNumber};
 ghost use Rattle.roff_scan.specs.declared.half.Surroundings.{Surroundings};
 ghost use Rattle.roff_scan.specs.declared.half.Surroundings.TheVariants.{Text as InText};
-ghost use Rattle.roff_store.specs.declared.register.Direction.{Direction};
+ghost use Rattle.roff_num.specs.declared.direction.Direction.{Direction};
 
 /// The escapes of a register, read byte by byte in text, in arguments or in copy mode, find its
 /// name and its step and nothing else: `\nx` and `\n(xx`, with a sign behind the `n` or without. So

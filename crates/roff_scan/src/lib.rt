@@ -17,6 +17,7 @@ mod measures;
 mod slots;
 mod source;
 mod unread;
+mod item;
 
 pub use arguments::{ArgumentList, Place};
 pub use bytes::{is_dropped, is_silent, text_in_front};
@@ -24,4 +25,5 @@ pub use characters::character;
 pub use escapes::{Escape, NameUse, TextUse, escape_of};
 pub use half::{ConditionPart, CopyUnit, Decision, NamePart, Read, Remark, SizePart, Surroundings};
 pub use source::{ByteSource, Note, ReadSource, Taken};
-pub use unread::{Item, Sight, Unread};
+pub use unread::Unread;
+pub use item::{Item, Sight};

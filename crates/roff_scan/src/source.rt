@@ -4,7 +4,8 @@ ghost use Rattle.std.specs.Prelude.{◌≡◌, ℕ, ◌<◌, ◌≤◌, List, le
 ghost use Rattle.std.specs.Prelude.{IfSome};
 ghost use Rattle.roff_scan.specs.ReadSource.Given.{given_by};
 ghost use Rattle.roff_scan.specs.Tape.{Tape, Answers, Took, Failed, Gives, Ends, OneByte, OneNote};
-ghost use Rattle.roff_scan.specs.Tape.{answer_of, Rises};
+ghost use Rattle.roff_scan.specs.Tape.{answer_of};
+ghost use Rattle.roff_num.specs.Faults.{Rises};
 
 use arrayvec::ArrayVec;
 use roff_num::Limit;

@@ -5,7 +5,7 @@ use Rattle.roff_num.specs.declared.format.Format.{Format}
 use Rattle.roff_num.specs.declared.num.Num.{Num}
 use Rattle.roff_num.specs.Ranges.{is_in_range}
 use Rattle.roff_store.specs.declared.register.Register.{Register}
-use Rattle.roff_store.specs.declared.register.Direction.{Direction}
+use Rattle.roff_num.specs.declared.direction.Direction.{Direction}
 use Rattle.roff_store.specs.Named.{Table}
 use Rattle.roff_store.specs.Registers.{Call, Set, SetFormat, Step, Remove, Registers, after_all, next_value, unset_register}
 

@@ -7,8 +7,8 @@ use Rattle.roff_num.specs.declared.num.NumFault.{NumFault}
 use Rattle.roff_num.specs.declared.num.NumFault.TheVariants.{Range}
 use Rattle.roff_num.specs.Ranges.{is_in_range}
 use Rattle.roff_store.specs.declared.register.Register.{Register}
-use Rattle.roff_store.specs.declared.register.Direction.{Direction}
-use Rattle.roff_store.specs.declared.register.Direction.TheVariants.{Up, Down}
+use Rattle.roff_num.specs.declared.direction.Direction.{Direction}
+use Rattle.roff_num.specs.declared.direction.Direction.TheVariants.{Up, Down}
 use Rattle.roff_store.specs.Named.{Named, Table, entry_of, with_entry, with_entries_if_room, removed_from}
 
 -- the registers, under their names

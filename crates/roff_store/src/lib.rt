@@ -16,6 +16,6 @@ pub mod text_rows;
 mod text_store;
 
 pub use reg_table::RegTable;
-pub use register::{Direction, Register};
+pub use register::Register;
 pub use text::{BodyEnd, Entry, Kind, LeaseId, Leased, OpenId};
 pub use text_store::TextStore;

@@ -6,8 +6,8 @@ ghost use Rattle.roff_store.specs.Registers.{Set, SetFormat, Step, Remove, after
 ghost use Rattle.roff_store.specs.Registers.{stepped};
 
 use crate::name_table::NameTable;
-use crate::register::{Direction, Register};
-use roff_num::{Format, Limit, Name, Num, NumFault};
+use crate::register::Register;
+use roff_num::{Direction, Format, Limit, Name, Num, NumFault};
 use std::alloc::{AllocError, Global};
 use std::marker::Model;
 

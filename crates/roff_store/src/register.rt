@@ -3,7 +3,7 @@
 ghost use Rattle.std.specs.Prelude.{◌≡◌};
 ghost use Rattle.roff_store.specs.Registers.{stepped, unset_register};
 
-use roff_num::{Format, Num, NumFault};
+use roff_num::{Direction, Format, Num, NumFault};
 
 /// A number register: its value, how the value is written, and by how much a step changes it.
 #[derive(Clone, Copy, Debug, PartialEq, Eq)]
@@ -14,15 +14,6 @@ pub struct Register {
     pub format: Format,
     /// What a step adds or takes away.
     pub increment: Num,
-}
-
-/// Which way a register is stepped: `\n+x` or `\n-x`.
-#[derive(Clone, Copy, Debug, PartialEq, Eq)]
-pub enum Direction {
-    /// The increment is added.
-    Up,
-    /// The increment is taken away.
-    Down,
 }
 
 /// What a name reads as that isn't a register: 0, in plain decimal.

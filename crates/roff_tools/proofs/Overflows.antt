@@ -6,7 +6,7 @@ use Rattle.std.specs.Option.{is_some, option_to_list}
 use Rattle.std.specs.Result.{IsOk}
 use Rattle.roff_engine.specs.Sinks.{Sunk, Fails}
 use Rattle.roff_engine.specs.declared.sink.SinkFault.{SinkFault}
-use Rattle.roff_scan.specs.Tape.{last_count}
+use Rattle.roff_num.specs.Faults.{last_count}
 use Rattle.roff_tools.specs.Memory.{KeepsWithin, kept_by, room_of}
 use Rattle.roff_tools.specs.WatchedSink.Telling.{IsSound, given_to}
 use Rattle.roff_tools.specs.declared.memory.MemSink.{MemSink}

@@ -6,7 +6,7 @@ use Rattle.roff_scan.specs.Input.{choosing}
 use Rattle.roff_scan.specs.Input.Calls.{kept_last, without_last}
 use Rattle.roff_scan.specs.declared.half.Surroundings.TheVariants.{Arguments as AboveArguments, Copy as AboveCopy}
 use Rattle.roff_run.specs.declared.reading.Reading.TheVariants.{LineStart, Arguments as InArguments, Deciding, StringName, Dropped, Telling, Calling}
-use Rattle.roff_run.specs.declared.reading.ShortName.{ShortName}
+use Rattle.roff_num.specs.declared.short_name.ShortName.{ShortName}
 use Rattle.roff_run.specs.declared.request.Request.{Request}
 use Rattle.roff_run.specs.declared.request.LineReading.{LineReading}
 use Rattle.roff_run.specs.declared.request.LineReading.TheVariants.{ByArguments, ByCondition, ByElse, ByLastLine, ByMessage, ByString, ByLines}

@@ -5,10 +5,10 @@ use Rattle.roff_scan.specs.Input.Names.{adding, dropping}
 use Rattle.roff_scan.specs.Input.Names.{adding, dropping}
 use Rattle.roff_run.specs.Reading.Items.{PageInput, Taking, going_on}
 use Rattle.roff_run.specs.Reading.Strings.{string_begun}
-use Rattle.roff_run.specs.ShortNames.{name_at, name_or_none}
+use Rattle.roff_num.specs.ShortNames.{name_at, name_or_none}
 use Rattle.roff_run.specs.declared.message.Message.TheVariants.{DefinitionNotEnded}
 use Rattle.roff_run.specs.declared.reading.Reading.TheVariants.{LineStart, Defining}
-use Rattle.roff_run.specs.declared.reading.ShortName.{ShortName}
+use Rattle.roff_num.specs.declared.short_name.ShortName.{ShortName}
 use Rattle.roff_run.specs.declared.request.LinesFor.{LinesFor}
 use Rattle.roff_run.specs.declared.request.LinesFor.TheVariants.{Macro, Nobody}
 use Rattle.roff_run.specs.Requests.{saying}

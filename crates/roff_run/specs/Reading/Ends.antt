@@ -8,7 +8,7 @@ use Rattle.roff_run.specs.Reading.Definitions.{definition_cut}
 use Rattle.roff_run.specs.Reading.Items.{PageInput, Taking, meaning_events}
 use Rattle.roff_run.specs.Reading.Strings.{string_entered, string_line_ended}
 use Rattle.roff_run.specs.Reading.TextLines.{text_line_end}
-use Rattle.roff_run.specs.ShortNames.{name_at}
+use Rattle.roff_num.specs.ShortNames.{name_at}
 use Rattle.roff_run.specs.declared.reading.Due.{Due}
 use Rattle.roff_run.specs.declared.reading.Due.TheVariants.{Leaves, Tells as TellsText}
 use Rattle.roff_run.specs.declared.reading.Reading.{Reading}

@@ -7,7 +7,7 @@ use Rattle.roff_scan.specs.Input.Names.{body_named}
 use Rattle.roff_scan.specs.Input.Calls.{arguments_live}
 use Rattle.roff_scan.specs.declared.escapes.NameUse.{NameUse}
 use Rattle.roff_scan.specs.declared.escapes.NameUse.TheVariants.{Register, Text as OfText, Argument as OfArgument}
-use Rattle.roff_store.specs.declared.register.Direction.{Direction}
+use Rattle.roff_num.specs.declared.direction.Direction.{Direction}
 use Rattle.roff_run.specs.declared.reading.Reading.{Reading}
 use Rattle.roff_run.specs.Reading.Items.{PageInput, Taking, going_on}
 use Rattle.roff_run.specs.Registers.{Known, known_behind, step_changes, step_messages, text_of_register}

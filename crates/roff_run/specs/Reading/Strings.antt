@@ -15,9 +15,9 @@ use Rattle.roff_store.specs.TextCalls.{Open, Set}
 use Rattle.roff_store.specs.Texts.{Body, has_body}
 use Rattle.roff_run.specs.Reading.Items.{PageInput, Taking, going_on}
 use Rattle.roff_run.specs.Reading.Units.{holding, settling, no_unit_found}
-use Rattle.roff_run.specs.ShortNames.{name_at, name_bytes}
+use Rattle.roff_num.specs.ShortNames.{name_at, name_bytes}
 use Rattle.roff_run.specs.declared.reading.Reading.TheVariants.{LineStart, StringName, StringText}
-use Rattle.roff_run.specs.declared.reading.ShortName.{ShortName}
+use Rattle.roff_num.specs.declared.short_name.ShortName.{ShortName}
 use Rattle.roff_run.specs.Registers.{Known}
 
 -- the name of a string, if the argument that gives it is whole

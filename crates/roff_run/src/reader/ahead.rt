@@ -12,7 +12,8 @@ ghost use Rattle.roff_scan.specs.Unread.{IsWithin};
 use super::Reader;
 use super::control_lines::called_by;
 use crate::event::PageEvent;
-use crate::reading::{Reading, ShortName};
+use crate::reading::Reading;
+use roff_num::ShortName;
 use crate::request::{Called, LineReading, Request};
 use roff_scan::{ByteSource, Unread};
 

@@ -8,9 +8,9 @@ ghost use Rattle.roff_run.specs.Clauses.{name_at as name_given_at};
 use super::{Meaning, Reader};
 use crate::environments::Environments;
 use crate::event::PageEvent;
-use crate::reading::{Reading, ShortName};
+use crate::reading::Reading;
+use roff_num::{Limit, ShortName};
 use crate::request::{LineReading, Request};
-use roff_num::Limit;
 use roff_scan::{ArgumentList, CopyUnit, Read, Unread};
 
 impl Reader {

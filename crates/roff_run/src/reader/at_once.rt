@@ -17,7 +17,8 @@ use super::calls::CALL_ARGUMENTS;
 use super::control_lines::called_by;
 use crate::environments::Environments;
 use crate::event::PageEvent;
-use crate::reading::{Reading, ShortName, TextByte, TextLine, blanks_in_front, ends_name};
+use crate::reading::{Reading, TextByte, TextLine, blanks_in_front, ends_name};
+use roff_num::ShortName;
 use crate::request::{Called, Request};
 use roff_scan::{CopyUnit, Unread, is_dropped};
 

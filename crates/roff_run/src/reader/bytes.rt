@@ -11,7 +11,7 @@ ghost use Rattle.roff_run.specs.Reading.Found.{has_place};
 ghost use Rattle.roff_run.specs.Telling.{Prints};
 ghost use Rattle.roff_run.specs.Stages.{Adds, EndsLine, Holds, HoldsIfFewer, Ignores, ReadsHalves};
 ghost use Rattle.roff_run.specs.Stages.{TakesHalf};
-ghost use Rattle.roff_scan.specs.Arguments.{is_argument_byte};
+ghost use Rattle.roff_scan.specs.Bytes.{is_argument_byte};
 ghost use Rattle.roff_scan.specs.Bytes.{is_text_byte};
 
 use super::calls::CALL_ARGUMENTS;

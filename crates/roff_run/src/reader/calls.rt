@@ -5,8 +5,8 @@ ghost use Rattle.roff_run.specs.Clauses.{EnvironmentsOf, TakesAs, call_found, ca
 use super::{Meaning, Reader};
 use crate::environments::Environments;
 use crate::event::PageEvent;
-use crate::reading::{Reading, ShortName};
-use roff_num::Limit;
+use crate::reading::Reading;
+use roff_num::{Limit, ShortName};
 use roff_scan::{CopyUnit, Read, Unread};
 
 /// How many arguments a body gets that a line calls.

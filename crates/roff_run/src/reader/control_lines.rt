@@ -8,9 +8,9 @@ ghost use Rattle.roff_run.specs.Clauses.{line_taking, row_of, name_ended_taking,
 use super::{Meaning, Reader};
 use crate::environments::Environments;
 use crate::event::PageEvent;
-use crate::reading::{Reading, ShortName, ends_name};
+use crate::reading::{Reading, ends_name};
+use roff_num::{Limit, ShortName};
 use crate::request::{Called, LineReading, Request};
-use roff_num::Limit;
 use roff_scan::{Surroundings, Unread};
 use roff_store::Kind;
 

@@ -12,10 +12,10 @@ use super::{Meaning, Reader};
 use crate::definition::{DefinitionLine, EndMark, matched_behind};
 use crate::environments::Environments;
 use crate::event::PageEvent;
-use crate::reading::{Reading, ShortName};
+use crate::reading::Reading;
+use roff_num::{Limit, ShortName};
 use crate::request::LinesFor;
 use arrayvec::ArrayVec;
-use roff_num::Limit;
 use roff_scan::{CopyUnit, Read, Unread};
 
 impl Reader {

@@ -8,8 +8,8 @@ use super::{Meaning, Reader};
 use crate::environments::Environments;
 use crate::event::{Events, PageEvent};
 use crate::message::Message;
-use crate::reading::{Reading, ShortName, TextStep};
-use roff_num::Limit;
+use crate::reading::{Reading, TextStep};
+use roff_num::{Limit, ShortName};
 use roff_scan::{CopyUnit, Unread};
 
 impl Reader {

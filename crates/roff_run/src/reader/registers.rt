@@ -12,9 +12,8 @@ use crate::environments::Environments;
 use crate::event::{Events, PageEvent};
 use crate::registers::Facts;
 use crate::request::{name_given, register_named};
-use roff_num::{Limit, Name, Num};
+use roff_num::{Direction, Limit, Name, Num};
 use roff_scan::{ArgumentList, Unread};
-use roff_store::Direction;
 
 impl Reader {
     /// A register is read in the place of its escape: its text is put in front.

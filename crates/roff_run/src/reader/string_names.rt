@@ -13,8 +13,8 @@ use super::strings::begin_string;
 use super::{Meaning, Reader};
 use crate::environments::Environments;
 use crate::event::PageEvent;
-use crate::reading::{Reading, ShortName};
-use roff_num::Limit;
+use crate::reading::Reading;
+use roff_num::{Limit, ShortName};
 use roff_scan::{CopyUnit, Read, Unread};
 use roff_store::{Entry, Kind};
 

@@ -6,8 +6,8 @@ ghost use Rattle.roff_run.specs.Clauses.{string_grown, string_text_found, string
 use super::{Meaning, Reader};
 use crate::environments::Environments;
 use crate::event::PageEvent;
-use crate::reading::{Reading, ShortName};
-use roff_num::Limit;
+use crate::reading::Reading;
+use roff_num::{Limit, ShortName};
 use roff_scan::{CopyUnit, Read, Unread};
 
 impl Reader {

@@ -1,7 +1,8 @@
 -- What a buffer of arguments keeps.
 use Rattle.std.specs.Prelude.{◌≡◌, ℕ, ◌+◌, ◌<◌, ◌≤◌, ◌^◌, Bool, true, not, ◌||◌, List, length, reverse, take, drop, vec_capacity, ◌==◌, Option}
 use Rattle.std.specs.List.{AllByRecursion}
-use Rattle.roff_scan.specs.Arguments.{Arguments, HeldFewer, bytes_held, is_argument_byte, kept, only_kept}
+use Rattle.roff_scan.specs.Arguments.{Arguments, HeldFewer, bytes_held, kept, only_kept}
+use Rattle.roff_scan.specs.Bytes.{is_argument_byte}
 use Rattle.roff_scan.specs.ArgumentTexts.Ends.{texts_ending, last_end, EndWithin}
 use Rattle.roff_scan.specs.Bytes.{blank, quote}
 use Rattle.roff_scan.specs.declared.arguments.ArgumentTexts.TheInside.{Inside}

@@ -6,7 +6,7 @@ use Rattle.roff_scan.specs.ConditionFronts.{HalvesTaken, TakesOn}
 use Rattle.roff_scan.specs.Frames.Kept.{Framed, IsSound, kept_by}
 use Rattle.roff_scan.specs.HalfTexts.{KeptHalves}
 use Rattle.roff_scan.specs.Input.{Ahead, ByteAhead}
-use Rattle.roff_scan.specs.Unread.{Shown, shown_ahead}
+use Rattle.roff_scan.specs.Shown.{Shown, shown_ahead}
 use Rattle.roff_scan.specs.declared.frames.Frames.TheInside.{Inside}
 
 -- the front item was taken and shown

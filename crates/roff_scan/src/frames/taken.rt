@@ -7,10 +7,10 @@ ghost use Rattle.roff_scan.specs.Waiting.{WaitsFor};
 use super::{Frame, Frames};
 use crate::halves::Halves;
 use crate::slots::Front;
-use crate::unread::{Item, Sight};
+use crate::item::{Item, Sight};
 
 impl<E: Copy> Frames<E> {
-    ghost use Rattle.roff_scan.specs.Unread.{shown, sighted, seen_ahead};
+    ghost use Rattle.roff_scan.specs.Shown.{shown, sighted, seen_ahead};
     ghost use Rattle.roff_scan.specs.Frames.Calls.{TakesFront};
 
     /// What the front item costs, if there is one.

@@ -12,8 +12,7 @@ use super::{Halves, MOST_NAMES};
 use crate::escapes::NameUse;
 use crate::half::{CopyUnit, HalfRead, NamePart, Read};
 use crate::measures::Measured;
-use roff_num::Name;
-use roff_store::Direction;
+use roff_num::{Direction, Name};
 
 impl Halves {
     /// A name begins, unless it would be one too many.

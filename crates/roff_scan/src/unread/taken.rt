@@ -2,17 +2,21 @@
 
 ghost use Rattle.std.specs.Prelude.{true, false, ◌≡◌, ◌<◌, ◌≤◌, None, IfSome};
 ghost use Rattle.roff_scan.specs.Waiting.{WaitsFor};
-ghost use Rattle.roff_scan.specs.Tape.{Answer, OneByte, Gives, Failed, Rises};
+ghost use Rattle.roff_scan.specs.Tape.{Answer, OneByte, Gives, Failed};
+ghost use Rattle.roff_num.specs.Faults.{Rises};
 ghost use Rattle.roff_scan.specs.Input.{is_none_ahead, counting};
 
 use super::calls::end_call;
-use super::{Item, Sight, Unread};
+use super::Unread;
+use crate::item::{Item, Sight};
 use crate::source::{ByteSource, Taken};
 use roff_num::Limit;
 
 impl<E: Copy> Unread<E> {
-    ghost use Rattle.roff_scan.specs.Unread.{IsWithin, shown, ShowsByte, ShowsNote, ShowsEnding};
-    ghost use Rattle.roff_scan.specs.Unread.{sighted, SeesNote, SeesEnding, taking, taking_answer};
+    ghost use Rattle.roff_scan.specs.Unread.{IsWithin};
+    ghost use Rattle.roff_scan.specs.Shown.{shown, ShowsByte, ShowsNote, ShowsEnding};
+    ghost use Rattle.roff_scan.specs.Unread.{taking, taking_answer};
+    ghost use Rattle.roff_scan.specs.Shown.{sighted, SeesNote, SeesEnding};
     ghost use Rattle.roff_scan.specs.Unread.Calls.{Takes, Looks};
 
     /// Takes the item in front. The source is asked where nothing is ahead and no byte was looked

@@ -2,7 +2,7 @@
 use Rattle.std.specs.Prelude.{◌≡◌, ℕ, ◌≤◌, List, [], ◌∷◌, ◌++◌, length, Option, Some, None}
 use Rattle.std.specs.Option.{option_to_list}
 use Rattle.roff_engine.specs.Sinks.{Sunk}
-use Rattle.roff_scan.specs.Tape.{last_count}
+use Rattle.roff_num.specs.Faults.{last_count}
 use Rattle.roff_tools.specs.Memory.{kept_by, room_of}
 use Rattle.roff_tools.specs.declared.watched.WatchedSink.{WatchedSink}
 

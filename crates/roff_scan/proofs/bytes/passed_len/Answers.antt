@@ -1,5 +1,5 @@
 use Rattle.std.proofs.Common.{◌∙◌}
-use Rattle.roff_scan.proofs.Passing.{passed_len_in_block, passed_len_in_line}
+use Rattle.roff_scan.proofs.PlainBytes.{passed_len_in_block, passed_len_in_line}
 use Rattle.roff_scan.proofs.bytes.passed_len.Goals as goal
 
 pub returns-then-within_block : goal.returns-then-within_block

@@ -1,5 +1,5 @@
 use Rattle.std.proofs.Common.{refl, sym, ◌∙◌, arith}
-use Rattle.roff_scan.proofs.Fronts.{text-step}
+use Rattle.roff_scan.proofs.PlainBytes.{text-step}
 use Rattle.roff_scan.proofs.bytes.steps_in_front.Goals as goal
 
 pub loop-count-preserved : goal.loop-count-preserved

@@ -1,5 +1,5 @@
 use Rattle.std.proofs.Common.{arith, sym, ◌∙◌}
-use Rattle.roff_scan.proofs.Fronts.{text-ended, text-more, text-stopped}
+use Rattle.roff_scan.proofs.PlainBytes.{text-ended, text-more, text-stopped}
 use Rattle.roff_scan.proofs.bytes.text_in_front.Goals as goal
 
 pub returns-then-not-is_text_byte : goal.returns-then-not-is_text_byte

@@ -2,8 +2,8 @@ use Rattle.std.proofs.Common.{◌≡◌, false, List, ℕ, Option, Some, None, a
 use Rattle.roff_scan.specs.Input.Calls.{arguments_given}
 use Rattle.roff_run.specs.Reader.Taken.{PageUnread, TakesAs}
 use Rattle.roff_run.specs.Reading.Definitions.{definition_begun, definition_named}
-use Rattle.roff_run.specs.ShortNames.{name_at, name_or_none}
-use Rattle.roff_run.specs.declared.reading.ShortName.{ShortName}
+use Rattle.roff_num.specs.ShortNames.{name_at, name_or_none}
+use Rattle.roff_num.specs.declared.short_name.ShortName.{ShortName}
 use Rattle.roff_run.proofs.BegunDefinitions.{TakesAs-behind_line, flatten-name}
 use Rattle.roff_run.proofs.reader.Reader.begin_lines.Goals as goal
 

@@ -3,7 +3,7 @@ use Rattle.roff_scan.specs.Input.Calls.{calling_body}
 use Rattle.roff_scan.specs.Input.Names.{body_named}
 use Rattle.roff_scan.specs.Unread.{changing}
 use Rattle.roff_run.specs.Reading.{kept_taking}
-use Rattle.roff_run.specs.ShortNames.{name_bytes}
+use Rattle.roff_num.specs.ShortNames.{name_bytes}
 use Rattle.roff_run.specs.declared.reading.Reading.TheVariants.{Calling, LineStart}
 use Rattle.roff_run.proofs.ReadAtOnce.{at_once-changed, ends-call, refused-stays}
 use Rattle.roff_run.proofs.reader.Reader.calls_body.Goals as goal

@@ -5,7 +5,7 @@ use Rattle.roff_run.specs.Reading.ControlLines.{behind_called, behind_name, ends
 use Rattle.roff_run.specs.Reading.Items.{Taking}
 use Rattle.roff_run.specs.Requests.{row_of}
 use Rattle.roff_run.specs.declared.reading.Reading.TheVariants.{Calling, Dropped, Name}
-use Rattle.roff_run.specs.declared.reading.ShortName.{ShortName}
+use Rattle.roff_num.specs.declared.short_name.ShortName.{ShortName}
 use Rattle.roff_run.proofs.ReadAtOnce.{TakesAs-nothing}
 use Rattle.roff_run.proofs.TakesAs.{TakesAs-as, TakesAs-meant}
 use Rattle.roff_run.proofs.reader.Reader.end_name.Goals as goal

@@ -1,6 +1,6 @@
 use Rattle.std.proofs.Common.{sym, ◌∙◌}
 use Rattle.std.proofs.lemmas.List.{length-take-le}
-use Rattle.roff_scan.proofs.HeldFronts.{TakesFront-more, room-more}
+use Rattle.roff_scan.proofs.HeldBytes.{TakesFront-more, room-more}
 use Rattle.roff_scan.proofs.arguments.ArgumentTexts.take_front.Goals as goal
 
 pub take_byte-requires : goal.take_byte-requires

@@ -1,7 +1,7 @@
 use Rattle.std.proofs.Common.{◌∙◌, ap, sym}
 use Rattle.std.specs.Prelude.{reverse}
 use Rattle.roff_scan.specs.Calls.Kept.{KeptCalls}
-use Rattle.roff_scan.specs.Input.{live_bytes}
+use Rattle.roff_scan.specs.Arguments.{live_bytes}
 use Rattle.roff_scan.proofs.CallStack.{live_bytes-calls_in}
 use Rattle.roff_scan.proofs.calls.Calls.byte_count.Goals as goal
 

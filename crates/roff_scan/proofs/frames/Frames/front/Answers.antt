@@ -2,7 +2,7 @@ use Rattle.std.proofs.Common.{drop, length, take, ap, ◌∙◌}
 use Rattle.roff_scan.specs.Frames.Kept.{Framed}
 use Rattle.roff_scan.specs.Input.{leading}
 use Rattle.roff_scan.proofs.BodyTaken.{gives, with_body-first}
-use Rattle.roff_scan.proofs.Fronts.{leading-body}
+use Rattle.roff_scan.proofs.Leading.{leading-body}
 use Rattle.roff_scan.proofs.Leased.{some-giving}
 use Rattle.roff_scan.proofs.frames.Frames.front.Goals as goal
 use Rattle.roff_store.specs.Texts.{lease_of}

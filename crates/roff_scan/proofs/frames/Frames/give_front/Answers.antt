@@ -1,5 +1,5 @@
 use Rattle.std.proofs.Common.{arith}
-use Rattle.roff_scan.proofs.PushedFronts.{GivesFront-more, GivesFront-none, room-behind}
+use Rattle.roff_scan.proofs.GivenFronts.{GivesFront-more, GivesFront-none, room-behind}
 use Rattle.roff_scan.proofs.frames.Frames.give_front.Goals as goal
 
 pub loop-count-init : goal.loop-count-init

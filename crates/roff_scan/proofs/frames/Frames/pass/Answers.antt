@@ -3,7 +3,7 @@ use Rattle.std.proofs.lemmas.List.{length-take-le, take-append-drop}
 use Rattle.roff_scan.specs.Frames.Kept.{kept_by}
 use Rattle.roff_scan.proofs.Bodies.{rest_is}
 use Rattle.roff_scan.proofs.BodyTaken.{with_body-first, IsSound-passed, taken-passed}
-use Rattle.roff_scan.proofs.Fronts.{drop-taken}
+use Rattle.roff_scan.proofs.Leading.{drop-taken}
 use Rattle.roff_scan.proofs.frames.Frames.pass.Goals as goal
 use Rattle.roff_store.specs.TextCalls.{Take, after}
 use Rattle.roff_store.specs.Texts.{lease_bytes, lease_of}

@@ -2,7 +2,7 @@ use Rattle.std.proofs.Common.{◌≡◌, ◌-◌, ◌+◌, drop, length, arith, 
 use Rattle.std.proofs.lemmas.List.{drop-drop}
 use Rattle.roff_scan.specs.Frames.Kept.{Framed}
 use Rattle.roff_scan.specs.Input.{leading}
-use Rattle.roff_scan.proofs.Fronts.{leading-fewer}
+use Rattle.roff_scan.proofs.Leading.{leading-fewer}
 use Rattle.roff_scan.proofs.frames.Frames.pass_all.Goals as goal
 
 pub pass_some-left-requires-clause-among : goal.pass_some-left-requires-clause-among

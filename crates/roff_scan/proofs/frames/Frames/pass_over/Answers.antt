@@ -2,7 +2,7 @@ use Rattle.std.proofs.Common.{drop, take, arith, sym}
 use Rattle.std.proofs.lemmas.List.{length-take-le}
 use Rattle.roff_scan.specs.Bytes.{is_passed}
 use Rattle.roff_scan.proofs.BodyTaken.{bytes-in-front, gives, with_body-first, IsSound-passed, taken-passed}
-use Rattle.roff_scan.proofs.Passing.{take_while-plain}
+use Rattle.roff_scan.proofs.PlainBytes.{take_while-plain}
 use Rattle.roff_scan.proofs.frames.Frames.pass_over.Goals as goal
 use Rattle.roff_store.specs.Texts.{lease_bytes, lease_of}
 

@@ -1,6 +1,6 @@
 use Rattle.std.proofs.Common.{take, arith}
 use Rattle.roff_scan.specs.Unread.Kept.{kept_by}
-use Rattle.roff_scan.proofs.HalfFronts.{IsWithin-read, read_in_front, read_no_newline, reads_names, reads_none}
+use Rattle.roff_scan.proofs.NamesInFront.{IsWithin-read, read_in_front, read_no_newline, reads_names, reads_none}
 use Rattle.roff_scan.proofs.unread.Unread.read_front.Goals as goal
 
 pub returns-then-is_empty-clause-reads : goal.returns-then-is_empty-clause-reads

@@ -1,7 +1,7 @@
 use Rattle.std.proofs.Common.{◌+◌, ◌≤◌, arith}
 use Rattle.roff_scan.specs.Input.{pushed}
 use Rattle.roff_scan.specs.Unread.Kept.{kept_by}
-use Rattle.roff_scan.proofs.ConditionFronts.{IsWithin-taken, taken_in_front, taken_no_newline, takes_halves, takes_none}
+use Rattle.roff_scan.proofs.ConditionsInFront.{IsWithin-taken, taken_in_front, taken_no_newline, takes_halves, takes_none}
 use Rattle.roff_scan.proofs.unread.Unread.take_lying.Goals as goal
 
 pub returns-then-is_empty-clause-takes : goal.returns-then-is_empty-clause-takes

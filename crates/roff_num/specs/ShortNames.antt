@@ -1,6 +1,6 @@
 -- Names of one or two bytes, as arguments give them (manual, section 7).
 use Rattle.std.specs.Prelude.{ℕ, List, [], ◌∷◌, Option, Some, None, option_map, option_to_list, slice_get}
-use Rattle.roff_run.specs.declared.reading.ShortName.{ShortName}
+use Rattle.roff_num.specs.declared.short_name.ShortName.{ShortName}
 
 -- the bytes of a name
 abbrev pub name_bytes : ShortName → List ℕ

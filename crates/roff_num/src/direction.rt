@@ -1,0 +1,10 @@
+//! Which way a register is stepped.
+
+/// Which way a register is stepped: `\n+x` or `\n-x`.
+#[derive(Clone, Copy, Debug, PartialEq, Eq)]
+pub enum Direction {
+    /// The increment is added.
+    Up,
+    /// The increment is taken away.
+    Down,
+}

@@ -1,0 +1,37 @@
+//! Names of one or two bytes.
+
+ghost use Rattle.std.specs.Prelude.{◌≡◌};
+ghost use Rattle.roff_num.specs.ShortNames.{name_bytes, short_name};
+
+use crate::name::Name;
+
+/// A name of one or two bytes.
+#[derive(Clone, Copy, Debug, PartialEq, Eq)]
+pub struct ShortName {
+    /// The first byte.
+    pub first: u8,
+    /// The second one, if it has two.
+    pub second: Option<u8>,
+}
+
+impl ShortName {
+    /// The name that an argument gives: its first two bytes.
+    pub fn of(text: &[u8]) -> Option<ShortName>
+        ensures { result ≡ short_name text.now }
+    {
+        let first = text.first()?;
+        Some(ShortName {
+            first: *first,
+            second: text.get(1).copied(),
+        })
+    }
+
+    /// The same as a name.
+    pub fn name(self) -> Name
+        ensures { result ≡ name_bytes self }
+    {
+        let bytes = [self.first, self.second.unwrap_or(0)];
+        let count = if self.second.is_some() { 2 } else { 1 };
+        Name::new(&bytes[..count]).unwrap()
+    }
+}
