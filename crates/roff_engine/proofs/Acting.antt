@@ -5,13 +5,13 @@ use Rattle.std.specs.Prelude.{not, ◌==◌}
 use Rattle.roff_num.specs.declared.limit.Limit.{Limit}
 use Rattle.roff_num.specs.declared.limit.Limit.TheVariants.{Names, Stack, Depth, Store, Diversions, Conditions}
 use Rattle.roff_num.specs.declared.limits.Limits.{Limits}
-use Rattle.roff_scan.specs.Halves.{reading_ended}
-use Rattle.roff_scan.specs.Input.{DoAhead, depth, results}
-use Rattle.roff_scan.specs.Input.Names.{names_added, stored}
-use Rattle.roff_scan.specs.Tape.{Tape, behind_front}
+use Rattle.roff_escape.specs.Halves.{reading_ended}
+use Rattle.roff_ahead.specs.Input.{DoAhead, depth, results}
+use Rattle.roff_ahead.specs.Input.Names.{names_added, stored}
+use Rattle.roff_source.specs.Tape.{Tape, behind_front}
 use Rattle.roff_scan.specs.Unread.{looked_then}
-use Rattle.roff_scan.specs.Half.{Half}
-use Rattle.roff_scan.specs.declared.half.Surroundings.TheVariants.{Arguments as AboveArguments, Copy as AboveCopy}
+use Rattle.roff_escape.specs.Half.{Half}
+use Rattle.roff_escape.specs.declared.half.Surroundings.TheVariants.{Arguments as AboveArguments, Copy as AboveCopy}
 use Rattle.roff_engine.specs.declared.formatter.Formatter.{Formatter}
 use Rattle.roff_engine.specs.declared.halt.Halt.{Halt}
 use Rattle.roff_engine.specs.declared.halt.Halt.TheVariants.{Limit as Limited, Refused, Output, Messages}

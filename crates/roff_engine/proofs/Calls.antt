@@ -1,11 +1,11 @@
 -- What the calls of the unread input leave of a run: of its source, its limits and its turns to come.
 use Rattle.std.proofs.Common.{◌≡◌, ◌⊎◌, inl, inr, ℕ, ◌+◌, ◌≤◌, Bool, true, false, List, [], ◌∷◌, Option, Some, None, refl, sym, subst, arith}
 use Rattle.std.specs.Prelude.{nat_lt, is_none, ◌&&◌}
-use Rattle.roff_scan.specs.Halves.{decides_now}
-use Rattle.roff_scan.specs.Input.{Ahead, ByteAhead, FreeAhead, EndAhead, ReturnAhead, DoAhead, cost, item_taken}
-use Rattle.roff_scan.specs.Tape.{Tape, Item, Answer, OneByte, OneNote, Gives, Ends, items_then}
+use Rattle.roff_escape.specs.Halves.{decides_now}
+use Rattle.roff_ahead.specs.Input.{Ahead, ByteAhead, FreeAhead, EndAhead, ReturnAhead, DoAhead, cost, item_taken}
+use Rattle.roff_source.specs.Tape.{Tape, Item, Answer, OneByte, OneNote, Gives, Ends, items_then}
 use Rattle.roff_scan.specs.Unread.{Asked, asks_to_take, asks_to_look, answer_behind, looked_then, looking, looking_past, taking, taking_answer}
-use Rattle.roff_scan.specs.Shown.{Shown, Sighted, SeesByte, SeesNothing, SeesNote, SeesEnding, shown_ahead, seen_ahead}
+use Rattle.roff_ahead.specs.Shown.{Shown, Sighted, SeesByte, SeesNothing, SeesNote, SeesEnding, shown_ahead, seen_ahead}
 use Rattle.roff_engine.specs.Engine.Outcome.{IsLeftOf}
 use Rattle.roff_engine.specs.Running.Turning.{AsksFirst}
 use Rattle.roff_run.specs.Reading.Items.{PageInput}

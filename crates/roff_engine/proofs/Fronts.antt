@@ -1,7 +1,7 @@
 -- Bytes that stand in front and were taken at once, and changed only what is read: the run has come behind them.
 use Rattle.std.proofs.Common.{◌≡◌, ℕ, List, [], length, sym, subst}
 use Rattle.std.specs.Prelude.{take}
-use Rattle.roff_scan.specs.Tape.{Tape}
+use Rattle.roff_source.specs.Tape.{Tape}
 use Rattle.roff_scan.specs.Unread.{IsWithin}
 use Rattle.roff_scan.specs.Unread.Calls.{PassesFront, front_bytes}
 use Rattle.roff_run.specs.Reader.Taken.{PageUnread}

@@ -3,7 +3,7 @@ use Rattle.std.proofs.Common.{◌≡◌, ◌⊎◌, ℕ, Result, Ok, Err, inl, i
 use Rattle.roff_num.specs.declared.limit.Limit.{Limit}
 use Rattle.roff_num.specs.declared.limits.Limits.{Limits}
 use Rattle.roff_num.specs.LimitValues.{value_of}
-use Rattle.roff_scan.specs.Tape.{Tape}
+use Rattle.roff_source.specs.Tape.{Tape}
 use Rattle.roff_run.specs.declared.status.Status.TheVariants.{Device, Limit as Limited}
 use Rattle.roff_run.specs.declared.message.Message.TheVariants.{LimitReached, WriteFailed}
 use Rattle.roff_run.specs.Messages.{message_line}

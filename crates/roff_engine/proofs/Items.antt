@@ -3,7 +3,7 @@ use Rattle.std.proofs.Common.{◌≡◌, ℕ, ◌≤◌, List, [], ◌∷◌, �
 use Rattle.std.specs.Prelude.{IsOkUnless}
 use Rattle.roff_num.specs.declared.limit.Limit.{Limit}
 use Rattle.roff_num.specs.declared.limits.Limits.{Limits}
-use Rattle.roff_scan.specs.Tape.{Tape, Item, items_then}
+use Rattle.roff_source.specs.Tape.{Tape, Item, items_then}
 use Rattle.roff_num.specs.Faults.{Rises}
 use Rattle.roff_scan.specs.Unread.{looked_then}
 use Rattle.roff_run.specs.declared.message.Message.TheVariants.{ReadFailed}

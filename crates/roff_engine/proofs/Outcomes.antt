@@ -9,7 +9,7 @@ use Rattle.roff_run.specs.Results.{last_state, output_of, messages_of}
 use Rattle.roff_run.specs.Run.{State, step, output, reported}
 use Rattle.roff_engine.specs.Sinks.{AppendsFront}
 use Rattle.roff_run.specs.declared.status.Status.{Status}
-use Rattle.roff_scan.specs.Tape.{Tape}
+use Rattle.roff_source.specs.Tape.{Tape}
 use Rattle.roff_run.proofs.Beginnings.{IsBeginning-same}
 use Rattle.roff_run.proofs.Endings.{no_other_state_is_last}
 use Rattle.roff_run.proofs.Leads.{Leads-step}

@@ -4,9 +4,9 @@ use Rattle.std.specs.Prelude.{map}
 use Rattle.std.specs.Io.KnownBytes.{Appends}
 use Rattle.std.specs.List.{AllByRecursion}
 use Rattle.roff_num.specs.declared.limits.Limits.{Limits}
-use Rattle.roff_scan.specs.Bytes.{is_passed}
-use Rattle.roff_scan.specs.Input.{lines_taken}
-use Rattle.roff_scan.specs.Tape.{Tape, OneByte, items_then}
+use Rattle.roff_source.specs.Bytes.{is_passed}
+use Rattle.roff_ahead.specs.Input.{lines_taken}
+use Rattle.roff_source.specs.Tape.{Tape, OneByte, items_then}
 use Rattle.roff_scan.specs.Unread.{Stays, looked_then}
 use Rattle.roff_scan.specs.Unread.Calls.{IsBare, PassesOver}
 use Rattle.roff_run.specs.Environments.Standing.{StandFor}

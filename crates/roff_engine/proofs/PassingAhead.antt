@@ -3,9 +3,9 @@ use Rattle.std.proofs.Common.{◌≡◌, ℕ, ◌+◌, ◌≤◌, Bool, true, fa
 use Rattle.std.specs.Prelude.{is_none, map}
 use Rattle.std.specs.List.{AllByRecursion}
 use Rattle.roff_num.specs.declared.limits.Limits.{Limits}
-use Rattle.roff_scan.specs.Bytes.{is_passed}
-use Rattle.roff_scan.specs.Input.{Ahead, ByteAhead, bytes_taken, is_none_ahead}
-use Rattle.roff_scan.specs.Tape.{Tape}
+use Rattle.roff_source.specs.Bytes.{is_passed}
+use Rattle.roff_ahead.specs.Input.{Ahead, ByteAhead, bytes_taken, is_none_ahead}
+use Rattle.roff_source.specs.Tape.{Tape}
 use Rattle.roff_scan.specs.Unread.{Stays}
 use Rattle.roff_scan.specs.Unread.Calls.{PassesAhead}
 use Rattle.roff_run.specs.Reader.Taken.{PageUnread}

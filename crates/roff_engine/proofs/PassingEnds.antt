@@ -5,13 +5,13 @@ use Rattle.std.proofs.lemmas.Bool.{le-ltb}
 use Rattle.roff_num.specs.declared.limit.Limit.{Limit}
 use Rattle.roff_num.specs.declared.limit.Limit.TheVariants.{Bytes}
 use Rattle.roff_num.specs.declared.limits.Limits.{Limits}
-use Rattle.roff_scan.specs.Half.{Half}
-use Rattle.roff_scan.specs.Halves.{newline_stays}
-use Rattle.roff_scan.specs.Input.{Ahead, EndAhead, ReturnAhead, is_none_ahead, item_taken}
-use Rattle.roff_scan.specs.Tape.{Tape}
+use Rattle.roff_escape.specs.Half.{Half}
+use Rattle.roff_escape.specs.Halves.{newline_stays}
+use Rattle.roff_ahead.specs.Input.{Ahead, EndAhead, ReturnAhead, is_none_ahead, item_taken}
+use Rattle.roff_source.specs.Tape.{Tape}
 use Rattle.roff_scan.proofs.Asking.{takes_ahead}
 use Rattle.roff_scan.specs.Unread.{IsWithin, taking_first}
-use Rattle.roff_scan.specs.Shown.{ShowsEnd, ShowsRefusal}
+use Rattle.roff_ahead.specs.Shown.{ShowsEnd, ShowsRefusal}
 use Rattle.roff_scan.specs.Unread.Calls.{PassesEnd, PassesReturn, Takes}
 use Rattle.roff_run.specs.Reader.Taken.{PageUnread}
 use Rattle.roff_run.specs.Reading.Calls.{behind_return}

@@ -1,7 +1,7 @@
 -- A run that goes past bytes, and then past more, goes past all of them; and one past the front of a control line.
 use Rattle.std.proofs.Common.{◌≡◌, ℕ, ◌<◌, Bool, true, false, [], ◌∷◌, ◌++◌, None, refl, sym, ap, subst, ◌∙◌, arith}
-use Rattle.roff_scan.specs.Bytes.{newline}
-use Rattle.roff_scan.specs.Tape.{Tape, items_then}
+use Rattle.roff_source.specs.Bytes.{newline}
+use Rattle.roff_source.specs.Tape.{Tape, items_then}
 use Rattle.roff_scan.specs.Unread.{IsWithin}
 use Rattle.roff_scan.specs.Unread.Calls.{OfSource, OfTexts, PassesFront}
 use Rattle.roff_run.specs.Reader.State.{ReaderState}

@@ -1,9 +1,9 @@
 -- What is due before anything more is taken: a message is told, or ends the run, or the input is left.
 use Rattle.std.proofs.Common.{◌≡◌, ℕ, Bool, true, false, List, [], ◌++◌, Option, Some, None, Ok, Err, inl, inr, refl, sym, ap, ◌∙◌, arith, append-nil}
 use Rattle.roff_num.specs.declared.limit.Limit.{Limit}
-use Rattle.roff_scan.specs.Arguments.{no_arguments}
-use Rattle.roff_scan.specs.Input.{leaving}
-use Rattle.roff_scan.specs.Tape.{Tape}
+use Rattle.roff_arguments.specs.Arguments.{no_arguments}
+use Rattle.roff_ahead.specs.Input.{leaving}
+use Rattle.roff_source.specs.Tape.{Tape}
 use Rattle.roff_run.specs.Messages.{told_line}
 use Rattle.roff_run.specs.Output.{PageHistory}
 use Rattle.roff_run.specs.Reader.Taken.{PageUnread}

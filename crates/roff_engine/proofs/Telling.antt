@@ -9,10 +9,10 @@ use Rattle.roff_lines.specs.Env.Stands.{Stands}
 use Rattle.roff_lines.specs.Telling.{QuietlyTold, bytes_told}
 use Rattle.roff_lines.specs.declared.env.Env.{Env}
 use Rattle.roff_num.specs.declared.limits.Limits.{Limits}
-use Rattle.roff_scan.proofs.PlainBytes.{take_while-plain}
-use Rattle.roff_scan.specs.Bytes.{is_text_byte}
-use Rattle.roff_scan.specs.Input.{Ahead, ByteAhead, bytes_taken, lines_taken}
-use Rattle.roff_scan.specs.Tape.{Tape, OneByte, items_then}
+use Rattle.roff_source.proofs.PlainBytes.{take_while-plain}
+use Rattle.roff_source.specs.Bytes.{is_text_byte}
+use Rattle.roff_ahead.specs.Input.{Ahead, ByteAhead, bytes_taken, lines_taken}
+use Rattle.roff_source.specs.Tape.{Tape, OneByte, items_then}
 use Rattle.roff_scan.specs.Unread.{looked_then}
 use Rattle.roff_scan.specs.Unread.Calls.{OfSource, OfTexts, PassesFront, PassesSource, PassesTexts, front_bytes, next_bytes}
 use Rattle.roff_run.specs.Environments.{Environments, environments, text_of}

@@ -1,17 +1,17 @@
 -- A turn in which what is half read waits for a byte: what is seen, and what is done with it.
-use Rattle.roff_scan.specs.Half.{Half}
+use Rattle.roff_escape.specs.Half.{Half}
 use Rattle.std.proofs.Common.{◌≡◌, ℕ, ◌+◌, ◌<◌, ◌≤◌, Bool, true, false, List, ◌++◌, length, Option, Some, None, Result, Err, inr, refl, sym, ap, subst, ◌∙◌, arith, append_assoc, ◌∷◌, []}
 use Rattle.std.specs.Prelude.{IsOkUnless, if◌then◌else◌}
 use Rattle.roff_num.specs.declared.limit.Limit.{Limit}
 use Rattle.roff_num.specs.declared.limits.Limits.{Limits}
-use Rattle.roff_scan.specs.Halves.{newline_stays, seen_stays, decides_now}
-use Rattle.roff_scan.specs.Input.{Ahead, ByteAhead, FreeAhead, EndAhead, ReturnAhead, DoAhead}
-use Rattle.roff_scan.specs.Tape.{Tape, Item, Answer, Gives, Ends, OneByte, OneNote, Ended, Failed, Stopped, items_then}
+use Rattle.roff_escape.specs.Halves.{newline_stays, seen_stays, decides_now}
+use Rattle.roff_ahead.specs.Input.{Ahead, ByteAhead, FreeAhead, EndAhead, ReturnAhead, DoAhead}
+use Rattle.roff_source.specs.Tape.{Tape, Item, Answer, Gives, Ends, OneByte, OneNote, Ended, Failed, Stopped, items_then}
 use Rattle.roff_num.specs.Faults.{Rises}
 use Rattle.roff_scan.specs.Unread.{asks_to_look, asks_to_take, looking, taking}
-use Rattle.roff_scan.specs.Shown.{Shown, ShowsByte, ShowsDo, ShowsEnd, ShowsRefusal, ShowsReturn, Sighted, SeesByte, SeesNothing, SeesNote, SeesEnding, seen_ahead}
+use Rattle.roff_ahead.specs.Shown.{Shown, ShowsByte, ShowsDo, ShowsEnd, ShowsRefusal, ShowsReturn, Sighted, SeesByte, SeesNothing, SeesNote, SeesEnding, seen_ahead}
 use Rattle.roff_scan.specs.Unread.Calls.{Looks, Takes}
-use Rattle.roff_scan.specs.Waiting.{WaitsFor}
+use Rattle.roff_escape.specs.Waiting.{WaitsFor}
 use Rattle.roff_run.specs.declared.event.PageEvent.{PageEvent}
 use Rattle.roff_run.specs.declared.message.Message.TheVariants.{ReadFailed}
 use Rattle.roff_run.specs.declared.status.Status.{Status}

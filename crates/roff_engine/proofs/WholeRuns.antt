@@ -3,8 +3,8 @@ use Rattle.std.proofs.Common.{◌≡◌, ℕ, ◌+◌, ◌<◌, Bool, true, fals
 use Rattle.std.specs.Prelude.{nat_lt, if◌then◌else◌}
 use Rattle.std.proofs.lemmas.Bool.{le-ltb}
 use Rattle.roff_num.specs.declared.limits.Limits.{Limits}
-use Rattle.roff_scan.specs.Halves.{newline_stays}
-use Rattle.roff_scan.specs.Tape.{Tape, items_then}
+use Rattle.roff_escape.specs.Halves.{newline_stays}
+use Rattle.roff_source.specs.Tape.{Tape, items_then}
 use Rattle.roff_scan.specs.Unread.{asks_to_take, looked_then}
 use Rattle.roff_run.specs.declared.status.Status.{Status}
 use Rattle.roff_run.specs.Environments.Standing.{StandFor}

@@ -18,5 +18,5 @@ pub use Rattle.roff_lines.specs.Columns.{finished_of}
 pub use Rattle.roff_run.specs.Environments.Standing.{StandFor}
 pub use Rattle.roff_lines.specs.declared.event.Event.TheVariants.{Tab, Gap, Print, WordEnd, LineEnd, Break}
 pub use Rattle.roff_num.specs.declared.limits.Limits.{Limits}
-pub use Rattle.roff_scan.specs.Tape.{Tape}
+pub use Rattle.roff_source.specs.Tape.{Tape}
 pub use Rattle.std.specs.Option.{option_to_list}

@@ -7,7 +7,7 @@ use Rattle.roff_run.specs.Results.{last_state, output_of, messages_of, status_of
 use Rattle.roff_engine.specs.Sinks.{Sunk, AppendsFront}
 use Rattle.roff_run.specs.declared.status.Status.{Status}
 use Rattle.roff_run.specs.declared.status.Status.TheVariants.{Device}
-use Rattle.roff_scan.specs.Tape.{Tape}
+use Rattle.roff_source.specs.Tape.{Tape}
 use Rattle.roff_num.specs.Faults.{Rises}
 
 -- a sink had no fault: its count didn't rise

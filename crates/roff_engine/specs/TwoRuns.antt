@@ -10,7 +10,7 @@ use Rattle.roff_run.specs.Limits.{AreWithin}
 use Rattle.roff_engine.specs.Outcomes.{HadNoFault}
 use Rattle.roff_run.specs.declared.status.Status.{Status}
 use Rattle.roff_run.specs.declared.status.Status.TheVariants.{Device, Limit as Limited}
-use Rattle.roff_scan.specs.Tape.{Tape, Item, Ending}
+use Rattle.roff_source.specs.Tape.{Tape, Item, Ending}
 
 -- a run of the code with limits over a tape: what it left, its status, and what its devices had seen before
 -- it and have seen behind it

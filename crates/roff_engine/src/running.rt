@@ -3,9 +3,9 @@
 ghost use Rattle.std.specs.Prelude.{◌≡◌, ℕ, true, None, IsOkUnless};
 ghost use Rattle.roff_run.specs.Run.{ahead_taken, awaited, byte_taken, in_front_taken, step};
 ghost use Rattle.roff_run.specs.Run.{waiting};
-ghost use Rattle.roff_scan.specs.Halves.{newline_stays};
-ghost use Rattle.roff_scan.specs.Input.{DoAhead};
-ghost use Rattle.roff_scan.specs.Shown.{seen_ahead};
+ghost use Rattle.roff_escape.specs.Halves.{newline_stays};
+ghost use Rattle.roff_ahead.specs.Input.{DoAhead};
+ghost use Rattle.roff_ahead.specs.Shown.{seen_ahead};
 ghost use Rattle.roff_engine.specs.Clauses.{Puts, seen, due, Device};
 
 mod ending;

@@ -6,16 +6,16 @@ use Rattle.std.specs.List.{AllByRecursion}
 use Rattle.std.proofs.lemmas.List.Folds.{length-prefix_len}
 use Rattle.std.proofs.lemmas.List.Sums.{prefix_len-le-length}
 use Rattle.roff_scan.proofs.AddedFronts.{adding-texts, length-texts_added, newest-added, plain_in_front, stored-texts_added, text_no_newline, texts_added, texts_added-again, texts_added-none}
-use Rattle.roff_scan.specs.Arguments.{Arguments}
-use Rattle.roff_scan.specs.Bytes.{backslash, is_silent, is_text_byte, newline, tab}
-use Rattle.roff_scan.specs.Half.{Half, Backslash}
-use Rattle.roff_scan.specs.Halves.{byte_read}
-use Rattle.roff_scan.specs.Tape.{Tape}
+use Rattle.roff_arguments.specs.Arguments.{Arguments}
+use Rattle.roff_source.specs.Bytes.{backslash, is_silent, is_text_byte, newline, tab}
+use Rattle.roff_escape.specs.Half.{Half, Backslash}
+use Rattle.roff_escape.specs.Halves.{byte_read}
+use Rattle.roff_source.specs.Tape.{Tape}
 use Rattle.roff_scan.specs.Unread.{IsWithin}
 use Rattle.roff_scan.specs.Unread.Calls.{AddsFront, PassesFront}
-use Rattle.roff_scan.specs.declared.half.CopyUnit.TheVariants.{Byte}
-use Rattle.roff_scan.specs.declared.half.Read.TheVariants.{GoesOn, Unit as GivesUnit}
-use Rattle.roff_scan.specs.declared.half.Surroundings.TheVariants.{Copy as AboveCopy}
+use Rattle.roff_escape.specs.declared.half.CopyUnit.TheVariants.{Byte}
+use Rattle.roff_escape.specs.declared.half.Read.TheVariants.{GoesOn, Unit as GivesUnit}
+use Rattle.roff_escape.specs.declared.half.Surroundings.TheVariants.{Copy as AboveCopy}
 use Rattle.roff_store.specs.Named.{Named}
 use Rattle.roff_store.specs.Texts.{Entry, newest}
 use Rattle.roff_run.proofs.HeldRuns.{passed-counted}

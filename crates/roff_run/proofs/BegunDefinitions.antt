@@ -5,10 +5,10 @@ use Rattle.std.specs.Option.{option_flatten}
 use Rattle.std.proofs.lemmas.List.{length-take}
 use Rattle.roff_run.specs.declared.environments.Environments.{Environments as EnvironmentsOf}
 use Rattle.roff_num.specs.declared.limit.Limit.{Limit}
-use Rattle.roff_scan.proofs.KeptArguments.{held-finished, held-only_kept}
-use Rattle.roff_scan.specs.Arguments.{finished}
-use Rattle.roff_scan.specs.Input.{with_arguments}
-use Rattle.roff_scan.specs.Input.Names.{adding}
+use Rattle.roff_arguments.proofs.KeptArguments.{held-finished, held-only_kept}
+use Rattle.roff_arguments.specs.Arguments.{finished}
+use Rattle.roff_ahead.specs.Input.{with_arguments}
+use Rattle.roff_ahead.specs.Input.Names.{adding}
 use Rattle.roff_scan.specs.Unread.{changing}
 use Rattle.roff_run.specs.Definitions.{end_mark, front_of}
 use Rattle.roff_run.specs.Reader.State.{ReaderState}

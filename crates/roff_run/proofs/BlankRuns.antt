@@ -7,11 +7,11 @@ use Rattle.std.proofs.lemmas.List.Folds.{length-prefix_len}
 use Rattle.std.proofs.lemmas.List.Sums.{prefix_len-le-length}
 use Rattle.std.proofs.lemmas.List.{length-take-le}
 use Rattle.roff_lines.specs.declared.event.Event.TheVariants.{Break, Gap, WordEnd}
-use Rattle.roff_scan.proofs.PlainBytes.{take_while-plain}
-use Rattle.roff_scan.specs.Arguments.{Arguments}
-use Rattle.roff_scan.specs.Bytes.{blank, newline}
-use Rattle.roff_scan.specs.Half.{Half}
-use Rattle.roff_scan.specs.Tape.{Tape}
+use Rattle.roff_source.proofs.PlainBytes.{take_while-plain}
+use Rattle.roff_arguments.specs.Arguments.{Arguments}
+use Rattle.roff_source.specs.Bytes.{blank, newline}
+use Rattle.roff_escape.specs.Half.{Half}
+use Rattle.roff_source.specs.Tape.{Tape}
 use Rattle.roff_scan.specs.Unread.{IsWithin}
 use Rattle.roff_scan.specs.Unread.Calls.{NoNewline, PassesFront}
 use Rattle.roff_store.specs.Named.{Named}

@@ -8,20 +8,20 @@ use Rattle.std.proofs.lemmas.Bool.Decides.{nat_tests}
 use Rattle.std.proofs.lemmas.List.{append-nil, length-reverse, reverse-reverse}
 use Rattle.std.proofs.lemmas.List.Elements.{All-head, All-tail}
 use Rattle.roff_num.specs.declared.limits.Limits.{Limits}
-use Rattle.roff_scan.proofs.KeptArguments.{reverse-cons}
-use Rattle.roff_scan.specs.Arguments.{Arguments, finished, held, kept_behind, no_arguments, only_kept, settled, total_length, with_argument_byte}
-use Rattle.roff_scan.specs.Bytes.{backslash, blank, is_dropped, newline, quote}
-use Rattle.roff_scan.specs.Half.{Half, Backslash}
-use Rattle.roff_scan.specs.Halves.{byte_read}
-use Rattle.roff_scan.specs.Input.{ByteAhead, ReturnAhead, bytes_ahead, ends_ahead, lines_taken}
-use Rattle.roff_scan.specs.Input.Calls.{called_text, calling_body}
-use Rattle.roff_scan.specs.Input.Names.{body_named}
-use Rattle.roff_scan.specs.Quoting.{quoted_byte, quoted_line}
-use Rattle.roff_scan.specs.declared.arguments.Place.{Place}
-use Rattle.roff_scan.specs.declared.arguments.Place.TheVariants.{BehindQuote, Between, InQuotes}
-use Rattle.roff_scan.specs.declared.half.CopyUnit.TheVariants.{Byte}
-use Rattle.roff_scan.specs.declared.half.Read.TheVariants.{GoesOn, Unit as GivesUnit}
-use Rattle.roff_scan.specs.declared.half.Surroundings.TheVariants.{Arguments as AboveArguments}
+use Rattle.roff_arguments.proofs.KeptArguments.{reverse-cons}
+use Rattle.roff_arguments.specs.Arguments.{Arguments, finished, held, kept_behind, no_arguments, only_kept, settled, total_length, with_argument_byte}
+use Rattle.roff_source.specs.Bytes.{backslash, blank, is_dropped, newline, quote}
+use Rattle.roff_escape.specs.Half.{Half, Backslash}
+use Rattle.roff_escape.specs.Halves.{byte_read}
+use Rattle.roff_ahead.specs.Input.{ByteAhead, ReturnAhead, bytes_ahead, ends_ahead, lines_taken}
+use Rattle.roff_ahead.specs.Input.Calls.{called_text, calling_body}
+use Rattle.roff_ahead.specs.Input.Names.{body_named}
+use Rattle.roff_arguments.specs.Quoting.{quoted_byte, quoted_line}
+use Rattle.roff_arguments.specs.declared.arguments.Place.{Place}
+use Rattle.roff_arguments.specs.declared.arguments.Place.TheVariants.{BehindQuote, Between, InQuotes}
+use Rattle.roff_escape.specs.declared.half.CopyUnit.TheVariants.{Byte}
+use Rattle.roff_escape.specs.declared.half.Read.TheVariants.{GoesOn, Unit as GivesUnit}
+use Rattle.roff_escape.specs.declared.half.Surroundings.TheVariants.{Arguments as AboveArguments}
 use Rattle.roff_store.specs.Named.{Named, entry_of}
 use Rattle.roff_store.specs.Texts.{Entry, Body, body_if_any}
 use Rattle.roff_run.proofs.Interpolation.{FromAhead, FromSource, IsRead, IsRead-itself, Origin, ahead_at, not-first, not-second, tape_at, taken_as-going_on}

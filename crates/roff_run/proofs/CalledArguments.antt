@@ -4,16 +4,16 @@ use Rattle.std.specs.Prelude.{if◌then◌else◌, filter, reverse}
 use Rattle.std.proofs.lemmas.Bool.{cases_Bool, lt-leb}
 use Rattle.std.proofs.lemmas.List.{length-append, length-drop, length-reverse, length-take}
 use Rattle.std.proofs.lemmas.List.Sums.{count_by-le-length, length-filter}
-use Rattle.roff_scan.proofs.KeptArguments.{only_kept-with_unit}
-use Rattle.roff_scan.specs.Arguments.{Arguments, has_byte, kept, only_kept, settled, settled_at, with_argument_byte}
-use Rattle.roff_scan.specs.Bytes.{backslash, newline, quote}
-use Rattle.roff_scan.specs.Half.{Half, Backslash}
-use Rattle.roff_scan.specs.Halves.{byte_read}
-use Rattle.roff_scan.specs.declared.arguments.Place.{Place}
-use Rattle.roff_scan.specs.declared.arguments.Place.TheVariants.{Between, InPlain, InQuotes, BehindQuote}
-use Rattle.roff_scan.specs.declared.half.CopyUnit.TheVariants.{Byte}
-use Rattle.roff_scan.specs.declared.half.Read.TheVariants.{GoesOn, Unit as GivesUnit}
-use Rattle.roff_scan.specs.declared.half.Surroundings.TheVariants.{Arguments as AboveArguments}
+use Rattle.roff_arguments.proofs.KeptArguments.{only_kept-with_unit}
+use Rattle.roff_arguments.specs.Arguments.{Arguments, has_byte, kept, only_kept, settled, settled_at, with_argument_byte}
+use Rattle.roff_source.specs.Bytes.{backslash, newline, quote}
+use Rattle.roff_escape.specs.Half.{Half, Backslash}
+use Rattle.roff_escape.specs.Halves.{byte_read}
+use Rattle.roff_arguments.specs.declared.arguments.Place.{Place}
+use Rattle.roff_arguments.specs.declared.arguments.Place.TheVariants.{Between, InPlain, InQuotes, BehindQuote}
+use Rattle.roff_escape.specs.declared.half.CopyUnit.TheVariants.{Byte}
+use Rattle.roff_escape.specs.declared.half.Read.TheVariants.{GoesOn, Unit as GivesUnit}
+use Rattle.roff_escape.specs.declared.half.Surroundings.TheVariants.{Arguments as AboveArguments}
 use Rattle.roff_run.specs.Reading.{kept_taking}
 use Rattle.roff_run.specs.Reading.Calls.{call_unit, holding_call}
 use Rattle.roff_run.specs.Reading.Found.{read_in}

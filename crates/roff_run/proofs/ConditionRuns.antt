@@ -1,14 +1,14 @@
 -- Bytes of a condition change only what is half read, in which some are held, one after another.
 use Rattle.std.proofs.Common.{◌≡◌, ℕ, Bool, ◌+◌, ◌≤◌, List, Some, None, false, refl, sym, ap, subst, ◌∙◌, arith}
 use Rattle.std.specs.Prelude.{if◌then◌else◌}
-use Rattle.roff_scan.specs.Arguments.{Arguments}
-use Rattle.roff_scan.specs.ConditionFronts.{ByteTaken, HalvesTaken, IsHeld, IsRead, NothingTaken, TakesOn}
-use Rattle.roff_scan.specs.Half.{Half, texts_held}
-use Rattle.roff_scan.specs.Halves.{seen_stays}
-use Rattle.roff_scan.specs.Tape.{Tape}
+use Rattle.roff_arguments.specs.Arguments.{Arguments}
+use Rattle.roff_escape.specs.ConditionFronts.{ByteTaken, HalvesTaken, IsHeld, IsRead, NothingTaken, TakesOn}
+use Rattle.roff_escape.specs.Half.{Half, texts_held}
+use Rattle.roff_escape.specs.Halves.{seen_stays}
+use Rattle.roff_source.specs.Tape.{Tape}
 use Rattle.roff_scan.specs.Unread.{IsWithin}
 use Rattle.roff_scan.specs.Unread.Calls.{PassesFront, TakesHalves}
-use Rattle.roff_scan.specs.declared.half.Surroundings.TheVariants.{Arguments as AboveArguments}
+use Rattle.roff_escape.specs.declared.half.Surroundings.TheVariants.{Arguments as AboveArguments}
 use Rattle.roff_store.specs.Named.{Named}
 use Rattle.roff_store.specs.Texts.{Entry}
 use Rattle.roff_run.proofs.HeldRuns.{passed-counted}

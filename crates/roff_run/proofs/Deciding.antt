@@ -6,22 +6,22 @@ use Rattle.roff_run.specs.declared.environments.Environments.{Environments as En
 use Rattle.roff_num.specs.declared.limit.Limit.{Limit}
 use Rattle.roff_num.specs.declared.limit.Limit.TheVariants.{Names, Stack, Depth, Store, Diversions, Conditions}
 use Rattle.roff_num.specs.declared.limits.Limits.{Limits}
-use Rattle.roff_scan.specs.Bytes.{tab, newline, blank, apostrophe, dot, backslash, is_silent}
-use Rattle.roff_scan.specs.Characters.{character}
-use Rattle.roff_scan.specs.Escapes.{escape_of}
-use Rattle.roff_scan.specs.Halves.{byte_read}
-use Rattle.roff_scan.specs.Input.{pushed, depth, results}
-use Rattle.roff_scan.specs.Input.Calls.{keeping}
-use Rattle.roff_scan.specs.Input.Names.{names_added, stored}
+use Rattle.roff_source.specs.Bytes.{tab, newline, blank, apostrophe, dot, backslash, is_silent}
+use Rattle.roff_escape.specs.Characters.{character}
+use Rattle.roff_escape.specs.Escapes.{escape_of}
+use Rattle.roff_escape.specs.Halves.{byte_read}
+use Rattle.roff_ahead.specs.Input.{pushed, depth, results}
+use Rattle.roff_ahead.specs.Input.Calls.{keeping}
+use Rattle.roff_ahead.specs.Input.Names.{names_added, stored}
 use Rattle.roff_scan.specs.Unread.{changing, input_refusal}
-use Rattle.roff_scan.specs.declared.escapes.Escape.{Escape as Kind}
-use Rattle.roff_scan.specs.declared.escapes.Escape.TheVariants.{Prints, Blank, NoWidth, Tab as GivesTab, Interrupts, Brace, Nothing, Comment as BeginsComment, Size as BeginsSize, Name as BeginsName, Text as BeginsText, Width as BeginsWidth, LeftOut as IsLeftOut}
-use Rattle.roff_scan.specs.declared.escapes.NameUse.TheVariants.{Register, Text, Argument, Character, Font, LeftOut as NameLeftOut}
-use Rattle.roff_scan.specs.declared.escapes.TextUse.TheVariants.{Motion as OfMotion, LeftOut as LeftOutText}
-use Rattle.roff_scan.specs.declared.half.CopyUnit.TheVariants.{Byte, Kept}
-use Rattle.roff_scan.specs.declared.half.Decision.{Decision}
-use Rattle.roff_scan.specs.declared.half.Read.{Read}
-use Rattle.roff_scan.specs.declared.half.Read.TheVariants.{GoesOn, Unit as OneUnit, Holds, Escape, Asks, Motion, Measures, Tells, Decides}
+use Rattle.roff_escape.specs.declared.escapes.Escape.{Escape as Kind}
+use Rattle.roff_escape.specs.declared.escapes.Escape.TheVariants.{Prints, Blank, NoWidth, Tab as GivesTab, Interrupts, Brace, Nothing, Comment as BeginsComment, Size as BeginsSize, Name as BeginsName, Text as BeginsText, Width as BeginsWidth, LeftOut as IsLeftOut}
+use Rattle.roff_escape.specs.declared.escapes.NameUse.TheVariants.{Register, Text, Argument, Character, Font, LeftOut as NameLeftOut}
+use Rattle.roff_escape.specs.declared.escapes.TextUse.TheVariants.{Motion as OfMotion, LeftOut as LeftOutText}
+use Rattle.roff_escape.specs.declared.half.CopyUnit.TheVariants.{Byte, Kept}
+use Rattle.roff_escape.specs.declared.half.Decision.{Decision}
+use Rattle.roff_escape.specs.declared.half.Read.{Read}
+use Rattle.roff_escape.specs.declared.half.Read.TheVariants.{GoesOn, Unit as OneUnit, Holds, Escape, Asks, Motion, Measures, Tells, Decides}
 use Rattle.roff_run.specs.Reader.State.{ReaderState}
 use Rattle.roff_run.specs.Reader.Taken.{PageUnread, Takes, TakesAs, Took}
 use Rattle.roff_run.specs.Reading.Beginnings.{at_start, beginning_found, first_escape, first_taking, going_on_told, line_begun, line_begun_as}

@@ -2,11 +2,11 @@
 use Rattle.std.proofs.Common.{◌≡◌, ℕ, Bool, true, false, List, [], ◌∷◌, length, Option, Some, None, inl, inr, refl, sym, ap, ◌∙◌, subst, ◌==◌}
 use Rattle.std.specs.Prelude.{◌||◌, ◌&&◌, if◌then◌else◌}
 use Rattle.std.proofs.lemmas.Bool.{cases_Bool, eqb-true}
-use Rattle.roff_scan.specs.Bytes.{blank, newline, tab}
-use Rattle.roff_scan.specs.Halves.{byte_read}
-use Rattle.roff_scan.specs.Input.{beginning_line}
-use Rattle.roff_scan.specs.Input.Calls.{kept_last, without_last}
-use Rattle.roff_scan.specs.declared.half.Surroundings.TheVariants.{Arguments as AboveArguments}
+use Rattle.roff_source.specs.Bytes.{blank, newline, tab}
+use Rattle.roff_escape.specs.Halves.{byte_read}
+use Rattle.roff_ahead.specs.Input.{beginning_line}
+use Rattle.roff_ahead.specs.Input.Calls.{kept_last, without_last}
+use Rattle.roff_escape.specs.declared.half.Surroundings.TheVariants.{Arguments as AboveArguments}
 use Rattle.roff_store.specs.Named.{Named}
 use Rattle.roff_store.specs.TextCalls.{Call}
 use Rattle.roff_store.specs.Texts.{Entry}

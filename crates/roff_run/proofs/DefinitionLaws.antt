@@ -8,18 +8,18 @@ use Rattle.std.proofs.lemmas.List.Edits.{remove-append_right}
 use Rattle.std.proofs.lemmas.List.Elements.{All-head, All-tail}
 use Rattle.std.proofs.lemmas.List.Sums.{sum_by-append, sum_by-cons}
 use Rattle.roff_num.specs.declared.limits.Limits.{Limits}
-use Rattle.roff_scan.specs.Arguments.{Arguments, held}
-use Rattle.roff_scan.specs.Bytes.{backslash, dot, is_dropped, newline, tab}
-use Rattle.roff_scan.proofs.Copying.{taken-copied}
-use Rattle.roff_scan.specs.Half.{Half, Backslash, unit_bytes}
-use Rattle.roff_scan.specs.HalfLaws.{begins_reading, copied, copied_escape, is_only_copied}
-use Rattle.roff_scan.specs.Halves.{byte_read, unit_taken}
-use Rattle.roff_scan.specs.Input.{lines_taken}
-use Rattle.roff_scan.specs.Input.Names.{body_named, calling_on, stored}
-use Rattle.roff_scan.specs.declared.half.CopyUnit.{CopyUnit}
-use Rattle.roff_scan.specs.declared.half.CopyUnit.TheVariants.{Byte, Kept}
-use Rattle.roff_scan.specs.declared.half.Read.TheVariants.{GoesOn, Unit as GivesUnit}
-use Rattle.roff_scan.specs.declared.half.Surroundings.TheVariants.{Copy as AboveCopy}
+use Rattle.roff_arguments.specs.Arguments.{Arguments, held}
+use Rattle.roff_source.specs.Bytes.{backslash, dot, is_dropped, newline, tab}
+use Rattle.roff_escape.proofs.Copying.{taken-copied}
+use Rattle.roff_escape.specs.Half.{Half, Backslash, unit_bytes}
+use Rattle.roff_escape.specs.HalfLaws.{begins_reading, copied, copied_escape, is_only_copied}
+use Rattle.roff_escape.specs.Halves.{byte_read, unit_taken}
+use Rattle.roff_ahead.specs.Input.{lines_taken}
+use Rattle.roff_ahead.specs.Input.Names.{body_named, calling_on, stored}
+use Rattle.roff_escape.specs.declared.half.CopyUnit.{CopyUnit}
+use Rattle.roff_escape.specs.declared.half.CopyUnit.TheVariants.{Byte, Kept}
+use Rattle.roff_escape.specs.declared.half.Read.TheVariants.{GoesOn, Unit as GivesUnit}
+use Rattle.roff_escape.specs.declared.half.Surroundings.TheVariants.{Copy as AboveCopy}
 use Rattle.roff_store.specs.Named.{Named, with_entry}
 use Rattle.roff_store.specs.TextCalls.{Enter, PushOpen}
 use Rattle.roff_store.specs.Texts.{Body, Entry, newest}

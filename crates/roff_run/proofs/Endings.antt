@@ -7,8 +7,8 @@ use Rattle.roff_run.specs.Requests.{PageEvent}
 use Rattle.roff_run.specs.Results.{turn, turns, last_state}
 use Rattle.roff_run.specs.ResultLaws.{EveryRunEnds, StepsLeadToTheLastState, NoOtherStateIsLast}
 use Rattle.roff_run.specs.Run.{State, Leads, initial, moved, performing, step_with, step, after}
-use Rattle.roff_scan.specs.Input.{Ahead, ByteAhead, FreeAhead, EndAhead, ReturnAhead, DoAhead, cost, item_taken, counting}
-use Rattle.roff_scan.specs.Tape.{Tape, Item, Gives, OneByte, OneNote, front, behind_front}
+use Rattle.roff_ahead.specs.Input.{Ahead, ByteAhead, FreeAhead, EndAhead, ReturnAhead, DoAhead, cost, item_taken, counting}
+use Rattle.roff_source.specs.Tape.{Tape, Item, Gives, OneByte, OneNote, front, behind_front}
 use Rattle.roff_run.specs.TurnsToCome.{begun, endings_of, free_ahead}
 use Rattle.roff_run.proofs.HalfCounts.{some_ending}
 use Rattle.roff_run.proofs.Leads.{Leads-refl, Leads-trans, Leads-step, after-add}

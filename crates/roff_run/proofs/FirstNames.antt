@@ -4,8 +4,8 @@ use Rattle.std.specs.Prelude.{nat_lt, slice_get}
 use Rattle.std.proofs.lemmas.Bool.{le-ltb}
 use Rattle.roff_num.specs.declared.limit.Limit.{Limit}
 use Rattle.roff_num.specs.declared.limits.Limits.{Limits}
-use Rattle.roff_scan.specs.Input.{initial_input}
-use Rattle.roff_scan.specs.Input.Names.{calling, names_added, stored}
+use Rattle.roff_ahead.specs.Input.{initial_input}
+use Rattle.roff_ahead.specs.Input.Names.{calling, names_added, stored}
 use Rattle.roff_scan.specs.Unread.{changing, input_refusal, unless_passed}
 use Rattle.roff_store.specs.Named.{Named, with_entry}
 use Rattle.roff_store.specs.TextCalls.{Set}

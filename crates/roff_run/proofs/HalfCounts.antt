@@ -3,30 +3,30 @@ use Rattle.std.proofs.Common.{◌≡◌, ℕ, ℤ, ◌+◌, ◌≤◌, Bool, tru
 use Rattle.std.specs.Prelude.{◌&&◌, ◌||◌, not, nat_le, Result, Ok, Err, if◌then◌else◌, ◌==◌}
 use Rattle.roff_num.specs.declared.num.Num.{Num}
 use Rattle.roff_num.specs.declared.num.NumFault.{NumFault}
-use Rattle.roff_scan.specs.Bytes.{start_of_text, tab, newline, blank, quote, dot, backslash}
-use Rattle.roff_scan.specs.Conditions.{begins_expression, expression_valued, expression_over, delimiter_met, choice_made, unit_of_condition, byte_or_backslash, byte_of_condition, condition_ended}
-use Rattle.roff_scan.specs.Escapes.{escape_of, is_copied}
-use Rattle.roff_scan.specs.Half.{Half, Backslash, Comment, Name, Size, Delimited, Width, Condition, names_in}
-use Rattle.roff_scan.specs.Halves.{Reads, most_names, place_above, surroundings, reads_text, reads_widths, told, escape_given, motion_given, name_given, text_given, name_beginning, name_or_opening, name_begun, unit_of_name, unit_of_text, unit_taken, copied_escape, escape_read, is_sign, is_first_digit, size_read, byte_of_text, byte_of_width, byte_read, name_ended, reading_ended}
-use Rattle.roff_scan.specs.Measures.{escape_measures, motion_of, name_measures}
-use Rattle.roff_scan.specs.declared.escapes.Escape.{Escape as Kind}
-use Rattle.roff_scan.specs.declared.escapes.Escape.TheVariants.{Prints, Blank, NoWidth, Nothing as GivesNothing, Tab as GivesTab, Interrupts, Brace, LeftOut as IsLeftOut, Comment as BeginsComment, Size as BeginsSize, Name as BeginsName, Text as BeginsText, Width as BeginsWidth}
-use Rattle.roff_scan.specs.declared.escapes.NameUse.{NameUse}
-use Rattle.roff_scan.specs.declared.escapes.NameUse.TheVariants.{Register, Text, Argument, Character, Font, LeftOut}
-use Rattle.roff_scan.specs.declared.escapes.TextUse.{TextUse}
-use Rattle.roff_scan.specs.declared.escapes.TextUse.TheVariants.{Motion as OfMotion, LeftOut as LeftOutText}
-use Rattle.roff_scan.specs.declared.half.ConditionPart.{ConditionPart}
-use Rattle.roff_scan.specs.declared.half.ConditionPart.TheVariants.{Choice, Expression, Decided, Compared}
-use Rattle.roff_scan.specs.declared.half.CopyUnit.{CopyUnit}
-use Rattle.roff_scan.specs.declared.half.CopyUnit.TheVariants.{Byte, Kept}
-use Rattle.roff_scan.specs.declared.half.Read.{Read}
-use Rattle.roff_scan.specs.declared.half.Read.TheVariants.{Decides}
-use Rattle.roff_scan.specs.declared.half.Remark.{Remark}
-use Rattle.roff_scan.specs.declared.half.SizePart.{SizePart}
-use Rattle.roff_scan.specs.declared.half.SizePart.TheVariants.{Nothing as NoSize, Sign, Digit}
-use Rattle.roff_scan.specs.declared.half.NamePart.{NamePart}
-use Rattle.roff_scan.specs.declared.half.NamePart.TheVariants.{Nothing, Opened, First}
-use Rattle.roff_scan.specs.declared.half.Surroundings.{Surroundings}
+use Rattle.roff_source.specs.Bytes.{start_of_text, tab, newline, blank, quote, dot, backslash}
+use Rattle.roff_escape.specs.Conditions.{begins_expression, expression_valued, expression_over, delimiter_met, choice_made, unit_of_condition, byte_or_backslash, byte_of_condition, condition_ended}
+use Rattle.roff_escape.specs.Escapes.{escape_of, is_copied}
+use Rattle.roff_escape.specs.Half.{Half, Backslash, Comment, Name, Size, Delimited, Width, Condition, names_in}
+use Rattle.roff_escape.specs.Halves.{Reads, most_names, place_above, surroundings, reads_text, reads_widths, told, escape_given, motion_given, name_given, text_given, name_beginning, name_or_opening, name_begun, unit_of_name, unit_of_text, unit_taken, copied_escape, escape_read, is_sign, is_first_digit, size_read, byte_of_text, byte_of_width, byte_read, name_ended, reading_ended}
+use Rattle.roff_escape.specs.Measures.{escape_measures, motion_of, name_measures}
+use Rattle.roff_escape.specs.declared.escapes.Escape.{Escape as Kind}
+use Rattle.roff_escape.specs.declared.escapes.Escape.TheVariants.{Prints, Blank, NoWidth, Nothing as GivesNothing, Tab as GivesTab, Interrupts, Brace, LeftOut as IsLeftOut, Comment as BeginsComment, Size as BeginsSize, Name as BeginsName, Text as BeginsText, Width as BeginsWidth}
+use Rattle.roff_escape.specs.declared.escapes.NameUse.{NameUse}
+use Rattle.roff_escape.specs.declared.escapes.NameUse.TheVariants.{Register, Text, Argument, Character, Font, LeftOut}
+use Rattle.roff_escape.specs.declared.escapes.TextUse.{TextUse}
+use Rattle.roff_escape.specs.declared.escapes.TextUse.TheVariants.{Motion as OfMotion, LeftOut as LeftOutText}
+use Rattle.roff_escape.specs.declared.half.ConditionPart.{ConditionPart}
+use Rattle.roff_escape.specs.declared.half.ConditionPart.TheVariants.{Choice, Expression, Decided, Compared}
+use Rattle.roff_escape.specs.declared.half.CopyUnit.{CopyUnit}
+use Rattle.roff_escape.specs.declared.half.CopyUnit.TheVariants.{Byte, Kept}
+use Rattle.roff_escape.specs.declared.half.Read.{Read}
+use Rattle.roff_escape.specs.declared.half.Read.TheVariants.{Decides}
+use Rattle.roff_escape.specs.declared.half.Remark.{Remark}
+use Rattle.roff_escape.specs.declared.half.SizePart.{SizePart}
+use Rattle.roff_escape.specs.declared.half.SizePart.TheVariants.{Nothing as NoSize, Sign, Digit}
+use Rattle.roff_escape.specs.declared.half.NamePart.{NamePart}
+use Rattle.roff_escape.specs.declared.half.NamePart.TheVariants.{Nothing, Opened, First}
+use Rattle.roff_escape.specs.declared.half.Surroundings.{Surroundings}
 use Rattle.roff_run.specs.TurnsToCome.{endings_of}
 
 -- what a byte that a condition leaves may begin

@@ -3,18 +3,18 @@ use Rattle.std.proofs.Common.{◌≡◌, ℕ, ◌==◌, Bool, true, List, [], �
 use Rattle.std.specs.Prelude.{if◌then◌else◌}
 use Rattle.std.specs.List.{AllByRecursion}
 use Rattle.roff_scan.proofs.HeldFronts.{held-byte_least, none_of_three}
-use Rattle.roff_scan.proofs.HeldBytes.{held-byte}
-use Rattle.roff_scan.specs.Arguments.{Arguments, HeldFewer, bytes_held, only_kept, with_argument_byte}
-use Rattle.roff_scan.specs.Bytes.{is_argument_byte}
-use Rattle.roff_scan.specs.Bytes.{backslash, is_dropped, newline}
-use Rattle.roff_scan.specs.Half.{Half, Backslash}
-use Rattle.roff_scan.specs.Halves.{byte_read}
-use Rattle.roff_scan.specs.Tape.{Tape}
+use Rattle.roff_arguments.proofs.HeldBytes.{held-byte}
+use Rattle.roff_arguments.specs.Arguments.{Arguments, HeldFewer, bytes_held, only_kept, with_argument_byte}
+use Rattle.roff_source.specs.Bytes.{is_argument_byte}
+use Rattle.roff_source.specs.Bytes.{backslash, is_dropped, newline}
+use Rattle.roff_escape.specs.Half.{Half, Backslash}
+use Rattle.roff_escape.specs.Halves.{byte_read}
+use Rattle.roff_source.specs.Tape.{Tape}
 use Rattle.roff_scan.specs.Unread.{IsWithin}
 use Rattle.roff_scan.specs.Unread.Calls.{HoldsFewer, HoldsFront, OfSource, OfTexts, PassesFront}
-use Rattle.roff_scan.specs.declared.half.CopyUnit.TheVariants.{Byte}
-use Rattle.roff_scan.specs.declared.half.Read.TheVariants.{GoesOn, Unit as GivesUnit}
-use Rattle.roff_scan.specs.declared.half.Surroundings.TheVariants.{Arguments as AboveArguments}
+use Rattle.roff_escape.specs.declared.half.CopyUnit.TheVariants.{Byte}
+use Rattle.roff_escape.specs.declared.half.Read.TheVariants.{GoesOn, Unit as GivesUnit}
+use Rattle.roff_escape.specs.declared.half.Surroundings.TheVariants.{Arguments as AboveArguments}
 use Rattle.roff_store.specs.Named.{Named}
 use Rattle.roff_store.specs.Texts.{Entry}
 use Rattle.roff_run.proofs.CalledArguments.{call-byte}

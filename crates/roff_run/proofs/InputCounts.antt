@@ -5,17 +5,17 @@ use Rattle.std.proofs.lemmas.Bool.{le-ltb, ltb-false}
 use Rattle.roff_num.specs.declared.limit.Limit.{Limit}
 use Rattle.roff_num.specs.declared.limit.Limit.TheVariants.{Stack, Depth, Conditions, Names, Store, Diversions}
 use Rattle.roff_num.specs.declared.limits.Limits.{Limits}
-use Rattle.roff_scan.specs.Arguments.{held, settled, no_arguments}
-use Rattle.roff_scan.specs.Half.{texts_held}
-use Rattle.roff_scan.specs.Input.{Ahead, ByteAhead, FreeAhead, EndAhead, ReturnAhead, DoAhead, counting, item_taken, leaving, pushed, depth, results, bytes_ahead, ends_ahead, calls_behind, kept_behind, kept_below}
-use Rattle.roff_scan.specs.Arguments.{live_bytes}
-use Rattle.roff_scan.specs.Input.Names.{names_added, stored}
-use Rattle.roff_scan.specs.Tape.{Answer, Gives, Ends, OneByte, OneNote}
+use Rattle.roff_arguments.specs.Arguments.{held, settled, no_arguments}
+use Rattle.roff_escape.specs.Half.{texts_held}
+use Rattle.roff_ahead.specs.Input.{Ahead, ByteAhead, FreeAhead, EndAhead, ReturnAhead, DoAhead, counting, item_taken, leaving, pushed, depth, results, bytes_ahead, ends_ahead, calls_behind, kept_behind, kept_below}
+use Rattle.roff_arguments.specs.Arguments.{live_bytes}
+use Rattle.roff_ahead.specs.Input.Names.{names_added, stored}
+use Rattle.roff_source.specs.Tape.{Answer, Gives, Ends, OneByte, OneNote}
 use Rattle.roff_scan.specs.Unread.{Unread, IsWithin, taking, taking_answer, answer_behind, input_refusal}
-use Rattle.roff_scan.specs.Shown.{Shown}
+use Rattle.roff_ahead.specs.Shown.{Shown}
 use Rattle.roff_store.specs.Named.{Named}
 use Rattle.roff_store.specs.Texts.{Entry, bytes_in}
-use Rattle.roff_scan.proofs.KeptArguments.{held-only_kept, held-settled}
+use Rattle.roff_arguments.proofs.KeptArguments.{held-only_kept, held-settled}
 use Rattle.roff_run.specs.Reading.{interrupted}
 use Rattle.roff_run.specs.Reading.Items.{PageInput}
 use Rattle.roff_run.specs.Reading.Units.{settling}

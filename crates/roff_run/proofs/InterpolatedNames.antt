@@ -5,20 +5,20 @@ use Rattle.std.proofs.lemmas.Bool.{lt-leb}
 use Rattle.std.specs.List.{list_any}
 use Rattle.std.proofs.lemmas.List.{append-nil}
 use Rattle.roff_num.specs.declared.limits.Limits.{Limits}
-use Rattle.roff_scan.specs.Arguments.{Arguments}
-use Rattle.roff_scan.specs.Bytes.{newline, backslash, is_dropped}
-use Rattle.roff_scan.specs.Conditions.{delimiter_met, ends_condition}
-use Rattle.roff_scan.specs.HalfLaws.{is_special, sign}
-use Rattle.roff_scan.specs.declared.escapes.NameUse.{NameUse}
-use Rattle.roff_scan.specs.declared.escapes.NameUse.TheVariants.{Register, Text as OfText, Argument}
-use Rattle.roff_scan.specs.Halves.{Reads, byte_read, ends_backslash, most_names, name_given, seen_stays, takes_backslash_alone}
-use Rattle.roff_scan.specs.Input.{Ahead, pushing}
-use Rattle.roff_scan.specs.Half.{Half, Backslash, Comment, Name, Size, Delimited, Width, Condition, names_in}
-use Rattle.roff_scan.specs.declared.half.ConditionPart.{ConditionPart}
-use Rattle.roff_scan.specs.declared.half.ConditionPart.TheVariants.{Choice, Expression, Compared, Decided}
-use Rattle.roff_scan.specs.declared.half.NamePart.TheVariants.{Nothing, Opened, First}
-use Rattle.roff_scan.specs.declared.half.Read.TheVariants.{GoesOn, Asks}
-use Rattle.roff_scan.specs.declared.half.Surroundings.{Surroundings}
+use Rattle.roff_arguments.specs.Arguments.{Arguments}
+use Rattle.roff_source.specs.Bytes.{newline, backslash, is_dropped}
+use Rattle.roff_escape.specs.Conditions.{delimiter_met, ends_condition}
+use Rattle.roff_escape.specs.HalfLaws.{is_special, sign}
+use Rattle.roff_escape.specs.declared.escapes.NameUse.{NameUse}
+use Rattle.roff_escape.specs.declared.escapes.NameUse.TheVariants.{Register, Text as OfText, Argument}
+use Rattle.roff_escape.specs.Halves.{Reads, byte_read, ends_backslash, most_names, name_given, seen_stays, takes_backslash_alone}
+use Rattle.roff_ahead.specs.Input.{Ahead, pushing}
+use Rattle.roff_escape.specs.Half.{Half, Backslash, Comment, Name, Size, Delimited, Width, Condition, names_in}
+use Rattle.roff_escape.specs.declared.half.ConditionPart.{ConditionPart}
+use Rattle.roff_escape.specs.declared.half.ConditionPart.TheVariants.{Choice, Expression, Compared, Decided}
+use Rattle.roff_escape.specs.declared.half.NamePart.TheVariants.{Nothing, Opened, First}
+use Rattle.roff_escape.specs.declared.half.Read.TheVariants.{GoesOn, Asks}
+use Rattle.roff_escape.specs.declared.half.Surroundings.{Surroundings}
 use Rattle.roff_num.specs.declared.direction.Direction.{Direction}
 use Rattle.roff_num.specs.declared.direction.Direction.TheVariants.{Up, Down}
 use Rattle.roff_run.specs.declared.reading.Reading.{Reading}

@@ -7,22 +7,22 @@ use Rattle.std.proofs.lemmas.List.Sums.{sum_by-cons}
 use Rattle.roff_num.specs.declared.limit.Limit.{Limit}
 use Rattle.roff_num.specs.declared.limit.Limit.TheVariants.{Bytes}
 use Rattle.roff_num.specs.declared.limits.Limits.{Limits}
-use Rattle.roff_scan.proofs.Settling.{settled-only_kept, held-only_kept-settled}
-use Rattle.roff_scan.specs.Arguments.{Arguments, settled, only_kept, held}
-use Rattle.roff_scan.specs.Bytes.{newline, backslash, is_dropped}
-use Rattle.roff_scan.specs.Conditions.{ends_condition, is_decided}
-use Rattle.roff_scan.specs.Halves.{byte_read, decides_now, newline_stays, seen_stays}
-use Rattle.roff_scan.specs.Input.{Ahead, ByteAhead, EndAhead, cost, counting, item_taken, pushed, depth, results}
-use Rattle.roff_scan.specs.Input.Names.{names_added, stored}
-use Rattle.roff_scan.specs.Input.Names.{names_added, stored}
-use Rattle.roff_scan.specs.Tape.{Tape, Answer, Gives, OneByte, front, items_then}
-use Rattle.roff_scan.specs.Shown.{seen_ahead}
-use Rattle.roff_scan.specs.Half.{Half, Backslash, Comment, Name, Size, Delimited, Width, Condition, texts_held}
-use Rattle.roff_scan.specs.declared.half.ConditionPart.{ConditionPart}
-use Rattle.roff_scan.specs.declared.half.ConditionPart.TheVariants.{Choice, Expression, Compared, Decided}
-use Rattle.roff_scan.specs.declared.half.Read.{Read}
-use Rattle.roff_scan.specs.declared.half.Read.TheVariants.{GoesOn}
-use Rattle.roff_scan.specs.declared.half.Surroundings.{Surroundings}
+use Rattle.roff_arguments.proofs.Settling.{settled-only_kept, held-only_kept-settled}
+use Rattle.roff_arguments.specs.Arguments.{Arguments, settled, only_kept, held}
+use Rattle.roff_source.specs.Bytes.{newline, backslash, is_dropped}
+use Rattle.roff_escape.specs.Conditions.{ends_condition, is_decided}
+use Rattle.roff_escape.specs.Halves.{byte_read, decides_now, newline_stays, seen_stays}
+use Rattle.roff_ahead.specs.Input.{Ahead, ByteAhead, EndAhead, cost, counting, item_taken, pushed, depth, results}
+use Rattle.roff_ahead.specs.Input.Names.{names_added, stored}
+use Rattle.roff_ahead.specs.Input.Names.{names_added, stored}
+use Rattle.roff_source.specs.Tape.{Tape, Answer, Gives, OneByte, front, items_then}
+use Rattle.roff_ahead.specs.Shown.{seen_ahead}
+use Rattle.roff_escape.specs.Half.{Half, Backslash, Comment, Name, Size, Delimited, Width, Condition, texts_held}
+use Rattle.roff_escape.specs.declared.half.ConditionPart.{ConditionPart}
+use Rattle.roff_escape.specs.declared.half.ConditionPart.TheVariants.{Choice, Expression, Compared, Decided}
+use Rattle.roff_escape.specs.declared.half.Read.{Read}
+use Rattle.roff_escape.specs.declared.half.Read.TheVariants.{GoesOn}
+use Rattle.roff_escape.specs.declared.half.Surroundings.{Surroundings}
 use Rattle.roff_run.specs.declared.reading.Reading.{Reading}
 use Rattle.roff_run.specs.declared.reading.Reading.TheVariants.{LineStart, Branch, Braced, Text as InText, Control, Name as NameOf, Arguments as InArguments, Deciding, StringName, StringText, Skipping, Dropped, Telling, Told, Exiting, Calling, Defining}
 use Rattle.roff_num.specs.declared.short_name.ShortName.{ShortName}

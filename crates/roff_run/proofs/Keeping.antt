@@ -3,19 +3,19 @@
 -- Each function f of reading has its lemma Keeps-f here, with a line for each of its cases.
 use Rattle.std.proofs.Common.{◌≡◌, ℕ, ◌+◌, ◌*◌, ◌-◌, ◌≤◌, Bool, true, false, List, [], ◌∷◌, ◌++◌, Option, Some, None, refl, sym, subst, arith, pos}
 use Rattle.std.specs.Prelude.{◌||◌, ◌==◌}
-use Rattle.roff_scan.specs.Bytes.{tab, newline, blank, is_dropped}
-use Rattle.roff_scan.specs.Halves.{byte_read, reading_ended}
-use Rattle.roff_scan.specs.Input.{beginning_line, choosing}
-use Rattle.roff_scan.specs.Input.Calls.{arguments_given, kept_last, without_last}
-use Rattle.roff_scan.specs.declared.half.CopyUnit.{CopyUnit}
-use Rattle.roff_scan.specs.declared.half.CopyUnit.TheVariants.{Kept}
-use Rattle.roff_scan.specs.Half.{Half, unit_bytes}
-use Rattle.roff_scan.specs.declared.half.Decision.{Decision}
-use Rattle.roff_scan.specs.declared.half.Decision.TheVariants.{Is}
-use Rattle.roff_scan.specs.declared.half.Read.{Read}
-use Rattle.roff_scan.specs.declared.half.Read.TheVariants.{GoesOn, Unit as GivesUnit, Holds, Escape, Asks, Motion, Measures, Tells, Decides}
-use Rattle.roff_scan.specs.declared.half.Surroundings.{Surroundings}
-use Rattle.roff_scan.specs.declared.half.Surroundings.TheVariants.{Text as AboveText, Arguments as AboveArguments, Copy as AboveCopy}
+use Rattle.roff_source.specs.Bytes.{tab, newline, blank, is_dropped}
+use Rattle.roff_escape.specs.Halves.{byte_read, reading_ended}
+use Rattle.roff_ahead.specs.Input.{beginning_line, choosing}
+use Rattle.roff_ahead.specs.Input.Calls.{arguments_given, kept_last, without_last}
+use Rattle.roff_escape.specs.declared.half.CopyUnit.{CopyUnit}
+use Rattle.roff_escape.specs.declared.half.CopyUnit.TheVariants.{Kept}
+use Rattle.roff_escape.specs.Half.{Half, unit_bytes}
+use Rattle.roff_escape.specs.declared.half.Decision.{Decision}
+use Rattle.roff_escape.specs.declared.half.Decision.TheVariants.{Is}
+use Rattle.roff_escape.specs.declared.half.Read.{Read}
+use Rattle.roff_escape.specs.declared.half.Read.TheVariants.{GoesOn, Unit as GivesUnit, Holds, Escape, Asks, Motion, Measures, Tells, Decides}
+use Rattle.roff_escape.specs.declared.half.Surroundings.{Surroundings}
+use Rattle.roff_escape.specs.declared.half.Surroundings.TheVariants.{Text as AboveText, Arguments as AboveArguments, Copy as AboveCopy}
 use Rattle.roff_run.specs.declared.reading.Reading.{Reading}
 use Rattle.roff_run.specs.declared.reading.Reading.TheVariants.{LineStart, Branch, Braced, Text as InText, Control, Name, Arguments as InArguments, Deciding, StringName, StringText, Skipping, Dropped, Telling, Told, Exiting, Calling, Defining}
 use Rattle.roff_num.specs.declared.short_name.ShortName.{ShortName}

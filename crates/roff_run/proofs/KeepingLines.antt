@@ -5,14 +5,14 @@
 -- texts alone, and else Keeps-f.
 use Rattle.std.proofs.Common.{◌≡◌, ℕ, ◌≤◌, Bool, true, false, List, [], ◌∷◌, Option, Some, None, refl, ap, ◌∙◌, arith}
 use Rattle.std.specs.Prelude.{◌&&◌, length, nat_le, if◌then◌else◌, ◌==◌}
-use Rattle.roff_scan.specs.Bytes.{newline, blank, quote}
-use Rattle.roff_scan.specs.Input.Calls.{arguments_given, called_text, calling_body}
-use Rattle.roff_scan.specs.Input.Names.{body_named, calling, calling_on}
-use Rattle.roff_scan.specs.declared.half.CopyUnit.{CopyUnit}
-use Rattle.roff_scan.specs.declared.half.CopyUnit.TheVariants.{Byte, Kept}
-use Rattle.roff_scan.specs.Half.{unit_bytes}
-use Rattle.roff_scan.specs.declared.half.Read.{Read}
-use Rattle.roff_scan.specs.declared.half.Read.TheVariants.{GoesOn, Unit as GivesUnit, Holds, Escape, Asks, Motion, Measures, Tells, Decides}
+use Rattle.roff_source.specs.Bytes.{newline, blank, quote}
+use Rattle.roff_ahead.specs.Input.Calls.{arguments_given, called_text, calling_body}
+use Rattle.roff_ahead.specs.Input.Names.{body_named, calling, calling_on}
+use Rattle.roff_escape.specs.declared.half.CopyUnit.{CopyUnit}
+use Rattle.roff_escape.specs.declared.half.CopyUnit.TheVariants.{Byte, Kept}
+use Rattle.roff_escape.specs.Half.{unit_bytes}
+use Rattle.roff_escape.specs.declared.half.Read.{Read}
+use Rattle.roff_escape.specs.declared.half.Read.TheVariants.{GoesOn, Unit as GivesUnit, Holds, Escape, Asks, Motion, Measures, Tells, Decides}
 use Rattle.roff_run.specs.declared.reading.Reading.{Reading}
 use Rattle.roff_run.specs.declared.reading.Reading.TheVariants.{LineStart, Arguments as InArguments, StringName, StringText, Telling, Calling, Defining}
 use Rattle.roff_num.specs.declared.short_name.ShortName.{ShortName}
@@ -29,7 +29,7 @@ use Rattle.roff_run.specs.Reading.Items.{PageInput, going_on}
 use Rattle.roff_run.specs.Reading.Messages.{message_found, message_unit}
 use Rattle.roff_run.specs.Reading.Strings.{name_read, string_begun, string_emptied, string_entered, string_grown, string_line_ended, string_name_behind, string_name_found, string_name_or_text, string_name_unit, string_text_found, string_unit}
 use Rattle.roff_run.specs.Reading.Units.{settling, no_unit_found, holding}
-use Rattle.roff_scan.specs.Arguments.{no_arguments}
+use Rattle.roff_arguments.specs.Arguments.{no_arguments}
 use Rattle.roff_store.specs.TextCalls.{Call, DropOpen, PushOpen, Enter}
 use Rattle.roff_store.specs.Texts.{newest}
 use Rattle.roff_run.specs.Registers.{Known}

@@ -5,23 +5,23 @@
 use Rattle.std.proofs.Common.{◌≡◌, ℕ, ◌+◌, ◌*◌, ◌≤◌, Bool, true, false, List, [], ◌∷◌, ◌++◌, map, Option, Some, None, refl, sym, subst, ◌∙◌, arith}
 use Rattle.std.specs.Prelude.{◌&&◌, decimal, nat_le, if◌then◌else◌, ◌==◌}
 use Rattle.roff_lines.specs.declared.glyph.Glyph.TheVariants.{Printed}
-use Rattle.roff_scan.specs.Bytes.{tab, newline, blank, apostrophe, dot, backslash, is_silent}
-use Rattle.roff_scan.specs.Characters.{character}
-use Rattle.roff_scan.specs.Escapes.{escape_of}
-use Rattle.roff_scan.specs.Input.{Ahead, ByteAhead, EndAhead, ReturnAhead, holding_text}
-use Rattle.roff_scan.specs.Input.Calls.{arguments_live}
-use Rattle.roff_scan.specs.Input.Names.{body_named}
-use Rattle.roff_scan.specs.declared.escapes.Escape.{Escape as Kind}
-use Rattle.roff_scan.specs.declared.escapes.Escape.TheVariants.{Prints, Blank, NoWidth, Nothing as GivesNothing, Brace, LeftOut as IsLeftOut, Comment as BeginsComment, Size as BeginsSize, Name as BeginsName, Text as BeginsText, Width as BeginsWidth, Tab as GivesTab, Interrupts}
-use Rattle.roff_scan.specs.declared.escapes.NameUse.{NameUse}
-use Rattle.roff_scan.specs.declared.escapes.NameUse.TheVariants.{Register, Text as OfText, Argument, Character, Font, LeftOut as NameLeftOut}
-use Rattle.roff_scan.specs.declared.escapes.TextUse.TheVariants.{Motion as OfMotion, LeftOut as LeftOutText}
-use Rattle.roff_scan.specs.declared.half.ConditionPart.TheVariants.{Choice, Expression, Decided, Compared}
-use Rattle.roff_scan.specs.declared.half.CopyUnit.{CopyUnit}
-use Rattle.roff_scan.specs.declared.half.CopyUnit.TheVariants.{Byte, Kept}
-use Rattle.roff_scan.specs.Half.{Half, Backslash, Comment, Name as NameHalf, Size, Delimited, Width, Condition, text_held}
-use Rattle.roff_scan.specs.declared.half.Read.{Read}
-use Rattle.roff_scan.specs.declared.half.Read.TheVariants.{GoesOn, Unit as GivesUnit, Holds, Escape, Asks, Motion, Measures, Tells, Decides}
+use Rattle.roff_source.specs.Bytes.{tab, newline, blank, apostrophe, dot, backslash, is_silent}
+use Rattle.roff_escape.specs.Characters.{character}
+use Rattle.roff_escape.specs.Escapes.{escape_of}
+use Rattle.roff_ahead.specs.Input.{Ahead, ByteAhead, EndAhead, ReturnAhead, holding_text}
+use Rattle.roff_ahead.specs.Input.Calls.{arguments_live}
+use Rattle.roff_ahead.specs.Input.Names.{body_named}
+use Rattle.roff_escape.specs.declared.escapes.Escape.{Escape as Kind}
+use Rattle.roff_escape.specs.declared.escapes.Escape.TheVariants.{Prints, Blank, NoWidth, Nothing as GivesNothing, Brace, LeftOut as IsLeftOut, Comment as BeginsComment, Size as BeginsSize, Name as BeginsName, Text as BeginsText, Width as BeginsWidth, Tab as GivesTab, Interrupts}
+use Rattle.roff_escape.specs.declared.escapes.NameUse.{NameUse}
+use Rattle.roff_escape.specs.declared.escapes.NameUse.TheVariants.{Register, Text as OfText, Argument, Character, Font, LeftOut as NameLeftOut}
+use Rattle.roff_escape.specs.declared.escapes.TextUse.TheVariants.{Motion as OfMotion, LeftOut as LeftOutText}
+use Rattle.roff_escape.specs.declared.half.ConditionPart.TheVariants.{Choice, Expression, Decided, Compared}
+use Rattle.roff_escape.specs.declared.half.CopyUnit.{CopyUnit}
+use Rattle.roff_escape.specs.declared.half.CopyUnit.TheVariants.{Byte, Kept}
+use Rattle.roff_escape.specs.Half.{Half, Backslash, Comment, Name as NameHalf, Size, Delimited, Width, Condition, text_held}
+use Rattle.roff_escape.specs.declared.half.Read.{Read}
+use Rattle.roff_escape.specs.declared.half.Read.TheVariants.{GoesOn, Unit as GivesUnit, Holds, Escape, Asks, Motion, Measures, Tells, Decides}
 use Rattle.roff_num.specs.declared.direction.Direction.{Direction}
 use Rattle.roff_run.specs.declared.reading.Reading.{Reading}
 use Rattle.roff_run.specs.declared.reading.Reading.TheVariants.{LineStart, Branch, Braced, Text as InText, Control, Name, Arguments as InArguments, Deciding, StringName, StringText, Skipping, Dropped, Telling, Told, Exiting, Calling, Defining}

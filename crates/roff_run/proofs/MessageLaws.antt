@@ -3,16 +3,16 @@ use Rattle.std.proofs.Common.{◌≡◌, ℕ, Bool, true, false, List, [], ◌�
 use Rattle.std.specs.Prelude.{All, ◌||◌, ◌&&◌, reverse, if◌then◌else◌, ◌==◌}
 use Rattle.std.proofs.lemmas.List.{append-nil}
 use Rattle.std.proofs.lemmas.List.Elements.{All-head, All-tail}
-use Rattle.roff_scan.proofs.KeptArguments.{reverse-cons}
-use Rattle.roff_scan.specs.Arguments.{Arguments, no_arguments, with_byte}
-use Rattle.roff_scan.specs.Bytes.{newline, blank, backslash, is_dropped}
-use Rattle.roff_scan.specs.Halves.{byte_read}
-use Rattle.roff_scan.specs.Input.{holding_plain}
-use Rattle.roff_scan.specs.declared.arguments.Place.TheVariants.{InPlain}
-use Rattle.roff_scan.specs.declared.half.CopyUnit.TheVariants.{Byte}
-use Rattle.roff_scan.specs.Half.{Half, Backslash}
-use Rattle.roff_scan.specs.declared.half.Read.TheVariants.{GoesOn, Unit as GivesUnit}
-use Rattle.roff_scan.specs.declared.half.Surroundings.TheVariants.{Copy as AboveCopy}
+use Rattle.roff_arguments.proofs.KeptArguments.{reverse-cons}
+use Rattle.roff_arguments.specs.Arguments.{Arguments, no_arguments, with_byte}
+use Rattle.roff_source.specs.Bytes.{newline, blank, backslash, is_dropped}
+use Rattle.roff_escape.specs.Halves.{byte_read}
+use Rattle.roff_ahead.specs.Input.{holding_plain}
+use Rattle.roff_arguments.specs.declared.arguments.Place.TheVariants.{InPlain}
+use Rattle.roff_escape.specs.declared.half.CopyUnit.TheVariants.{Byte}
+use Rattle.roff_escape.specs.Half.{Half, Backslash}
+use Rattle.roff_escape.specs.declared.half.Read.TheVariants.{GoesOn, Unit as GivesUnit}
+use Rattle.roff_escape.specs.declared.half.Surroundings.TheVariants.{Copy as AboveCopy}
 use Rattle.roff_run.proofs.Interpolation.{IsRead, not-first, not-second, IsRead-itself}
 use Rattle.roff_run.specs.InterpolationLaws.{StandsForItself}
 use Rattle.roff_run.specs.MessageLaws.{MessagesAreTheirTexts, TellsText, without_front}

@@ -1,10 +1,10 @@
 -- Bytes in the front of an escape that reads a name change only what is half read, one after another.
 use Rattle.std.proofs.Common.{◌≡◌, ℕ, Bool, List, None, refl, sym, ap, subst, ◌∙◌, arith}
 use Rattle.std.specs.Prelude.{if◌then◌else◌}
-use Rattle.roff_scan.specs.Arguments.{Arguments}
-use Rattle.roff_scan.specs.Half.{Half}
-use Rattle.roff_scan.specs.HalfFronts.{ByteRead, HalvesRead, NothingRead}
-use Rattle.roff_scan.specs.Tape.{Tape}
+use Rattle.roff_arguments.specs.Arguments.{Arguments}
+use Rattle.roff_escape.specs.Half.{Half}
+use Rattle.roff_escape.specs.HalfFronts.{ByteRead, HalvesRead, NothingRead}
+use Rattle.roff_source.specs.Tape.{Tape}
 use Rattle.roff_scan.specs.Unread.{IsWithin}
 use Rattle.roff_scan.specs.Unread.Calls.{PassesFront, ReadsNames}
 use Rattle.roff_store.specs.Named.{Named}

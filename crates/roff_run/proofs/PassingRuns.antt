@@ -4,10 +4,10 @@ use Rattle.std.specs.Prelude.{map}
 use Rattle.std.specs.List.{AllByRecursion}
 use Rattle.roff_num.specs.declared.limit.Limit.{Limit}
 use Rattle.roff_num.specs.declared.limits.Limits.{Limits}
-use Rattle.roff_scan.specs.Half.{Half}
-use Rattle.roff_scan.specs.Halves.{seen_stays}
-use Rattle.roff_scan.specs.Input.{counting, lines_taken}
-use Rattle.roff_scan.specs.Tape.{Tape, OneByte, items_then}
+use Rattle.roff_escape.specs.Half.{Half}
+use Rattle.roff_escape.specs.Halves.{seen_stays}
+use Rattle.roff_ahead.specs.Input.{counting, lines_taken}
+use Rattle.roff_source.specs.Tape.{Tape, OneByte, items_then}
 use Rattle.roff_run.proofs.Interpolation.{taken_as-going_on, bytes_of_the_source_are_taken}
 use Rattle.roff_run.specs.InterpolationLaws.{TakesItems}
 use Rattle.roff_run.specs.Reading.{Passes}

@@ -1,7 +1,7 @@
 -- What is read where something may be half read above it, and where nothing is.
 use Rattle.std.proofs.Common.{◌≡◌, ℕ, Bool, true, Option, refl}
-use Rattle.roff_scan.specs.Halves.{byte_read}
-use Rattle.roff_scan.specs.declared.half.Read.{Read}
+use Rattle.roff_escape.specs.Halves.{byte_read}
+use Rattle.roff_escape.specs.declared.half.Read.{Read}
 use Rattle.roff_run.specs.Reader.Above.{reads_above}
 use Rattle.roff_run.specs.Reading.{kept_taking}
 use Rattle.roff_run.specs.Reading.Found.{found_in, has_place, place_in, read_in}

@@ -3,13 +3,13 @@ use Rattle.std.proofs.Common.{◌≡◌, ℕ, ◌+◌, ◌-◌, ◌≤◌, false
 use Rattle.std.specs.Prelude.{map, sum_by, if◌then◌else◌, ◌==◌}
 use Rattle.std.proofs.lemmas.List.{length-append}
 use Rattle.roff_num.specs.declared.limits.Limits.{Limits}
-use Rattle.roff_scan.specs.Arguments.{Arguments, held}
-use Rattle.roff_scan.specs.Bytes.{newline}
-use Rattle.roff_scan.specs.Half.{Half, texts_held}
-use Rattle.roff_scan.specs.Halves.{seen_stays}
-use Rattle.roff_scan.specs.Input.{Ahead, ByteAhead, bytes_ahead, ends_ahead, lines_taken}
-use Rattle.roff_scan.specs.Arguments.{live_bytes}
-use Rattle.roff_scan.specs.Tape.{Tape}
+use Rattle.roff_arguments.specs.Arguments.{Arguments, held}
+use Rattle.roff_source.specs.Bytes.{newline}
+use Rattle.roff_escape.specs.Half.{Half, texts_held}
+use Rattle.roff_escape.specs.Halves.{seen_stays}
+use Rattle.roff_ahead.specs.Input.{Ahead, ByteAhead, bytes_ahead, ends_ahead, lines_taken}
+use Rattle.roff_arguments.specs.Arguments.{live_bytes}
+use Rattle.roff_source.specs.Tape.{Tape}
 use Rattle.roff_store.specs.Named.{Named}
 use Rattle.roff_store.specs.Texts.{Entry, bytes_in}
 use Rattle.roff_run.proofs.Interpolation.{FromAhead, FromSource, Fits-IsWithin, Origin, ahead_at, bytes_ahead_are_taken, bytes_of_the_source_are_taken, made-Fits, taken_as-going_on, tape_at}

@@ -12,10 +12,10 @@ use Rattle.roff_lines.specs.declared.event.Event.TheVariants.{Print, WordEnd, Ga
 use Rattle.roff_lines.specs.Lines.{Finished, finished, pending_length}
 use Rattle.roff_lines.specs.Telling.{QuietlyTold, bytes_told}
 use Rattle.roff_lines.specs.declared.glyph.Glyph.TheVariants.{Printed}
-use Rattle.roff_scan.specs.Half.{Half}
-use Rattle.roff_scan.specs.Halves.{seen_stays}
-use Rattle.roff_scan.specs.Input.{Ahead, ByteAhead, bytes_taken, counting, lines_taken}
-use Rattle.roff_scan.specs.Tape.{Tape, OneByte, items_then}
+use Rattle.roff_escape.specs.Half.{Half}
+use Rattle.roff_escape.specs.Halves.{seen_stays}
+use Rattle.roff_ahead.specs.Input.{Ahead, ByteAhead, bytes_taken, counting, lines_taken}
+use Rattle.roff_source.specs.Tape.{Tape, OneByte, items_then}
 use Rattle.roff_run.proofs.Interpolation.{bytes_ahead_are_taken, bytes_of_the_source_are_taken}
 use Rattle.roff_run.proofs.Leads.{Leads-refl, Leads-trans}
 use Rattle.roff_run.proofs.PassingBodies.{behind_byte, within-byte}

@@ -4,17 +4,17 @@ use Rattle.std.specs.Prelude.{fold, All, ◌||◌, reverse, if◌then◌else◌,
 use Rattle.std.specs.List.{flat_map}
 use Rattle.std.proofs.lemmas.List.{append-nil, reverse-reverse}
 use Rattle.std.proofs.lemmas.List.Elements.{All-nil, All-cons, All-head, All-tail, All-append}
-use Rattle.roff_scan.proofs.KeptArguments.{only_kept-finished, only_kept-with_unit}
-use Rattle.roff_scan.proofs.QuotedArguments.{quoted_arguments_read_back}
-use Rattle.roff_scan.specs.Arguments.{Arguments, no_arguments, with_argument_byte, finished, arguments_read, kept, only_kept}
-use Rattle.roff_scan.specs.Input.Calls.{arguments_given}
-use Rattle.roff_scan.specs.Bytes.{newline, blank, quote, backslash, is_dropped}
-use Rattle.roff_scan.specs.Quoting.{quoted_byte, quoted, quoted_line}
-use Rattle.roff_scan.specs.Halves.{byte_read}
-use Rattle.roff_scan.specs.declared.half.CopyUnit.TheVariants.{Byte}
-use Rattle.roff_scan.specs.Half.{Half, Backslash}
-use Rattle.roff_scan.specs.declared.half.Read.TheVariants.{GoesOn, Unit as GivesUnit}
-use Rattle.roff_scan.specs.declared.half.Surroundings.TheVariants.{Arguments as AboveArguments}
+use Rattle.roff_arguments.proofs.KeptArguments.{only_kept-finished, only_kept-with_unit}
+use Rattle.roff_arguments.proofs.QuotedArguments.{quoted_arguments_read_back}
+use Rattle.roff_arguments.specs.Arguments.{Arguments, no_arguments, with_argument_byte, finished, arguments_read, kept, only_kept}
+use Rattle.roff_ahead.specs.Input.Calls.{arguments_given}
+use Rattle.roff_source.specs.Bytes.{newline, blank, quote, backslash, is_dropped}
+use Rattle.roff_arguments.specs.Quoting.{quoted_byte, quoted, quoted_line}
+use Rattle.roff_escape.specs.Halves.{byte_read}
+use Rattle.roff_escape.specs.declared.half.CopyUnit.TheVariants.{Byte}
+use Rattle.roff_escape.specs.Half.{Half, Backslash}
+use Rattle.roff_escape.specs.declared.half.Read.TheVariants.{GoesOn, Unit as GivesUnit}
+use Rattle.roff_escape.specs.declared.half.Surroundings.TheVariants.{Arguments as AboveArguments}
 use Rattle.roff_run.proofs.Interpolation.{IsRead, not-first, not-second, IsRead-itself}
 use Rattle.roff_run.specs.declared.reading.Reading.{Reading}
 use Rattle.roff_run.specs.InterpolationLaws.{StandsForItself}

@@ -6,25 +6,25 @@ use Rattle.std.proofs.lemmas.Bool.{eqb-true, not-false}
 use Rattle.std.proofs.lemmas.List.{nil_from_length}
 use Rattle.roff_num.specs.declared.limit.Limit.{Limit}
 use Rattle.roff_num.specs.declared.limits.Limits.{Limits}
-use Rattle.roff_scan.specs.Bytes.{backslash, is_dropped, newline}
-use Rattle.roff_scan.specs.Half.{Half, Backslash}
-use Rattle.roff_scan.specs.Escapes.{is_copied}
-use Rattle.roff_scan.specs.Halves.{byte_read, reading_ended}
-use Rattle.roff_scan.specs.Input.{holding_text}
-use Rattle.roff_scan.specs.Input.Names.{body_named}
-use Rattle.roff_scan.specs.Input.Calls.{calling_body}
-use Rattle.roff_scan.specs.Input.Calls.{calling_body}
-use Rattle.roff_scan.specs.Input.Names.{body_named}
+use Rattle.roff_source.specs.Bytes.{backslash, is_dropped, newline}
+use Rattle.roff_escape.specs.Half.{Half, Backslash}
+use Rattle.roff_escape.specs.Escapes.{is_copied}
+use Rattle.roff_escape.specs.Halves.{byte_read, reading_ended}
+use Rattle.roff_ahead.specs.Input.{holding_text}
+use Rattle.roff_ahead.specs.Input.Names.{body_named}
+use Rattle.roff_ahead.specs.Input.Calls.{calling_body}
+use Rattle.roff_ahead.specs.Input.Calls.{calling_body}
+use Rattle.roff_ahead.specs.Input.Names.{body_named}
 use Rattle.roff_scan.specs.Unread.{EndsDecided, changing, input_refusal, reading, unless_passed}
-use Rattle.roff_scan.specs.declared.escapes.NameUse.{NameUse}
-use Rattle.roff_scan.specs.declared.escapes.NameUse.TheVariants.{Argument, Character, Font, LeftOut as NameLeftOut, Register, Text as OfText}
-use Rattle.roff_scan.specs.declared.half.CopyUnit.{CopyUnit}
-use Rattle.roff_scan.specs.declared.half.CopyUnit.TheVariants.{Byte}
-use Rattle.roff_scan.specs.declared.half.Decision.TheVariants.{Is}
-use Rattle.roff_scan.specs.declared.half.Read.{Read}
-use Rattle.roff_scan.specs.declared.half.Read.TheVariants.{GoesOn, Unit as GivesUnit, Holds, Escape, Asks, Motion, Measures, Tells, Decides}
-use Rattle.roff_scan.specs.declared.half.Surroundings.{Surroundings}
-use Rattle.roff_scan.specs.declared.half.Surroundings.TheVariants.{Arguments as AboveArguments}
+use Rattle.roff_escape.specs.declared.escapes.NameUse.{NameUse}
+use Rattle.roff_escape.specs.declared.escapes.NameUse.TheVariants.{Argument, Character, Font, LeftOut as NameLeftOut, Register, Text as OfText}
+use Rattle.roff_escape.specs.declared.half.CopyUnit.{CopyUnit}
+use Rattle.roff_escape.specs.declared.half.CopyUnit.TheVariants.{Byte}
+use Rattle.roff_escape.specs.declared.half.Decision.TheVariants.{Is}
+use Rattle.roff_escape.specs.declared.half.Read.{Read}
+use Rattle.roff_escape.specs.declared.half.Read.TheVariants.{GoesOn, Unit as GivesUnit, Holds, Escape, Asks, Motion, Measures, Tells, Decides}
+use Rattle.roff_escape.specs.declared.half.Surroundings.{Surroundings}
+use Rattle.roff_escape.specs.declared.half.Surroundings.TheVariants.{Arguments as AboveArguments}
 use Rattle.roff_run.specs.Environments.{PageHistory, interrupted_line}
 use Rattle.roff_run.specs.Environments.Standing.{StandFor}
 use Rattle.roff_run.specs.Events.Meant.{events_meant, none_meant}

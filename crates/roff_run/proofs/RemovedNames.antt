@@ -3,8 +3,8 @@ use Rattle.std.proofs.Common.{◌≡◌, ℕ, ◌+◌, List, [], ◌∷◌, ◌+
 use Rattle.std.specs.Prelude.{reverse}
 use Rattle.std.proofs.lemmas.List.{map-append}
 use Rattle.roff_num.specs.Names.{name_of}
-use Rattle.roff_scan.specs.Arguments.{Arguments}
-use Rattle.roff_scan.specs.Input.Names.{calling}
+use Rattle.roff_arguments.specs.Arguments.{Arguments}
+use Rattle.roff_ahead.specs.Input.Names.{calling}
 use Rattle.roff_store.specs.TextCalls.{Call, Remove}
 use Rattle.roff_run.specs.Reader.Taken.{PageUnread}
 use Rattle.roff_run.specs.Reading.Arguments.{calling_all}

@@ -5,7 +5,7 @@ use Rattle.std.proofs.lemmas.List.{map-append}
 use Rattle.std.proofs.lemmas.List.Elements.{filter-append}
 use Rattle.std.proofs.lemmas.List.Sums.{fold-append}
 use Rattle.roff_num.specs.Names.{name_of}
-use Rattle.roff_scan.specs.Arguments.{has_byte}
+use Rattle.roff_arguments.specs.Arguments.{has_byte}
 use Rattle.roff_store.specs.Named.{without_entry}
 use Rattle.roff_store.specs.Registers.{Registers}
 use Rattle.roff_run.specs.Reader.State.{ReaderState}

@@ -5,7 +5,7 @@ use Rattle.roff_run.specs.Laws.{OnlyCuts, over, failing_behind, going_on_behind}
 use Rattle.roff_run.specs.ResultLaws.{GivesABeginning, GiveTheSame, LimitsCutResults, SameResultWithoutALimit, FailingCutsResults, SameResultBeforeTheFault}
 use Rattle.roff_run.specs.Results.{last_state}
 use Rattle.roff_run.specs.Run.{State, initial, after, output, reported}
-use Rattle.roff_scan.specs.Tape.{Tape}
+use Rattle.roff_source.specs.Tape.{Tape}
 use Rattle.roff_run.proofs.Beginnings.{IsBeginning-append, IsBeginning-trans}
 use Rattle.roff_run.proofs.Endings.{steps_lead_to_the_last_state, after-more}
 use Rattle.roff_run.proofs.RunsOnlyCut.{limits_only_cut, same_until_a_limit, failing_only_cuts, same_until_the_fault}

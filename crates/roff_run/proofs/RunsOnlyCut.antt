@@ -7,7 +7,7 @@ use Rattle.roff_num.specs.declared.limits.Limits.{Limits}
 use Rattle.roff_run.specs.Laws.{OnlyCuts, LimitsOnlyCut, SameUntilALimit, FailingOnlyCuts, SameUntilTheFault, over, failing_behind, going_on_behind}
 use Rattle.roff_run.specs.Limits.{AreWithin}
 use Rattle.roff_run.specs.Run.{State, initial, after}
-use Rattle.roff_scan.specs.Tape.{Tape, Item, Ending, Ends, Failed, front, behind_front}
+use Rattle.roff_source.specs.Tape.{Tape, Item, Ending, Ends, Failed, front, behind_front}
 use Rattle.roff_run.proofs.StepsAppend.{OnlyCuts-same}
 use Rattle.roff_run.proofs.StepsOnlyCut.{Cut, Same, Short, Differ, Cut-after}
 

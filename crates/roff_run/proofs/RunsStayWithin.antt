@@ -15,7 +15,7 @@ use Rattle.roff_run.specs.Run.Counts.{counts, first_passed, refusal}
 use Rattle.roff_run.proofs.Keeping.{Keeps-end_taking}
 use Rattle.roff_run.proofs.PerformedOrStopped.{PerformedOrStopped, Performed, StoppedAt, performed_or_stopped}
 use Rattle.roff_run.proofs.Readings.{IsMade, ReadsOn, LimitStops, AheadTaken, ByteTaken, NoteTaken, HalfEnds, InputEnds, InputLeft, LineEnds, MessageTold, RunAborts, SourceFails, SourceStops, ReadsOn-reading_on, Behind-byte_taken, Behind-ahead_taken, Behind-half_ends, Behind-line_ends, within}
-use Rattle.roff_scan.specs.Input.{counting, item_taken}
+use Rattle.roff_ahead.specs.Input.{counting, item_taken}
 
 -- a state of the same input, registers and history
 IsWithin-same : (l : Limits) (s t : State) → t.input ≡ s.input → t.registers ≡ s.registers → t.history ≡ s.history → IsWithin l s → IsWithin l t

@@ -4,7 +4,7 @@ use Rattle.std.specs.Prelude.{not, nat_le, ◌&&◌, if◌then◌else◌, ◌==�
 use Rattle.std.proofs.lemmas.Bool.{eqb-true, le-leb, leb-true}
 use Rattle.std.proofs.lemmas.List.{append-nil, length-append}
 use Rattle.std.proofs.lemmas.List.Elements.{All-head, All-tail}
-use Rattle.roff_scan.specs.Bytes.{newline, backslash, is_dropped}
+use Rattle.roff_source.specs.Bytes.{newline, backslash, is_dropped}
 use Rattle.roff_run.specs.ConditionLaws.{is_whole, escapes_among, MayEnd, AreKept, SkippedBranchesDoNothing, BranchesAreSkippedToTheirEnd}
 use Rattle.roff_run.specs.Quoting.{both, taking_all}
 use Rattle.roff_run.specs.Reading.{kept_taking, taking}

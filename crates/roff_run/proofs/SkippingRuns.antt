@@ -4,11 +4,11 @@ use Rattle.std.specs.Prelude.{map}
 use Rattle.std.proofs.lemmas.List.{append-nil, length-append}
 use Rattle.std.proofs.lemmas.List.Elements.{All-head, All-tail}
 use Rattle.roff_num.specs.declared.limits.Limits.{Limits}
-use Rattle.roff_scan.specs.Bytes.{newline, is_dropped}
-use Rattle.roff_scan.specs.Half.{Half}
-use Rattle.roff_scan.specs.Halves.{seen_stays}
-use Rattle.roff_scan.specs.Input.{counting, lines_taken}
-use Rattle.roff_scan.specs.Tape.{Tape, OneByte, items_then}
+use Rattle.roff_source.specs.Bytes.{newline, is_dropped}
+use Rattle.roff_escape.specs.Half.{Half}
+use Rattle.roff_escape.specs.Halves.{seen_stays}
+use Rattle.roff_ahead.specs.Input.{counting, lines_taken}
+use Rattle.roff_source.specs.Tape.{Tape, OneByte, items_then}
 use Rattle.roff_run.proofs.Interpolation.{Fits-IsWithin, made-Fits, taken_as-going_on, bytes_of_the_source_are_taken}
 use Rattle.roff_run.proofs.Skipping.{skipped_behind, taking-goes_on, taking-ends, none_before}
 use Rattle.roff_run.specs.ConditionLaws.{is_whole, escapes_among, MayEnd, AreKept, RunsPassOverSkippedBranches}

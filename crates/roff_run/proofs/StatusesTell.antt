@@ -12,8 +12,8 @@ use Rattle.roff_run.specs.Run.{State, initial, input_left, known, step_with, ste
 use Rattle.roff_run.specs.Results.{last_state}
 use Rattle.roff_run.specs.Statuses.{HasMet, Tells, EachStatusTells}
 use Rattle.roff_run.specs.declared.status.Status.{Status}
-use Rattle.roff_scan.specs.Input.{item_taken}
-use Rattle.roff_scan.specs.Tape.{Tape, Item, Ending, Ends, Ended, Failed, Stopped, front}
+use Rattle.roff_ahead.specs.Input.{item_taken}
+use Rattle.roff_source.specs.Tape.{Tape, Item, Ending, Ends, Ended, Failed, Stopped, front}
 use Rattle.roff_run.proofs.Endings.{at_last_state, ended_or_not, step-ended, step-going}
 use Rattle.roff_run.proofs.PerformedOrStopped.{PerformedOrStopped, Performed, StoppedAt, performed_or_stopped}
 use Rattle.roff_run.proofs.Readings.{ReadsOn, LimitStops, AheadTaken, ByteTaken, NoteTaken, HalfEnds, InputEnds, InputLeft, LineEnds, MessageTold, RunAborts, SourceFails, SourceStops, ReadsOn-reading_on, Behind, Behind-ahead_taken}

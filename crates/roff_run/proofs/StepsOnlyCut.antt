@@ -12,11 +12,11 @@ use Rattle.roff_num.specs.LimitValues.{value_of}
 use Rattle.roff_num.specs.declared.limit.Limit.{Limit}
 use Rattle.roff_num.specs.declared.limit.Limit.TheVariants.{Bytes}
 use Rattle.roff_num.specs.declared.limits.Limits.{Limits}
-use Rattle.roff_scan.specs.Halves.{decides_now, seen_stays, newline_stays}
-use Rattle.roff_scan.specs.Input.{Ahead, ByteAhead, FreeAhead, EndAhead, ReturnAhead, DoAhead, cost}
-use Rattle.roff_scan.specs.Tape.{Tape, Answer, Gives, Ends, OneByte, OneNote, Ended, Failed, Stopped, front, behind_front}
-use Rattle.roff_scan.specs.Shown.{Sighted, SeesByte, SeesNothing, SeesNote, SeesEnding, seen_ahead}
-use Rattle.roff_scan.specs.Half.{Half}
+use Rattle.roff_escape.specs.Halves.{decides_now, seen_stays, newline_stays}
+use Rattle.roff_ahead.specs.Input.{Ahead, ByteAhead, FreeAhead, EndAhead, ReturnAhead, DoAhead, cost}
+use Rattle.roff_source.specs.Tape.{Tape, Answer, Gives, Ends, OneByte, OneNote, Ended, Failed, Stopped, front, behind_front}
+use Rattle.roff_ahead.specs.Shown.{Sighted, SeesByte, SeesNothing, SeesNote, SeesEnding, seen_ahead}
+use Rattle.roff_escape.specs.Half.{Half}
 use Rattle.roff_run.specs.Laws.{OnlyCuts, over}
 use Rattle.roff_run.specs.Limits.{AreWithin}
 use Rattle.roff_run.specs.Reading.Ends.{due, line_ends_first}

@@ -11,17 +11,17 @@ use Rattle.roff_run.specs.declared.environments.Environments.{Environments as En
 use Rattle.roff_num.specs.declared.limit.Limit.{Limit}
 use Rattle.roff_num.specs.declared.limit.Limit.TheVariants.{Names}
 use Rattle.roff_num.specs.Ranges.{is_in_range}
-use Rattle.roff_scan.specs.Bytes.{blank, is_dropped, newline}
-use Rattle.roff_scan.specs.Half.{Half, texts_held}
-use Rattle.roff_scan.specs.Halves.{Reads, byte_read, reading_ended}
-use Rattle.roff_scan.specs.Input.{choosing, pushing, with_half}
-use Rattle.roff_scan.specs.Input.Calls.{without_last}
+use Rattle.roff_source.specs.Bytes.{blank, is_dropped, newline}
+use Rattle.roff_escape.specs.Half.{Half, texts_held}
+use Rattle.roff_escape.specs.Halves.{Reads, byte_read, reading_ended}
+use Rattle.roff_ahead.specs.Input.{choosing, pushing, with_half}
+use Rattle.roff_ahead.specs.Input.Calls.{without_last}
 use Rattle.roff_scan.specs.Unread.{changing, input_refusal, reading, unless_passed}
-use Rattle.roff_scan.specs.declared.half.CopyUnit.{CopyUnit}
-use Rattle.roff_scan.specs.declared.half.Read.{Read}
-use Rattle.roff_scan.specs.declared.half.Read.TheVariants.{GoesOn, Unit as OneUnit, Holds, Escape, Asks, Motion, Measures, Tells, Decides}
-use Rattle.roff_scan.specs.declared.half.Surroundings.{Surroundings}
-use Rattle.roff_scan.proofs.TextsHeld.{texts_held-byte_read, texts_held-reading_ended}
+use Rattle.roff_escape.specs.declared.half.CopyUnit.{CopyUnit}
+use Rattle.roff_escape.specs.declared.half.Read.{Read}
+use Rattle.roff_escape.specs.declared.half.Read.TheVariants.{GoesOn, Unit as OneUnit, Holds, Escape, Asks, Motion, Measures, Tells, Decides}
+use Rattle.roff_escape.specs.declared.half.Surroundings.{Surroundings}
+use Rattle.roff_escape.proofs.TextsHeld.{texts_held-byte_read, texts_held-reading_ended}
 use Rattle.roff_store.proofs.Entries.{length-with_entry}
 use Rattle.roff_store.specs.Named.{with_entry, entry_of}
 use Rattle.roff_store.specs.Registers.{Registers, register_of, with_step, next_value}

@@ -13,9 +13,9 @@ use Rattle.roff_run.specs.Requests.{PageEvent}
 use Rattle.roff_run.specs.Results.{last_state}
 use Rattle.roff_run.specs.Run.{State, initial, input_left, known, moved, step_with, step, after}
 use Rattle.roff_run.specs.Taken.{bytes_of, newlines_in, line_of_last, Takes, EachItemIsTakenOnce, EachRunLeavesItsRest}
-use Rattle.roff_scan.specs.Bytes.{newline}
-use Rattle.roff_scan.specs.Input.{Ahead, counting, item_taken}
-use Rattle.roff_scan.specs.Tape.{Tape, Item, Ending, OneByte, OneNote, Gives, front, behind_front}
+use Rattle.roff_source.specs.Bytes.{newline}
+use Rattle.roff_ahead.specs.Input.{Ahead, counting, item_taken}
+use Rattle.roff_source.specs.Tape.{Tape, Item, Ending, OneByte, OneNote, Gives, front, behind_front}
 use Rattle.roff_run.proofs.Endings.{at_last_state}
 use Rattle.roff_run.proofs.Keeping.{Keeps-end_taking}
 use Rattle.roff_run.proofs.PerformedOrStopped.{PerformedOrStopped, Performed, StoppedAt, performed_or_stopped}

@@ -5,11 +5,11 @@ use Rattle.std.specs.List.{AllByRecursion, list_any}
 use Rattle.std.proofs.lemmas.Bool.{cases_Bool, eqb-true}
 use Rattle.roff_lines.specs.declared.event.Event.TheVariants.{Print, WordEnd, Gap}
 use Rattle.roff_lines.specs.declared.glyph.Glyph.TheVariants.{Printed}
-use Rattle.roff_scan.specs.Bytes.{blank, backslash, is_silent, is_text_byte, newline, tab}
-use Rattle.roff_scan.specs.Half.{Half, Backslash}
-use Rattle.roff_scan.specs.Halves.{byte_read}
-use Rattle.roff_scan.specs.declared.half.CopyUnit.TheVariants.{Byte}
-use Rattle.roff_scan.specs.declared.half.Read.TheVariants.{GoesOn, Unit as GivesUnit}
+use Rattle.roff_source.specs.Bytes.{blank, backslash, is_silent, is_text_byte, newline, tab}
+use Rattle.roff_escape.specs.Half.{Half, Backslash}
+use Rattle.roff_escape.specs.Halves.{byte_read}
+use Rattle.roff_escape.specs.declared.half.CopyUnit.TheVariants.{Byte}
+use Rattle.roff_escape.specs.declared.half.Read.TheVariants.{GoesOn, Unit as GivesUnit}
 use Rattle.roff_run.specs.Reading.{interrupted, kept_taking}
 use Rattle.roff_run.specs.Reading.Items.{PageInput, Taking, going_on, meaning_events}
 use Rattle.roff_run.specs.Reading.TextLines.{blank_taking, glyph_taking, on_line, other_taking, tab_taking, text_line_end, text_taking}

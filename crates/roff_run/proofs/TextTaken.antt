@@ -1,11 +1,11 @@
 -- Bytes of a text line that are read as themselves: neither dropped nor a backslash, where nothing is half read.
 use Rattle.std.proofs.Common.{◌≡◌, ℕ, ◌==◌, Bool, true, false, List, [], ◌∷◌, Option, None, sym, ap, ◌∙◌}
 use Rattle.std.specs.Prelude.{if◌then◌else◌}
-use Rattle.roff_scan.specs.Bytes.{apostrophe, backslash, dot, is_dropped}
-use Rattle.roff_scan.specs.Half.{Half, Backslash}
-use Rattle.roff_scan.specs.Halves.{byte_read}
-use Rattle.roff_scan.specs.declared.half.CopyUnit.TheVariants.{Byte}
-use Rattle.roff_scan.specs.declared.half.Read.TheVariants.{GoesOn, Unit as GivesUnit}
+use Rattle.roff_source.specs.Bytes.{apostrophe, backslash, dot, is_dropped}
+use Rattle.roff_escape.specs.Half.{Half, Backslash}
+use Rattle.roff_escape.specs.Halves.{byte_read}
+use Rattle.roff_escape.specs.declared.half.CopyUnit.TheVariants.{Byte}
+use Rattle.roff_escape.specs.declared.half.Read.TheVariants.{GoesOn, Unit as GivesUnit}
 use Rattle.roff_run.specs.Reading.{interrupted, kept_taking, taking}
 use Rattle.roff_run.specs.Reading.Beginnings.{at_start, beginning_text, going_on_told, line_begun, line_begun_as}
 use Rattle.roff_run.specs.Reading.Items.{PageInput, behind_events, going_on}

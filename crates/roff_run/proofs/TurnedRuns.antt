@@ -5,9 +5,9 @@ use Rattle.std.specs.Prelude.{map, sum_by}
 use Rattle.roff_num.specs.declared.limit.Limit.{Limit}
 use Rattle.roff_num.specs.declared.limits.Limits.{Limits}
 use Rattle.roff_scan.proofs.PassingAhead.{bytes_taken-is}
-use Rattle.roff_scan.specs.Halves.{seen_stays}
-use Rattle.roff_scan.specs.Input.{Ahead, ByteAhead, bytes_taken}
-use Rattle.roff_scan.specs.Tape.{Tape}
+use Rattle.roff_escape.specs.Halves.{seen_stays}
+use Rattle.roff_ahead.specs.Input.{Ahead, ByteAhead, bytes_taken}
+use Rattle.roff_source.specs.Tape.{Tape}
 use Rattle.roff_store.specs.Named.{Named}
 use Rattle.roff_store.specs.Texts.{Entry}
 use Rattle.roff_run.proofs.InputCounts.{NoMore, first_passed-no_more, first_passed-texts}

@@ -3,12 +3,12 @@ use Rattle.std.proofs.Common.{◌≡◌, ℕ, ◌+◌, ◌≤◌, Bool, true, fa
 use Rattle.std.specs.Prelude.{nat_lt, if◌then◌else◌}
 use Rattle.std.proofs.lemmas.Bool.{ltb-false}
 use Rattle.roff_num.specs.declared.limit.Limit.TheVariants.{Bytes}
-use Rattle.roff_scan.specs.Halves.{newline_stays}
-use Rattle.roff_scan.specs.Input.{Ahead, ByteAhead, FreeAhead, EndAhead, ReturnAhead, DoAhead, cost, item_taken}
-use Rattle.roff_scan.specs.Tape.{Answer, Gives, Ends, OneByte, OneNote}
+use Rattle.roff_escape.specs.Halves.{newline_stays}
+use Rattle.roff_ahead.specs.Input.{Ahead, ByteAhead, FreeAhead, EndAhead, ReturnAhead, DoAhead, cost, item_taken}
+use Rattle.roff_source.specs.Tape.{Answer, Gives, Ends, OneByte, OneNote}
 use Rattle.roff_scan.specs.Unread.{Unread, taking, taking_answer, answer_behind}
-use Rattle.roff_scan.specs.Shown.{Shown, ShowsByte, ShowsEnd, ShowsReturn, ShowsDo, ShowsNote, ShowsEnding, ShowsRefusal}
-use Rattle.roff_scan.specs.Half.{Half}
+use Rattle.roff_ahead.specs.Shown.{Shown, ShowsByte, ShowsEnd, ShowsReturn, ShowsDo, ShowsNote, ShowsEnding, ShowsRefusal}
+use Rattle.roff_escape.specs.Half.{Half}
 use Rattle.roff_run.specs.Reading.{half_ended, taking as byte_taking}
 use Rattle.roff_run.specs.Reading.Ends.{end_taking, line_ends_first}
 use Rattle.roff_run.specs.Reading.Items.{PageInput}

@@ -14,17 +14,17 @@ use Rattle.roff_lines.specs.declared.glyph.Glyph.{Glyph}
 use Rattle.roff_lines.specs.declared.glyph.Glyph.TheVariants.{Blanks}
 use Rattle.roff_num.specs.declared.limit.Limit.TheVariants.{Line}
 use Rattle.roff_num.specs.declared.limits.Limits.{Limits}
-use Rattle.roff_scan.specs.Arguments.{Arguments}
-use Rattle.roff_scan.specs.Bytes.{newline, backslash, is_dropped}
-use Rattle.roff_scan.specs.Half.{Half, Backslash, Width}
-use Rattle.roff_scan.specs.Halves.{Reads, byte_read, decides_now, newline_stays, reading_ended, reads_widths, seen_stays}
-use Rattle.roff_scan.specs.Input.{pushing, Ahead}
-use Rattle.roff_scan.specs.Measures.{byte_columns, most_width, wider}
-use Rattle.roff_scan.specs.Tape.{Answer}
-use Rattle.roff_scan.specs.Shown.{seen_ahead}
-use Rattle.roff_scan.specs.declared.half.Read.TheVariants.{GoesOn, Measures}
-use Rattle.roff_scan.specs.declared.half.Surroundings.{Surroundings}
-use Rattle.roff_scan.specs.declared.half.Surroundings.TheVariants.{Text as AboveText, Arguments as AboveArguments, Copy as AboveCopy}
+use Rattle.roff_arguments.specs.Arguments.{Arguments}
+use Rattle.roff_source.specs.Bytes.{newline, backslash, is_dropped}
+use Rattle.roff_escape.specs.Half.{Half, Backslash, Width}
+use Rattle.roff_escape.specs.Halves.{Reads, byte_read, decides_now, newline_stays, reading_ended, reads_widths, seen_stays}
+use Rattle.roff_ahead.specs.Input.{pushing, Ahead}
+use Rattle.roff_escape.specs.Measures.{byte_columns, most_width, wider}
+use Rattle.roff_source.specs.Tape.{Answer}
+use Rattle.roff_ahead.specs.Shown.{seen_ahead}
+use Rattle.roff_escape.specs.declared.half.Read.TheVariants.{GoesOn, Measures}
+use Rattle.roff_escape.specs.declared.half.Surroundings.{Surroundings}
+use Rattle.roff_escape.specs.declared.half.Surroundings.TheVariants.{Text as AboveText, Arguments as AboveArguments, Copy as AboveCopy}
 use Rattle.roff_run.proofs.Interpolation.{Fits-IsWithin, FindsAtLast, AtLast, Behind, FromAhead, FromSource, IsRead, IsRead-itself, Means, Origin, ReadsEscapes, AtBeginning, AtBranch, AtBraced, OnText, OnArguments, OnCondition, OnStringName, OnCall, OnStringText, OnDefinition, OnMessage, ReadsEscapes-reads_escapes, after-escape, ahead_at, going, input_of, interrupted-arguments, is-going, is_no_newline, line_behind, not-first, not-second, settled_for, settled_for-settled_for, settled_input, source_behind, step-byte, tape_at, taken_as-going_on, taking-reads, made-Fits, none_due-reads, step-TakesItems}
 use Rattle.roff_run.specs.InterpolationLaws.{TakesItems, StandsForItself, reads_escapes}
 use Rattle.roff_run.specs.Laws.{IsWithin}

@@ -1,12 +1,12 @@
 -- Laws of control lines that call a body, and of those whose names stand for nothing (manual, section 7).
 use Rattle.std.specs.Prelude.{◌≡◌, ℕ, ◌+◌, ◌≤◌, false, not, ◌||◌, List, [], ◌∷◌, ◌++◌, length, map, take, All, IsTrue, Some, None, ◌==◌}
 use Rattle.roff_num.specs.declared.limits.Limits.{Limits}
-use Rattle.roff_scan.specs.Arguments.{no_arguments}
-use Rattle.roff_scan.specs.Bytes.{apostrophe, blank, dot, is_dropped, newline}
-use Rattle.roff_scan.specs.Input.{Ahead, ByteAhead, ReturnAhead, lines_taken}
-use Rattle.roff_scan.specs.Input.Calls.{called_text}
-use Rattle.roff_scan.specs.Quoting.{quoted_line}
-use Rattle.roff_scan.specs.Tape.{Tape, OneByte, items_then}
+use Rattle.roff_arguments.specs.Arguments.{no_arguments}
+use Rattle.roff_source.specs.Bytes.{apostrophe, blank, dot, is_dropped, newline}
+use Rattle.roff_ahead.specs.Input.{Ahead, ByteAhead, ReturnAhead, lines_taken}
+use Rattle.roff_ahead.specs.Input.Calls.{called_text}
+use Rattle.roff_arguments.specs.Quoting.{quoted_line}
+use Rattle.roff_source.specs.Tape.{Tape, OneByte, items_then}
 use Rattle.roff_store.specs.Named.{Named, entry_of}
 use Rattle.roff_store.specs.Texts.{Entry, Body}
 use Rattle.roff_run.specs.InterpolationLaws.{StandsForItself, TakesItems}

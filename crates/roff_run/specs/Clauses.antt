@@ -4,7 +4,7 @@ pub use Rattle.roff_run.specs.Environments.Standing.{StandFor}
 pub use Rattle.roff_run.specs.declared.environments.Environments.{Environments as EnvironmentsOf}
 pub use Rattle.roff_run.specs.Reader.State.{fresh_reader}
 pub use Rattle.roff_run.specs.Reader.Taken.{Changed, InputBecame, PageUnread, TakesAs}
-pub use Rattle.roff_scan.specs.Bytes.{is_passed}
+pub use Rattle.roff_source.specs.Bytes.{is_passed}
 pub use Rattle.roff_run.specs.Reading.{Passes, half_ended, interrupted, kept_taking, taking}
 pub use Rattle.roff_run.specs.Reading.Arguments.{arguments_found, calling_all, line_ended, unit_found, arguments_ended}
 pub use Rattle.roff_run.specs.Reading.Beginnings.{beginning_found, first_escape, first_taking, going_on_told, line_begun, first_name, at_start}
@@ -21,10 +21,10 @@ pub use Rattle.roff_run.specs.Reading.Strings.{name_read, string_begun, string_e
 pub use Rattle.roff_run.specs.Reading.TextLines.{name_taking, text_found, on_line}
 pub use Rattle.roff_run.specs.Reading.Units.{holding, no_unit_found}
 pub use Rattle.roff_num.specs.ShortNames.{name_at}
-pub use Rattle.roff_scan.specs.Input.{holding_plain, holding_text}
-pub use Rattle.roff_scan.specs.Input.Calls.{arguments_given}
+pub use Rattle.roff_ahead.specs.Input.{holding_plain, holding_text}
+pub use Rattle.roff_ahead.specs.Input.Calls.{arguments_given}
 pub use Rattle.roff_run.specs.Definitions.{ends_mark}
-pub use Rattle.roff_scan.specs.Half.{unit_bytes}
+pub use Rattle.roff_escape.specs.Half.{unit_bytes}
 pub use Rattle.roff_run.specs.Registers.{AllRegisters, Remove, changed_by, value_in_force}
 pub use Rattle.roff_run.specs.Registers.Coded.{known_of}
 pub use Rattle.roff_run.specs.Request.Coded.{calls_of, changes_of, effect_of, name_in, register_named}
@@ -33,4 +33,4 @@ pub use Rattle.roff_run.specs.Requests.Naming.{removals}
 pub use Rattle.roff_run.specs.Requests.Numbering.{names_given}
 pub use Rattle.roff_run.specs.Run.{first_unread, known_at}
 pub use Rattle.roff_run.specs.declared.reading.Reading.TheVariants.{LineStart, Name as NameOf, Telling}
-pub use Rattle.roff_scan.specs.ArgumentList.{listed}
+pub use Rattle.roff_arguments.specs.ArgumentList.{listed}

@@ -4,9 +4,9 @@
 -- newlines are found.
 use Rattle.std.specs.Prelude.{◌≡◌, ℕ, ◌+◌, ◌≤◌, Bool, true, false, not, List, [], ◌∷◌, ◌++◌, length, map, All, if◌then◌else◌, ◌==◌}
 use Rattle.roff_num.specs.declared.limits.Limits.{Limits}
-use Rattle.roff_scan.specs.Bytes.{newline, backslash, is_dropped}
-use Rattle.roff_scan.specs.Input.{lines_taken}
-use Rattle.roff_scan.specs.Tape.{Tape, OneByte, items_then}
+use Rattle.roff_source.specs.Bytes.{newline, backslash, is_dropped}
+use Rattle.roff_ahead.specs.Input.{lines_taken}
+use Rattle.roff_source.specs.Tape.{Tape, OneByte, items_then}
 use Rattle.roff_run.specs.InterpolationLaws.{TakesItems}
 use Rattle.roff_run.specs.Laws.{IsWithin}
 use Rattle.roff_run.specs.Quoting.{taking_all}

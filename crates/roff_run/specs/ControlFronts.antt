@@ -1,8 +1,8 @@
 -- The front of a control line, up to its name: what its bytes lead to.
 use Rattle.std.specs.Prelude.{◌≡◌, ℕ, Bool, true, false, if◌then◌else◌, List, [], ◌∷◌, length}
-use Rattle.roff_scan.specs.Bytes.{apostrophe, dot}
-use Rattle.roff_scan.specs.Half.{Half, Condition}
-use Rattle.roff_scan.specs.declared.half.ConditionPart.TheVariants.{Choice}
+use Rattle.roff_source.specs.Bytes.{apostrophe, dot}
+use Rattle.roff_escape.specs.Half.{Half, Condition}
+use Rattle.roff_escape.specs.declared.half.ConditionPart.TheVariants.{Choice}
 use Rattle.roff_scan.specs.Unread.Calls.{IsFront, front_bytes}
 use Rattle.roff_run.specs.Reader.Taken.{PageUnread}
 use Rattle.roff_run.specs.Reading.{taking}

@@ -2,11 +2,11 @@
 use Rattle.std.specs.Prelude.{◌≡◌, ℕ, ◌+◌, ◌≤◌, Bool, true, false, List, [], ◌∷◌, ◌++◌, length, map, All, IsTrue, Option, Some, None, ◌||◌, not, if◌then◌else◌, ◌==◌}
 use Rattle.std.specs.List.{flat_map}
 use Rattle.roff_num.specs.declared.limits.Limits.{Limits}
-use Rattle.roff_scan.specs.Bytes.{is_dropped, newline}
-use Rattle.roff_scan.specs.HalfLaws.{copied, is_only_copied}
-use Rattle.roff_scan.specs.Input.{Ahead, ByteAhead, lines_taken}
-use Rattle.roff_scan.specs.Input.Names.{body_named, stored}
-use Rattle.roff_scan.specs.Tape.{Tape, OneByte, items_then}
+use Rattle.roff_source.specs.Bytes.{is_dropped, newline}
+use Rattle.roff_escape.specs.HalfLaws.{copied, is_only_copied}
+use Rattle.roff_ahead.specs.Input.{Ahead, ByteAhead, lines_taken}
+use Rattle.roff_ahead.specs.Input.Names.{body_named, stored}
+use Rattle.roff_source.specs.Tape.{Tape, OneByte, items_then}
 use Rattle.roff_store.specs.Named.{with_entry}
 use Rattle.roff_store.specs.Texts.{Body}
 use Rattle.roff_run.specs.ConditionLaws.{is_whole}

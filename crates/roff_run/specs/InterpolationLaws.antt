@@ -2,18 +2,18 @@
 -- 16).
 use Rattle.std.specs.Prelude.{◌≡◌, ℕ, ◌+◌, ◌<◌, Bool, true, false, not, ◌||◌, List, [], ◌∷◌, ◌++◌, length, map, sum_by, IsTrue, Option, Some, None, ◌==◌}
 use Rattle.roff_num.specs.declared.limits.Limits.{Limits}
-use Rattle.roff_scan.specs.Bytes.{newline, backslash, is_dropped}
-use Rattle.roff_scan.specs.HalfLaws.{is_special, short_escape, long_escape, string_escape, argument_escape}
-use Rattle.roff_scan.specs.Half.{Half, Backslash, Comment, Name as NameHalf, Size, Delimited, Width, Condition, names_in}
-use Rattle.roff_scan.specs.Halves.{most_names, seen_stays}
-use Rattle.roff_scan.specs.Input.{Ahead, ByteAhead, pushing, item_taken, cost, counting}
-use Rattle.roff_scan.specs.Input.Calls.{arguments_live}
-use Rattle.roff_scan.specs.Input.Names.{body_named}
-use Rattle.roff_scan.specs.declared.escapes.NameUse.{NameUse}
-use Rattle.roff_scan.specs.declared.escapes.NameUse.TheVariants.{Register, Text as OfText, Argument}
-use Rattle.roff_scan.specs.declared.half.ConditionPart.{ConditionPart}
-use Rattle.roff_scan.specs.declared.half.ConditionPart.TheVariants.{Choice, Expression, Compared, Decided}
-use Rattle.roff_scan.specs.Tape.{Tape, Gives, OneByte, front, items_then}
+use Rattle.roff_source.specs.Bytes.{newline, backslash, is_dropped}
+use Rattle.roff_escape.specs.HalfLaws.{is_special, short_escape, long_escape, string_escape, argument_escape}
+use Rattle.roff_escape.specs.Half.{Half, Backslash, Comment, Name as NameHalf, Size, Delimited, Width, Condition, names_in}
+use Rattle.roff_escape.specs.Halves.{most_names, seen_stays}
+use Rattle.roff_ahead.specs.Input.{Ahead, ByteAhead, pushing, item_taken, cost, counting}
+use Rattle.roff_ahead.specs.Input.Calls.{arguments_live}
+use Rattle.roff_ahead.specs.Input.Names.{body_named}
+use Rattle.roff_escape.specs.declared.escapes.NameUse.{NameUse}
+use Rattle.roff_escape.specs.declared.escapes.NameUse.TheVariants.{Register, Text as OfText, Argument}
+use Rattle.roff_escape.specs.declared.half.ConditionPart.{ConditionPart}
+use Rattle.roff_escape.specs.declared.half.ConditionPart.TheVariants.{Choice, Expression, Compared, Decided}
+use Rattle.roff_source.specs.Tape.{Tape, Gives, OneByte, front, items_then}
 use Rattle.roff_num.specs.declared.direction.Direction.{Direction}
 use Rattle.roff_run.specs.Laws.{IsWithin}
 use Rattle.roff_run.specs.Messages.{message_lines}

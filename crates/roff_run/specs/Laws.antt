@@ -8,9 +8,9 @@ use Rattle.roff_num.specs.declared.limits.Limits.{Limits}
 use Rattle.roff_run.specs.Environments.{Environments, environments}
 use Rattle.roff_run.specs.Limits.{AreWithin}
 use Rattle.roff_run.specs.Run.{State, initial, after, output, reported}
-use Rattle.roff_scan.specs.Input.{pushed, depth, results}
-use Rattle.roff_scan.specs.Input.Names.{names_added, stored}
-use Rattle.roff_scan.specs.Tape.{Tape, Item, Ending, Failed}
+use Rattle.roff_ahead.specs.Input.{pushed, depth, results}
+use Rattle.roff_ahead.specs.Input.Names.{names_added, stored}
+use Rattle.roff_source.specs.Tape.{Tape, Item, Ending, Failed}
 
 -- one run is only cut beside another: what it wrote is a beginning of what the other did, and so are its
 -- messages, without the one with which it ended

@@ -1,4 +1,4 @@
-pub use Rattle.roff_scan.specs.Tape
+pub use Rattle.roff_source.specs.Tape
 pub mod Limits
 pub mod Messages
 pub mod Numbers

@@ -1,7 +1,7 @@
 -- What the lines of `.tm` and `.ab` tell (manual, section 20).
 use Rattle.std.specs.Prelude.{◌≡◌, ℕ, Bool, true, List, [], ◌∷◌, ◌++◌, All, if◌then◌else◌, ◌==◌}
-use Rattle.roff_scan.specs.Arguments.{no_arguments}
-use Rattle.roff_scan.specs.Bytes.{blank, newline}
+use Rattle.roff_arguments.specs.Arguments.{no_arguments}
+use Rattle.roff_source.specs.Bytes.{blank, newline}
 use Rattle.roff_run.specs.InterpolationLaws.{StandsForItself}
 use Rattle.roff_run.specs.Quoting.{taking_all}
 use Rattle.roff_run.specs.Reading.Items.{PageInput, Taking}

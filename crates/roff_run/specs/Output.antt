@@ -2,7 +2,7 @@
 use Rattle.std.specs.Prelude.{ℕ, List, [], ◌∷◌, ◌++◌, replicate, Option, Some, None}
 use Rattle.roff_lines.specs.Lines.{Finished, finished}
 use Rattle.roff_lines.specs.Columns.{line_bytes}
-use Rattle.roff_scan.specs.Bytes.{newline}
+use Rattle.roff_source.specs.Bytes.{newline}
 use Rattle.roff_run.specs.Requests.{PageEvent, Text, Space, Interrupt, Environment, Back}
 pub use Rattle.roff_run.specs.Environments.{PageHistory, text_of}
 

@@ -1,8 +1,8 @@
 -- Arguments written in quotes, as a request gets them (manual, section 7.3).
 use Rattle.std.specs.Prelude.{◌≡◌, ℕ, Bool, List, [], ◌∷◌, ◌++◌, All}
-use Rattle.roff_scan.specs.Arguments.{no_arguments, kept}
-use Rattle.roff_scan.specs.Bytes.{newline}
-use Rattle.roff_scan.specs.Quoting.{quoted_line}
+use Rattle.roff_arguments.specs.Arguments.{no_arguments, kept}
+use Rattle.roff_source.specs.Bytes.{newline}
+use Rattle.roff_arguments.specs.Quoting.{quoted_line}
 use Rattle.roff_run.specs.InterpolationLaws.{StandsForItself}
 use Rattle.roff_run.specs.Reading.{taking}
 use Rattle.roff_run.specs.Reading.Arguments.{ended_by}

@@ -15,8 +15,8 @@ pub mod ControlLines
 pub mod Found
 pub mod Ends
 use Rattle.std.specs.Prelude.{◌≡◌, ℕ, ◌||◌, Some, None, if◌then◌else◌, ◌==◌}
-use Rattle.roff_scan.specs.Bytes.{tab, blank, is_dropped}
-use Rattle.roff_scan.specs.Halves.{byte_read, reading_ended}
+use Rattle.roff_source.specs.Bytes.{tab, blank, is_dropped}
+use Rattle.roff_escape.specs.Halves.{byte_read, reading_ended}
 use Rattle.roff_run.specs.declared.reading.Reading.{Reading}
 use Rattle.roff_run.specs.declared.reading.Reading.TheVariants.{Control, Name, Arguments as InArguments, StringName, Skipping, Dropped, Told, Exiting, Calling}
 use Rattle.roff_run.specs.Reading.Branches.{skipping_taking}

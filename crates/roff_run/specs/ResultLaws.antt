@@ -8,7 +8,7 @@ use Rattle.roff_run.specs.Laws.{failing_behind, going_on_behind, GoesOnTo}
 use Rattle.roff_run.specs.Limits.{AreWithin}
 use Rattle.roff_run.specs.Results.{last_state, output_of, messages_of, messages_on_the_way, status_of}
 use Rattle.roff_run.specs.Run.{State, Leads, initial}
-use Rattle.roff_scan.specs.Tape.{Tape, Item, Ending}
+use Rattle.roff_source.specs.Tape.{Tape, Item, Ending}
 
 -- every run ends
 abbrev pub EveryRunEnds : Type 0

@@ -5,7 +5,7 @@ use Rattle.roff_num.specs.LimitValues.{default_limits}
 use Rattle.roff_num.specs.declared.limits.Limits.{Limits}
 use Rattle.roff_run.specs.Results.{last_state}
 use Rattle.roff_run.specs.Run.{State, output, reported}
-use Rattle.roff_scan.specs.Tape.{OneByte, Ending, Ended, Failed}
+use Rattle.roff_source.specs.Tape.{OneByte, Ending, Ended, Failed}
 
 -- what a run gave: the output, the messages, and the status that it ended with
 pub record Result : Type 0 where

@@ -9,14 +9,14 @@ use Rattle.roff_num.specs.LimitValues.{value_of}
 use Rattle.roff_num.specs.declared.limit.Limit.{Limit}
 use Rattle.roff_num.specs.declared.limit.Limit.TheVariants.{Bytes}
 use Rattle.roff_num.specs.declared.limits.Limits.{Limits}
-use Rattle.roff_scan.specs.Halves.{decides_now, newline_stays, seen_stays}
-use Rattle.roff_scan.specs.Input.{Ahead, ByteAhead, FreeAhead, EndAhead, DoAhead, initial_input, cost, item_taken, counting, leaving, ReturnAhead}
-use Rattle.roff_scan.specs.Input.Calls.{arguments_live}
-use Rattle.roff_scan.specs.Tape.{Tape, Answer, OneByte, OneNote, Ended, Failed, Stopped, Gives, Ends, front, behind_front}
+use Rattle.roff_escape.specs.Halves.{decides_now, newline_stays, seen_stays}
+use Rattle.roff_ahead.specs.Input.{Ahead, ByteAhead, FreeAhead, EndAhead, DoAhead, initial_input, cost, item_taken, counting, leaving, ReturnAhead}
+use Rattle.roff_ahead.specs.Input.Calls.{arguments_live}
+use Rattle.roff_source.specs.Tape.{Tape, Answer, OneByte, OneNote, Ended, Failed, Stopped, Gives, Ends, front, behind_front}
 use Rattle.roff_scan.specs.Unread.{Unread}
-use Rattle.roff_scan.specs.Shown.{Sighted, SeesByte, SeesNothing, SeesNote, SeesEnding, seen_ahead}
-use Rattle.roff_scan.specs.Arguments.{no_arguments}
-use Rattle.roff_scan.specs.Half.{Half}
+use Rattle.roff_ahead.specs.Shown.{Sighted, SeesByte, SeesNothing, SeesNote, SeesEnding, seen_ahead}
+use Rattle.roff_arguments.specs.Arguments.{no_arguments}
+use Rattle.roff_escape.specs.Half.{Half}
 use Rattle.roff_run.specs.Messages.{message_line, message_lines, told_line}
 use Rattle.roff_run.specs.Environments.{environments, interrupted_line}
 use Rattle.roff_run.specs.Output.{PageHistory, text_of, written}

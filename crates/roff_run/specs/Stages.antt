@@ -1,17 +1,17 @@
 -- Stages of the reading: what bytes change that change only what is read.
 use Rattle.std.specs.Prelude.{◌≡◌, ℕ, ◌+◌, ◌≤◌, ◌==◌, ◌&&◌, Bool, false, if◌then◌else◌, List, [], ◌∷◌, length, min, nat_lt, not, sum_by, take, Option, None, Some}
-use Rattle.roff_scan.specs.Arguments.{AreFewer, Arguments, held}
-use Rattle.roff_scan.specs.Bytes.{is_dropped, newline}
-use Rattle.roff_scan.specs.ConditionFronts.{TakesOn}
-use Rattle.roff_scan.specs.Half.{Half, texts_held}
-use Rattle.roff_scan.specs.Halves.{byte_read, seen_stays}
-use Rattle.roff_scan.specs.Input.Names.{adding}
-use Rattle.roff_scan.specs.Tape.{Tape}
+use Rattle.roff_arguments.specs.Arguments.{AreFewer, Arguments, held}
+use Rattle.roff_source.specs.Bytes.{is_dropped, newline}
+use Rattle.roff_escape.specs.ConditionFronts.{TakesOn}
+use Rattle.roff_escape.specs.Half.{Half, texts_held}
+use Rattle.roff_escape.specs.Halves.{byte_read, seen_stays}
+use Rattle.roff_ahead.specs.Input.Names.{adding}
+use Rattle.roff_source.specs.Tape.{Tape}
 use Rattle.roff_scan.specs.Unread.{IsWithin}
 use Rattle.roff_scan.specs.Unread.Calls.{NoNewline, PassesFront}
-use Rattle.roff_scan.specs.declared.half.CopyUnit.TheVariants.{Byte}
-use Rattle.roff_scan.specs.declared.half.Read.TheVariants.{GoesOn}
-use Rattle.roff_scan.specs.declared.half.Surroundings.{Surroundings}
+use Rattle.roff_escape.specs.declared.half.CopyUnit.TheVariants.{Byte}
+use Rattle.roff_escape.specs.declared.half.Read.TheVariants.{GoesOn}
+use Rattle.roff_escape.specs.declared.half.Surroundings.{Surroundings}
 use Rattle.roff_store.specs.Named.{Named}
 use Rattle.roff_store.specs.Texts.{Entry}
 use Rattle.roff_run.specs.Reader.State.{ReaderState}

@@ -10,7 +10,7 @@ use Rattle.roff_run.specs.declared.message.Message.TheVariants.{LimitReached, Re
 use Rattle.roff_run.specs.declared.status.Status.{Status}
 use Rattle.roff_run.specs.declared.status.Status.TheVariants.{Aborted, Done, Device, Limit as Limited}
 use Rattle.roff_run.specs.declared.reading.Reading.TheVariants.{Exiting, Told}
-use Rattle.roff_scan.specs.Tape.{Tape, Ending, Ended, Failed, Stopped}
+use Rattle.roff_source.specs.Tape.{Tape, Ending, Ended, Failed, Stopped}
 
 -- no item of a tape is left, and its items end so
 pub record HasMet (ending : Ending) (rest : Tape) : Type 0 where

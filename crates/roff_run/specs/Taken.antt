@@ -3,8 +3,8 @@ use Rattle.std.specs.Prelude.{◌≡◌, ℕ, ◌+◌, ◌-◌, ◌≤◌, List,
 use Rattle.roff_num.specs.declared.limits.Limits.{Limits}
 use Rattle.roff_run.specs.Results.{rest_of, charge_of}
 use Rattle.roff_run.specs.Run.{State, initial, after}
-use Rattle.roff_scan.specs.Bytes.{newline}
-use Rattle.roff_scan.specs.Tape.{Tape, Item, OneByte, OneNote}
+use Rattle.roff_source.specs.Bytes.{newline}
+use Rattle.roff_source.specs.Tape.{Tape, Item, OneByte, OneNote}
 
 -- the bytes among some items
 abbrev pub bytes_of : List Item → List ℕ

@@ -1,9 +1,9 @@
 -- How many turns of a run are still to come at the most: each takes something, or ends what is half read.
 use Rattle.std.specs.Prelude.{ℕ, ◌+◌, ◌-◌, ◌*◌, List, [], ◌∷◌, None}
-use Rattle.roff_scan.specs.Half.{Half, Condition}
-use Rattle.roff_scan.specs.Input.{Ahead, ByteAhead, FreeAhead, EndAhead, ReturnAhead, DoAhead}
+use Rattle.roff_escape.specs.Half.{Half, Condition}
+use Rattle.roff_ahead.specs.Input.{Ahead, ByteAhead, FreeAhead, EndAhead, ReturnAhead, DoAhead}
 use Rattle.roff_scan.specs.Unread.{Unread}
-use Rattle.roff_scan.specs.declared.half.ConditionPart.TheVariants.{Decided}
+use Rattle.roff_escape.specs.declared.half.ConditionPart.TheVariants.{Decided}
 use Rattle.roff_run.specs.Reading.Items.{PageInput}
 use Rattle.roff_run.specs.Requests.{PageEvent}
 use Rattle.roff_run.specs.declared.reading.Reading.{Reading}

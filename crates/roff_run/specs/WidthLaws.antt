@@ -9,11 +9,11 @@ use Rattle.roff_lines.specs.declared.event.Event.TheVariants.{Print, Tab}
 use Rattle.roff_lines.specs.declared.glyph.Glyph.TheVariants.{Blanks}
 use Rattle.roff_num.specs.declared.limit.Limit.TheVariants.{Line}
 use Rattle.roff_num.specs.declared.limits.Limits.{Limits}
-use Rattle.roff_scan.specs.Bytes.{newline, backslash, is_dropped}
-use Rattle.roff_scan.specs.Half.{Half, Width}
-use Rattle.roff_scan.specs.Input.{Ahead, ByteAhead, pushing}
-use Rattle.roff_scan.specs.Measures.{byte_columns, most_width}
-use Rattle.roff_scan.specs.Tape.{Tape, Gives, OneByte, Ends, Ended, front, items_then}
+use Rattle.roff_source.specs.Bytes.{newline, backslash, is_dropped}
+use Rattle.roff_escape.specs.Half.{Half, Width}
+use Rattle.roff_ahead.specs.Input.{Ahead, ByteAhead, pushing}
+use Rattle.roff_escape.specs.Measures.{byte_columns, most_width}
+use Rattle.roff_source.specs.Tape.{Tape, Gives, OneByte, Ends, Ended, front, items_then}
 use Rattle.roff_run.specs.InterpolationLaws.{TakesItems, StandsForItself, reads_escapes, with_source_behind}
 use Rattle.roff_run.specs.Laws.{IsWithin}
 use Rattle.roff_run.specs.Output.{PageHistory, text_of}

@@ -7,14 +7,14 @@ use Rattle.std.proofs.lemmas.List.Folds.{length-prefix_len}
 use Rattle.std.proofs.lemmas.List.{append-nil, get_or-set_same, length-append, length-set, set-get_or, set-set}
 use Rattle.std.proofs.lemmas.List.Sums.{sum_by-set}
 use Rattle.roff_num.specs.declared.limit.Limit.{Limit}
-use Rattle.roff_scan.specs.Bytes.{is_text_byte, newline}
-use Rattle.roff_scan.specs.Input.{Input, counting, is_none_ahead, lines_taken}
-use Rattle.roff_scan.specs.Input.Names.{adding, calling_on}
-use Rattle.roff_scan.specs.Tape.{Tape}
+use Rattle.roff_source.specs.Bytes.{is_text_byte, newline}
+use Rattle.roff_ahead.specs.Input.{Input, counting, is_none_ahead, lines_taken}
+use Rattle.roff_ahead.specs.Input.Names.{adding, calling_on}
+use Rattle.roff_source.specs.Tape.{Tape}
 use Rattle.roff_scan.specs.Unread.{Unread, changing, input_refusal, unless_passed}
 use Rattle.roff_scan.specs.Unread.Calls.{AddsFront, IsFront, NoNewline, OfSource, OfTexts, PassesSource, front_bytes}
 use Rattle.roff_scan.proofs.Fronts.{next-ready}
-use Rattle.roff_scan.proofs.PlainBytes.{take_while-plain}
+use Rattle.roff_source.proofs.PlainBytes.{take_while-plain}
 use Rattle.roff_store.specs.TextCalls.{PushOpen}
 use Rattle.roff_store.specs.Texts.{newest}
 

@@ -4,14 +4,14 @@ use Rattle.std.specs.Prelude.{nat_lt, Bool, Option, Some, if◌then◌else◌}
 use Rattle.std.proofs.lemmas.Bool.Decides.{nat_tests}
 use Rattle.roff_num.specs.declared.limit.Limit.{Limit}
 use Rattle.roff_num.specs.declared.limit.Limit.TheVariants.{Stack, Depth, Store, Names}
-use Rattle.roff_scan.specs.Arguments.{Arguments, held}
-use Rattle.roff_scan.specs.Half.{Half, texts_held}
-use Rattle.roff_scan.specs.Input.{Input, EndAhead, pushed, depth, results, pushing, freeing, leaving, with_arguments, with_half}
-use Rattle.roff_scan.specs.Input.Names.{names_added, stored}
+use Rattle.roff_arguments.specs.Arguments.{Arguments, held}
+use Rattle.roff_escape.specs.Half.{Half, texts_held}
+use Rattle.roff_ahead.specs.Input.{Input, EndAhead, pushed, depth, results, pushing, freeing, leaving, with_arguments, with_half}
+use Rattle.roff_ahead.specs.Input.Names.{names_added, stored}
 use Rattle.roff_scan.specs.Unread.{Unread, IsWithin, changing, unless_passed}
 use Rattle.roff_scan.proofs.CallsOver.{kept_below-few}
-use Rattle.roff_scan.proofs.KeptArguments.{held-only_kept}
-use Rattle.roff_scan.proofs.Counts.{bytes_ahead-bytes, ends_ahead-bytes, bytes_ahead-frees, ends_ahead-frees}
+use Rattle.roff_arguments.proofs.KeptArguments.{held-only_kept}
+use Rattle.roff_ahead.proofs.Counts.{bytes_ahead-bytes, ends_ahead-bytes, bytes_ahead-frees, ends_ahead-frees}
 
 -- a test that fails, and one that holds
 pub not_above : (limit count : ℕ) → count ≤ limit → nat_lt limit count ≡ false

@@ -1,15 +1,15 @@
 -- Bytes of a condition that stand in front of the unread input.
 use Rattle.std.proofs.Common.{◌≡◌, ℕ, ◌+◌, ◌≤◌, List, [], length, take, refl, sym, ap, subst, ◌∙◌, arith}
 use Rattle.std.proofs.lemmas.List.{take-take}
-use Rattle.roff_scan.specs.ConditionFronts.{ByteTaken, HalvesTaken, NothingTaken}
-use Rattle.roff_scan.specs.Half.{Half, texts_held}
-use Rattle.roff_scan.specs.Input.{pushed}
-use Rattle.roff_scan.specs.Tape.{Tape}
+use Rattle.roff_escape.specs.ConditionFronts.{ByteTaken, HalvesTaken, NothingTaken}
+use Rattle.roff_escape.specs.Half.{Half, texts_held}
+use Rattle.roff_ahead.specs.Input.{pushed}
+use Rattle.roff_source.specs.Tape.{Tape}
 use Rattle.roff_scan.specs.Unread.{Unread, IsWithin}
 use Rattle.roff_scan.specs.Unread.Calls.{IsFront, NoNewline, PassesFront, TakesHalves, front_bytes, next_bytes}
 use Rattle.roff_scan.proofs.Fronts.{passes_none}
 use Rattle.roff_scan.proofs.NamesInFront.{half-behind, passes-half, with_read}
-use Rattle.roff_scan.proofs.ConditionFronts.{taken-plain}
+use Rattle.roff_escape.proofs.ConditionFronts.{taken-plain}
 
 HalvesTaken-plain : (half last : List Half) (bytes : List ℕ) → HalvesTaken half bytes last → NoNewline bytes
 HalvesTaken-plain _ last _ (NothingTaken half) = tt

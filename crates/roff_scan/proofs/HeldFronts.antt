@@ -2,20 +2,20 @@
 use Rattle.std.proofs.Common.{◌≡◌, ℕ, ◌+◌, ◌==◌, ◌≤◌, Bool, true, false, not, ◌||◌, List, [], ◌∷◌, ◌++◌, length, map, take, Option, refl, sym, ap, subst, ◌∙◌, arith}
 use Rattle.std.specs.List.{AllByRecursion}
 use Rattle.std.proofs.lemmas.List.{take-take}
-use Rattle.roff_scan.specs.Arguments.{Arguments, HeldFewer, bytes_held, held, only_kept, with_argument_byte}
-use Rattle.roff_scan.specs.Bytes.{is_argument_byte}
-use Rattle.roff_scan.specs.ArgumentTexts.Kept.{KeptArguments, TakesFront}
-use Rattle.roff_scan.specs.Bytes.{backslash, is_dropped, newline}
-use Rattle.roff_scan.specs.Input.{Ahead, ByteAhead, Input, bytes_taken, counting, item_taken, lines_taken, pushed}
-use Rattle.roff_scan.specs.Tape.{Tape}
+use Rattle.roff_arguments.specs.Arguments.{Arguments, HeldFewer, bytes_held, held, only_kept, with_argument_byte}
+use Rattle.roff_source.specs.Bytes.{is_argument_byte}
+use Rattle.roff_arguments.specs.ArgumentTexts.Kept.{KeptArguments, TakesFront}
+use Rattle.roff_source.specs.Bytes.{backslash, is_dropped, newline}
+use Rattle.roff_ahead.specs.Input.{Ahead, ByteAhead, Input, bytes_taken, counting, item_taken, lines_taken, pushed}
+use Rattle.roff_source.specs.Tape.{Tape}
 use Rattle.roff_scan.specs.Unread.{Unread, IsWithin}
 use Rattle.roff_scan.specs.Unread.Calls.{HoldsFewer, IsFront, NoNewline, OfSource, OfTexts, PassesFront, front_bytes, next_bytes}
 use Rattle.roff_scan.specs.Unread.Kept.{NoneBegun}
-use Rattle.roff_scan.specs.declared.half.CopyUnit.TheVariants.{Byte}
+use Rattle.roff_escape.specs.declared.half.CopyUnit.TheVariants.{Byte}
 use Rattle.roff_scan.proofs.Fronts.{passes_none}
-use Rattle.roff_scan.proofs.KeptArguments.{held-only_kept, held-with_argument_byte}
+use Rattle.roff_arguments.proofs.KeptArguments.{held-only_kept, held-with_argument_byte}
 use Rattle.roff_scan.proofs.LineCalls.{NoneBegun-with_unit}
-use Rattle.roff_scan.proofs.HeldBytes.{held-bytes_held}
+use Rattle.roff_arguments.proofs.HeldBytes.{held-bytes_held}
 
 -- and what was held stays
 pub held-byte_least : (a : Arguments) (b : ℕ) → held a ≤ held (only_kept (with_argument_byte a b))

@@ -2,22 +2,22 @@
 use Rattle.std.proofs.Common.{◌≡◌, ◌<◌, ◌≤◌, ◌+◌, ◌-◌, ℕ, Bool, true, false, List, [], ◌∷◌, get_or, length, Ok, Err, refl, ap, ◌∙◌, arith}
 use Rattle.std.specs.Prelude.{if◌then◌else◌, reverse, ◌==◌}
 use Rattle.roff_num.specs.declared.limit.Limit.TheVariants.{Stack, Depth}
-use Rattle.roff_scan.specs.Arguments.{Arguments, with_byte, with_byte_at, with_plain, with_unit, with_whole, between, settled, settled_at, finished, finished_at, held, in_argument, only_kept, total_length}
-use Rattle.roff_scan.specs.ArgumentList.{listed}
-use Rattle.roff_scan.specs.Bytes.{blank, quote}
-use Rattle.roff_scan.specs.Calls.Kept.{first_call}
-use Rattle.roff_scan.specs.Input.{Input, ReturnAhead, depth, pushed, returns_ahead}
-use Rattle.roff_scan.specs.Input.Calls.{argument_live, called_text, calling_body}
+use Rattle.roff_arguments.specs.Arguments.{Arguments, with_byte, with_byte_at, with_plain, with_unit, with_whole, between, settled, settled_at, finished, finished_at, held, in_argument, only_kept, total_length}
+use Rattle.roff_arguments.specs.ArgumentList.{listed}
+use Rattle.roff_source.specs.Bytes.{blank, quote}
+use Rattle.roff_arguments.specs.Calls.Kept.{first_call}
+use Rattle.roff_ahead.specs.Input.{Input, ReturnAhead, depth, pushed, returns_ahead}
+use Rattle.roff_ahead.specs.Input.Calls.{argument_live, called_text, calling_body}
 use Rattle.roff_scan.specs.Unread.{Unread, IsWithin, changing}
 use Rattle.roff_scan.specs.Unread.Kept.{NoneBegun}
-use Rattle.roff_scan.specs.declared.arguments.ArgumentList.{ArgumentList}
-use Rattle.roff_scan.specs.declared.arguments.Place.{Place}
-use Rattle.roff_scan.specs.declared.arguments.Place.TheVariants.{Between, InPlain, InQuotes, BehindQuote}
-use Rattle.roff_scan.specs.declared.half.CopyUnit.{CopyUnit}
-use Rattle.roff_scan.specs.declared.half.CopyUnit.TheVariants.{Byte, Kept}
+use Rattle.roff_arguments.specs.declared.arguments.ArgumentList.{ArgumentList}
+use Rattle.roff_arguments.specs.declared.arguments.Place.{Place}
+use Rattle.roff_arguments.specs.declared.arguments.Place.TheVariants.{Between, InPlain, InQuotes, BehindQuote}
+use Rattle.roff_escape.specs.declared.half.CopyUnit.{CopyUnit}
+use Rattle.roff_escape.specs.declared.half.CopyUnit.TheVariants.{Byte, Kept}
 use Rattle.roff_scan.proofs.Changing.{OthersWithin, put_past_stack, put_past_depth, put_within, IsWithin-put}
-use Rattle.roff_scan.proofs.Counts.{bytes_ahead-bytes, ends_ahead-bytes, returns_ahead-bytes}
-use Rattle.roff_scan.proofs.KeptArguments.{held-finished, held-only_kept, total_length-reverse}
+use Rattle.roff_ahead.proofs.Counts.{bytes_ahead-bytes, ends_ahead-bytes, returns_ahead-bytes}
+use Rattle.roff_arguments.proofs.KeptArguments.{held-finished, held-only_kept, total_length-reverse}
 
 -- where an argument is read, the reading doesn't stand between arguments
 in_argument-not : (place : Place) → in_argument place ≡ Between → ⊥

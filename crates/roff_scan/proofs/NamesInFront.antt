@@ -1,14 +1,14 @@
 -- Fronts of escapes that stand in front of the unread input.
 use Rattle.std.proofs.Common.{◌≡◌, ℕ, ◌+◌, ◌≤◌, List, [], ◌∷◌, ◌++◌, length, map, take, refl, sym, ap, subst, ◌∙◌, arith}
 use Rattle.std.proofs.lemmas.List.{take-take}
-use Rattle.roff_scan.specs.Half.{Half}
-use Rattle.roff_scan.specs.HalfFronts.{ByteRead, HalvesRead, NothingRead}
-use Rattle.roff_scan.specs.Input.{Ahead, ByteAhead, Input, bytes_taken, counting, item_taken, lines_taken}
-use Rattle.roff_scan.specs.Tape.{Tape}
+use Rattle.roff_escape.specs.Half.{Half}
+use Rattle.roff_escape.specs.HalfFronts.{ByteRead, HalvesRead, NothingRead}
+use Rattle.roff_ahead.specs.Input.{Ahead, ByteAhead, Input, bytes_taken, counting, item_taken, lines_taken}
+use Rattle.roff_source.specs.Tape.{Tape}
 use Rattle.roff_scan.specs.Unread.{Unread, IsWithin}
 use Rattle.roff_scan.specs.Unread.Calls.{IsFront, NoNewline, OfSource, OfTexts, PassesFront, ReadsNames, front_bytes, next_bytes}
 use Rattle.roff_scan.proofs.Fronts.{passes_none}
-use Rattle.roff_scan.proofs.HalfFronts.{HalvesRead-held}
+use Rattle.roff_escape.proofs.HalfFronts.{HalvesRead-held}
 
 -- no newline is read so
 HalvesRead-plain : (half last : List Half) (bytes : List ℕ) → HalvesRead half bytes last → NoNewline bytes

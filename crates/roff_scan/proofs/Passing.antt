@@ -5,14 +5,14 @@ use Rattle.std.proofs.lemmas.List.Folds.{length-prefix_len}
 use Rattle.std.proofs.lemmas.List.Sums.{prefix_len-le-length, sum_by-cons}
 use Rattle.std.proofs.Math.Seq.{take-append_seam}
 use Rattle.std.proofs.lemmas.List.{nil_from_length, take_min}
-use Rattle.roff_scan.specs.Bytes.{newline, is_passed}
-use Rattle.roff_scan.specs.Input.{Ahead, Input, is_none_ahead, counting, lines_taken}
-use Rattle.roff_scan.specs.Half.{Half}
-use Rattle.roff_scan.specs.Tape.{Tape, OneByte, Took}
+use Rattle.roff_source.specs.Bytes.{newline, is_passed}
+use Rattle.roff_ahead.specs.Input.{Ahead, Input, is_none_ahead, counting, lines_taken}
+use Rattle.roff_escape.specs.Half.{Half}
+use Rattle.roff_source.specs.Tape.{Tape, OneByte, Took}
 use Rattle.roff_scan.specs.Unread.{Unread, IsWithin, is_bare}
 use Rattle.roff_scan.specs.Unread.Calls.{IsBare, PassesOver}
-use Rattle.roff_scan.proofs.Giving.{none_at_all}
-use Rattle.roff_scan.proofs.PlainBytes.{take_while-plain}
+use Rattle.roff_source.proofs.Giving.{none_at_all}
+use Rattle.roff_source.proofs.PlainBytes.{take_while-plain}
 
 -- a newline in front, if it is one, is counted
 newlines_and : (before : ℕ) (is : Bool) (p : ℕ → Bool) (b : ℕ) (front : List ℕ) → p b ≡ is

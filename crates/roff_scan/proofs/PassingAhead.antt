@@ -1,11 +1,11 @@
 -- Bytes of a body that are passed over: what is left of the input behind them.
 use Rattle.std.proofs.Common.{◌≡◌, inr, ℕ, ◌+◌, ◌≤◌, Bool, true, List, [], ◌∷◌, ◌++◌, length, map, refl, sym, ap, subst, ◌∙◌, arith}
 use Rattle.std.specs.List.{AllByRecursion}
-use Rattle.roff_scan.specs.Bytes.{is_passed}
-use Rattle.roff_scan.specs.Input.{Ahead, ByteAhead, Input, bytes_ahead, bytes_taken, ends_ahead, item_taken}
+use Rattle.roff_source.specs.Bytes.{is_passed}
+use Rattle.roff_ahead.specs.Input.{Ahead, ByteAhead, Input, bytes_ahead, bytes_taken, ends_ahead, item_taken}
 use Rattle.roff_scan.specs.Unread.{Unread, IsWithin}
 use Rattle.roff_scan.specs.Unread.Calls.{PassesAhead}
-use Rattle.roff_scan.proofs.Counts.{bytes_ahead-bytes, ends_ahead-bytes}
+use Rattle.roff_ahead.proofs.Counts.{bytes_ahead-bytes, ends_ahead-bytes}
 
 module _ {E : Type 0} where
   -- the input behind so many bytes ahead

@@ -1,14 +1,14 @@
 -- Bytes of a pushed text that a condition takes at once: what is left ahead and half read behind them.
 use Rattle.std.proofs.Common.{◌≡◌, ℕ, ◌+◌, ◌≤◌, List, ◌++◌, length, map, sym, ap, subst, ◌∙◌, arith}
-use Rattle.roff_scan.specs.ConditionFronts.{HalvesTaken}
-use Rattle.roff_scan.specs.Half.{Half}
-use Rattle.roff_scan.specs.Input.{Ahead, ByteAhead, Input, bytes_ahead, ends_ahead}
-use Rattle.roff_scan.specs.Tape.{Tape}
+use Rattle.roff_escape.specs.ConditionFronts.{HalvesTaken}
+use Rattle.roff_escape.specs.Half.{Half}
+use Rattle.roff_ahead.specs.Input.{Ahead, ByteAhead, Input, bytes_ahead, ends_ahead}
+use Rattle.roff_source.specs.Tape.{Tape}
 use Rattle.roff_scan.specs.Unread.{Unread, IsWithin}
 use Rattle.roff_scan.specs.Unread.Calls.{OfTexts, TakesHalves, TakesPushed}
-use Rattle.roff_scan.proofs.Counts.{bytes_ahead-bytes, ends_ahead-bytes}
+use Rattle.roff_ahead.proofs.Counts.{bytes_ahead-bytes, ends_ahead-bytes}
 use Rattle.roff_scan.proofs.PassingAhead.{behind_bytes, bytes_taken-is}
-use Rattle.roff_scan.proofs.GivenFronts.{HalvesTaken-held}
+use Rattle.roff_ahead.proofs.GivenFronts.{HalvesTaken-held}
 
 module _ {E : Type 0} where
   -- the input behind bytes that were given, where this is half read

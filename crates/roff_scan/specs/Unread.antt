@@ -8,17 +8,17 @@ use Rattle.std.specs.Prelude.{◌≡◌, ℕ, ◌+◌, ◌-◌, ◌≤◌, ◌&&
 use Rattle.roff_num.specs.declared.limit.Limit.{Limit}
 use Rattle.roff_num.specs.declared.limit.Limit.TheVariants.{Bytes, Stack, Depth, Diversions, Conditions, Store, Names}
 use Rattle.roff_num.specs.declared.limits.Limits.{Limits}
-use Rattle.roff_scan.specs.Bytes.{is_passed}
-use Rattle.roff_scan.specs.Halves.{Reads, reading_ended}
-use Rattle.roff_scan.specs.Input.{with_half, Input, initial_input, is_none_ahead, Ahead, cost, counting, item_taken, pushed, depth, results}
-use Rattle.roff_scan.specs.Input.Names.{stored, names_added}
+use Rattle.roff_source.specs.Bytes.{is_passed}
+use Rattle.roff_escape.specs.Halves.{Reads, reading_ended}
+use Rattle.roff_ahead.specs.Input.{with_half, Input, initial_input, is_none_ahead, Ahead, cost, counting, item_taken, pushed, depth, results}
+use Rattle.roff_ahead.specs.Input.Names.{stored, names_added}
 use Rattle.roff_store.specs.Texts.{Texts}
-use Rattle.roff_scan.specs.Tape.{Tape, Answer, Answers, Gives, Ends, OneByte, OneNote, items_then}
-use Rattle.roff_scan.specs.declared.half.Decision.TheVariants.{Is}
-use Rattle.roff_scan.specs.declared.half.Read.{Read}
-use Rattle.roff_scan.specs.declared.half.Read.TheVariants.{Decides}
-use Rattle.roff_scan.specs.declared.half.Surroundings.{Surroundings}
-use Rattle.roff_scan.specs.Shown.{no_texts, Shown, shown_ahead, Sighted, seen_ahead, ShowsByte, ShowsNote, ShowsEnding, ShowsRefusal, SeesByte, SeesNote, SeesEnding}
+use Rattle.roff_source.specs.Tape.{Tape, Answer, Answers, Gives, Ends, OneByte, OneNote, items_then}
+use Rattle.roff_escape.specs.declared.half.Decision.TheVariants.{Is}
+use Rattle.roff_escape.specs.declared.half.Read.{Read}
+use Rattle.roff_escape.specs.declared.half.Read.TheVariants.{Decides}
+use Rattle.roff_escape.specs.declared.half.Surroundings.{Surroundings}
+use Rattle.roff_ahead.specs.Shown.{no_texts, Shown, shown_ahead, Sighted, seen_ahead, ShowsByte, ShowsNote, ShowsEnding, ShowsRefusal, SeesByte, SeesNote, SeesEnding}
 
 -- the unread input
 pub record Unread (E : Type 0) : Type 0 where

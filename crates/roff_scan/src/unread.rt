@@ -1,7 +1,7 @@
 //! The unread input: what stands ahead of the source, and what is counted.
 
 ghost use Rattle.std.specs.Prelude.{◌≡◌, IfOk};
-ghost use Rattle.roff_scan.specs.Input.{is_none_ahead, pushed, depth};
+ghost use Rattle.roff_ahead.specs.Input.{is_none_ahead, pushed, depth};
 
 mod arguments;
 mod calls;
@@ -13,10 +13,10 @@ mod results;
 mod skipped;
 mod taken;
 
-use crate::arguments::ArgumentTexts;
-use crate::calls::Calls;
-use crate::frames::Frames;
-use crate::halves::Halves;
+use roff_arguments::ArgumentTexts;
+use roff_arguments::Calls;
+use roff_ahead::Frames;
+use roff_escape::Halves;
 use roff_num::Limits;
 use std::alloc::{AllocError, Global};
 use std::marker::Model;

@@ -10,7 +10,7 @@ use Rattle.roff_run.specs.Results.{output_of, messages_of, status_of}
 use Rattle.roff_engine.specs.Sinks.{AppendsFront}
 use Rattle.roff_run.specs.declared.status.Status.{Status}
 use Rattle.roff_engine.proofs.Outcomes.{each_outcome_gives}
-use Rattle.roff_scan.specs.Tape.{Tape}
+use Rattle.roff_source.specs.Tape.{Tape}
 use Rattle.roff_tools.specs.Memory.{kept_by, room_of, tape_of}
 use Rattle.roff_tools.specs.WatchedSink.Telling.{IsSound, given_to, nothing_told, told_by}
 use Rattle.roff_tools.specs.declared.memory.MemSource.{MemSource}

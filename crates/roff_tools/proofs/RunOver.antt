@@ -1,8 +1,8 @@
 -- Runs over readers.
 use Rattle.std.proofs.Common.{◌≡◌, ℕ, List, Option, None, refl}
 use Rattle.roff_num.specs.declared.limits.Limits.{Limits}
-use Rattle.roff_scan.specs.declared.source.ReadSource.{ReadSource}
-use Rattle.roff_scan.specs.ReadSource.Reach.{ending_given, may_give, unread}
+use Rattle.roff_source.specs.declared.source.ReadSource.{ReadSource}
+use Rattle.roff_source.specs.ReadSource.Reach.{ending_given, may_give, unread}
 use Rattle.roff_engine.specs.declared.engine.Start.{Start}
 use Rattle.roff_run.specs.declared.status.Status.{Status}
 use Rattle.roff_engine.specs.Engine.Outcome.{Runs, seen}

@@ -1,4 +1,4 @@
-pub use Rattle.roff_scan.specs.Tape
+pub use Rattle.roff_source.specs.Tape
 pub use Rattle.roff_engine.specs.Engine
 pub mod Memory
 pub mod InMemory

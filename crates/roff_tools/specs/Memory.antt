@@ -4,7 +4,7 @@ use Rattle.roff_tools.specs.declared.memory.MemSink.{MemSink}
 use Rattle.roff_tools.specs.declared.memory.MemSource.{MemSource}
 use Rattle.roff_engine.specs.declared.sink.SinkFault.{SinkFault}
 use Rattle.roff_engine.specs.Sinks.{Sunk}
-use Rattle.roff_scan.specs.Tape.{Tape, OneByte, Ending, Ended, Failed}
+use Rattle.roff_source.specs.Tape.{Tape, OneByte, Ending, Ended, Failed}
 
 -- how a source in memory ends
 abbrev pub ending_of : MemSource → Ending

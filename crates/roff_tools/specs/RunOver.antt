@@ -1,8 +1,8 @@
 -- A run of the formatter over readers.
 use Rattle.std.specs.Prelude.{◌≡◌, ℕ, List, Option, None}
 use Rattle.roff_num.specs.declared.limits.Limits.{Limits}
-use Rattle.roff_scan.specs.Tape.{Ending}
-use Rattle.roff_scan.specs.ReadSource.Reach.{MayGive}
+use Rattle.roff_source.specs.Tape.{Ending}
+use Rattle.roff_source.specs.ReadSource.Reach.{MayGive}
 use Rattle.roff_run.specs.declared.status.Status.{Status}
 use Rattle.roff_engine.specs.Engine.Outcome.{Runs, seen}
 use Rattle.roff_engine.specs.Sinks.{Sunk}

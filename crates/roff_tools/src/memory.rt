@@ -16,7 +16,7 @@ pub struct MemSource<'a> {
 
 impl<'a> MemSource<'a> {
     ghost use Rattle.roff_tools.specs.Memory.{faults_of_source, tape_of, tape_of_bytes};
-    ghost use Rattle.roff_scan.specs.Tape.{OneByte};
+    ghost use Rattle.roff_source.specs.Tape.{OneByte};
 
     /// A source of these bytes. It fails after `fail_at` of them, if there are so many.
     pub fn new(bytes: &'a [u8], fail_at: Option<usize>) -> Self

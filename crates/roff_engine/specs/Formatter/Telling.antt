@@ -3,7 +3,7 @@ use Rattle.std.specs.Prelude.{◌≡◌, ℕ, ◌≤◌, true, List, length, tak
 use Rattle.std.specs.List.{AllByRecursion}
 use Rattle.roff_num.specs.declared.limits.Limits.{Limits}
 use Rattle.roff_lines.specs.Telling.{QuietlyTold}
-use Rattle.roff_scan.specs.Bytes.{is_text_byte}
+use Rattle.roff_source.specs.Bytes.{is_text_byte}
 use Rattle.roff_run.specs.Environments.{PageHistory, text_of}
 use Rattle.roff_run.specs.Environments.Standing.{StandFor}
 use Rattle.roff_run.specs.Telling.{page_told}

@@ -3,7 +3,7 @@ use Rattle.std.specs.Prelude.{◌≡◌, ◌⊎◌, ℕ, ◌+◌, ◌<◌, ◌�
 use Rattle.std.specs.Io.KnownBytes.{Appends}
 use Rattle.roff_num.specs.declared.limit.Limit.{Limit}
 use Rattle.roff_num.specs.declared.limits.Limits.{Limits}
-use Rattle.roff_scan.specs.Tape.{Tape, Item, items_then}
+use Rattle.roff_source.specs.Tape.{Tape, Item, items_then}
 use Rattle.roff_scan.specs.Unread.{asks_to_take, looked_then}
 use Rattle.roff_run.specs.Environments.Standing.{StandFor}
 use Rattle.roff_engine.specs.declared.formatter.Formatter.{Formatter}
@@ -20,7 +20,7 @@ use Rattle.roff_run.specs.TurnsToCome.{begun, turns_to_come}
 use Rattle.roff_run.specs.Reading.Ends.{due, line_ends_first}
 use Rattle.roff_run.specs.declared.reading.Reading.{Reading}
 use Rattle.roff_run.specs.declared.reading.Reading.TheVariants.{Exiting}
-use Rattle.roff_scan.specs.Half.{Half}
+use Rattle.roff_escape.specs.Half.{Half}
 use Rattle.roff_run.specs.Environments.{PageHistory}
 use Rattle.roff_run.specs.Run.{State, first_unread, half_ends, input_ended, step, stopped_by, reported}
 

@@ -1,8 +1,8 @@
 //! What bytes that stand in front do, where they are taken at once.
 
 ghost use Rattle.std.specs.Prelude.{◌≡◌, ℕ, true, None, Some, [], IfSome, take, false};
-ghost use Rattle.roff_scan.specs.Bytes.{is_argument_byte};
-ghost use Rattle.roff_scan.specs.Bytes.{is_passed, is_text_byte};
+ghost use Rattle.roff_source.specs.Bytes.{is_argument_byte};
+ghost use Rattle.roff_source.specs.Bytes.{is_passed, is_text_byte};
 ghost use Rattle.roff_run.specs.ControlFronts.{BeginsControl};
 ghost use Rattle.roff_run.specs.Stages.{Adds, EndsLine, Holds, HoldsIfFewer, Ignores, ReadsHalves};
 ghost use Rattle.roff_run.specs.Stages.{ReadsPast, TakesHalf, TurnsFront, counts_blanks};

@@ -4,8 +4,8 @@ ghost use Rattle.std.specs.Prelude.{◌≡◌, ℕ, [], true, None, Some, slice_
 ghost use Rattle.roff_run.specs.Stages.{Adds, Holds, HoldsIfFewer, Ignores, ReadsHalves, TakesHalf};
 ghost use Rattle.roff_run.specs.Stages.{counts_blanks};
 ghost use Rattle.roff_run.specs.Telling.{Prints};
-ghost use Rattle.roff_scan.specs.Bytes.{is_argument_byte};
-ghost use Rattle.roff_scan.specs.Bytes.{is_text_byte};
+ghost use Rattle.roff_source.specs.Bytes.{is_argument_byte};
+ghost use Rattle.roff_source.specs.Bytes.{is_text_byte};
 ghost use Rattle.roff_engine.specs.Clauses.{Sunk, seen, due};
 
 use super::Running;

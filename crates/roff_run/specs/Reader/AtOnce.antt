@@ -1,12 +1,12 @@
 -- What the code takes at once, and what that means.
 use Rattle.std.specs.Prelude.{◌≡◌, ℕ, Bool, true, false, List, [], ◌∷◌, ◌++◌, Option, None, Result, Ok}
 use Rattle.roff_num.specs.declared.limit.Limit.{Limit}
-use Rattle.roff_scan.specs.Escapes.{is_copied}
-use Rattle.roff_scan.specs.Input.{holding_text}
+use Rattle.roff_escape.specs.Escapes.{is_copied}
+use Rattle.roff_ahead.specs.Input.{holding_text}
 use Rattle.roff_scan.specs.Unread.{changing}
-use Rattle.roff_scan.specs.declared.escapes.NameUse.{NameUse}
-use Rattle.roff_scan.specs.declared.half.Read.{Read}
-use Rattle.roff_scan.specs.declared.half.Read.TheVariants.{Asks, GoesOn, Holds}
+use Rattle.roff_escape.specs.declared.escapes.NameUse.{NameUse}
+use Rattle.roff_escape.specs.declared.half.Read.{Read}
+use Rattle.roff_escape.specs.declared.half.Read.TheVariants.{Asks, GoesOn, Holds}
 use Rattle.roff_lines.specs.declared.event.Event.TheVariants.{Count, LineEnd, Print, Tab, WordEnd}
 use Rattle.roff_lines.specs.declared.glyph.Glyph.TheVariants.{Printed}
 use Rattle.roff_run.specs.Events.Meant.{few_meant}

@@ -1,15 +1,15 @@
 -- The arguments of requests, and the end of a request's line (manual, sections 1.1 and 7.3).
 use Rattle.std.specs.Prelude.{Bool, List, [], ◌∷◌, if◌then◌else◌, ◌==◌}
-use Rattle.roff_scan.specs.Arguments.{no_arguments}
-use Rattle.roff_scan.specs.Bytes.{newline}
-use Rattle.roff_scan.specs.Input.Names.{calling}
-use Rattle.roff_scan.specs.Input.Calls.{arguments_given}
-use Rattle.roff_scan.specs.Input.Names.{calling}
-use Rattle.roff_scan.specs.Input.Calls.{arguments_given}
-use Rattle.roff_scan.specs.declared.half.CopyUnit.{CopyUnit}
-use Rattle.roff_scan.specs.declared.half.CopyUnit.TheVariants.{Byte, Kept}
-use Rattle.roff_scan.specs.declared.half.Read.{Read}
-use Rattle.roff_scan.specs.declared.half.Read.TheVariants.{Unit, Escape}
+use Rattle.roff_arguments.specs.Arguments.{no_arguments}
+use Rattle.roff_source.specs.Bytes.{newline}
+use Rattle.roff_ahead.specs.Input.Names.{calling}
+use Rattle.roff_ahead.specs.Input.Calls.{arguments_given}
+use Rattle.roff_ahead.specs.Input.Names.{calling}
+use Rattle.roff_ahead.specs.Input.Calls.{arguments_given}
+use Rattle.roff_escape.specs.declared.half.CopyUnit.{CopyUnit}
+use Rattle.roff_escape.specs.declared.half.CopyUnit.TheVariants.{Byte, Kept}
+use Rattle.roff_escape.specs.declared.half.Read.{Read}
+use Rattle.roff_escape.specs.declared.half.Read.TheVariants.{Unit, Escape}
 use Rattle.roff_store.specs.TextCalls.{Call}
 use Rattle.roff_run.specs.declared.reading.Reading.{Reading}
 use Rattle.roff_run.specs.declared.reading.Reading.TheVariants.{LineStart, Arguments as InArguments, Exiting}

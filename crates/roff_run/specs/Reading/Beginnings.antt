@@ -1,14 +1,14 @@
 -- Where a line begins, or a branch: control lines and text lines (manual, sections 1.1, 4.2 and 16).
 use Rattle.std.specs.Prelude.{ℕ, true, false, List, [], ◌∷◌, Some, None, Option, if◌then◌else◌, ◌==◌}
 use Rattle.roff_lines.specs.declared.event.Event.TheVariants.{Resume}
-use Rattle.roff_scan.specs.Bytes.{newline, blank, apostrophe, dot}
-use Rattle.roff_scan.specs.Input.{holding_text}
-use Rattle.roff_scan.specs.declared.escapes.NameUse.{NameUse}
-use Rattle.roff_scan.specs.declared.escapes.NameUse.TheVariants.{Character, Font, LeftOut as NameLeftOut}
-use Rattle.roff_scan.specs.declared.half.CopyUnit.TheVariants.{Byte, Kept}
-use Rattle.roff_scan.specs.declared.half.Read.{Read}
-use Rattle.roff_scan.specs.declared.half.Read.TheVariants.{GoesOn, Unit, Holds, Escape, Asks, Motion, Measures, Tells, Decides}
-use Rattle.roff_scan.specs.declared.half.Surroundings.{Surroundings}
+use Rattle.roff_source.specs.Bytes.{newline, blank, apostrophe, dot}
+use Rattle.roff_ahead.specs.Input.{holding_text}
+use Rattle.roff_escape.specs.declared.escapes.NameUse.{NameUse}
+use Rattle.roff_escape.specs.declared.escapes.NameUse.TheVariants.{Character, Font, LeftOut as NameLeftOut}
+use Rattle.roff_escape.specs.declared.half.CopyUnit.TheVariants.{Byte, Kept}
+use Rattle.roff_escape.specs.declared.half.Read.{Read}
+use Rattle.roff_escape.specs.declared.half.Read.TheVariants.{GoesOn, Unit, Holds, Escape, Asks, Motion, Measures, Tells, Decides}
+use Rattle.roff_escape.specs.declared.half.Surroundings.{Surroundings}
 use Rattle.roff_run.specs.declared.reading.Reading.{Reading}
 use Rattle.roff_run.specs.declared.reading.Reading.TheVariants.{LineStart, Branch, Braced, Control}
 use Rattle.roff_run.specs.declared.reading.TextLine.{TextLine}

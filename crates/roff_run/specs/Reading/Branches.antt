@@ -1,14 +1,14 @@
 -- Conditions, and the branches that are read or skipped (manual, section 16).
 use Rattle.std.specs.Prelude.{ℕ, ◌+◌, Bool, true, false, ◌&&◌, not, nat_le, min, Some, None, Option, if◌then◌else◌, ◌==◌}
-use Rattle.roff_scan.specs.Bytes.{newline, backslash}
-use Rattle.roff_scan.specs.Halves.{byte_read}
-use Rattle.roff_scan.specs.Input.{choosing}
-use Rattle.roff_scan.specs.Input.Calls.{keeping}
-use Rattle.roff_scan.specs.declared.half.Decision.{Decision}
-use Rattle.roff_scan.specs.declared.half.Decision.TheVariants.{Is, OnPages}
-use Rattle.roff_scan.specs.declared.half.Read.{Read}
-use Rattle.roff_scan.specs.declared.half.Read.TheVariants.{Decides}
-use Rattle.roff_scan.specs.declared.half.Surroundings.TheVariants.{Arguments as AboveArguments}
+use Rattle.roff_source.specs.Bytes.{newline, backslash}
+use Rattle.roff_escape.specs.Halves.{byte_read}
+use Rattle.roff_ahead.specs.Input.{choosing}
+use Rattle.roff_ahead.specs.Input.Calls.{keeping}
+use Rattle.roff_escape.specs.declared.half.Decision.{Decision}
+use Rattle.roff_escape.specs.declared.half.Decision.TheVariants.{Is, OnPages}
+use Rattle.roff_escape.specs.declared.half.Read.{Read}
+use Rattle.roff_escape.specs.declared.half.Read.TheVariants.{Decides}
+use Rattle.roff_escape.specs.declared.half.Surroundings.TheVariants.{Arguments as AboveArguments}
 use Rattle.roff_run.specs.declared.reading.Reading.{Reading}
 use Rattle.roff_run.specs.declared.reading.Reading.TheVariants.{LineStart, Branch, Deciding, Skipping}
 use Rattle.roff_run.specs.Reading.Beginnings.{at_start, beginning_found}

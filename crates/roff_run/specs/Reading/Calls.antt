@@ -1,14 +1,14 @@
 -- Lines that call bodies: strings and macros (manual, sections 7.2 and 7.3).
 use Rattle.std.specs.Prelude.{nat_le, length, if◌then◌else◌, ◌==◌}
-use Rattle.roff_scan.specs.Bytes.{newline, quote}
-use Rattle.roff_scan.specs.Input.Names.{body_named}
-use Rattle.roff_scan.specs.Input.Calls.{calling_body}
-use Rattle.roff_scan.specs.Input.Names.{body_named}
-use Rattle.roff_scan.specs.Input.Calls.{calling_body}
-use Rattle.roff_scan.specs.declared.half.CopyUnit.{CopyUnit}
-use Rattle.roff_scan.specs.declared.half.CopyUnit.TheVariants.{Byte, Kept}
-use Rattle.roff_scan.specs.declared.half.Read.{Read}
-use Rattle.roff_scan.specs.declared.half.Read.TheVariants.{Unit, Escape}
+use Rattle.roff_source.specs.Bytes.{newline, quote}
+use Rattle.roff_ahead.specs.Input.Names.{body_named}
+use Rattle.roff_ahead.specs.Input.Calls.{calling_body}
+use Rattle.roff_ahead.specs.Input.Names.{body_named}
+use Rattle.roff_ahead.specs.Input.Calls.{calling_body}
+use Rattle.roff_escape.specs.declared.half.CopyUnit.{CopyUnit}
+use Rattle.roff_escape.specs.declared.half.CopyUnit.TheVariants.{Byte, Kept}
+use Rattle.roff_escape.specs.declared.half.Read.{Read}
+use Rattle.roff_escape.specs.declared.half.Read.TheVariants.{Unit, Escape}
 use Rattle.roff_run.specs.Reading.Items.{PageInput, Taking, going_on}
 use Rattle.roff_run.specs.Reading.Units.{holding, settling, no_unit_found}
 use Rattle.roff_num.specs.ShortNames.{name_bytes}

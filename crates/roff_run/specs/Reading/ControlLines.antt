@@ -1,10 +1,10 @@
 -- The names of control lines, and how what is behind one is read (manual, sections 1.1 and 7.2).
 use Rattle.std.specs.Prelude.{ℕ, Bool, true, ◌||◌, if◌then◌else◌, ◌==◌}
-use Rattle.roff_scan.specs.Bytes.{tab, newline, blank, backslash}
-use Rattle.roff_scan.specs.Halves.{byte_read}
-use Rattle.roff_scan.specs.Input.{choosing}
-use Rattle.roff_scan.specs.Input.Calls.{kept_last, without_last}
-use Rattle.roff_scan.specs.declared.half.Surroundings.TheVariants.{Arguments as AboveArguments, Copy as AboveCopy}
+use Rattle.roff_source.specs.Bytes.{tab, newline, blank, backslash}
+use Rattle.roff_escape.specs.Halves.{byte_read}
+use Rattle.roff_ahead.specs.Input.{choosing}
+use Rattle.roff_ahead.specs.Input.Calls.{kept_last, without_last}
+use Rattle.roff_escape.specs.declared.half.Surroundings.TheVariants.{Arguments as AboveArguments, Copy as AboveCopy}
 use Rattle.roff_run.specs.declared.reading.Reading.TheVariants.{LineStart, Arguments as InArguments, Deciding, StringName, Dropped, Telling, Calling}
 use Rattle.roff_num.specs.declared.short_name.ShortName.{ShortName}
 use Rattle.roff_run.specs.declared.request.Request.{Request}

@@ -1,11 +1,11 @@
 -- The lines of a macro's definition, and the one that ends it (manual, section 7.1).
 use Rattle.std.specs.Prelude.{ℕ, Bool, true, List, ◌++◌, Some, None, Option}
-use Rattle.roff_scan.specs.Half.{unit_bytes}
-use Rattle.roff_scan.specs.Input.{beginning_line}
-use Rattle.roff_scan.specs.declared.half.CopyUnit.{CopyUnit}
-use Rattle.roff_scan.specs.declared.half.CopyUnit.TheVariants.{Kept}
-use Rattle.roff_scan.specs.declared.half.Read.{Read}
-use Rattle.roff_scan.specs.declared.half.Read.TheVariants.{Unit, Escape}
+use Rattle.roff_escape.specs.Half.{unit_bytes}
+use Rattle.roff_ahead.specs.Input.{beginning_line}
+use Rattle.roff_escape.specs.declared.half.CopyUnit.{CopyUnit}
+use Rattle.roff_escape.specs.declared.half.CopyUnit.TheVariants.{Kept}
+use Rattle.roff_escape.specs.declared.half.Read.{Read}
+use Rattle.roff_escape.specs.declared.half.Read.TheVariants.{Unit, Escape}
 use Rattle.roff_run.specs.Definitions.{end_mark, front_of, line_from, matched_behind}
 use Rattle.roff_run.specs.declared.definition.DefinitionLine.{DefinitionLine}
 use Rattle.roff_run.specs.declared.definition.DefinitionLine.TheVariants.{MayBeLast, IsLast, IsText}

@@ -1,8 +1,8 @@
 -- What is due before anything more is taken, and the end of the input (manual, section 20).
 use Rattle.std.specs.Prelude.{Bool, true, false, List, [], ◌∷◌, Some, None, Option}
 use Rattle.roff_lines.specs.declared.event.Event.TheVariants.{Resume}
-use Rattle.roff_scan.specs.Bytes.{newline}
-use Rattle.roff_scan.specs.Input.Calls.{arguments_given}
+use Rattle.roff_source.specs.Bytes.{newline}
+use Rattle.roff_ahead.specs.Input.Calls.{arguments_given}
 use Rattle.roff_run.specs.Reading.{kept_taking}
 use Rattle.roff_run.specs.Reading.Definitions.{definition_cut}
 use Rattle.roff_run.specs.Reading.Items.{PageInput, Taking, meaning_events}

@@ -1,9 +1,9 @@
 -- How a byte is read above what is read, and what does that which was found there.
 use Rattle.std.specs.Prelude.{Bool, true, false, pos}
-use Rattle.roff_scan.specs.Halves.{Reads}
-use Rattle.roff_scan.specs.declared.half.Read.{Read}
-use Rattle.roff_scan.specs.declared.half.Surroundings.{Surroundings}
-use Rattle.roff_scan.specs.declared.half.Surroundings.TheVariants.{Text as AboveText, Arguments as AboveArguments, Copy as AboveCopy}
+use Rattle.roff_escape.specs.Halves.{Reads}
+use Rattle.roff_escape.specs.declared.half.Read.{Read}
+use Rattle.roff_escape.specs.declared.half.Surroundings.{Surroundings}
+use Rattle.roff_escape.specs.declared.half.Surroundings.TheVariants.{Text as AboveText, Arguments as AboveArguments, Copy as AboveCopy}
 use Rattle.roff_run.specs.Reading.Arguments.{arguments_found}
 use Rattle.roff_run.specs.Reading.Beginnings.{at_start, beginning_found}
 use Rattle.roff_run.specs.Reading.Branches.{condition_found}

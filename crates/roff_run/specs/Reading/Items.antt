@@ -1,9 +1,9 @@
 -- What one item of the input does: what is read behind it, and what it means (manual, section 1.1).
 use Rattle.std.specs.Prelude.{List, [], ◌∷◌, ◌++◌}
-use Rattle.roff_scan.specs.Halves.{Reads}
-use Rattle.roff_scan.specs.Input.{Input}
-use Rattle.roff_scan.specs.declared.half.Read.{Read}
-use Rattle.roff_scan.specs.declared.half.Remark.{Remark}
+use Rattle.roff_escape.specs.Halves.{Reads}
+use Rattle.roff_ahead.specs.Input.{Input}
+use Rattle.roff_escape.specs.declared.half.Read.{Read}
+use Rattle.roff_escape.specs.declared.half.Remark.{Remark}
 use Rattle.roff_run.specs.Messages.{remark_message}
 use Rattle.roff_run.specs.declared.reading.Reading.{Reading}
 use Rattle.roff_run.specs.Requests.{PageEvent, Effect, doing, saying}

@@ -1,11 +1,11 @@
 -- The texts of messages (manual, section 20).
 use Rattle.std.specs.Prelude.{ℕ, Bool, true, false, ◌&&◌, List, reverse, if◌then◌else◌, ◌==◌}
-use Rattle.roff_scan.specs.Bytes.{newline, blank}
-use Rattle.roff_scan.specs.Input.{holding_plain}
-use Rattle.roff_scan.specs.declared.half.CopyUnit.{CopyUnit}
-use Rattle.roff_scan.specs.declared.half.CopyUnit.TheVariants.{Byte, Kept}
-use Rattle.roff_scan.specs.declared.half.Read.{Read}
-use Rattle.roff_scan.specs.declared.half.Read.TheVariants.{Unit, Escape}
+use Rattle.roff_source.specs.Bytes.{newline, blank}
+use Rattle.roff_ahead.specs.Input.{holding_plain}
+use Rattle.roff_escape.specs.declared.half.CopyUnit.{CopyUnit}
+use Rattle.roff_escape.specs.declared.half.CopyUnit.TheVariants.{Byte, Kept}
+use Rattle.roff_escape.specs.declared.half.Read.{Read}
+use Rattle.roff_escape.specs.declared.half.Read.TheVariants.{Unit, Escape}
 use Rattle.roff_run.specs.declared.reading.Reading.TheVariants.{Telling, Told}
 use Rattle.roff_run.specs.Reading.Items.{PageInput, Taking, going_on}
 use Rattle.roff_run.specs.Reading.Units.{no_unit_found}

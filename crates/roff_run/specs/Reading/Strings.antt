@@ -1,16 +1,16 @@
 -- The strings that lines define: their names and their texts (manual, section 7).
 use Rattle.std.specs.Prelude.{Bool, true, false, ◌&&◌, reverse, Some, None, Option, if◌then◌else◌, ◌==◌, []}
-use Rattle.roff_scan.specs.Arguments.{no_arguments}
-use Rattle.roff_scan.specs.Bytes.{newline, blank, quote}
-use Rattle.roff_scan.specs.Half.{unit_bytes}
-use Rattle.roff_scan.specs.Input.Names.{texts_of, calling, adding, entering}
-use Rattle.roff_scan.specs.Input.Calls.{arguments_given}
-use Rattle.roff_scan.specs.Input.Names.{texts_of, calling, adding, entering}
-use Rattle.roff_scan.specs.Input.Calls.{arguments_given}
-use Rattle.roff_scan.specs.declared.half.CopyUnit.{CopyUnit}
-use Rattle.roff_scan.specs.declared.half.CopyUnit.TheVariants.{Byte, Kept}
-use Rattle.roff_scan.specs.declared.half.Read.{Read}
-use Rattle.roff_scan.specs.declared.half.Read.TheVariants.{Unit, Escape}
+use Rattle.roff_arguments.specs.Arguments.{no_arguments}
+use Rattle.roff_source.specs.Bytes.{newline, blank, quote}
+use Rattle.roff_escape.specs.Half.{unit_bytes}
+use Rattle.roff_ahead.specs.Input.Names.{texts_of, calling, adding, entering}
+use Rattle.roff_ahead.specs.Input.Calls.{arguments_given}
+use Rattle.roff_ahead.specs.Input.Names.{texts_of, calling, adding, entering}
+use Rattle.roff_ahead.specs.Input.Calls.{arguments_given}
+use Rattle.roff_escape.specs.declared.half.CopyUnit.{CopyUnit}
+use Rattle.roff_escape.specs.declared.half.CopyUnit.TheVariants.{Byte, Kept}
+use Rattle.roff_escape.specs.declared.half.Read.{Read}
+use Rattle.roff_escape.specs.declared.half.Read.TheVariants.{Unit, Escape}
 use Rattle.roff_store.specs.TextCalls.{Open, Set}
 use Rattle.roff_store.specs.Texts.{Body, has_body}
 use Rattle.roff_run.specs.Reading.Items.{PageInput, Taking, going_on}

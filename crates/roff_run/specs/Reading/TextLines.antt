@@ -3,21 +3,21 @@ use Rattle.std.specs.Prelude.{ℕ, ℤ, pos, ◌+◌, true, false, ◌||◌, Lis
 use Rattle.roff_lines.specs.declared.event.Event.TheVariants.{Print, Tab, WordEnd, Gap, LineEnd, Count, Break}
 use Rattle.roff_lines.specs.declared.glyph.Glyph.{Glyph}
 use Rattle.roff_lines.specs.declared.glyph.Glyph.TheVariants.{Printed, Blanks}
-use Rattle.roff_scan.specs.Bytes.{tab, newline, blank, backslash, is_silent}
-use Rattle.roff_scan.specs.Characters.{character}
-use Rattle.roff_scan.specs.Escapes.{escape_of}
-use Rattle.roff_scan.specs.Input.{holding_text}
-use Rattle.roff_scan.specs.declared.escapes.Escape.{Escape as Kind}
-use Rattle.roff_scan.specs.declared.escapes.Escape.TheVariants.{Prints, Blank, NoWidth, Tab as GivesTab, Interrupts, Brace, LeftOut as IsLeftOut, Text as BeginsText}
-use Rattle.roff_scan.specs.declared.escapes.NameUse.{NameUse}
-use Rattle.roff_scan.specs.declared.escapes.NameUse.TheVariants.{Character, Font, LeftOut as NameLeftOut}
-use Rattle.roff_scan.specs.declared.escapes.TextUse.TheVariants.{LeftOut as LeftOutText}
-use Rattle.roff_scan.specs.declared.half.CopyUnit.TheVariants.{Byte, Kept}
-use Rattle.roff_scan.specs.declared.half.Read.{Read}
-use Rattle.roff_scan.specs.declared.half.Read.TheVariants.{GoesOn, Unit, Holds, Escape, Asks, Motion, Measures, Tells, Decides}
-use Rattle.roff_scan.specs.declared.half.Remark.{Remark}
-use Rattle.roff_scan.specs.declared.half.Surroundings.{Surroundings}
-use Rattle.roff_scan.specs.declared.half.Surroundings.TheVariants.{Text as AboveText}
+use Rattle.roff_source.specs.Bytes.{tab, newline, blank, backslash, is_silent}
+use Rattle.roff_escape.specs.Characters.{character}
+use Rattle.roff_escape.specs.Escapes.{escape_of}
+use Rattle.roff_ahead.specs.Input.{holding_text}
+use Rattle.roff_escape.specs.declared.escapes.Escape.{Escape as Kind}
+use Rattle.roff_escape.specs.declared.escapes.Escape.TheVariants.{Prints, Blank, NoWidth, Tab as GivesTab, Interrupts, Brace, LeftOut as IsLeftOut, Text as BeginsText}
+use Rattle.roff_escape.specs.declared.escapes.NameUse.{NameUse}
+use Rattle.roff_escape.specs.declared.escapes.NameUse.TheVariants.{Character, Font, LeftOut as NameLeftOut}
+use Rattle.roff_escape.specs.declared.escapes.TextUse.TheVariants.{LeftOut as LeftOutText}
+use Rattle.roff_escape.specs.declared.half.CopyUnit.TheVariants.{Byte, Kept}
+use Rattle.roff_escape.specs.declared.half.Read.{Read}
+use Rattle.roff_escape.specs.declared.half.Read.TheVariants.{GoesOn, Unit, Holds, Escape, Asks, Motion, Measures, Tells, Decides}
+use Rattle.roff_escape.specs.declared.half.Remark.{Remark}
+use Rattle.roff_escape.specs.declared.half.Surroundings.{Surroundings}
+use Rattle.roff_escape.specs.declared.half.Surroundings.TheVariants.{Text as AboveText}
 use Rattle.roff_run.specs.Messages.{character_name, remark_messages}
 use Rattle.roff_run.specs.declared.message.Message.{Message}
 use Rattle.roff_run.specs.declared.message.Message.TheVariants.{LeftOut, UnknownCharacter}

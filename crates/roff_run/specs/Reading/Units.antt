@@ -1,9 +1,9 @@
 -- The units of a control line that are held, and what was found there that is none (manual, section 7.3).
-use Rattle.roff_scan.specs.Arguments.{with_unit, settled, only_kept}
-use Rattle.roff_scan.specs.Input.{holding_text}
-use Rattle.roff_scan.specs.declared.half.CopyUnit.{CopyUnit}
-use Rattle.roff_scan.specs.declared.half.Read.{Read}
-use Rattle.roff_scan.specs.declared.half.Read.TheVariants.{Holds, Asks, Measures, Tells}
+use Rattle.roff_arguments.specs.Arguments.{with_unit, settled, only_kept}
+use Rattle.roff_ahead.specs.Input.{holding_text}
+use Rattle.roff_escape.specs.declared.half.CopyUnit.{CopyUnit}
+use Rattle.roff_escape.specs.declared.half.Read.{Read}
+use Rattle.roff_escape.specs.declared.half.Read.TheVariants.{Holds, Asks, Measures, Tells}
 use Rattle.roff_run.specs.declared.reading.Reading.{Reading}
 use Rattle.roff_run.specs.Reading.Escapes.{measuring, asking}
 use Rattle.roff_run.specs.Reading.Items.{PageInput, Taking, going_on, telling}

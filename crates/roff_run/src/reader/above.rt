@@ -1,7 +1,7 @@
 //! Bytes that are read at once above what is half read: most mean nothing there.
 
 ghost use Rattle.std.specs.Prelude.{◌≡◌, None, Some, false, true};
-ghost use Rattle.roff_scan.specs.declared.escapes.NameUse.TheVariants.{Register, Text as OfText};
+ghost use Rattle.roff_escape.specs.declared.escapes.NameUse.TheVariants.{Register, Text as OfText};
 ghost use Rattle.roff_run.specs.Reader.AtOnce.{GoesOnAbove, IsReadAbove, AsksAbove, PutsAbove};
 ghost use Rattle.roff_run.specs.Clauses.{EnvironmentsOf, half_ended, taking};
 

@@ -1,7 +1,7 @@
 //! Bytes that are read at once: most mean nothing.
 
 ghost use Rattle.std.specs.Prelude.{◌≡◌, [], IfSome, None, Ok, true};
-ghost use Rattle.roff_scan.specs.Bytes.{newline};
+ghost use Rattle.roff_source.specs.Bytes.{newline};
 ghost use Rattle.roff_run.specs.Reader.AtOnce.{TakesAtOnce, only_events, text_byte_events};
 ghost use Rattle.roff_run.specs.Reading.Items.{PageInput, meaning_events};
 ghost use Rattle.roff_run.specs.Reading.Beginnings.{line_begun};

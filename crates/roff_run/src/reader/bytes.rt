@@ -11,8 +11,8 @@ ghost use Rattle.roff_run.specs.Reading.Found.{has_place};
 ghost use Rattle.roff_run.specs.Telling.{Prints};
 ghost use Rattle.roff_run.specs.Stages.{Adds, EndsLine, Holds, HoldsIfFewer, Ignores, ReadsHalves};
 ghost use Rattle.roff_run.specs.Stages.{TakesHalf};
-ghost use Rattle.roff_scan.specs.Bytes.{is_argument_byte};
-ghost use Rattle.roff_scan.specs.Bytes.{is_text_byte};
+ghost use Rattle.roff_source.specs.Bytes.{is_argument_byte};
+ghost use Rattle.roff_source.specs.Bytes.{is_text_byte};
 
 use super::calls::CALL_ARGUMENTS;
 use super::{Meaning, Reader};

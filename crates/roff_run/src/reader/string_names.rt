@@ -1,8 +1,8 @@
 //! The names of strings that are defined.
 
 ghost use Rattle.std.specs.Prelude.{◌≢◌, Some};
-ghost use Rattle.roff_scan.specs.declared.arguments.Place.TheVariants.{BehindQuote};
-ghost use Rattle.roff_scan.specs.declared.half.CopyUnit.TheVariants.{Byte};
+ghost use Rattle.roff_arguments.specs.declared.arguments.Place.TheVariants.{BehindQuote};
+ghost use Rattle.roff_escape.specs.declared.half.CopyUnit.TheVariants.{Byte};
 ghost use Rattle.roff_run.specs.Clauses.{EnvironmentsOf, TakesAs, InputBecame, arguments_given, name_read};
 ghost use Rattle.roff_run.specs.Clauses.{string_emptied, string_line_ended, string_name_behind};
 ghost use Rattle.roff_run.specs.Clauses.{string_name_found, string_name_or_text, string_name_unit};

@@ -11,7 +11,7 @@ ghost use Rattle.roff_run.specs.Reading.Beginnings.{line_begun_as};
 ghost use Rattle.roff_run.specs.Requests.{Text};
 ghost use Rattle.roff_run.specs.Stages.{blanks_counted, counts_blanks};
 ghost use Rattle.roff_run.specs.Telling.{Prints};
-ghost use Rattle.roff_scan.specs.Bytes.{is_text_byte};
+ghost use Rattle.roff_source.specs.Bytes.{is_text_byte};
 ghost use Rattle.roff_run.specs.Registers.{Known};
 ghost use Rattle.roff_run.specs.Reader.AtOnce.{text_byte_events};
 ghost use Rattle.roff_run.specs.declared.reading.Reading.TheVariants.{LineStart, Text as InText};

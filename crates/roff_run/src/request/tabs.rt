@@ -2,7 +2,7 @@
 
 ghost use Rattle.std.specs.Prelude.{◌≡◌, ◌/◌, ℕ, List};
 ghost use Rattle.roff_run.specs.Numbers.{at_least_zero};
-ghost use Rattle.roff_scan.specs.ArgumentList.{listed};
+ghost use Rattle.roff_arguments.specs.ArgumentList.{listed};
 ghost use Rattle.roff_run.specs.Request.Coded.{stops_done};
 ghost use Rattle.roff_run.specs.Requests.Tabs.{stop_place, tab_stops};
 

@@ -1,16 +1,16 @@
 -- What a call tells that is lent the source.
 use Rattle.std.specs.Prelude.{◌≡◌, ◌⊎◌, ℕ, ◌+◌, ◌≤◌, ◌==◌, Bool, true, false, List, [], ◌∷◌, ◌++◌, length, map, take, Option, Some, None}
 use Rattle.std.specs.List.{AllByRecursion}
-use Rattle.roff_scan.specs.Arguments.{HeldFewer, bytes_held}
-use Rattle.roff_scan.specs.Bytes.{is_argument_byte}
-use Rattle.roff_scan.specs.Bytes.{is_passed, is_text_byte, newline}
-use Rattle.roff_scan.specs.ConditionFronts.{HalvesTaken}
-use Rattle.roff_scan.specs.HalfFronts.{HalvesRead}
-use Rattle.roff_scan.specs.Input.{Ahead, ByteAhead, EndAhead, ReturnAhead, bytes_taken, item_taken, leading, lines_taken}
-use Rattle.roff_scan.specs.Input.Names.{adding}
-use Rattle.roff_scan.specs.Tape.{Tape, Answer, OneByte, items_then}
+use Rattle.roff_arguments.specs.Arguments.{HeldFewer, bytes_held}
+use Rattle.roff_source.specs.Bytes.{is_argument_byte}
+use Rattle.roff_source.specs.Bytes.{is_passed, is_text_byte, newline}
+use Rattle.roff_escape.specs.ConditionFronts.{HalvesTaken}
+use Rattle.roff_escape.specs.HalfFronts.{HalvesRead}
+use Rattle.roff_ahead.specs.Input.{Ahead, ByteAhead, EndAhead, ReturnAhead, bytes_taken, item_taken, leading, lines_taken}
+use Rattle.roff_ahead.specs.Input.Names.{adding}
+use Rattle.roff_source.specs.Tape.{Tape, Answer, OneByte, items_then}
 use Rattle.roff_scan.specs.Unread.{Unread, Asked, Stays, asks_to_take, asks_to_look, passed_over, taking, looking}
-use Rattle.roff_scan.specs.Shown.{Shown, Sighted}
+use Rattle.roff_ahead.specs.Shown.{Shown, Sighted}
 
 -- the front item was taken and shown, by the source's answer if it was asked
 pub record Takes {E : Type 0} (old new : Tape → Type 0) (before after : Unread E) (item : Shown E) : Type 0 where

@@ -1,16 +1,16 @@
 //! The arguments of the line that is being read.
 
-ghost use Rattle.roff_scan.specs.Arguments.{with_unit, settled, finished};
-ghost use Rattle.roff_scan.specs.ArgumentList.{listed};
+ghost use Rattle.roff_arguments.specs.Arguments.{with_unit, settled, finished};
+ghost use Rattle.roff_arguments.specs.ArgumentList.{listed};
 ghost use Rattle.std.specs.Prelude.{reverse, ◌≡◌};
-ghost use Rattle.roff_scan.specs.Input.{holding_plain, with_arguments, without_arguments};
-ghost use Rattle.roff_scan.specs.Input.{beginning_line};
+ghost use Rattle.roff_ahead.specs.Input.{holding_plain, with_arguments, without_arguments};
+ghost use Rattle.roff_ahead.specs.Input.{beginning_line};
 
 use super::Unread;
 use super::fronts::front_of;
-use crate::arguments::{ArgumentList, bytes_of};
-use crate::half::CopyUnit;
-use crate::source::ByteSource;
+use roff_arguments::{ArgumentList, bytes_of};
+use roff_escape::CopyUnit;
+use roff_source::ByteSource;
 use roff_num::Limit;
 
 impl<E: Copy> Unread<E> {

@@ -1,15 +1,15 @@
 //! Lines that call bodies, and the arguments of calls.
 
-ghost use Rattle.roff_scan.specs.ArgumentList.{listed};
+ghost use Rattle.roff_arguments.specs.ArgumentList.{listed};
 ghost use Rattle.std.specs.Prelude.{vec_capacity, reverse, ◌≡◌, ◌<◌, ◌^◌, [], drop, get_or, length};
-ghost use Rattle.roff_scan.specs.Input.{pushing, kept_below};
-ghost use Rattle.roff_scan.specs.Input.Calls.{arguments_live, argument_live, calling_body};
-ghost use Rattle.roff_scan.specs.Input.Names.{body_named};
+ghost use Rattle.roff_ahead.specs.Input.{pushing, kept_below};
+ghost use Rattle.roff_ahead.specs.Input.Calls.{arguments_live, argument_live, calling_body};
+ghost use Rattle.roff_ahead.specs.Input.Names.{body_named};
 
 use super::Unread;
 use super::results::drop_kept;
-use crate::arguments::ArgumentList;
-use crate::calls::Calls;
+use roff_arguments::ArgumentList;
+use roff_arguments::Calls;
 use roff_num::{Limit, Name};
 
 impl<E: Copy> Unread<E> {

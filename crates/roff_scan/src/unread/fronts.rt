@@ -2,12 +2,12 @@
 
 ghost use Rattle.std.specs.Prelude.{true, ◌≡◌, ◌≤◌, length, take};
 ghost use Rattle.roff_scan.specs.Unread.Calls.{next_bytes};
-ghost use Rattle.roff_scan.specs.Input.{is_none_ahead};
+ghost use Rattle.roff_ahead.specs.Input.{is_none_ahead};
 
 use super::Unread;
-use crate::bytes::at_most;
-use crate::frames::Frames;
-use crate::source::ByteSource;
+use roff_source::at_most;
+use roff_ahead::Frames;
+use roff_source::ByteSource;
 
 impl<E: Copy> Unread<E> {
     ghost use Rattle.roff_scan.specs.Unread.{IsWithin};

@@ -1,14 +1,14 @@
 //! What is half read.
 
-ghost use Rattle.roff_scan.specs.Halves.{byte_read, decides_now, reading_ended, newline_stays};
-ghost use Rattle.roff_scan.specs.Halves.{seen_stays};
+ghost use Rattle.roff_escape.specs.Halves.{byte_read, decides_now, reading_ended, newline_stays};
+ghost use Rattle.roff_escape.specs.Halves.{seen_stays};
 ghost use Rattle.std.specs.Prelude.{false, not, ◌≡◌, ◌==◌, length};
-ghost use Rattle.roff_scan.specs.Input.{choosing, holding_text};
+ghost use Rattle.roff_ahead.specs.Input.{choosing, holding_text};
 
 use super::Unread;
 use super::fronts::front_of;
-use crate::half::{CopyUnit, Read, Surroundings};
-use crate::source::ByteSource;
+use roff_escape::{CopyUnit, Read, Surroundings};
+use roff_source::ByteSource;
 use roff_num::Limit;
 
 impl<E: Copy> Unread<E> {

@@ -4,13 +4,13 @@ ghost use Rattle.roff_store.specs.Named.{entry_of};
 ghost use Rattle.roff_store.specs.Texts.{entry_given, kind_given, kind_of};
 ghost use Rattle.std.specs.Prelude.{true, ◌≡◌, ◌≤◌, length, None, option_map, take};
 ghost use Rattle.std.specs.List.{AllByRecursion};
-ghost use Rattle.roff_scan.specs.Bytes.{is_text_byte};
-ghost use Rattle.roff_scan.specs.Input.{is_none_ahead};
-ghost use Rattle.roff_scan.specs.Input.Names.{adding, calling, dropping, entering};
+ghost use Rattle.roff_source.specs.Bytes.{is_text_byte};
+ghost use Rattle.roff_ahead.specs.Input.{is_none_ahead};
+ghost use Rattle.roff_ahead.specs.Input.Names.{adding, calling, dropping, entering};
 
 use super::Unread;
-use crate::bytes::{at_most, text_in_front};
-use crate::source::ByteSource;
+use roff_source::{at_most, text_in_front};
+use roff_source::ByteSource;
 use roff_num::{Limit, Name};
 use roff_store::{Entry, Kind};
 

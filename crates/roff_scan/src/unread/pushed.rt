@@ -1,9 +1,9 @@
 //! Texts, bodies and events that are put in front.
 
 ghost use Rattle.std.specs.Prelude.{true, false, ◌≡◌, ◌+◌, ◌<◌, ◌≤◌, length};
-ghost use Rattle.roff_scan.specs.Input.{leaving, events_ahead, frees_ahead, most_events};
-ghost use Rattle.roff_scan.specs.Input.{most_frees, depth, pushing, putting_back, freeing};
-ghost use Rattle.roff_scan.specs.Input.Names.{body_named};
+ghost use Rattle.roff_ahead.specs.Input.{leaving, events_ahead, frees_ahead, most_events};
+ghost use Rattle.roff_ahead.specs.Input.{most_frees, depth, pushing, putting_back, freeing};
+ghost use Rattle.roff_ahead.specs.Input.Names.{body_named};
 
 use super::Unread;
 use super::results::drop_kept;

@@ -1,8 +1,8 @@
 //! The results of conditions that are kept for their other branch.
 
 ghost use Rattle.std.specs.Prelude.{vec_capacity, reverse, ◌≡◌};
-ghost use Rattle.roff_scan.specs.Input.{kept_below};
-ghost use Rattle.roff_scan.specs.Input.Calls.{keeping, kept_last, without_last};
+ghost use Rattle.roff_ahead.specs.Input.{kept_below};
+ghost use Rattle.roff_ahead.specs.Input.Calls.{keeping, kept_last, without_last};
 
 use super::Unread;
 use roff_num::Limit;

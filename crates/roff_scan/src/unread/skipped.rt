@@ -1,13 +1,13 @@
 //! What is taken at once and read no further: bytes that are passed over, newlines, and ends.
 
 ghost use Rattle.std.specs.Prelude.{true, false, ◌≡◌, ◌<◌, [], ◌∷◌};
-ghost use Rattle.roff_scan.specs.Bytes.{newline};
-ghost use Rattle.roff_scan.specs.Input.{is_none_ahead};
+ghost use Rattle.roff_source.specs.Bytes.{newline};
+ghost use Rattle.roff_ahead.specs.Input.{is_none_ahead};
 
 use super::Unread;
 use super::calls::end_call;
-use crate::bytes::{newlines_among, passed_len};
-use crate::source::ByteSource;
+use roff_source::{newlines_among, passed_len};
+use roff_source::ByteSource;
 
 impl<E: Copy> Unread<E> {
     ghost use Rattle.roff_scan.specs.Unread.{is_bare, IsWithin};

@@ -1,22 +1,22 @@
 //! Items that are taken from the front one at a time, and bytes that are looked at.
 
 ghost use Rattle.std.specs.Prelude.{true, false, ◌≡◌, ◌<◌, ◌≤◌, None, IfSome};
-ghost use Rattle.roff_scan.specs.Waiting.{WaitsFor};
-ghost use Rattle.roff_scan.specs.Tape.{Answer, OneByte, Gives, Failed};
+ghost use Rattle.roff_escape.specs.Waiting.{WaitsFor};
+ghost use Rattle.roff_source.specs.Tape.{Answer, OneByte, Gives, Failed};
 ghost use Rattle.roff_num.specs.Faults.{Rises};
-ghost use Rattle.roff_scan.specs.Input.{is_none_ahead, counting};
+ghost use Rattle.roff_ahead.specs.Input.{is_none_ahead, counting};
 
 use super::calls::end_call;
 use super::Unread;
-use crate::item::{Item, Sight};
-use crate::source::{ByteSource, Taken};
+use roff_ahead::{Item, Sight};
+use roff_source::{ByteSource, Taken};
 use roff_num::Limit;
 
 impl<E: Copy> Unread<E> {
     ghost use Rattle.roff_scan.specs.Unread.{IsWithin};
-    ghost use Rattle.roff_scan.specs.Shown.{shown, ShowsByte, ShowsNote, ShowsEnding};
+    ghost use Rattle.roff_ahead.specs.Shown.{shown, ShowsByte, ShowsNote, ShowsEnding};
     ghost use Rattle.roff_scan.specs.Unread.{taking, taking_answer};
-    ghost use Rattle.roff_scan.specs.Shown.{sighted, SeesNote, SeesEnding};
+    ghost use Rattle.roff_ahead.specs.Shown.{sighted, SeesNote, SeesEnding};
     ghost use Rattle.roff_scan.specs.Unread.Calls.{Takes, Looks};
 
     /// Takes the item in front. The source is asked where nothing is ahead and no byte was looked

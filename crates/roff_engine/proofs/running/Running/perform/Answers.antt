@@ -1,5 +1,5 @@
 use Rattle.std.proofs.Common.{[], ◌∷◌, false, refl, sym, ◌∙◌}
-use Rattle.roff_scan.specs.Input.{DoAhead}
+use Rattle.roff_ahead.specs.Input.{DoAhead}
 use Rattle.roff_run.specs.Run.{ahead_taken}
 use Rattle.roff_engine.proofs.Acting.{taking_acts, halted_acts, event_taking, event_does, event_meant, line-interrupted}
 use Rattle.roff_engine.proofs.running.Running.perform.Goals as goal

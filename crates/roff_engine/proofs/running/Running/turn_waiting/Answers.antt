@@ -1,5 +1,5 @@
 use Rattle.std.proofs.Common.{◌∙◌, Bool, sym, ap, if◌then◌else◌}
-use Rattle.roff_scan.specs.Shown.{seen_ahead}
+use Rattle.roff_ahead.specs.Shown.{seen_ahead}
 use Rattle.roff_run.specs.Run.{State, awaited, half_ends, made}
 use Rattle.roff_engine.specs.Running.Turning.{state_at}
 use Rattle.roff_engine.proofs.Turns.{TurnsBy-same}

@@ -1,11 +1,11 @@
 use Rattle.std.proofs.Common.{◌≡◌, true, false, Some, refl, rules, subst, ◌==◌}
-use Rattle.roff_scan.specs.Bytes.{newline}
-use Rattle.roff_scan.specs.Halves.{byte_read}
-use Rattle.roff_scan.specs.Input.{choosing, with_half}
-use Rattle.roff_scan.specs.declared.half.Decision.TheVariants.{Is}
-use Rattle.roff_scan.specs.declared.half.Read.TheVariants.{Decides}
-use Rattle.roff_scan.specs.declared.half.Surroundings.TheVariants.{Arguments as AboveArguments}
-use Rattle.roff_scan.proofs.TextsHeld.{texts_held-byte_read}
+use Rattle.roff_source.specs.Bytes.{newline}
+use Rattle.roff_escape.specs.Halves.{byte_read}
+use Rattle.roff_ahead.specs.Input.{choosing, with_half}
+use Rattle.roff_escape.specs.declared.half.Decision.TheVariants.{Is}
+use Rattle.roff_escape.specs.declared.half.Read.TheVariants.{Decides}
+use Rattle.roff_escape.specs.declared.half.Surroundings.TheVariants.{Arguments as AboveArguments}
+use Rattle.roff_escape.proofs.TextsHeld.{texts_held-byte_read}
 use Rattle.roff_run.specs.Reader.Taken.{PageUnread, TakesAs}
 use Rattle.roff_run.specs.Reading.Branches.{condition_begun, condition_found}
 use Rattle.roff_run.specs.Reading.Found.{read_in}

@@ -1,7 +1,7 @@
 use Rattle.std.proofs.Common.{◌≡◌, ◌∙◌, ◌==◌, ◌<◌, length, ap, arith, false, refl, rules, true}
 use Rattle.std.proofs.lemmas.Bool.{eqb-true}
 use Rattle.std.proofs.lemmas.List.{length-reverse}
-use Rattle.roff_scan.specs.declared.half.CopyUnit.TheVariants.{Byte}
+use Rattle.roff_escape.specs.declared.half.CopyUnit.TheVariants.{Byte}
 use Rattle.roff_run.specs.Reading.{kept_taking}
 use Rattle.roff_run.specs.Reading.Units.{holding}
 use Rattle.roff_run.specs.declared.reading.Reading.{Reading}

@@ -1,6 +1,6 @@
 use Rattle.std.proofs.Common.{◌∙◌, ℕ, List, ap, refl}
-use Rattle.roff_scan.specs.Input.Calls.{calling_body}
-use Rattle.roff_scan.specs.Input.Names.{body_named}
+use Rattle.roff_ahead.specs.Input.Calls.{calling_body}
+use Rattle.roff_ahead.specs.Input.Names.{body_named}
 use Rattle.roff_scan.specs.Unread.{changing}
 use Rattle.roff_run.specs.Reading.{kept_taking}
 use Rattle.roff_num.specs.ShortNames.{name_bytes}

@@ -1,5 +1,5 @@
 use Rattle.std.proofs.Common.{◌≡◌, Err, false, rules}
-use Rattle.roff_scan.specs.Input.{holding_plain}
+use Rattle.roff_ahead.specs.Input.{holding_plain}
 use Rattle.roff_run.specs.declared.reading.Reading.{Reading}
 use Rattle.roff_run.specs.declared.reading.Reading.TheVariants.{Telling}
 use Rattle.roff_run.proofs.TakesAs.{TakesAs-changed, TakesAs-not_changed}

@@ -1,5 +1,5 @@
 use Rattle.std.proofs.Common.{◌≡◌, ℕ, List, Err, Ok, rules, subst, decimal, ◌∙◌}
-use Rattle.roff_scan.specs.Input.{pushing}
+use Rattle.roff_ahead.specs.Input.{pushing}
 use Rattle.roff_scan.specs.Unread.{changing}
 use Rattle.roff_run.proofs.TakesAs.{TakesAs-changed, TakesAs-not_changed}
 use Rattle.roff_run.proofs.reader.Reader.measure.Goals as goal

@@ -1,5 +1,5 @@
 use Rattle.std.proofs.Common.{◌≡◌, [], Err, refl, rules}
-use Rattle.roff_scan.specs.Input.{pushing}
+use Rattle.roff_ahead.specs.Input.{pushing}
 use Rattle.roff_run.proofs.TakesAs.{TakesAs-changed, TakesAs-not_changed}
 use Rattle.roff_run.proofs.reader.Reader.put_nothing.Goals as goal
 

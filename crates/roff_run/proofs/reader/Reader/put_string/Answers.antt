@@ -1,6 +1,6 @@
 use Rattle.std.proofs.Common.{◌≡◌, Err, refl, rules}
-use Rattle.roff_scan.specs.Input.{pushing}
-use Rattle.roff_scan.specs.Input.Names.{body_named}
+use Rattle.roff_ahead.specs.Input.{pushing}
+use Rattle.roff_ahead.specs.Input.Names.{body_named}
 use Rattle.roff_run.proofs.TakesAs.{TakesAs-changed, TakesAs-not_changed}
 use Rattle.roff_run.proofs.reader.Reader.put_string.Goals as goal
 

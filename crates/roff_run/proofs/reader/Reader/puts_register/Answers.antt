@@ -1,5 +1,5 @@
 use Rattle.std.proofs.Common.{◌≡◌, [], None, Ok, Some, refl, subst, ◌∙◌}
-use Rattle.roff_scan.specs.declared.escapes.NameUse.TheVariants.{Register}
+use Rattle.roff_escape.specs.declared.escapes.NameUse.TheVariants.{Register}
 use Rattle.roff_run.specs.Reader.AtOnce.{PutsAbove, only_events}
 use Rattle.roff_run.specs.Reader.State.{ReaderState}
 use Rattle.roff_run.proofs.TakesAs.{KnowsText, TakesAs-interpolated}

@@ -1,5 +1,5 @@
 use Rattle.std.proofs.Common.{◌≡◌, Ok, true, false, rules}
-use Rattle.roff_scan.specs.Bytes.{is_dropped}
+use Rattle.roff_source.specs.Bytes.{is_dropped}
 use Rattle.roff_run.specs.Reading.{interrupted, kept_taking, taking}
 use Rattle.roff_run.specs.Reading.Items.{going_on}
 use Rattle.roff_run.proofs.TakesAs.{TakesAs-as, TakesAs-interrupted, taking-of}

@@ -1,7 +1,7 @@
 use Rattle.std.proofs.Common.{[], sym, ap, ◌∙◌}
-use Rattle.roff_scan.specs.Halves.{byte_read}
-use Rattle.roff_scan.specs.declared.half.Surroundings.TheVariants.{Arguments as AboveArguments}
-use Rattle.roff_scan.proofs.TextsHeld.{texts_held-byte_read}
+use Rattle.roff_escape.specs.Halves.{byte_read}
+use Rattle.roff_escape.specs.declared.half.Surroundings.TheVariants.{Arguments as AboveArguments}
+use Rattle.roff_escape.proofs.TextsHeld.{texts_held-byte_read}
 use Rattle.roff_run.specs.Reading.Calls.{call_found}
 use Rattle.roff_run.specs.Reading.ControlLines.{called_taking, line_taking, name_ended_taking}
 use Rattle.roff_run.specs.Reading.Found.{read_in}

@@ -1,4 +1,4 @@
-use Rattle.roff_scan.specs.Halves.{byte_read}
+use Rattle.roff_escape.specs.Halves.{byte_read}
 use Rattle.roff_run.specs.Reading.{kept_taking}
 use Rattle.roff_run.specs.Reading.Found.{found_in, place_in, read_in}
 use Rattle.roff_run.proofs.Placed.{kept-placed}

@@ -1,5 +1,5 @@
 use Rattle.std.proofs.Common.{◌≡◌, [], Err, Ok, Some, ap, refl, rules, sym, ◌++◌}
-use Rattle.roff_scan.specs.Half.{unit_bytes}
+use Rattle.roff_escape.specs.Half.{unit_bytes}
 use Rattle.roff_run.specs.Definitions.{end_mark, front_of, line_from, matched_behind}
 use Rattle.roff_run.specs.Reading.DefinedLines.{behind_definition, definition_line, definition_unit}
 use Rattle.roff_run.specs.Reading.Definitions.{definition_grown}

@@ -1,5 +1,5 @@
 use Rattle.std.proofs.Common.{◌≡◌, ◌∙◌, [], false, rules, sym}
-use Rattle.roff_scan.specs.Bytes.{is_dropped}
+use Rattle.roff_source.specs.Bytes.{is_dropped}
 use Rattle.roff_run.proofs.ReadAtOnce.{at_once-kept, none_half}
 use Rattle.roff_run.proofs.reader.Reader.reads_on.Goals as goal
 

@@ -1,6 +1,6 @@
 use Rattle.std.proofs.Common.{◌≡◌, rules, slice_get, Some, None, sym}
 use Rattle.roff_num.specs.Names.{name_of}
-use Rattle.roff_scan.specs.ArgumentList.{listed}
+use Rattle.roff_arguments.specs.ArgumentList.{listed}
 use Rattle.roff_run.specs.Requests.Numbering.{name_given}
 use Rattle.roff_run.proofs.RemovedRegisters.{Removed-named, Removed-unnamed, Removed-past}
 use Rattle.roff_run.proofs.reader.Reader.remove_given.Goals.{in-Some+in-Some-name_given, in-Some+in_default-name_given, in_default}

@@ -1,4 +1,4 @@
-use Rattle.roff_scan.specs.ArgumentList.{listed}
+use Rattle.roff_arguments.specs.ArgumentList.{listed}
 use Rattle.roff_run.proofs.RemovedRegisters.{Removed}
 use Rattle.roff_run.proofs.reader.Reader.remove_given.Given as goal
 

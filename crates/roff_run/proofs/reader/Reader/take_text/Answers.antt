@@ -1,6 +1,6 @@
 use Rattle.std.proofs.Common.{◌≡◌, ◌∙◌, ◌==◌, Ok, false, refl, rules, sym}
 use Rattle.std.proofs.lemmas.Option.{IfSome_then}
-use Rattle.roff_scan.specs.Bytes.{is_dropped}
+use Rattle.roff_source.specs.Bytes.{is_dropped}
 use Rattle.roff_run.specs.Reader.AtOnce.{only_events, text_byte_events}
 use Rattle.roff_run.specs.Reading.{taking}
 use Rattle.roff_run.specs.Reading.Beginnings.{line_begun}

@@ -1,5 +1,5 @@
 use Rattle.std.proofs.Common.{sym}
-use Rattle.roff_scan.specs.Input.{holding_text}
+use Rattle.roff_ahead.specs.Input.{holding_text}
 use Rattle.roff_run.proofs.ReadAtOnce.{refused-stays}
 use Rattle.roff_run.proofs.reader.above.goes_on_above.Goals as goal
 

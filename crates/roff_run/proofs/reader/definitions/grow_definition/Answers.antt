@@ -1,7 +1,7 @@
 use Rattle.std.proofs.Common.{◌≡◌, ℕ, List, ◌++◌, true, rules, subst}
 use Rattle.std.specs.Prelude.{is_some}
-use Rattle.roff_scan.specs.Half.{unit_bytes}
-use Rattle.roff_scan.specs.Input.Names.{adding}
+use Rattle.roff_escape.specs.Half.{unit_bytes}
+use Rattle.roff_ahead.specs.Input.Names.{adding}
 use Rattle.roff_scan.specs.Unread.{changing}
 use Rattle.roff_run.proofs.BegunDefinitions.{InputBecame-defined}
 use Rattle.roff_run.proofs.reader.definitions.grow_definition.Goals.{in-Byte, in-Kept}

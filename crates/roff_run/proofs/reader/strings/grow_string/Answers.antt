@@ -1,5 +1,5 @@
 use Rattle.std.proofs.Common.{◌≡◌, true, is_some, rules}
-use Rattle.roff_scan.specs.declared.half.CopyUnit.TheVariants.{Byte, Kept}
+use Rattle.roff_escape.specs.declared.half.CopyUnit.TheVariants.{Byte, Kept}
 use Rattle.roff_run.proofs.Strings.{InputBecame-grown}
 use Rattle.roff_run.proofs.reader.strings.grow_string.Goals as goal
 

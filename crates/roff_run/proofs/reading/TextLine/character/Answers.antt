@@ -1,5 +1,5 @@
 use Rattle.std.proofs.Common.{◌≡◌, Some, None, rules, sym, ap, ◌∙◌}
-use Rattle.roff_scan.specs.Characters.{character}
+use Rattle.roff_escape.specs.Characters.{character}
 use Rattle.roff_run.specs.Reading.TextLines.{character_printed, character_taking, told_taking}
 use Rattle.roff_run.specs.declared.message.CharacterName.{CharacterName}
 use Rattle.roff_run.specs.declared.message.Message.TheVariants.{UnknownCharacter}

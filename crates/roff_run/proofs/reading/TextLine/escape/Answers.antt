@@ -1,7 +1,7 @@
 use Rattle.std.proofs.Common.{◌≡◌, rules, sym, ap, ◌∙◌}
-use Rattle.roff_scan.specs.Escapes.{escape_of}
-use Rattle.roff_scan.specs.declared.escapes.Escape.TheVariants.{Text}
-use Rattle.roff_scan.specs.declared.escapes.TextUse.TheVariants.{LeftOut, Motion}
+use Rattle.roff_escape.specs.Escapes.{escape_of}
+use Rattle.roff_escape.specs.declared.escapes.Escape.TheVariants.{Text}
+use Rattle.roff_escape.specs.declared.escapes.TextUse.TheVariants.{LeftOut, Motion}
 use Rattle.roff_run.specs.Reading.TextLines.{escape_meant}
 use Rattle.roff_run.proofs.reading.TextLine.escape.Goals as goal
 

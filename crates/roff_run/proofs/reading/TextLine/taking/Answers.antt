@@ -1,5 +1,5 @@
 use Rattle.std.proofs.Common.{◌≡◌, true, false, rules, ◌==◌}
-use Rattle.roff_scan.specs.Bytes.{is_silent}
+use Rattle.roff_source.specs.Bytes.{is_silent}
 use Rattle.roff_run.proofs.reading.TextLine.taking.Goals as goal
 
 pub returns-then-byte-eq9 : goal.returns-then-byte-eq9

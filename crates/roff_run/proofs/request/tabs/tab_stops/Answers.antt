@@ -3,7 +3,7 @@ use Rattle.std.specs.Prelude.{take}
 use Rattle.std.proofs.lemmas.Int.{to_z-of_z}
 use Rattle.std.proofs.lemmas.List.{length-take}
 use Rattle.std.proofs.lemmas.Option.{slice_get-get_or}
-use Rattle.roff_scan.specs.ArgumentList.{listed}
+use Rattle.roff_arguments.specs.ArgumentList.{listed}
 use Rattle.roff_run.specs.Numbers.{rounded_in_range}
 use Rattle.roff_run.specs.Requests.Tabs.{most_stops}
 use Rattle.roff_run.proofs.TabStops.{ReadSoFar-next, all_read, column_at, nothing_read, slice_get-take}

@@ -1,5 +1,5 @@
 use Rattle.std.specs.Prelude.{take}
-use Rattle.roff_scan.specs.ArgumentList.{listed}
+use Rattle.roff_arguments.specs.ArgumentList.{listed}
 use Rattle.roff_run.specs.Requests.Tabs.{most_stops}
 use Rattle.roff_run.proofs.TabStops.{ReadSoFar}
 use Rattle.roff_run.proofs.request.tabs.tab_stops.Given as goal

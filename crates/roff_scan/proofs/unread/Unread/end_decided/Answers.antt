@@ -1,14 +1,14 @@
 use Rattle.std.proofs.Common.{◌≡◌, ◌≤◌, Bool, Option, Some, None, IfSome, ap, arith, refl, subst, sym}
-use Rattle.roff_scan.specs.Half.{texts_held}
-use Rattle.roff_scan.specs.HalfTexts.{KeptHalves, leaving}
-use Rattle.roff_scan.specs.Halves.{reading_ended}
+use Rattle.roff_escape.specs.Half.{texts_held}
+use Rattle.roff_escape.specs.HalfTexts.{KeptHalves, leaving}
+use Rattle.roff_escape.specs.Halves.{reading_ended}
 use Rattle.roff_scan.specs.Unread.Kept.{kept_by}
-use Rattle.roff_scan.specs.declared.half.Decision.TheVariants.{Is}
-use Rattle.roff_scan.specs.declared.half.Read.TheVariants.{Decides}
-use Rattle.roff_scan.specs.declared.half.Surroundings.{Surroundings}
-use Rattle.roff_scan.specs.declared.half.Surroundings.TheVariants.{Arguments as AboveArguments}
+use Rattle.roff_escape.specs.declared.half.Decision.TheVariants.{Is}
+use Rattle.roff_escape.specs.declared.half.Read.TheVariants.{Decides}
+use Rattle.roff_escape.specs.declared.half.Surroundings.{Surroundings}
+use Rattle.roff_escape.specs.declared.half.Surroundings.TheVariants.{Arguments as AboveArguments}
 use Rattle.roff_scan.proofs.Changing.{IsWithin-with_half}
-use Rattle.roff_scan.proofs.TextsHeld.{texts_held-reading_ended}
+use Rattle.roff_escape.proofs.TextsHeld.{texts_held-reading_ended}
 use Rattle.roff_scan.proofs.unread.Unread.end_decided.Goals as goal
 
 -- no more is held of texts than before, and there is room for as much

@@ -1,8 +1,8 @@
 use Rattle.std.proofs.Common.{ap}
-use Rattle.roff_scan.specs.Halves.{reading_ended}
+use Rattle.roff_escape.specs.Halves.{reading_ended}
 use Rattle.roff_scan.specs.Unread.Kept.{kept_by}
 use Rattle.roff_scan.proofs.Changing.{IsWithin-with_half}
-use Rattle.roff_scan.proofs.TextsHeld.{texts_held-reading_ended}
+use Rattle.roff_escape.proofs.TextsHeld.{texts_held-reading_ended}
 use Rattle.roff_scan.proofs.unread.Unread.end_reading.Goals as goal
 
 pub invariant_of-self : goal.invariant_of-self

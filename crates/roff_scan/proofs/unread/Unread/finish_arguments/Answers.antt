@@ -1,7 +1,7 @@
-use Rattle.roff_scan.specs.Arguments.{finished}
+use Rattle.roff_arguments.specs.Arguments.{finished}
 use Rattle.roff_scan.specs.Unread.Kept.{kept_by}
 use Rattle.roff_scan.proofs.Changing.{IsWithin-same_held}
-use Rattle.roff_scan.proofs.KeptArguments.{held-finished}
+use Rattle.roff_arguments.proofs.KeptArguments.{held-finished}
 use Rattle.roff_scan.proofs.LineCalls.{begun-finished}
 use Rattle.roff_scan.proofs.unread.Unread.finish_arguments.Goals as goal
 

@@ -1,7 +1,7 @@
 use Rattle.std.proofs.Common.{◌+◌, ◌≤◌, length, take, subst, arith}
 use Rattle.std.proofs.lemmas.List.{length-take-le}
-use Rattle.roff_scan.specs.ArgumentTexts.Kept.{KeptArguments}
-use Rattle.roff_scan.specs.Input.{pushed}
+use Rattle.roff_arguments.specs.ArgumentTexts.Kept.{KeptArguments}
+use Rattle.roff_ahead.specs.Input.{pushed}
 use Rattle.roff_scan.specs.Unread.Calls.{PassesFront, front_bytes}
 use Rattle.roff_scan.specs.Unread.Kept.{kept_by}
 use Rattle.roff_scan.proofs.HeldFronts.{IsWithin-held, NoneBegun-bytes_held, held_in_front, held_no_newline, holds_front, holds_none, with_these}

@@ -1,12 +1,12 @@
 use Rattle.std.proofs.Common.{◌≡◌, ◌++◌, ◌≤◌, ◌+◌, [], length, map, sym, subst, ap, ◌∙◌, arith}
 use Rattle.std.proofs.lemmas.List.{nil_from_length}
-use Rattle.roff_scan.specs.Frames.Kept.{Framed}
-use Rattle.roff_scan.specs.Input.{ByteAhead, returns_ahead}
+use Rattle.roff_ahead.specs.Frames.Kept.{Framed}
+use Rattle.roff_ahead.specs.Input.{ByteAhead, returns_ahead}
 use Rattle.roff_scan.specs.Unread.{IsWithin, texts_within}
 use Rattle.roff_scan.specs.Unread.Calls.{PassesAhead}
 use Rattle.roff_scan.specs.Unread.Kept.{kept_by}
-use Rattle.roff_scan.proofs.Counts.{returns_ahead-bytes}
-use Rattle.roff_scan.proofs.Giving.{none_at_all}
+use Rattle.roff_ahead.proofs.Counts.{returns_ahead-bytes}
+use Rattle.roff_source.proofs.Giving.{none_at_all}
 use Rattle.roff_scan.proofs.PassingAhead.{IsWithin-behind, behind_bytes, passes_ahead}
 use Rattle.roff_scan.proofs.unread.Unread.pass_over_ahead.Goals as goal
 use Rattle.roff_store.specs.Named.{EachOnce}

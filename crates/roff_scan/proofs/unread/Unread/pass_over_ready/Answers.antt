@@ -1,6 +1,6 @@
 use Rattle.std.proofs.Common.{◌≡◌, ◌-◌, None, [], length, ap, rules, sym, ◌∙◌}
-use Rattle.roff_scan.specs.Bytes.{is_passed}
-use Rattle.roff_scan.specs.Input.{counting}
+use Rattle.roff_source.specs.Bytes.{is_passed}
+use Rattle.roff_ahead.specs.Input.{counting}
 use Rattle.roff_scan.specs.Unread.Kept.{kept_by}
 use Rattle.roff_scan.proofs.Passing.{passes, passes_none, passed_is, front_is, counted}
 use Rattle.roff_scan.proofs.unread.Unread.pass_over_ready.Goals as goal

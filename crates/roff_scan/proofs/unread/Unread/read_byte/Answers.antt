@@ -1,8 +1,8 @@
 use Rattle.std.proofs.Common.{ap}
-use Rattle.roff_scan.specs.Halves.{byte_read}
+use Rattle.roff_escape.specs.Halves.{byte_read}
 use Rattle.roff_scan.specs.Unread.Kept.{kept_by}
 use Rattle.roff_scan.proofs.Changing.{IsWithin-with_half}
-use Rattle.roff_scan.proofs.TextsHeld.{texts_held-byte_read}
+use Rattle.roff_escape.proofs.TextsHeld.{texts_held-byte_read}
 use Rattle.roff_scan.proofs.unread.Unread.read_byte.Goals as goal
 
 pub invariant_of-self : goal.invariant_of-self

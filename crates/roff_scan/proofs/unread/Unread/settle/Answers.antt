@@ -1,7 +1,7 @@
-use Rattle.roff_scan.specs.Arguments.{settled}
+use Rattle.roff_arguments.specs.Arguments.{settled}
 use Rattle.roff_scan.specs.Unread.Kept.{kept_by}
 use Rattle.roff_scan.proofs.Changing.{IsWithin-same_held}
-use Rattle.roff_scan.proofs.KeptArguments.{held-settled}
+use Rattle.roff_arguments.proofs.KeptArguments.{held-settled}
 use Rattle.roff_scan.proofs.LineCalls.{NoneBegun-settled}
 use Rattle.roff_scan.proofs.unread.Unread.settle.Goals as goal
 

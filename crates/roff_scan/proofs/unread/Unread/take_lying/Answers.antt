@@ -1,5 +1,5 @@
 use Rattle.std.proofs.Common.{◌+◌, ◌≤◌, arith}
-use Rattle.roff_scan.specs.Input.{pushed}
+use Rattle.roff_ahead.specs.Input.{pushed}
 use Rattle.roff_scan.specs.Unread.Kept.{kept_by}
 use Rattle.roff_scan.proofs.ConditionsInFront.{IsWithin-taken, taken_in_front, taken_no_newline, takes_halves, takes_none}
 use Rattle.roff_scan.proofs.unread.Unread.take_lying.Goals as goal

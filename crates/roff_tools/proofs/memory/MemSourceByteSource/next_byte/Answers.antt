@@ -1,6 +1,6 @@
 use Rattle.std.proofs.Common.{refl}
-use Rattle.roff_scan.specs.Tape.{Ended, Failed}
-use Rattle.roff_scan.proofs.Giving.{told_byte, told_end}
+use Rattle.roff_source.specs.Tape.{Ended, Failed}
+use Rattle.roff_source.proofs.Giving.{told_byte, told_end}
 use Rattle.roff_tools.proofs.memory.MemSourceByteSource.next_byte.Goals as goal
 
 pub returns-in-Some-clause-gives : goal.returns-in-Some-clause-gives

@@ -1,4 +1,4 @@
-use Rattle.roff_scan.proofs.Giving.{told_bytes}
+use Rattle.roff_source.proofs.Giving.{told_bytes}
 use Rattle.roff_tools.proofs.memory.MemSourceByteSource.pass.Goals as goal
 
 pub returns-clause-gives : goal.returns-clause-gives

@@ -1,0 +1,134 @@
+-- What is counted of what stands ahead.
+use Rattle.std.proofs.Common.{◌≡◌, ◌<◌, ◌≤◌, ◌+◌, ℕ, zero, suc, List, [], ◌∷◌, ◌++◌, length, map, take, drop, refl, sym, arith, length-drop, zero-add}
+use Rattle.std.specs.Prelude.{reverse, replicate}
+use Rattle.std.proofs.lemmas.List.{length-reverse, length-take-le}
+use Rattle.roff_ahead.specs.Input.{Ahead, ByteAhead, FreeAhead, EndAhead, ReturnAhead, DoAhead, bytes_ahead, ends_ahead, events_ahead, frees_ahead, returns_ahead}
+use Rattle.roff_ahead.specs.Slots.Standing.{standing, items_of, IsStacked}
+use Rattle.roff_ahead.specs.declared.slots.Slot.{Slot}
+use Rattle.roff_ahead.specs.declared.slots.Mark.{Mark}
+use Rattle.roff_ahead.specs.declared.slots.Mark.TheVariants.{Ends, Return, Free, Do}
+
+module _ {E : Type 0} where
+  -- bytes of texts, in front of other items
+  pub bytes_ahead-bytes : (text : List ℕ) (items : List (Ahead E)) → bytes_ahead (map ByteAhead text ++ items) ≡ length text + bytes_ahead items
+  bytes_ahead-bytes [] items = sym (zero-add (bytes_ahead items))
+  bytes_ahead-bytes (b ∷ text) items = grind (arith, bytes_ahead-bytes text items)
+
+  pub ends_ahead-bytes : (text : List ℕ) (items : List (Ahead E)) → ends_ahead (map ByteAhead text ++ items) ≡ ends_ahead items
+  ends_ahead-bytes [] items = refl
+  ends_ahead-bytes (b ∷ text) items = ends_ahead-bytes text items
+
+  pub events_ahead-bytes : (text : List ℕ) (items : List (Ahead E)) → events_ahead (map ByteAhead text ++ items) ≡ events_ahead items
+  events_ahead-bytes [] items = refl
+  events_ahead-bytes (b ∷ text) items = events_ahead-bytes text items
+
+  pub frees_ahead-bytes : (text : List ℕ) (items : List (Ahead E)) → frees_ahead (map ByteAhead text ++ items) ≡ frees_ahead items
+  frees_ahead-bytes [] items = refl
+  frees_ahead-bytes (b ∷ text) items = frees_ahead-bytes text items
+
+  pub returns_ahead-bytes : (text : List ℕ) (items : List (Ahead E)) → returns_ahead (map ByteAhead text ++ items) ≡ returns_ahead items
+  returns_ahead-bytes [] items = refl
+  returns_ahead-bytes (b ∷ text) items = returns_ahead-bytes text items
+
+  -- bytes in front again, in front of other items
+  pub frees_ahead-frees : (bytes : List ℕ) (items : List (Ahead E)) → frees_ahead (map FreeAhead bytes ++ items) ≡ length bytes + frees_ahead items
+  frees_ahead-frees [] items = sym (zero-add (frees_ahead items))
+  frees_ahead-frees (b ∷ bytes) items = grind (arith, frees_ahead-frees bytes items)
+
+  pub bytes_ahead-frees : (bytes : List ℕ) (items : List (Ahead E)) → bytes_ahead (map FreeAhead bytes ++ items) ≡ bytes_ahead items
+  bytes_ahead-frees [] items = refl
+  bytes_ahead-frees (b ∷ bytes) items = bytes_ahead-frees bytes items
+
+  pub ends_ahead-frees : (bytes : List ℕ) (items : List (Ahead E)) → ends_ahead (map FreeAhead bytes ++ items) ≡ ends_ahead items
+  ends_ahead-frees [] items = refl
+  ends_ahead-frees (b ∷ bytes) items = ends_ahead-frees bytes items
+
+  pub events_ahead-frees : (bytes : List ℕ) (items : List (Ahead E)) → events_ahead (map FreeAhead bytes ++ items) ≡ events_ahead items
+  events_ahead-frees [] items = refl
+  events_ahead-frees (b ∷ bytes) items = events_ahead-frees bytes items
+
+  pub returns_ahead-frees : (bytes : List ℕ) (items : List (Ahead E)) → returns_ahead (map FreeAhead bytes ++ items) ≡ returns_ahead items
+  returns_ahead-frees [] items = refl
+  returns_ahead-frees (b ∷ bytes) items = returns_ahead-frees bytes items
+
+  -- the end of a called body is an end
+  pub returns-few : (items : List (Ahead E)) → returns_ahead items ≤ ends_ahead items
+  returns-few [] = omega arith
+  returns-few (ByteAhead b ∷ items) = returns-few items
+  returns-few (FreeAhead b ∷ items) = returns-few items
+  returns-few (EndAhead ∷ items) = omega (arith, returns-few items)
+  returns-few (ReturnAhead ∷ items) = omega (arith, returns-few items)
+  returns-few (DoAhead event ∷ items) = returns-few items
+
+  -- ends have no bytes
+  bytes_ahead-ends : (n : ℕ) (items : List (Ahead E)) → bytes_ahead (replicate n EndAhead ++ items) ≡ bytes_ahead items
+  bytes_ahead-ends zero items = refl
+  bytes_ahead-ends (suc n) items = bytes_ahead-ends n items
+
+  -- and no mark has any
+  bytes_ahead-mark : (mark : Mark E) (items : List (Ahead E)) → bytes_ahead (items_of mark ++ items) ≡ bytes_ahead items
+  bytes_ahead-mark (Ends more) items = bytes_ahead-ends more items
+  bytes_ahead-mark Return items = refl
+  bytes_ahead-mark (Free b) items = refl
+  bytes_ahead-mark (Do event) items = refl
+
+  -- the unread bytes are those of the stack
+  pub bytes_ahead-standing : (slots : List (Slot E)) (bytes : List ℕ) → IsStacked slots (length bytes) → bytes_ahead (standing slots bytes) ≡ length bytes
+  bytes_ahead-standing [] bytes stacked = sym stacked
+  bytes_ahead-standing (slot ∷ slots) bytes stacked =
+      let below = take slot.height bytes in
+      let len : length below ≡ slot.height = length-take-le slot.height bytes stacked.0 in
+      let rest : bytes_ahead (standing slots below) ≡ length below = bytes_ahead-standing slots below (rw len stacked.1) in
+      rw (bytes_ahead-bytes (reverse (drop slot.height bytes)), bytes_ahead-mark slot.mark, rest, len, length-reverse, length-drop) (omega (arith, stacked.0))
+
+  -- each end counts
+  ends_ahead-ends : (n : ℕ) (items : List (Ahead E)) → ends_ahead items ≤ ends_ahead (replicate n EndAhead ++ items)
+  ends_ahead-ends zero items = omega arith
+  ends_ahead-ends (suc n) items = omega (arith, ends_ahead-ends n items)
+
+  frees_ahead-ends : (n : ℕ) (items : List (Ahead E)) → frees_ahead (replicate n EndAhead ++ items) ≡ frees_ahead items
+  frees_ahead-ends zero items = refl
+  frees_ahead-ends (suc n) items = frees_ahead-ends n items
+
+  events_ahead-ends : (n : ℕ) (items : List (Ahead E)) → events_ahead (replicate n EndAhead ++ items) ≡ events_ahead items
+  events_ahead-ends zero items = refl
+  events_ahead-ends (suc n) items = events_ahead-ends n items
+
+  -- all items but the bytes of texts
+  marks : List (Ahead E) → ℕ
+  marks items = ends_ahead items + events_ahead items + frees_ahead items
+
+  -- a mark is one at least
+  marks-mark : (mark : Mark E) (items : List (Ahead E)) → marks items + 1 ≤ marks (items_of mark ++ items)
+  unfolding marks
+  marks-mark (Ends more) items = omega (arith, ends_ahead-ends more items, frees_ahead-ends more items, events_ahead-ends more items)
+  marks-mark Return items = omega arith
+  marks-mark (Free b) items = omega arith
+  marks-mark (Do event) items = omega arith
+
+  marks-standing : (slots : List (Slot E)) (bytes : List ℕ) → length slots ≤ marks (standing slots bytes)
+  unfolding marks
+  marks-standing [] bytes = omega arith
+  marks-standing (slot ∷ slots) bytes =
+      let below = take slot.height bytes in
+      let above = reverse (drop slot.height bytes) in
+      let items = items_of slot.mark ++ standing slots below in
+      let own : marks (standing slots below) + 1 ≤ marks items = marks-mark slot.mark (standing slots below) in
+      omega (arith, marks-standing slots below, own, ends_ahead-bytes above items, events_ahead-bytes above items, frees_ahead-bytes above items)
+
+  -- no more slots are used than items stand ahead that are no bytes of texts
+  pub length-slots : (slots : List (Slot E)) (bytes : List ℕ)
+      → length slots ≤ ends_ahead (standing slots bytes) + events_ahead (standing slots bytes) + frees_ahead (standing slots bytes)
+  unfolding marks
+  length-slots slots bytes = marks-standing slots bytes
+
+  -- ends in front are counted
+  pub ends_ahead-more : (n : ℕ) (items : List (Ahead E)) → n ≤ ends_ahead (replicate n EndAhead ++ items)
+  ends_ahead-more zero items = omega arith
+  ends_ahead-more (suc n) items = omega (arith, ends_ahead-more n items)
+
+  -- where the slots stand for no more than there is room for, one more can be used
+  pub has_slot : (slots : List (Slot E)) (bytes : List ℕ) (texts events frees capacity : ℕ)
+      → ends_ahead (standing slots bytes) + events_ahead (standing slots bytes) + frees_ahead (standing slots bytes) < texts + events + frees
+      → texts + events + frees ≤ capacity → length slots < capacity
+  has_slot slots bytes texts events frees capacity few room = omega (arith, length-slots slots bytes)

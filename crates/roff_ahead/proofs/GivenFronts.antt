@@ -1,0 +1,58 @@
+-- Bytes in front that are given to what is half read.
+use Rattle.std.proofs.Common.{◌≡◌, ℕ, ◌+◌, ◌≤◌, Bool, true, List, [], ◌∷◌, ◌++◌, length, map, refl, sym, ap, ◌∙◌, arith, length-append, append_assoc}
+use Rattle.std.proofs.lemmas.List.{map-append}
+use Rattle.roff_escape.specs.ConditionFronts.{ByteTaken, HalvesTaken, NothingTaken}
+use Rattle.roff_ahead.specs.Frames.Calls.{GivesByte, GivesFront, GivesOne}
+use Rattle.roff_ahead.specs.Frames.Kept.{Framed}
+use Rattle.roff_escape.specs.Half.{Half, texts_held}
+use Rattle.roff_escape.specs.HalfTexts.{KeptHalves}
+use Rattle.roff_ahead.specs.Input.{Ahead, ByteAhead, bytes_ahead}
+use Rattle.roff_escape.proofs.ConditionFronts.{HalvesTaken-last, taken-held}
+use Rattle.roff_ahead.proofs.Counts.{bytes_ahead-bytes}
+
+-- each byte that is taken is held at the most
+pub HalvesTaken-held : (half last : List Half) (bytes : List ℕ) → HalvesTaken half bytes last → texts_held last ≤ texts_held half + length bytes
+HalvesTaken-held _ last _ (NothingTaken half) = omega arith
+HalvesTaken-held half _ _ (ByteTaken _ next last b bytes takes others) =
+    omega (arith, taken-held half next b takes, HalvesTaken-held next last bytes others)
+
+module _ {E : Type 0} where
+  -- none was given yet
+  pub GivesFront-none : (f : Framed E) (k : KeptHalves) → GivesFront f f k k 0
+  GivesFront-none f k = record {
+    bytes = [];
+    behind = f.ahead;
+    in_front = refl;
+    length_is = refl;
+    taken = refl;
+    takes = NothingTaken k.half;
+    room = refl;
+  }
+
+  module _ (old now new : Framed E) (before held after : KeptHalves) (count : ℕ) (gives : GivesFront old now before held count) where
+    -- what stands ahead behind those that were given
+    ahead-behind : now.ahead ≡ gives.behind
+    ahead-behind = ap (λ (f : Framed E). f.ahead) gives.taken
+
+    -- there is room for what is ahead and what is held
+    pub room-behind : bytes_ahead old.ahead + texts_held before.half ≤ before.room → bytes_ahead now.ahead + texts_held held.half ≤ held.room
+    room-behind few =
+        let fewer = ap bytes_ahead gives.in_front ∙ bytes_ahead-bytes gives.bytes gives.behind in
+        omega (arith, few, fewer, ap bytes_ahead ahead-behind, HalvesTaken-held before.half held.half gives.bytes gives.takes, gives.room)
+
+    -- one more was given
+    pub GivesFront-more : (is_given : Bool) → is_given ≡ true → GivesByte now new held after is_given → GivesFront old new before after (count + 1)
+    GivesFront-more is_given is byte =
+        let one : GivesOne now new held after = byte.given is in
+        let here : gives.behind ≡ ByteAhead one.byte ∷ one.behind = sym ahead-behind ∙ one.in_front in
+        let bytes : List ℕ = gives.bytes ++ one.byte ∷ [] in
+        let joined : map ByteAhead bytes ++ one.behind ≡ map ByteAhead gives.bytes ++ (ByteAhead one.byte ∷ one.behind) = rw (map-append, append_assoc) refl in
+        record {
+          bytes = bytes;
+          behind = one.behind;
+          in_front = gives.in_front ∙ ap (λ (items : List (Ahead E)). map ByteAhead gives.bytes ++ items) here ∙ sym joined;
+          length_is = length-append gives.bytes (one.byte ∷ []) ∙ ap (λ (n : ℕ). n + 1) gives.length_is;
+          taken = one.taken ∙ ap (λ (f : Framed E). record f { ahead = one.behind }) gives.taken;
+          takes = HalvesTaken-last before.half held.half after.half gives.bytes one.byte gives.takes one.takes;
+          room = byte.room ∙ gives.room;
+        }

@@ -1,0 +1,14 @@
+pub mod LastBytes
+pub mod Counts
+pub mod Pushing
+pub mod Standing
+pub mod Taking
+pub mod Bodies
+pub mod Framing
+pub mod Leased
+pub mod BodyTaken
+pub mod Pushed
+pub mod Seeing
+pub mod NamedTexts
+pub mod Leading
+pub mod GivenFronts

@@ -1,0 +1,66 @@
+-- What slots stand for, behind each change of theirs.
+use Rattle.std.proofs.Common.{false, ◌==◌, ◌≡◌, ◌<◌, ◌≤◌, ◌+◌, ℕ, suc, List, [], ◌∷◌, ◌++◌, length, map, drop, refl, arith, append_assoc, add-one}
+use Rattle.std.specs.Prelude.{reverse}
+use Rattle.std.proofs.lemmas.Bool.Decides.{nat_tests}
+use Rattle.std.proofs.Math.Seq.{drop-length, take-length}
+use Rattle.std.proofs.lemmas.List.{drop-append-le, take-append-le, reverse-append, reverse-reverse, map-append}
+use Rattle.roff_ahead.specs.Input.{Ahead, ByteAhead, EndAhead, is_none_ahead}
+use Rattle.roff_ahead.specs.Slots.Standing.{standing, items_of, IsStacked}
+use Rattle.roff_ahead.specs.declared.slots.Slot.{Slot}
+use Rattle.roff_ahead.specs.declared.slots.Mark.TheVariants.{Ends, Return, Free, Do}
+use Rattle.roff_ahead.specs.declared.slots.Mark.{Mark}
+
+module _ {E : Type 0} (slot : Slot E) (slots : List (Slot E)) (bytes : List ℕ) where
+  -- bytes on top of the others come first, the last of them in front
+  pub standing-append : (more : List ℕ) → slot.height ≤ length bytes
+      → standing (slot ∷ slots) (bytes ++ more) ≡ map ByteAhead (reverse more) ++ standing (slot ∷ slots) bytes
+  standing-append more below = simp (drop-append-le slot.height bytes more below, take-append-le slot.height bytes more below, reverse-append, map-append, append_assoc) refl
+
+  -- where all bytes above a slot were taken, its mark comes next
+  pub standing_mark : slot.height ≡ length bytes → standing (slot ∷ slots) bytes ≡ items_of slot.mark ++ standing slots bytes
+  standing_mark at = simp (at, drop-length, take-length) refl
+
+-- a number that isn't 0
+not_none : (n : ℕ) → (suc n == 0) ≡ false
+not_none n = grind (arith, nat_tests)
+
+module _ {E : Type 0} where
+  -- something in front is something
+  something : (before after : List (Ahead E)) → is_none_ahead after ≡ false → is_none_ahead (before ++ after) ≡ false
+  something [] after some = some
+  something (item ∷ before) after some = refl
+
+  some_mark : (mark : Mark E) (items : List (Ahead E)) → is_none_ahead (items_of mark ++ items) ≡ false
+  some_mark (Ends more) items = refl
+  some_mark Return items = refl
+  some_mark (Free b) items = refl
+  some_mark (Do event) items = refl
+
+  -- nothing stands ahead where there is no slot
+  pub is_none_ahead-standing : (slots : List (Slot E)) (bytes : List ℕ) → is_none_ahead (standing slots bytes) ≡ (length slots == 0)
+  is_none_ahead-standing [] bytes = refl
+  is_none_ahead-standing (slot ∷ slots) bytes = rw (not_none (length slots)) (something (map ByteAhead (reverse (drop slot.height bytes))) _ (some_mark slot.mark _))
+
+  -- so there is a slot where something stands ahead
+  pub some-slots : (slots : List (Slot E)) (bytes : List ℕ) → is_none_ahead (standing slots bytes) ≡ false → 0 < length slots
+  some-slots [] bytes some = cc
+  some-slots (slot ∷ slots) bytes some = omega arith
+
+  -- a text on top of others
+  pub standing-text : (slots : List (Slot E)) (bytes text : List ℕ) → 0 < length slots → IsStacked slots (length bytes)
+      → standing slots (bytes ++ reverse text) ≡ map ByteAhead text ++ standing slots bytes
+  standing-text [] bytes text some stacked = absurd (omega (arith, some))
+  standing-text (slot ∷ slots) bytes text some stacked = rw (standing-append slot slots bytes (reverse text) stacked.0, reverse-reverse) refl
+
+  -- with more bytes on top the heights stay in order
+  pub IsStacked-more : (slots : List (Slot E)) (n m : ℕ) → 0 < length slots → n ≤ m → IsStacked slots n → IsStacked slots m
+  IsStacked-more [] n m some le stacked = absurd (omega (arith, some))
+  IsStacked-more (slot ∷ slots) n m some le stacked = (omega (arith, stacked.0), stacked.1)
+
+  -- the slot in front is the last one
+  pub reverse_front : (slots below : List (Slot E)) (slot : Slot E) → slots ≡ below ++ slot ∷ [] → reverse slots ≡ slot ∷ reverse below
+  reverse_front slots below slot split = rw (split, reverse-append) refl
+
+  -- an end in front of others
+  pub one_more_end : (more : ℕ) (items : List (Ahead E)) → items_of (Ends (more + 1)) ++ items ≡ EndAhead ∷ (items_of (Ends more) ++ items)
+  one_more_end more items = rw add-one refl

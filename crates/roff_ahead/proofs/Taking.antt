@@ -1,0 +1,58 @@
+-- The front item of what slots stand for.
+use Rattle.std.proofs.Common.{true, false, ◌≡◌, ◌<◌, ◌≤◌, ◌+◌, ◌-◌, ℕ, zero, suc, List, [], ◌∷◌, ◌++◌, length, length-append, take, get_or, refl, sym, ap, subst, ◌∙◌, arith}
+use Rattle.std.specs.Prelude.{replicate}
+use Rattle.std.proofs.lemmas.Bool.Decides.{nat_tests}
+use Rattle.std.proofs.lemmas.List.{take_more, take_all}
+use Rattle.roff_ahead.specs.Input.{Ahead, ByteAhead, EndAhead, first_but_ends}
+use Rattle.roff_ahead.specs.Slots.Standing.{standing, items_of, is_byte_next, IsStacked}
+use Rattle.roff_ahead.specs.declared.slots.Slot.{Slot}
+use Rattle.roff_ahead.proofs.Standing.{standing-append, standing_mark}
+
+-- the last one of some bytes
+pub last_split : (bytes : List ℕ) → 0 < length bytes → bytes ≡ take (length bytes - 1) bytes ++ get_or bytes (length bytes - 1) 0 ∷ []
+last_split bytes some =
+    let last : length bytes - 1 < length bytes = omega (arith, some) in
+    sym (take_all (length bytes - 1 + 1) bytes (omega (arith, some))) ∙ take_more bytes (length bytes - 1) 0 last
+
+module _ {E : Type 0} where
+  -- a byte comes next: it is the last one of the stack
+  pub standing_byte : (slots : List (Slot E)) (bytes : List ℕ) (b : ℕ) → is_byte_next slots (bytes ++ b ∷ []) ≡ true
+      → standing slots (bytes ++ b ∷ []) ≡ ByteAhead b ∷ standing slots bytes
+  standing_byte [] bytes b next = cc
+  standing_byte (slot ∷ slots) bytes b next =
+      let below : slot.height ≤ length bytes = grind (arith, nat_tests, length-append bytes (b ∷ [])) in
+      standing-append slot slots bytes (b ∷ []) below
+
+  -- and behind it the heights are in order
+  pub IsStacked_byte : (slots : List (Slot E)) (bytes : List ℕ) (b : ℕ) → is_byte_next slots (bytes ++ b ∷ []) ≡ true
+      → IsStacked slots (length (bytes ++ b ∷ [])) → IsStacked slots (length bytes)
+  IsStacked_byte [] bytes b next stacked = cc
+  IsStacked_byte (slot ∷ slots) bytes b next stacked = (grind (arith, nat_tests, length-append bytes (b ∷ [])), stacked.1)
+
+  -- a byte comes next where there is one
+  pub some_byte : (slots : List (Slot E)) (bytes : List ℕ) → is_byte_next slots bytes ≡ true → 0 < length bytes
+  some_byte [] bytes next = cc
+  some_byte (slot ∷ slots) bytes next = grind (arith, nat_tests)
+
+  -- what stands in front is the last byte of the stack
+  pub standing_last : (slots : List (Slot E)) (bytes : List ℕ) → is_byte_next slots bytes ≡ true
+      → standing slots bytes ≡ ByteAhead (get_or bytes (length bytes - 1) 0) ∷ standing slots (take (length bytes - 1) bytes)
+  standing_last slots bytes next =
+      let split = last_split bytes (some_byte slots bytes next) in
+      let next_split = subst (λ (all : List ℕ). is_byte_next slots all ≡ true) split next in
+      ap (λ (all : List ℕ). standing slots all) split ∙ standing_byte slots (take (length bytes - 1) bytes) (get_or bytes (length bytes - 1) 0) next_split
+
+  -- no byte comes next: the mark does
+  pub at_mark : (slot : Slot E) (slots : List (Slot E)) (bytes : List ℕ) → is_byte_next (slot ∷ slots) bytes ≡ false → IsStacked (slot ∷ slots) (length bytes)
+      → slot.height ≡ length bytes
+  at_mark slot slots bytes next stacked = grind (arith, nat_tests, stacked.0)
+
+  pub standing_behind : (slot : Slot E) (slots : List (Slot E)) (bytes : List ℕ) → is_byte_next (slot ∷ slots) bytes ≡ false → IsStacked (slot ∷ slots) (length bytes)
+      → standing (slot ∷ slots) bytes ≡ items_of slot.mark ++ standing slots bytes
+  standing_behind slot slots bytes next stacked = standing_mark slot slots bytes (at_mark slot slots bytes next stacked)
+
+  -- the first item behind ends is behind these ends
+  pub first_but_ends-ends : (n : ℕ) (items : List (Ahead E))
+      → first_but_ends (replicate n EndAhead ++ items) ≡ first_but_ends items
+  first_but_ends-ends zero items = refl
+  first_but_ends-ends (suc n) items = first_but_ends-ends n items

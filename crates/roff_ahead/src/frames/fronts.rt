@@ -1,0 +1,133 @@
+//! Bytes that stand in front, of a pushed text, or of a body as they lie together.
+
+ghost use Rattle.std.specs.Prelude.{◌≡◌, ◌+◌, ◌≤◌, drop, length, IfSome, take, Some};
+ghost use Rattle.roff_ahead.specs.Input.{first, DoAhead, bytes_ahead, leading};
+ghost use Rattle.roff_ahead.specs.declared.frames.Frame.TheVariants.{Body};
+
+use super::{Frame, Frames};
+use roff_escape::Halves;
+use crate::slots::{Front, Slots};
+use roff_store::LeaseId;
+
+impl<E: Copy> Frames<E> {
+    ghost use Rattle.roff_ahead.specs.Frames.Calls.{GivesByte, GivesFront};
+    ghost use Rattle.roff_escape.specs.Half.{texts_held};
+
+    /// Gives bytes of a pushed text in front to what is half read, one after another, as long as
+    /// it takes them where a condition is read, and so many at the most. Returns how many.
+    #[inline(always)]
+    pub fn give_front(&mut self, half: &mut Halves, most: usize) -> usize
+        requires { bytes_ahead self.old.ahead + texts_held half.old.half ≤ half.old.room }
+        ensures gives { GivesFront self.old self.new half.old half.new result }
+        ensures few { result ≤ most }
+    {
+        let mut count = 0;
+        while count < most {
+            if !self.give_byte(half) {
+                return count;
+            }
+            count += 1;
+        }
+        count
+    }
+
+    /// The same of one byte. Returns whether it was given.
+    #[inline(always)]
+    fn give_byte(&mut self, half: &mut Halves) -> bool
+        requires { bytes_ahead self.old.ahead + texts_held half.old.half ≤ half.old.room }
+        ensures { GivesByte self.old self.new half.old half.new result }
+    {
+        match self.slots.front() {
+            Some(Front::Byte(byte)) => {
+                if !half.take_on(byte) {
+                    return false;
+                }
+                let _ = self.slots.take();
+                true
+            }
+            Some(Front::Do(_)) => false,
+            Some(Front::Free(_)) => false,
+            Some(Front::End) => false,
+            Some(Front::Return) => false,
+            None => false,
+        }
+    }
+
+    /// Bytes of a body in front, as they lie together; none where anything else is in front.
+    #[inline(always)]
+    pub fn front(&self) -> &[u8]
+        ensures { result.now ≡ take (length result.now) (leading self.now.ahead) }
+    {
+        match body_in_front(&self.slots) {
+            Some(lease) => self.texts.lease_front(lease),
+            None => &[],
+        }
+    }
+
+    /// Takes so many bytes in front at once.
+    #[inline(always)]
+    pub fn pass(&mut self, count: usize)
+        requires { count ≤ length (leading self.old.ahead) }
+        ensures { self.new ≡ record self.old { ahead = drop count self.old.ahead } }
+    {
+        if count == 0 {
+            return;
+        }
+        if let Some(lease) = body_in_front(&self.slots)
+            && count < self.texts.lease_rest(lease)
+        {
+            self.texts.lease_pass(lease, count);
+            return;
+        }
+        self.pass_all(count);
+    }
+
+    /// The same, where the bytes may be the last ones of a body, or of several texts.
+    #[inline(never)]
+    fn pass_all(&mut self, count: usize)
+        requires { count ≤ length (leading self.old.ahead) }
+        ensures { self.new ≡ record self.old { ahead = drop count self.old.ahead } }
+    {
+        let mut left = count;
+        while left > 0 {
+            left -= self.pass_some(left);
+        }
+    }
+
+    /// Takes some of so many bytes in front: those of a body but for its last one, or else one.
+    /// Returns how many.
+    fn pass_some(&mut self, most: usize) -> usize
+        requires some { 1 ≤ most }
+        requires among { most ≤ length (leading self.old.ahead) }
+        ensures some { 1 ≤ result }
+        ensures few { result ≤ most }
+        ensures taken { self.new ≡ record self.old { ahead = drop result self.old.ahead } }
+    {
+        if let Some(lease) = body_in_front(&self.slots) {
+            let rest = self.texts.lease_rest(lease);
+            if rest > 1 {
+                let count = most.min(rest - 1);
+                self.texts.lease_pass(lease, count);
+                return count;
+            }
+        }
+        let _ = self.take();
+        1
+    }
+}
+
+/// The lease on the body in front, if one is.
+#[inline(always)]
+fn body_in_front<E: Copy>(slots: &Slots<Frame<E>>) -> Option<LeaseId>
+    ensures { IfSome result (λ id. Some (DoAhead (Body id)) ≡ first slots.now.ahead) }
+{
+    match slots.front() {
+        Some(Front::Do(Frame::Body(lease))) => Some(lease),
+        Some(Front::Do(Frame::Event(_))) => None,
+        Some(Front::Byte(_)) => None,
+        Some(Front::Free(_)) => None,
+        Some(Front::End) => None,
+        Some(Front::Return) => None,
+        None => None,
+    }
+}

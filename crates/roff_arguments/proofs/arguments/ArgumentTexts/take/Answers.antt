@@ -1,0 +1,18 @@
+use Rattle.std.proofs.Common.{ap}
+use Rattle.roff_arguments.specs.Arguments.{with_unit}
+use Rattle.roff_arguments.specs.ArgumentTexts.Kept.{KeptArguments}
+use Rattle.roff_escape.specs.declared.half.CopyUnit.TheVariants.{Byte, Kept}
+use Rattle.roff_arguments.proofs.KeptArguments.{Keeps-behind, only_kept-with_unit}
+use Rattle.roff_arguments.proofs.arguments.ArgumentTexts.take.Goals as goal
+
+pub returns-in-Byte-clause-keeps : goal.returns-in-Byte-clause-keeps
+returns-in-Byte-clause-keeps c = λ a keeps.
+    rw c.in-Byte.is
+    (Keeps-behind (λ b. with_unit b (Byte c.in-Byte.byte)) (λ b. only_kept-with_unit b (Byte c.in-Byte.byte)) a c.args.self.now _
+    (ap (λ (k : KeptArguments). k.arguments) c.take_byte.ensures) keeps)
+
+pub returns-in-Kept-clause-keeps : goal.returns-in-Kept-clause-keeps
+returns-in-Kept-clause-keeps c = λ a keeps.
+    rw c.in-Kept.is
+    (Keeps-behind (λ b. with_unit b (Kept c.in-Kept.byte)) (λ b. only_kept-with_unit b (Kept c.in-Kept.byte)) a c.args.self.now _
+    (ap (λ (k : KeptArguments). k.arguments) c.take_kept.ensures) keeps)

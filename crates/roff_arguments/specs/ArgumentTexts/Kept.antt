@@ -1,0 +1,57 @@
+-- What a buffer of arguments keeps.
+use Rattle.std.specs.Prelude.{◌≡◌, ℕ, ◌+◌, ◌<◌, ◌≤◌, ◌^◌, Bool, true, not, ◌||◌, List, length, reverse, take, drop, vec_capacity, ◌==◌, Option}
+use Rattle.std.specs.List.{AllByRecursion}
+use Rattle.roff_arguments.specs.Arguments.{Arguments, HeldFewer, bytes_held, kept, only_kept}
+use Rattle.roff_source.specs.Bytes.{is_argument_byte}
+use Rattle.roff_arguments.specs.ArgumentTexts.Ends.{texts_ending, last_end, EndWithin}
+use Rattle.roff_source.specs.Bytes.{blank, quote}
+use Rattle.roff_arguments.specs.declared.arguments.ArgumentTexts.TheInside.{Inside}
+use Rattle.roff_arguments.specs.declared.arguments.Place.{Place}
+use Rattle.roff_arguments.specs.declared.arguments.Place.TheVariants.{Between, InPlain, InQuotes, BehindQuote}
+
+-- the arguments, and how many bytes there is room for
+pub record KeptArguments : Type 0 where
+  pub arguments : Arguments
+  pub room : ℕ
+
+-- of other arguments it keeps those that are to be kept
+abbrev pub keeping : KeptArguments → Arguments → KeptArguments
+keeping k a = record k { arguments = only_kept a }
+
+-- what the fields keep: the argument being read lies behind the last that is whole
+abbrev pub kept_by : Inside → KeptArguments
+kept_by a = record {
+  arguments = record {
+    whole = reverse (texts_ending a.bytes.items 0 a.ends.items);
+    begun = reverse (drop (last_end 0 a.ends.items) a.bytes.items);
+    place = a.place;
+  };
+  room = a.room;
+}
+
+-- the room is reserved, the texts lie within it, and each of them is to be kept
+pub record IsSound (a : Inside) : Type 0 where
+  pub small : a.room < 2 ^ 32
+  pub bytes_reserved : a.room ≤ vec_capacity a.bytes
+  pub ends_reserved : a.room + 32 ≤ vec_capacity a.ends
+  pub within : length a.bytes.items ≤ a.room
+  pub ends : EndWithin (length a.bytes.items) 0 a.ends.items
+  pub kept : kept (texts_ending a.bytes.items 0 a.ends.items) ≡ texts_ending a.bytes.items 0 a.ends.items
+
+-- whether a byte is one of an argument, by where the reading stands: else it separates or quotes
+abbrev pub is_held : Place → ℕ → Bool
+is_held Between b = not (b == blank || b == quote)
+is_held InPlain b = not (b == blank)
+is_held InQuotes b = not (b == quote)
+is_held BehindQuote b = not (b == blank)
+
+-- the buffer keeps what is to be kept of a line's arguments
+pub record Keeps (a : Arguments) (k : KeptArguments) : Type 0 where
+  pub same : k.arguments ≡ only_kept a
+
+-- so many of these bytes were taken, one after another, each held as it is read where few enough arguments are whole
+pub record TakesFront (most : Option ℕ) (bytes : List ℕ) (count : ℕ) (old new : KeptArguments) : Type 0 where
+  pub few : count ≤ length bytes
+  pub plain : AllByRecursion (λ b. is_argument_byte b ≡ true) (take count bytes)
+  pub fewer : HeldFewer most (take count bytes) old.arguments
+  pub taken : new ≡ record old { arguments = bytes_held (take count bytes) old.arguments }

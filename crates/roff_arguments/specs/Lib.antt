@@ -1,0 +1,5 @@
+pub mod Arguments
+pub mod ArgumentTexts
+pub mod ArgumentList
+pub mod Quoting
+pub mod Calls

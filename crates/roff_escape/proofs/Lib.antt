@@ -1,0 +1,13 @@
+pub mod Nesting
+pub mod NamesRead
+pub mod NestedHalves
+pub mod HalfTexts
+pub mod HalfCounts
+pub mod CharacterTable
+pub mod TextsHeld
+pub mod TextsRead
+pub mod Copying
+pub mod ConditionHalves
+pub mod ConditionsRead
+pub mod HalfFronts
+pub mod ConditionFronts

@@ -1,0 +1,12 @@
+pub mod Escapes
+pub mod Characters
+pub mod Half
+pub mod Conditions
+pub mod Measures
+pub mod Halves
+pub mod Nesting
+pub mod HalfTexts
+pub mod HalfLaws
+pub mod HalfFronts
+pub mod ConditionFronts
+pub mod Waiting

@@ -1,0 +1,3 @@
+pub mod Tape
+pub mod Bytes
+pub mod ReadSource

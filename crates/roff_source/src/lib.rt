@@ -1,0 +1,8 @@
+//! Sources of bytes, and what the bytes of a document are.
+#![tactic(auto)]
+
+mod bytes;
+mod source;
+
+pub use bytes::{at_most, is_argument_byte, is_dropped, is_silent, newlines_among, passed_len, text_in_front};
+pub use source::{ByteSource, Note, ReadSource, Taken};
