@@ -1,4 +1,4 @@
--- What calls show that take an item, or look ahead.
+-- What calls show that take an item, or look ahead; a store without texts.
 use Rattle.std.specs.Prelude.{ℕ, ◌+◌, List, [], ◌∷◌, Option, Some, None}
 use Rattle.roff_num.specs.declared.limit.Limit.{Limit}
 use Rattle.roff_num.specs.declared.limits.Limits.{Limits}

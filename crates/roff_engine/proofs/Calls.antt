@@ -9,7 +9,7 @@ use Rattle.roff_ahead.specs.Shown.{Shown, Sighted, SeesByte, SeesNothing, SeesNo
 use Rattle.roff_engine.specs.Engine.Outcome.{IsLeftOf}
 use Rattle.roff_engine.specs.Running.Turning.{AsksFirst}
 use Rattle.roff_run.specs.Reading.Items.{PageInput}
-use Rattle.roff_run.specs.Reader.Taken.{PageUnread}
+use Rattle.roff_run.specs.Reading.Items.{PageUnread}
 use Rattle.roff_run.specs.Registers.{AllRegisters}
 use Rattle.roff_run.specs.declared.event.PageEvent.{PageEvent}
 use Rattle.roff_run.specs.Run.Counts.{counts_in, first_passed}

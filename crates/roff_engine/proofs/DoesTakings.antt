@@ -16,7 +16,8 @@ use Rattle.roff_run.specs.Environments.Standing.{StandFor}
 use Rattle.roff_run.specs.Events.Meant.{events_meant}
 use Rattle.roff_run.specs.declared.environments.Environments.{Environments as EnvironmentsOf}
 use Rattle.roff_run.specs.Output.{PageHistory}
-use Rattle.roff_run.specs.Reader.Taken.{Became, IsReady, PageUnread, TakesAs}
+use Rattle.roff_run.specs.Reader.Taken.{Became, IsReady, TakesAs}
+use Rattle.roff_run.specs.Reading.Items.{PageUnread}
 use Rattle.roff_run.specs.Reader.State.{ReaderState}
 use Rattle.roff_run.specs.Reading.Items.{PageInput, Taking, meaning_events}
 use Rattle.roff_run.specs.Registers.{AllRegisters, Known, changed_by_all}

@@ -11,7 +11,8 @@ use Rattle.roff_scan.specs.Unread.{Stays, looked_then}
 use Rattle.roff_scan.specs.Unread.Calls.{IsBare, PassesOver}
 use Rattle.roff_run.specs.Environments.Standing.{StandFor}
 use Rattle.roff_run.specs.Output.{PageHistory, written}
-use Rattle.roff_run.specs.Reader.Taken.{IsReady, PageUnread}
+use Rattle.roff_run.specs.Reader.Taken.{IsReady}
+use Rattle.roff_run.specs.Reading.Items.{PageUnread}
 use Rattle.roff_run.specs.Reading.{Passes}
 use Rattle.roff_run.specs.Reading.Ends.{due}
 use Rattle.roff_run.specs.Reading.Items.{PageInput}

@@ -8,7 +8,7 @@ use Rattle.roff_ahead.specs.Input.{Ahead, ByteAhead, bytes_taken, is_none_ahead}
 use Rattle.roff_source.specs.Tape.{Tape}
 use Rattle.roff_scan.specs.Unread.{Stays}
 use Rattle.roff_scan.specs.Unread.Calls.{PassesAhead}
-use Rattle.roff_run.specs.Reader.Taken.{PageUnread}
+use Rattle.roff_run.specs.Reading.Items.{PageUnread}
 use Rattle.roff_run.specs.Reading.{Passes}
 use Rattle.roff_run.specs.Reading.Ends.{due}
 use Rattle.roff_run.specs.Reading.Items.{PageInput}

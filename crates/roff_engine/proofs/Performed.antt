@@ -14,7 +14,7 @@ use Rattle.roff_lines.specs.Lines.{Finished, finished, pending_length}
 use Rattle.roff_run.specs.Environments.{environments}
 use Rattle.roff_run.specs.Environments.Standing.{StandFor}
 use Rattle.roff_run.specs.declared.environments.Environments.{Environments as EnvironmentsOf}
-use Rattle.roff_run.specs.declared.environments.EnvironmentNumber.{EnvironmentNumber}
+use Rattle.roff_run.specs.declared.environment_number.EnvironmentNumber.{EnvironmentNumber}
 use Rattle.roff_engine.specs.declared.formatter.Formatter.{Formatter}
 use Rattle.roff_engine.specs.declared.halt.Halt.{Halt}
 use Rattle.roff_engine.specs.declared.halt.Halt.TheVariants.{Limit as Limited, Refused, Output, Messages}

@@ -6,7 +6,7 @@ use Rattle.roff_ahead.specs.Input.{leaving}
 use Rattle.roff_source.specs.Tape.{Tape}
 use Rattle.roff_run.specs.Messages.{told_line}
 use Rattle.roff_run.specs.Output.{PageHistory}
-use Rattle.roff_run.specs.Reader.Taken.{PageUnread}
+use Rattle.roff_run.specs.Reading.Items.{PageUnread}
 use Rattle.roff_run.specs.Reading.Ends.{due}
 use Rattle.roff_run.specs.Reading.Messages.{message_text_read}
 use Rattle.roff_run.specs.Run.{State, aborted, end_met, message_told, reading_by, reported, step, unless_refused}

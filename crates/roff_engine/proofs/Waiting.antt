@@ -18,7 +18,7 @@ use Rattle.roff_run.specs.declared.status.Status.{Status}
 use Rattle.roff_run.specs.declared.status.Status.TheVariants.{Device, Limit as Limited}
 use Rattle.roff_run.specs.Messages.{message_line}
 use Rattle.roff_run.specs.Output.{PageHistory}
-use Rattle.roff_run.specs.Reader.Taken.{PageUnread}
+use Rattle.roff_run.specs.Reading.Items.{PageUnread}
 use Rattle.roff_run.specs.Reading.Items.{PageInput}
 use Rattle.roff_run.specs.Run.{State, awaited, awaited_of_source, byte_taken, front_seen, half_ends, in_front_taken, known, made, step, waiting}
 use Rattle.roff_engine.specs.declared.running.Running.{Running as Coded}

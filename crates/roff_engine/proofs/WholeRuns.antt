@@ -10,7 +10,8 @@ use Rattle.roff_run.specs.declared.status.Status.{Status}
 use Rattle.roff_run.specs.Environments.Standing.{StandFor}
 use Rattle.roff_run.specs.Output.{PageHistory}
 use Rattle.roff_run.specs.Reader.State.{ReaderState, fresh_reader}
-use Rattle.roff_run.specs.Reader.Taken.{IsReady, PageUnread}
+use Rattle.roff_run.specs.Reader.Taken.{IsReady}
+use Rattle.roff_run.specs.Reading.Items.{PageUnread}
 use Rattle.roff_run.specs.Registers.{no_registers}
 use Rattle.roff_run.specs.Run.{State, Leads, first_input, first_unread, in_front_taken, initial, reading_by, step, waiting}
 use Rattle.roff_run.specs.Run.Counts.{counts_in, first_passed}

@@ -1,4 +1,4 @@
--- Bytes of conditions.
+-- A byte that delimits no texts of a condition.
 use Rattle.std.proofs.Common.{◌≡◌, ℕ, Bool, false, List, Option, refl, ap}
 use Rattle.std.specs.Prelude.{◌==◌, if◌then◌else◌}
 use Rattle.roff_escape.specs.Conditions.{byte_of_condition, byte_or_backslash, delimiter_met}

@@ -21,14 +21,15 @@ use Rattle.roff_store.specs.Texts.{Entry, newest}
 use Rattle.roff_run.proofs.HeldRuns.{passed-counted}
 use Rattle.roff_run.proofs.TextBytes.{is_other, kept-text}
 use Rattle.roff_run.specs.Reader.State.{ReaderState}
-use Rattle.roff_run.specs.Reader.Taken.{PageUnread}
+use Rattle.roff_run.specs.Reading.Items.{PageUnread}
 use Rattle.roff_run.specs.Reading.{interrupted, kept_taking, taking}
 use Rattle.roff_run.specs.Reading.Definitions.{definition_grown}
 use Rattle.roff_run.specs.Reading.Ends.{due}
 use Rattle.roff_run.specs.Reading.Found.{read_in}
 use Rattle.roff_run.specs.Reading.Items.{PageInput, going_on}
 use Rattle.roff_run.specs.Registers.{Known}
-use Rattle.roff_run.specs.Stages.{Adds, Growing, Here, Ignores, Onward, ReadsPast, Stage, TextsGrow, Turned, TurnsFront, input_at, stage_of, with_stage_of}
+use Rattle.roff_run.specs.Stages.{Adds, Growing, Here, Ignores, Onward, Stage, TextsGrow, Turned, input_at, stage_of, with_stage_of}
+use Rattle.roff_run.specs.Reader.Stages.{ReadsPast, TurnsFront}
 use Rattle.roff_run.specs.declared.reading.Reading.{Reading}
 use Rattle.roff_run.specs.declared.reading.Reading.TheVariants.{Defining}
 use Rattle.roff_num.specs.declared.short_name.ShortName.{ShortName}

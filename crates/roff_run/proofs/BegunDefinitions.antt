@@ -12,7 +12,8 @@ use Rattle.roff_ahead.specs.Input.Names.{adding}
 use Rattle.roff_scan.specs.Unread.{changing}
 use Rattle.roff_run.specs.Definitions.{end_mark, front_of}
 use Rattle.roff_run.specs.Reader.State.{ReaderState}
-use Rattle.roff_run.specs.Reader.Taken.{InputBecame, PageUnread, TakesAs}
+use Rattle.roff_run.specs.Reader.Taken.{InputBecame, TakesAs}
+use Rattle.roff_run.specs.Reading.Items.{PageUnread}
 use Rattle.roff_run.specs.Reading.Arguments.{arguments_ended, line_ended}
 use Rattle.roff_run.specs.Reading.Definitions.{definition_begun, definition_grown}
 use Rattle.roff_run.specs.Reading.Items.{PageInput, Taking}

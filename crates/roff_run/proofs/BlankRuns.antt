@@ -19,13 +19,14 @@ use Rattle.roff_store.specs.Texts.{Entry}
 use Rattle.roff_run.proofs.HeldRuns.{passed-counted}
 use Rattle.roff_run.proofs.TextTaken.{text_line-reads}
 use Rattle.roff_run.specs.Reader.State.{ReaderState}
-use Rattle.roff_run.specs.Reader.Taken.{PageUnread}
+use Rattle.roff_run.specs.Reading.Items.{PageUnread}
 use Rattle.roff_run.specs.Reading.{taking}
 use Rattle.roff_run.specs.Reading.Items.{PageInput, going_on, meaning_events}
 use Rattle.roff_run.specs.Reading.TextLines.{most_leading}
 use Rattle.roff_run.specs.Registers.{Known}
 use Rattle.roff_run.specs.Requests.{Text}
-use Rattle.roff_run.specs.Stages.{Here, Onward, ReadsPast, Stage, Turned, TurnsFront, blanks_counted, counts_blanks, input_at, stage_of, with_stage_of}
+use Rattle.roff_run.specs.Stages.{Here, Onward, Stage, Turned, blanks_counted, counts_blanks, input_at, stage_of, with_stage_of}
+use Rattle.roff_run.specs.Reader.Stages.{ReadsPast, TurnsFront}
 use Rattle.roff_run.specs.declared.reading.Reading.{Reading}
 use Rattle.roff_run.specs.declared.reading.Reading.TheVariants.{Text as InText}
 use Rattle.roff_run.specs.declared.reading.TextLine.{TextLine}

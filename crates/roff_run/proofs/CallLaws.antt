@@ -24,12 +24,14 @@ use Rattle.roff_escape.specs.declared.half.Read.TheVariants.{GoesOn, Unit as Giv
 use Rattle.roff_escape.specs.declared.half.Surroundings.TheVariants.{Arguments as AboveArguments}
 use Rattle.roff_store.specs.Named.{Named, entry_of}
 use Rattle.roff_store.specs.Texts.{Entry, Body, body_if_any}
-use Rattle.roff_run.proofs.Interpolation.{FromAhead, FromSource, IsRead, IsRead-itself, Origin, ahead_at, not-first, not-second, tape_at, taken_as-going_on}
+use Rattle.roff_run.proofs.Interpolation.{IsRead, IsRead-itself}
+use Rattle.roff_run.proofs.ItemsTaken.{FromAhead, FromSource, Origin, ahead_at, not-first, not-second, tape_at, taken_as-going_on}
 use Rattle.roff_run.proofs.PlainRuns.{bytes_ahead-behind, ends_ahead-behind_all, HasRoom, HasRoom-start, Here, Most, Onward, Path, Path-append, after-last, behind_byte, behind_bytes, behind_bytes-charge, counted, counted-ahead, counted-last, counted-source, is-run_at, run_at}
 use Rattle.roff_run.proofs.QuotedArguments.{itself-quoted_line}
-use Rattle.roff_run.specs.CallLaws.{BeginsLine, BelongsToName, BodiesAreCalled, BodiesAreCalledFromTheSource, BlankBehind, IsApostrophe, IsBehindName, IsCall, IsControl, IsDot, IsUnknown, NothingBehind, UnknownNamesDoNothing, UnknownNamesOfTheSourceDoNothing, behind_call, call_line, named_line, with_call}
+use Rattle.roff_run.specs.CallLaws.{BeginsLine, BodiesAreCalled, BodiesAreCalledFromTheSource, BlankBehind, IsApostrophe, IsBehindName, IsCall, IsControl, IsDot, IsUnknown, NothingBehind, UnknownNamesDoNothing, UnknownNamesOfTheSourceDoNothing, behind_call, call_line, named_line, with_call}
+use Rattle.roff_run.specs.Reading.ControlLines.{BelongsToName}
 use Rattle.roff_run.specs.InterpolationLaws.{StandsForItself}
-use Rattle.roff_run.specs.Laws.{IsWithin}
+use Rattle.roff_run.specs.Within.{IsWithin}
 use Rattle.roff_run.specs.Reading.{kept_taking, taking}
 use Rattle.roff_run.specs.Reading.Calls.{holding_call}
 use Rattle.roff_run.specs.Reading.ControlLines.{behind_called, called_taking, ends_name, name_ended_taking, name_whole_taking}
@@ -47,10 +49,7 @@ use Rattle.roff_run.specs.declared.reading.Reading.TheVariants.{Calling, Control
 use Rattle.roff_num.specs.declared.short_name.ShortName.{ShortName}
 use Rattle.roff_run.specs.declared.request.Called.{Called}
 use Rattle.roff_run.specs.declared.request.Called.TheVariants.{Body as ABody, Nothing as Unknown}
-
--- a stage
-abbrev pub stage : Reading → Arguments → List (List ℕ) → Stage
-stage reading a texts = record { reading = reading; half = []; arguments = a; texts = texts }
+use Rattle.roff_run.proofs.NameBytes.{stage, turns-first}
 
 -- what begins a control line
 turns-control : (names : Named Entry) (a : Arguments) (texts : List (List ℕ)) (control : ℕ) → IsControl control
@@ -58,24 +57,8 @@ turns-control : (names : Named Entry) (a : Arguments) (texts : List (List ℕ)) 
 turns-control names a texts _ IsDot = (true, λ k i. refl)
 turns-control names a texts _ IsApostrophe = (false, λ k i. refl)
 
--- a byte of a name
-first-of-two : (x y z : Bool) → (x || (y || z)) ≡ false → (x || y) ≡ false
-first-of-two true y z neither = neither
-first-of-two false true z neither = neither
-first-of-two false false z neither = refl
-
-pub turns-first : (names : Named Entry) (a : Arguments) (texts : List (List ℕ)) (breaks : Bool) (b : ℕ) → BelongsToName b
-    → Turns names (stage (Control breaks) a texts) b (stage (Name breaks b) a texts)
-turns-first names a texts breaks b belongs k i =
-    let here : PageInput = input_at names (stage (Control breaks) a texts) i in
-    let no_end : ends_name b ≡ false = not-second (is_dropped b) (ends_name b) belongs in
-    ap (λ (c : Bool). if c then going_on here (Control breaks) else kept_taking k (Control breaks) here b) (not-first (is_dropped b) (ends_name b) belongs)
-    ∙ ap (λ (c : Bool). if c then going_on here (Control breaks) else if ends_name b then going_on here (if b == newline then LineStart else Dropped) else going_on here (Name breaks b))
-    (first-of-two (b == blank) (b == 9) (b == newline || b == backslash) no_end)
-    ∙ ap (λ (c : Bool). if c then going_on here (if b == newline then LineStart else Dropped) else going_on here (Name breaks b)) no_end
-
 -- what a name stands for, and what is read behind it then: so does the second byte of a name, and so each byte behind a name of one byte
-record ReadsAs (names : Named Entry) (name : ShortName) (there : Reading) : Type 0 where
+pub record ReadsAs (names : Named Entry) (name : ShortName) (there : Reading) : Type 0 where
   called : Called
   is : called_by name names ≡ called
   none_due : due there ≡ None
@@ -94,19 +77,19 @@ turns-second names a texts breaks first b there belongs reads k i =
     ∙ reads.whole here breaks
 
 -- at a blank or a newline one thing that is read does as another does
-record DoesAs (names : Named Entry) (reading there : Reading) : Type 0 where
+pub record DoesAs (names : Named Entry) (reading there : Reading) : Type 0 where
   none_due : due reading ≡ None
   at_blank : (k : Known) (p : Stage) (i : PageInput) → taking k reading (input_at names p i) blank ≡ taking k there (input_at names p i) blank
   at_newline : (k : Known) (p : Stage) (i : PageInput) → taking k reading (input_at names p i) newline ≡ taking k there (input_at names p i) newline
 
 -- what is read behind a name, in front of which a line begins
-record ReadsName (most : Most) (names : Named Entry) (a : Arguments) (texts : List (List ℕ)) (bytes : List ℕ) (there : Reading) : Type 0 where
+pub record ReadsName (most : Most) (names : Named Entry) (a : Arguments) (texts : List (List ℕ)) (bytes : List ℕ) (there : Reading) : Type 0 where
   reading : Reading
   path : Path most names (stage LineStart a texts) bytes (stage reading a texts)
   does : DoesAs names reading there
 
 -- as much may be held as is
-record Allows (most : Most) (a : Arguments) (texts : List (List ℕ)) : Type 0 where
+pub record Allows (most : Most) (a : Arguments) (texts : List (List ℕ)) : Type 0 where
   held_few : held a ≤ most.held
   stored_few : sum_by length texts ≤ most.stored
   texts_few : length texts ≤ most.texts
@@ -329,7 +312,7 @@ path-full names name texts most whole (b ∷ bytes) themselves full small =
     (path-full names name texts most whole bytes (All-tail StandsForItself b bytes themselves) full small)
 
 -- arguments in quotes are read, behind those that are whole, and these are given then
-record ReadsArguments (names : Named Entry) (name : ShortName) (texts : List (List ℕ)) (most : ℕ) (from : Arguments) (bytes : List ℕ) (as_given : List (List ℕ)) : Type 0 where
+pub record ReadsArguments (names : Named Entry) (name : ShortName) (texts : List (List ℕ)) (most : ℕ) (from : Arguments) (bytes : List ℕ) (as_given : List (List ℕ)) : Type 0 where
   there : Arguments
   path : Path (most_of most texts) names (stage (Calling name) from texts) bytes (stage (Calling name) there texts)
   given : reverse (only_kept (finished there)).whole ≡ as_given
@@ -408,7 +391,7 @@ reads-body names name body stands_for = record {
 }
 
 -- a call is read up to its newline
-record ReadsCall (names : Named Entry) (name : ShortName) (texts : List (List ℕ)) (most : ℕ) (bytes : List ℕ) (as_given : List (List ℕ)) : Type 0 where
+pub record ReadsCall (names : Named Entry) (name : ShortName) (texts : List (List ℕ)) (most : ℕ) (bytes : List ℕ) (as_given : List (List ℕ)) : Type 0 where
   reading : Reading
   there : Arguments
   path : Path (most_of most texts) names (stage LineStart no_arguments texts) bytes (stage reading there texts)

@@ -11,7 +11,8 @@ use Rattle.roff_escape.specs.declared.half.Read.{Read}
 use Rattle.roff_escape.specs.declared.half.Read.TheVariants.{GoesOn, Unit as OneUnit, Holds, Escape, Asks, Motion, Measures, Tells, Decides}
 use Rattle.roff_run.specs.Events.Meant.{none_meant}
 use Rattle.roff_run.specs.Reader.State.{ReaderState}
-use Rattle.roff_run.specs.Reader.Taken.{PageUnread, TakesAs}
+use Rattle.roff_run.specs.Reader.Taken.{TakesAs}
+use Rattle.roff_run.specs.Reading.Items.{PageUnread}
 use Rattle.roff_run.specs.Reading.Calls.{call_found, call_unit, holding_call}
 use Rattle.roff_run.specs.Reading.Escapes.{argument_named}
 use Rattle.roff_run.specs.Reading.Items.{PageInput, going_on}

@@ -13,12 +13,13 @@ use Rattle.roff_store.specs.Named.{Named}
 use Rattle.roff_store.specs.Texts.{Entry}
 use Rattle.roff_run.proofs.HeldRuns.{passed-counted}
 use Rattle.roff_run.specs.Reader.State.{ReaderState}
-use Rattle.roff_run.specs.Reader.Taken.{PageUnread}
+use Rattle.roff_run.specs.Reading.Items.{PageUnread}
 use Rattle.roff_run.specs.Reading.{interrupted, kept_taking}
 use Rattle.roff_run.specs.Reading.Ends.{due}
 use Rattle.roff_run.specs.Reading.Found.{read_in}
 use Rattle.roff_run.specs.Reading.Items.{PageInput, going_on}
-use Rattle.roff_run.specs.Stages.{Here, Onward, ReadsPast, Stage, TakesHalf, Turned, input_at, stage_of, with_stage_of}
+use Rattle.roff_run.specs.Stages.{Here, Onward, Stage, TakesHalf, Turned, input_at, stage_of, with_stage_of}
+use Rattle.roff_run.specs.Reader.Stages.{ReadsPast}
 use Rattle.roff_run.specs.declared.reading.Reading.{Reading}
 use Rattle.roff_run.specs.declared.reading.Reading.TheVariants.{Deciding}
 

@@ -12,13 +12,13 @@ use Rattle.roff_scan.specs.Unread.{IsWithin}
 use Rattle.roff_scan.specs.Unread.Calls.{PassesFront, front_bytes, next_bytes}
 use Rattle.roff_store.specs.Named.{Named}
 use Rattle.roff_store.specs.Texts.{Entry}
-use Rattle.roff_run.proofs.CallLaws.{turns-first}
+use Rattle.roff_run.proofs.NameBytes.{turns-first}
 use Rattle.roff_run.proofs.HeldRuns.{passed-counted}
-use Rattle.roff_run.proofs.Interpolation.{not-first, not-second}
-use Rattle.roff_run.specs.CallLaws.{BelongsToName}
+use Rattle.roff_run.proofs.ItemsTaken.{not-first, not-second}
+use Rattle.roff_run.specs.Reading.ControlLines.{BelongsToName}
 use Rattle.roff_run.specs.ControlFronts.{BeginsControl, LeadsTo, StandsReady, control_byte, half_begun, input_begun, is_deciding}
 use Rattle.roff_run.specs.Reader.State.{ReaderState}
-use Rattle.roff_run.specs.Reader.Taken.{PageUnread}
+use Rattle.roff_run.specs.Reading.Items.{PageUnread}
 use Rattle.roff_run.specs.Reading.{kept_taking}
 use Rattle.roff_run.specs.Reading.Beginnings.{at_start}
 use Rattle.roff_run.specs.Reading.ControlLines.{behind_called, ends_name, name_ended_taking, name_whole_taking}
@@ -26,7 +26,8 @@ use Rattle.roff_run.specs.Reading.Ends.{due}
 use Rattle.roff_run.specs.Reading.Found.{read_in}
 use Rattle.roff_run.specs.Reading.Items.{PageInput, going_on}
 use Rattle.roff_run.specs.Requests.{called_by}
-use Rattle.roff_run.specs.Stages.{Here, Onward, ReadsPast, Stage, Turned, Turns, input_at, stage_of, with_stage_of}
+use Rattle.roff_run.specs.Stages.{Here, Onward, Stage, Turned, Turns, input_at, stage_of, with_stage_of}
+use Rattle.roff_run.specs.Reader.Stages.{ReadsPast}
 use Rattle.roff_run.specs.declared.reading.Reading.{Reading}
 use Rattle.roff_run.specs.declared.reading.Reading.TheVariants.{LineStart, Branch, Braced, Control, Dropped, Name}
 use Rattle.roff_num.specs.declared.short_name.ShortName.{ShortName}

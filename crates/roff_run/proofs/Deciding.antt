@@ -23,7 +23,8 @@ use Rattle.roff_escape.specs.declared.half.Decision.{Decision}
 use Rattle.roff_escape.specs.declared.half.Read.{Read}
 use Rattle.roff_escape.specs.declared.half.Read.TheVariants.{GoesOn, Unit as OneUnit, Holds, Escape, Asks, Motion, Measures, Tells, Decides}
 use Rattle.roff_run.specs.Reader.State.{ReaderState}
-use Rattle.roff_run.specs.Reader.Taken.{PageUnread, Takes, TakesAs, Took}
+use Rattle.roff_run.specs.Reader.Taken.{Takes, TakesAs, Took}
+use Rattle.roff_run.specs.Reading.Items.{PageUnread}
 use Rattle.roff_run.specs.Reading.Beginnings.{at_start, beginning_found, first_escape, first_taking, going_on_told, line_begun, line_begun_as}
 use Rattle.roff_run.specs.Reading.Branches.{condition_found, decided, is_so, kept_if, skipping_taking}
 use Rattle.roff_run.specs.Reading.Items.{PageInput, Taking, behind_events}

@@ -23,13 +23,14 @@ use Rattle.roff_escape.specs.declared.half.Surroundings.TheVariants.{Copy as Abo
 use Rattle.roff_store.specs.Named.{Named, with_entry}
 use Rattle.roff_store.specs.TextCalls.{Enter, PushOpen}
 use Rattle.roff_store.specs.Texts.{Body, Entry, newest}
-use Rattle.roff_run.proofs.Interpolation.{FromAhead, FromSource, IsRead-itself, Origin, ahead_at, not-first, not-second, tape_at}
+use Rattle.roff_run.proofs.Interpolation.{IsRead-itself}
+use Rattle.roff_run.proofs.ItemsTaken.{FromAhead, FromSource, Origin, ahead_at, not-first, not-second, tape_at}
 use Rattle.roff_run.proofs.PlainRuns.{HasRoom, HasRoom-start, Here, Most, Onward, Path, after-last, behind_byte, behind_bytes, counted, counted-ahead, counted-last, counted-source, is-run_at, run_at}
 use Rattle.roff_run.specs.ConditionLaws.{is_whole}
 use Rattle.roff_run.specs.DefinitionLaws.{AreItsLines, BeginsDefinition, DefinitionsEnterTheirLines, DefinitionsOfTheSourceEnterTheirLines, IgnoredLinesEnterNothing, IgnoredLinesOfTheSourceEnterNothing, IsTextLine, LinesBeginBehindTwoDots, behind_end, IsOfLine, bytes_of_lines, definition_bytes, is_end, text_of_lines, with_definition}
 use Rattle.roff_run.specs.Definitions.{end_mark, front_of, line_from, line_with, matched_behind}
 use Rattle.roff_run.specs.InterpolationLaws.{StandsForItself}
-use Rattle.roff_run.specs.Laws.{IsWithin}
+use Rattle.roff_run.specs.Within.{IsWithin}
 use Rattle.roff_run.specs.Output.{PageHistory}
 use Rattle.roff_run.specs.Reading.{kept_taking, taking}
 use Rattle.roff_run.specs.Reading.DefinedLines.{behind_definition, definition_line, definition_unit}

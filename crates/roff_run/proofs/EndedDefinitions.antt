@@ -17,7 +17,8 @@ use Rattle.roff_store.specs.Texts.{bytes_in, newest}
 use Rattle.roff_run.specs.Definitions.{end_mark, ends_mark, front_of, line_from, matched_behind}
 use Rattle.roff_run.specs.Output.{PageHistory}
 use Rattle.roff_run.specs.Reader.State.{ReaderState}
-use Rattle.roff_run.specs.Reader.Taken.{InputBecame, PageUnread, Takes, TakesAs}
+use Rattle.roff_run.specs.Reader.Taken.{InputBecame, Takes, TakesAs}
+use Rattle.roff_run.specs.Reading.Items.{PageUnread}
 use Rattle.roff_run.specs.Reading.DefinedLines.{behind_definition, definition_found, definition_line, definition_unit}
 use Rattle.roff_run.specs.Reading.Definitions.{definition_grown}
 use Rattle.roff_run.specs.Reading.Items.{PageInput, Taking, going_on}

@@ -12,8 +12,8 @@ use Rattle.roff_run.specs.Reading.Items.{PageInput}
 use Rattle.roff_run.specs.Request.Coded.{calls_of}
 use Rattle.roff_run.specs.Requests.Naming.{removals}
 use Rattle.roff_run.specs.Requests.Numbering.{names_given}
-use Rattle.roff_run.specs.declared.request.effects.Changes.{Changes}
-use Rattle.roff_run.specs.declared.request.effects.Changes.TheVariants.{Nothing, One, RemoveGiven, RemoveNamesGiven, Rename as RenameGiven}
+use Rattle.roff_run.specs.declared.requests.effects.Changes.{Changes}
+use Rattle.roff_run.specs.declared.requests.effects.Changes.TheVariants.{Nothing, One, RemoveGiven, RemoveNamesGiven, Rename as RenameGiven}
 use Rattle.roff_run.proofs.InputCounts.{NoMore, NoMore-same, NoMore-trans, one_of}
 
 -- the bytes of one entry and of the others

@@ -10,7 +10,7 @@ use Rattle.roff_scan.specs.Unread.{changing, input_refusal, unless_passed}
 use Rattle.roff_store.specs.Named.{Named, with_entry}
 use Rattle.roff_store.specs.TextCalls.{Set}
 use Rattle.roff_store.specs.Texts.{Entry, Request as RequestEntry, bytes_in}
-use Rattle.roff_run.specs.Reader.Taken.{PageUnread}
+use Rattle.roff_run.specs.Reading.Items.{PageUnread}
 use Rattle.roff_run.specs.Reading.Items.{PageInput}
 use Rattle.roff_run.specs.Requests.{first_entries, requests, row_of}
 use Rattle.roff_run.specs.declared.request.Request.{Request}

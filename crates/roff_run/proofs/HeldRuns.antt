@@ -18,11 +18,11 @@ use Rattle.roff_escape.specs.declared.half.Surroundings.TheVariants.{Arguments a
 use Rattle.roff_store.specs.Named.{Named}
 use Rattle.roff_store.specs.Texts.{Entry}
 use Rattle.roff_run.proofs.CalledArguments.{call-byte}
-use Rattle.roff_run.proofs.Interpolation.{FromAhead, FromSource, Origin}
+use Rattle.roff_run.proofs.ItemsTaken.{FromAhead, FromSource, Origin}
 use Rattle.roff_run.proofs.PlainRuns.{counted, counted-source}
 use Rattle.roff_run.proofs.TurnedRuns.{counted-bytes_taken}
 use Rattle.roff_run.specs.Reader.State.{ReaderState}
-use Rattle.roff_run.specs.Reader.Taken.{PageUnread}
+use Rattle.roff_run.specs.Reading.Items.{PageUnread}
 use Rattle.roff_run.specs.Reading.{kept_taking}
 use Rattle.roff_run.specs.Reading.Arguments.{arguments_ended}
 use Rattle.roff_run.specs.Reading.Ends.{due}
@@ -30,7 +30,8 @@ use Rattle.roff_run.specs.Reading.Found.{read_in}
 use Rattle.roff_run.specs.Reading.Items.{PageInput, going_on}
 use Rattle.roff_run.specs.Reading.Units.{holding, settling}
 use Rattle.roff_run.specs.Requests.{row_of}
-use Rattle.roff_run.specs.Stages.{Here, Holds, HoldsIfFewer, Onward, ReadsPast, Stage, Turned, input_at, stage_of, with_stage_of}
+use Rattle.roff_run.specs.Stages.{Here, Holds, HoldsIfFewer, Onward, Stage, Turned, input_at, stage_of, with_stage_of}
+use Rattle.roff_run.specs.Reader.Stages.{ReadsPast}
 use Rattle.roff_run.specs.declared.reading.Reading.{Reading}
 use Rattle.roff_run.specs.declared.reading.Reading.TheVariants.{Arguments as InArguments, Calling}
 use Rattle.roff_num.specs.declared.short_name.ShortName.{ShortName}

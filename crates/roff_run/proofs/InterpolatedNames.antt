@@ -24,9 +24,11 @@ use Rattle.roff_num.specs.declared.direction.Direction.TheVariants.{Up, Down}
 use Rattle.roff_run.specs.declared.reading.Reading.{Reading}
 use Rattle.roff_run.specs.declared.reading.Reading.TheVariants.{LineStart, Branch, Braced, Text as InText, Control, Name as NameOf, Arguments as InArguments, Deciding, StringName, StringText, Skipping, Dropped, Telling, Told, Exiting, Calling, Defining}
 use Rattle.roff_run.specs.declared.reading.TextLine.{TextLine}
-use Rattle.roff_run.proofs.Interpolation.{AtLast, Behind, FindsAtLast, Fits-IsWithin, FromAhead, FromSource, IsRead, IsRead-itself, Means, Origin, ReadsEscapes, AtBeginning, AtBranch, AtBraced, OnText, OnArguments, OnCondition, OnStringName, OnCall, OnStringText, OnDefinition, OnMessage, ReadsEscapes-reads_escapes, after-escape, ahead_at, going, input_of, interrupted-arguments, is-going, is_no_newline, line_behind, not-first, settled_for, settled_for-settled_for, settled_input, source_behind, tape_at, taking-reads}
-use Rattle.roff_run.specs.InterpolationLaws.{TakesItems, StandsForItself, IsEscapeOf, Short, Long, ShortString, LongString, OfArgument, reads_text, reads_escapes, reads_in_condition, reads_above, stepped, text_named, with_text_ahead, EscapesReadAsTexts, EscapesOfTheSourceReadAsTexts, EscapesOfTextReadAsTexts}
-use Rattle.roff_run.specs.Laws.{IsWithin}
+use Rattle.roff_run.proofs.Interpolation.{AtLast, Behind, FindsAtLast, IsRead, IsRead-itself, Means, ReadsEscapes, AtBeginning, AtBranch, AtBraced, OnText, OnArguments, OnCondition, OnStringName, OnCall, OnStringText, OnDefinition, OnMessage, ReadsEscapes-reads_escapes, after-escape, interrupted-arguments, is-going, is_no_newline, line_behind, settled_for, settled_for-settled_for, settled_input, source_behind, taking-reads}
+use Rattle.roff_run.proofs.ItemsTaken.{Fits-IsWithin, FromAhead, FromSource, Origin, ahead_at, going, input_of, not-first, tape_at}
+use Rattle.roff_run.specs.InterpolationLaws.{StandsForItself, IsEscapeOf, Short, Long, ShortString, LongString, OfArgument, reads_text, reads_escapes, reads_in_condition, reads_above, stepped, text_named, with_text_ahead, EscapesReadAsTexts, EscapesOfTheSourceReadAsTexts, EscapesOfTextReadAsTexts}
+use Rattle.roff_run.specs.ItemsTaken.{TakesItems}
+use Rattle.roff_run.specs.Within.{IsWithin}
 use Rattle.roff_run.specs.Reading.{taking, interrupted}
 use Rattle.roff_run.specs.Reading.Beginnings.{first_name}
 use Rattle.roff_run.specs.Reading.Escapes.{asking}

@@ -67,3 +67,6 @@ pub mod CallLaws
 pub mod ControlFronts
 pub mod LineEnds
 pub mod DefinitionLaws
+pub mod EnvironmentTurns
+pub mod ItemsTaken
+pub mod NameBytes

@@ -11,10 +11,11 @@ use Rattle.roff_store.specs.Named.{Named}
 use Rattle.roff_store.specs.Texts.{Entry}
 use Rattle.roff_run.proofs.ControlFronts.{reads-front, stage_with}
 use Rattle.roff_run.specs.Reader.State.{ReaderState}
-use Rattle.roff_run.specs.Reader.Taken.{PageUnread}
+use Rattle.roff_run.specs.Reading.Items.{PageUnread}
 use Rattle.roff_run.specs.Reading.Ends.{due}
 use Rattle.roff_run.specs.Reading.Items.{going_on}
-use Rattle.roff_run.specs.Stages.{EndsLine, Here, Onward, ReadsPast, Stage, Turned, input_at}
+use Rattle.roff_run.specs.Stages.{EndsLine, Here, Onward, Stage, Turned, input_at}
+use Rattle.roff_run.specs.Reader.Stages.{ReadsPast}
 use Rattle.roff_run.specs.declared.reading.Reading.{Reading}
 use Rattle.roff_run.specs.declared.reading.Reading.TheVariants.{Dropped, LineStart, Skipping}
 

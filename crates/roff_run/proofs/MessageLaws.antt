@@ -13,7 +13,8 @@ use Rattle.roff_escape.specs.declared.half.CopyUnit.TheVariants.{Byte}
 use Rattle.roff_escape.specs.Half.{Half, Backslash}
 use Rattle.roff_escape.specs.declared.half.Read.TheVariants.{GoesOn, Unit as GivesUnit}
 use Rattle.roff_escape.specs.declared.half.Surroundings.TheVariants.{Copy as AboveCopy}
-use Rattle.roff_run.proofs.Interpolation.{IsRead, not-first, not-second, IsRead-itself}
+use Rattle.roff_run.proofs.Interpolation.{IsRead, IsRead-itself}
+use Rattle.roff_run.proofs.ItemsTaken.{not-first, not-second}
 use Rattle.roff_run.specs.InterpolationLaws.{StandsForItself}
 use Rattle.roff_run.specs.MessageLaws.{MessagesAreTheirTexts, TellsText, without_front}
 use Rattle.roff_run.specs.Quoting.{taking_all}

@@ -19,7 +19,8 @@ use Rattle.roff_store.specs.TextCalls.{Call}
 use Rattle.roff_run.specs.Events.Meant.{events_meant}
 use Rattle.roff_run.specs.Output.{PageHistory}
 use Rattle.roff_run.specs.Reader.State.{ReaderState}
-use Rattle.roff_run.specs.Reader.Taken.{ChangedTo, PageUnread, Refused, TakesAs, Took, behind_changes}
+use Rattle.roff_run.specs.Reader.Taken.{ChangedTo, Refused, TakesAs, Took, behind_changes}
+use Rattle.roff_run.specs.Reading.Items.{PageUnread}
 use Rattle.roff_run.specs.Reading.Arguments.{calling_all, ended_by, line_ended, reading_behind}
 use Rattle.roff_run.specs.Reading.Items.{PageInput}
 use Rattle.roff_run.specs.Registers.{AllRegisters, Change, Remove, changed_by_all}
@@ -30,7 +31,7 @@ use Rattle.roff_run.specs.Run.{known_at}
 use Rattle.roff_run.specs.Run.Counts.{counts_in, first_passed}
 use Rattle.roff_run.specs.declared.reader.Meaning.{Meaning}
 use Rattle.roff_run.specs.declared.request.Request.{Request}
-use Rattle.roff_run.specs.declared.request.effects.Effect.{Effect as CodedEffect}
+use Rattle.roff_run.specs.declared.requests.effects.Effect.{Effect as CodedEffect}
 use Rattle.roff_run.proofs.FewerNames.{NoMore-calls}
 use Rattle.roff_run.proofs.InputCounts.{NoMore, NoMore-released, NoMore-trans, first_passed-few_names, input_refusal-no_more}
 use Rattle.roff_run.proofs.RemovedNames.{calling_all-arguments}

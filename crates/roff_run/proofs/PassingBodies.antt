@@ -8,8 +8,8 @@ use Rattle.roff_escape.specs.Half.{Half}
 use Rattle.roff_escape.specs.Halves.{seen_stays}
 use Rattle.roff_ahead.specs.Input.{Ahead, ByteAhead, bytes_taken, item_taken}
 use Rattle.roff_run.proofs.InputCounts.{NoMore-item_taken, first_passed-no_more}
-use Rattle.roff_run.proofs.Interpolation.{taken_as-going_on, bytes_ahead_are_taken}
-use Rattle.roff_run.specs.InterpolationLaws.{TakesItems}
+use Rattle.roff_run.proofs.ItemsTaken.{taken_as-going_on, bytes_ahead_are_taken}
+use Rattle.roff_run.specs.ItemsTaken.{TakesItems}
 use Rattle.roff_run.specs.Reading.{Passes}
 use Rattle.roff_run.specs.Reading.Items.{PageInput, Taking}
 use Rattle.roff_run.specs.Registers.{AllRegisters}

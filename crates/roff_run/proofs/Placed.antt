@@ -2,7 +2,7 @@
 use Rattle.std.proofs.Common.{◌≡◌, ℕ, Bool, true, Option, refl}
 use Rattle.roff_escape.specs.Halves.{byte_read}
 use Rattle.roff_escape.specs.declared.half.Read.{Read}
-use Rattle.roff_run.specs.Reader.Above.{reads_above}
+use Rattle.roff_run.specs.Reading.Items.{reads_above}
 use Rattle.roff_run.specs.Reading.{kept_taking}
 use Rattle.roff_run.specs.Reading.Found.{found_in, has_place, place_in, read_in}
 use Rattle.roff_run.specs.Reading.Items.{PageInput, going_on}

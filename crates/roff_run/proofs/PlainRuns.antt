@@ -12,10 +12,10 @@ use Rattle.roff_arguments.specs.Arguments.{live_bytes}
 use Rattle.roff_source.specs.Tape.{Tape}
 use Rattle.roff_store.specs.Named.{Named}
 use Rattle.roff_store.specs.Texts.{Entry, bytes_in}
-use Rattle.roff_run.proofs.Interpolation.{FromAhead, FromSource, Fits-IsWithin, Origin, ahead_at, bytes_ahead_are_taken, bytes_of_the_source_are_taken, made-Fits, taken_as-going_on, tape_at}
+use Rattle.roff_run.proofs.ItemsTaken.{FromAhead, FromSource, Fits-IsWithin, Origin, ahead_at, bytes_ahead_are_taken, bytes_of_the_source_are_taken, made-Fits, taken_as-going_on, tape_at}
 use Rattle.roff_run.proofs.Leads.{after-add}
-use Rattle.roff_run.specs.InterpolationLaws.{TakesItems}
-use Rattle.roff_run.specs.Laws.{EnvironmentsWithin, IsWithin}
+use Rattle.roff_run.specs.ItemsTaken.{TakesItems}
+use Rattle.roff_run.specs.Within.{EnvironmentsWithin, IsWithin}
 use Rattle.roff_run.specs.Environments.{environments}
 use Rattle.roff_run.specs.Reading.Ends.{due}
 use Rattle.roff_run.specs.Reading.Items.{PageInput, Taking}

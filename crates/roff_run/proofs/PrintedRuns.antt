@@ -16,7 +16,7 @@ use Rattle.roff_escape.specs.Half.{Half}
 use Rattle.roff_escape.specs.Halves.{seen_stays}
 use Rattle.roff_ahead.specs.Input.{Ahead, ByteAhead, bytes_taken, counting, lines_taken}
 use Rattle.roff_source.specs.Tape.{Tape, OneByte, items_then}
-use Rattle.roff_run.proofs.Interpolation.{bytes_ahead_are_taken, bytes_of_the_source_are_taken}
+use Rattle.roff_run.proofs.ItemsTaken.{bytes_ahead_are_taken, bytes_of_the_source_are_taken}
 use Rattle.roff_run.proofs.Leads.{Leads-refl, Leads-trans}
 use Rattle.roff_run.proofs.PassingBodies.{behind_byte, within-byte}
 use Rattle.roff_run.specs.Environments.{Environments, environments}

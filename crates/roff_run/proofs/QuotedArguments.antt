@@ -15,7 +15,8 @@ use Rattle.roff_escape.specs.declared.half.CopyUnit.TheVariants.{Byte}
 use Rattle.roff_escape.specs.Half.{Half, Backslash}
 use Rattle.roff_escape.specs.declared.half.Read.TheVariants.{GoesOn, Unit as GivesUnit}
 use Rattle.roff_escape.specs.declared.half.Surroundings.TheVariants.{Arguments as AboveArguments}
-use Rattle.roff_run.proofs.Interpolation.{IsRead, not-first, not-second, IsRead-itself}
+use Rattle.roff_run.proofs.Interpolation.{IsRead, IsRead-itself}
+use Rattle.roff_run.proofs.ItemsTaken.{not-first, not-second}
 use Rattle.roff_run.specs.declared.reading.Reading.{Reading}
 use Rattle.roff_run.specs.InterpolationLaws.{StandsForItself}
 use Rattle.roff_run.specs.Quoting.{both, given_taking, taking_all, RequestsGetQuotedArguments}

@@ -28,10 +28,11 @@ use Rattle.roff_escape.specs.declared.half.Surroundings.TheVariants.{Arguments a
 use Rattle.roff_run.specs.Environments.{PageHistory, interrupted_line}
 use Rattle.roff_run.specs.Environments.Standing.{StandFor}
 use Rattle.roff_run.specs.Events.Meant.{events_meant, none_meant}
-use Rattle.roff_run.specs.Reader.Above.{reads_above}
+use Rattle.roff_run.specs.Reading.Items.{reads_above}
 use Rattle.roff_run.specs.Reader.AtOnce.{AsksAbove, GoesOnAbove, IsReadAbove, MeansNothing, TakesAtOnce, only_events}
 use Rattle.roff_run.specs.Reader.State.{ReaderState}
-use Rattle.roff_run.specs.Reader.Taken.{PageUnread, TakesAs, Took}
+use Rattle.roff_run.specs.Reader.Taken.{TakesAs, Took}
+use Rattle.roff_run.specs.Reading.Items.{PageUnread}
 use Rattle.roff_run.specs.Reading.{half_ended, kept_taking, taking}
 use Rattle.roff_run.specs.Reading.Arguments.{arguments_ended}
 use Rattle.roff_run.specs.Reading.Beginnings.{at_start, first_name}

@@ -16,8 +16,8 @@ use Rattle.roff_num.specs.declared.direction.Direction.TheVariants.{Up, Down}
 use Rattle.roff_store.specs.declared.register.Register.{Register}
 use Rattle.roff_run.specs.declared.message.Message.{Message}
 use Rattle.roff_run.specs.declared.message.Message.TheVariants.{BadNumber}
-use Rattle.roff_run.specs.declared.registers.Query.{Query}
-use Rattle.roff_run.specs.declared.registers.Query.TheVariants.{Newlines, Indent, LineLength, LastWidth, Filling, LineSpacing, ColumnWidth, Arguments, Later}
+use Rattle.roff_run.specs.declared.query.Query.{Query}
+use Rattle.roff_run.specs.declared.query.Query.TheVariants.{Newlines, Indent, LineLength, LastWidth, Filling, LineSpacing, ColumnWidth, Arguments, Later}
 use Rattle.roff_run.specs.RegisterLaws.{ValuesReadBack, FormatsReadBack, FormatsStay, UndefinedReadAsZero, ReadingMakesNone, ReadingIsSilent, ReadOnlyStay, ReadOnlyAreLeftAlone, RemovedReadAsZero}
 use Rattle.roff_run.specs.Registers.{AllRegisters, Known, SetTo, FormatAs, Remove, answer, greatest_number, is_page, is_read_only, known_behind, query_of, settable, stepped_page, text_asked}
 

@@ -15,7 +15,7 @@ use Rattle.roff_store.proofs.Entries.{length-with_entry}
 use Rattle.roff_store.specs.Named.{Table, entry_of, with_entry, has_room, put_into, admitted as admitted_name}
 use Rattle.roff_store.specs.Registers.{Call, Registers, after as after_call, register_of, with_setting, with_format}
 use Rattle.roff_store.specs.declared.register.Register.{Register}
-use Rattle.roff_run.specs.declared.registers.Query.{Query}
+use Rattle.roff_run.specs.declared.query.Query.{Query}
 use Rattle.roff_run.specs.Registers.{AllRegisters, Known, Change, SetTo, FormatAs, answer, greatest_number, is_page, is_read_only, query_of, text_asked, text_of_register, value_asked, value_in_force}
 use Rattle.roff_run.specs.Registers.Capped.{Capped, admitted, after, is_past_cap, with_change}
 use Rattle.roff_run.specs.Registers.Kept.{IsCounted, capped_of}

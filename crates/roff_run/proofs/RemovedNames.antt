@@ -6,7 +6,7 @@ use Rattle.roff_num.specs.Names.{name_of}
 use Rattle.roff_arguments.specs.Arguments.{Arguments}
 use Rattle.roff_ahead.specs.Input.Names.{calling}
 use Rattle.roff_store.specs.TextCalls.{Call, Remove}
-use Rattle.roff_run.specs.Reader.Taken.{PageUnread}
+use Rattle.roff_run.specs.Reading.Items.{PageUnread}
 use Rattle.roff_run.specs.Reading.Arguments.{calling_all}
 use Rattle.roff_run.specs.Reading.Items.{PageInput}
 use Rattle.roff_run.specs.Request.Coded.{name_in}

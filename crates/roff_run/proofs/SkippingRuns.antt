@@ -9,11 +9,11 @@ use Rattle.roff_escape.specs.Half.{Half}
 use Rattle.roff_escape.specs.Halves.{seen_stays}
 use Rattle.roff_ahead.specs.Input.{counting, lines_taken}
 use Rattle.roff_source.specs.Tape.{Tape, OneByte, items_then}
-use Rattle.roff_run.proofs.Interpolation.{Fits-IsWithin, made-Fits, taken_as-going_on, bytes_of_the_source_are_taken}
+use Rattle.roff_run.proofs.ItemsTaken.{Fits-IsWithin, made-Fits, taken_as-going_on, bytes_of_the_source_are_taken}
 use Rattle.roff_run.proofs.Skipping.{skipped_behind, taking-goes_on, taking-ends, none_before}
 use Rattle.roff_run.specs.ConditionLaws.{is_whole, escapes_among, MayEnd, AreKept, RunsPassOverSkippedBranches}
-use Rattle.roff_run.specs.InterpolationLaws.{TakesItems}
-use Rattle.roff_run.specs.Laws.{IsWithin}
+use Rattle.roff_run.specs.ItemsTaken.{TakesItems}
+use Rattle.roff_run.specs.Within.{IsWithin}
 use Rattle.roff_run.specs.Reading.{taking}
 use Rattle.roff_run.specs.Reading.Branches.{most_braces}
 use Rattle.roff_run.specs.Reading.Ends.{due}

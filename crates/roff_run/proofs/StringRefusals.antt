@@ -22,7 +22,8 @@ use Rattle.roff_arguments.proofs.KeptArguments.{held-only_kept}
 use Rattle.roff_store.specs.TextCalls.{Open, PushOpen}
 use Rattle.roff_store.specs.Texts.{newest}
 use Rattle.roff_run.specs.Reader.State.{ReaderState}
-use Rattle.roff_run.specs.Reader.Taken.{InputBecame, PageUnread, TakesAs}
+use Rattle.roff_run.specs.Reader.Taken.{InputBecame, TakesAs}
+use Rattle.roff_run.specs.Reading.Items.{PageUnread}
 use Rattle.roff_num.specs.ShortNames.{name_at}
 use Rattle.roff_run.specs.Reading.Items.{PageInput, Taking, going_on}
 use Rattle.roff_run.specs.Reading.Strings.{name_read, string_begun, string_grown, string_name_behind, string_unit}

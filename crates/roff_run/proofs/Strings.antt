@@ -20,7 +20,8 @@ use Rattle.roff_escape.specs.declared.half.Read.{Read}
 use Rattle.roff_escape.specs.declared.half.Read.TheVariants.{GoesOn, Unit as OneUnit, Holds, Escape, Asks, Motion, Measures, Tells, Decides}
 use Rattle.roff_run.specs.Events.Meant.{events_meant, none_meant}
 use Rattle.roff_run.specs.Reader.State.{ReaderState}
-use Rattle.roff_run.specs.Reader.Taken.{InputBecame, IsInputNow, IsReady, PageUnread, TakesAs}
+use Rattle.roff_run.specs.Reader.Taken.{InputBecame, IsInputNow, IsReady, TakesAs}
+use Rattle.roff_run.specs.Reading.Items.{PageUnread}
 use Rattle.roff_run.specs.Reading.Items.{PageInput, Taking, going_on}
 use Rattle.roff_run.specs.Reading.Messages.{message_unit}
 use Rattle.roff_run.specs.Reading.Strings.{name_read, string_emptied, string_grown, string_name_found, string_name_or_text, string_name_unit, string_text_found, string_unit}

@@ -11,7 +11,7 @@ use Rattle.roff_source.specs.Tape.{Tape}
 use Rattle.roff_store.specs.Named.{Named}
 use Rattle.roff_store.specs.Texts.{Entry}
 use Rattle.roff_run.proofs.InputCounts.{NoMore, first_passed-no_more, first_passed-texts}
-use Rattle.roff_run.proofs.Interpolation.{FromAhead, FromSource, Origin, ahead_at, bytes_ahead_are_taken, bytes_of_the_source_are_taken, taken_as-going_on}
+use Rattle.roff_run.proofs.ItemsTaken.{FromAhead, FromSource, Origin, ahead_at, bytes_ahead_are_taken, bytes_of_the_source_are_taken, taken_as-going_on}
 use Rattle.roff_run.proofs.PlainRuns.{behind_byte, behind_bytes, behind_bytes-counts, counted, counted-ahead, run_at}
 use Rattle.roff_run.proofs.TurnsToCome.{turns_within-byte}
 use Rattle.roff_run.specs.Reading.{taking}

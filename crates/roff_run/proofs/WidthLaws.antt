@@ -25,9 +25,11 @@ use Rattle.roff_ahead.specs.Shown.{seen_ahead}
 use Rattle.roff_escape.specs.declared.half.Read.TheVariants.{GoesOn, Measures}
 use Rattle.roff_escape.specs.declared.half.Surroundings.{Surroundings}
 use Rattle.roff_escape.specs.declared.half.Surroundings.TheVariants.{Text as AboveText, Arguments as AboveArguments, Copy as AboveCopy}
-use Rattle.roff_run.proofs.Interpolation.{Fits-IsWithin, FindsAtLast, AtLast, Behind, FromAhead, FromSource, IsRead, IsRead-itself, Means, Origin, ReadsEscapes, AtBeginning, AtBranch, AtBraced, OnText, OnArguments, OnCondition, OnStringName, OnCall, OnStringText, OnDefinition, OnMessage, ReadsEscapes-reads_escapes, after-escape, ahead_at, going, input_of, interrupted-arguments, is-going, is_no_newline, line_behind, not-first, not-second, settled_for, settled_for-settled_for, settled_input, source_behind, step-byte, tape_at, taken_as-going_on, taking-reads, made-Fits, none_due-reads, step-TakesItems}
-use Rattle.roff_run.specs.InterpolationLaws.{TakesItems, StandsForItself, reads_escapes}
-use Rattle.roff_run.specs.Laws.{IsWithin}
+use Rattle.roff_run.proofs.Interpolation.{FindsAtLast, AtLast, Behind, IsRead, IsRead-itself, Means, ReadsEscapes, AtBeginning, AtBranch, AtBraced, OnText, OnArguments, OnCondition, OnStringName, OnCall, OnStringText, OnDefinition, OnMessage, ReadsEscapes-reads_escapes, after-escape, interrupted-arguments, is-going, is_no_newline, line_behind, settled_for, settled_for-settled_for, settled_input, source_behind, step-byte, taking-reads, none_due-reads}
+use Rattle.roff_run.proofs.ItemsTaken.{Fits-IsWithin, FromAhead, FromSource, Origin, ahead_at, going, input_of, not-first, not-second, tape_at, taken_as-going_on, made-Fits, step-TakesItems}
+use Rattle.roff_run.specs.InterpolationLaws.{StandsForItself, reads_escapes}
+use Rattle.roff_run.specs.ItemsTaken.{TakesItems}
+use Rattle.roff_run.specs.Within.{IsWithin}
 use Rattle.roff_run.specs.Output.{text_of}
 use Rattle.roff_run.specs.Reading.{taking, half_ended}
 use Rattle.roff_run.specs.Reading.Escapes.{measuring}

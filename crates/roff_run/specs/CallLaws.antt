@@ -1,23 +1,24 @@
 -- Laws of control lines that call a body, and of those whose names stand for nothing (manual, section 7).
-use Rattle.std.specs.Prelude.{◌≡◌, ℕ, ◌+◌, ◌≤◌, false, not, ◌||◌, List, [], ◌∷◌, ◌++◌, length, map, take, All, IsTrue, Some, None, ◌==◌}
+use Rattle.std.specs.Prelude.{◌≡◌, ℕ, ◌+◌, ◌≤◌, false, List, [], ◌∷◌, ◌++◌, length, map, take, All, Some, None, ◌==◌}
 use Rattle.roff_num.specs.declared.limits.Limits.{Limits}
 use Rattle.roff_arguments.specs.Arguments.{no_arguments}
-use Rattle.roff_source.specs.Bytes.{apostrophe, blank, dot, is_dropped, newline}
+use Rattle.roff_source.specs.Bytes.{apostrophe, blank, dot, newline}
 use Rattle.roff_ahead.specs.Input.{Ahead, ByteAhead, ReturnAhead, lines_taken}
 use Rattle.roff_ahead.specs.Input.Calls.{called_text}
 use Rattle.roff_arguments.specs.Quoting.{quoted_line}
 use Rattle.roff_source.specs.Tape.{Tape, OneByte, items_then}
 use Rattle.roff_store.specs.Named.{Named, entry_of}
 use Rattle.roff_store.specs.Texts.{Entry, Body}
-use Rattle.roff_run.specs.InterpolationLaws.{StandsForItself, TakesItems}
-use Rattle.roff_run.specs.Laws.{IsWithin}
-use Rattle.roff_run.specs.Reading.ControlLines.{ends_name}
+use Rattle.roff_run.specs.InterpolationLaws.{StandsForItself}
+use Rattle.roff_run.specs.ItemsTaken.{TakesItems}
+use Rattle.roff_run.specs.Within.{IsWithin}
 use Rattle.roff_run.specs.Reading.Items.{PageInput}
 use Rattle.roff_run.specs.Requests.{PageEvent}
 use Rattle.roff_run.specs.Run.{State, after}
 use Rattle.roff_num.specs.ShortNames.{name_bytes}
 use Rattle.roff_run.specs.declared.reading.Reading.TheVariants.{LineStart}
 use Rattle.roff_num.specs.declared.short_name.ShortName.{ShortName}
+use Rattle.roff_run.specs.Reading.ControlLines.{BelongsToName}
 
 -- a run stands where a line begins: it takes items, nothing is half read, and no argument is held
 pub record BeginsLine (s : State) : Type 0 where
@@ -30,10 +31,6 @@ pub record BeginsLine (s : State) : Type 0 where
 pub data IsControl : ℕ → Type 0 where
   IsDot : IsControl dot
   IsApostrophe : IsControl apostrophe
-
--- a byte of a name: it isn't dropped, and doesn't end the name
-abbrev pub BelongsToName : ℕ → Type 0
-BelongsToName b = IsTrue (not (is_dropped b || ends_name b))
 
 -- what stands behind the name of a line that gives these arguments, each in quotes and behind a blank
 abbrev pub behind_call : List (List ℕ) → List ℕ

@@ -3,7 +3,8 @@ pub use Rattle.roff_run.specs.Environments.{PageHistory}
 pub use Rattle.roff_run.specs.Environments.Standing.{StandFor}
 pub use Rattle.roff_run.specs.declared.environments.Environments.{Environments as EnvironmentsOf}
 pub use Rattle.roff_run.specs.Reader.State.{fresh_reader}
-pub use Rattle.roff_run.specs.Reader.Taken.{Changed, InputBecame, PageUnread, TakesAs}
+pub use Rattle.roff_run.specs.Reader.Taken.{Changed, InputBecame, TakesAs}
+pub use Rattle.roff_run.specs.Reading.Items.{PageUnread}
 pub use Rattle.roff_source.specs.Bytes.{is_passed}
 pub use Rattle.roff_run.specs.Reading.{Passes, half_ended, interrupted, kept_taking, taking}
 pub use Rattle.roff_run.specs.Reading.Arguments.{arguments_found, calling_all, line_ended, unit_found, arguments_ended}

@@ -7,8 +7,8 @@ use Rattle.roff_num.specs.declared.limits.Limits.{Limits}
 use Rattle.roff_source.specs.Bytes.{newline, backslash, is_dropped}
 use Rattle.roff_ahead.specs.Input.{lines_taken}
 use Rattle.roff_source.specs.Tape.{Tape, OneByte, items_then}
-use Rattle.roff_run.specs.InterpolationLaws.{TakesItems}
-use Rattle.roff_run.specs.Laws.{IsWithin}
+use Rattle.roff_run.specs.ItemsTaken.{TakesItems}
+use Rattle.roff_run.specs.Within.{IsWithin}
 use Rattle.roff_run.specs.Quoting.{taking_all}
 use Rattle.roff_run.specs.Reading.Branches.{branch_of, most_braces}
 use Rattle.roff_run.specs.Reading.Items.{PageInput, going_on}

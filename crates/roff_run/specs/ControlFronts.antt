@@ -4,7 +4,7 @@ use Rattle.roff_source.specs.Bytes.{apostrophe, dot}
 use Rattle.roff_escape.specs.Half.{Half, Condition}
 use Rattle.roff_escape.specs.declared.half.ConditionPart.TheVariants.{Choice}
 use Rattle.roff_scan.specs.Unread.Calls.{IsFront, front_bytes}
-use Rattle.roff_run.specs.Reader.Taken.{PageUnread}
+use Rattle.roff_run.specs.Reading.Items.{PageUnread}
 use Rattle.roff_run.specs.Reading.{taking}
 use Rattle.roff_run.specs.Reading.Items.{PageInput, Taking, going_on}
 use Rattle.roff_run.specs.Registers.{Known}

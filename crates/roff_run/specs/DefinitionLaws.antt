@@ -11,8 +11,9 @@ use Rattle.roff_store.specs.Named.{with_entry}
 use Rattle.roff_store.specs.Texts.{Body}
 use Rattle.roff_run.specs.ConditionLaws.{is_whole}
 use Rattle.roff_run.specs.Definitions.{end_mark, ends_mark}
-use Rattle.roff_run.specs.InterpolationLaws.{StandsForItself, TakesItems}
-use Rattle.roff_run.specs.Laws.{IsWithin}
+use Rattle.roff_run.specs.InterpolationLaws.{StandsForItself}
+use Rattle.roff_run.specs.ItemsTaken.{TakesItems}
+use Rattle.roff_run.specs.Within.{IsWithin}
 use Rattle.roff_run.specs.Reading.DefinedLines.{behind_definition}
 use Rattle.roff_run.specs.Reading.Items.{PageInput, going_on}
 use Rattle.roff_run.specs.Registers.{Known}

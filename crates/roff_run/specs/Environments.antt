@@ -6,8 +6,8 @@ use Rattle.roff_lines.specs.Events.{History, is_interrupted}
 use Rattle.roff_lines.specs.declared.event.Event.{Event}
 use Rattle.roff_lines.specs.declared.event.Event.TheVariants.{Interrupt as IsInterrupted}
 use Rattle.roff_lines.specs.Words.{is_empty, line_glyphs}
-pub use Rattle.roff_run.specs.declared.environments.EnvironmentNumber.{EnvironmentNumber}
-pub use Rattle.roff_run.specs.declared.environments.EnvironmentNumber.TheVariants.{Zero, One, Two}
+pub use Rattle.roff_run.specs.declared.environment_number.EnvironmentNumber.{EnvironmentNumber}
+pub use Rattle.roff_run.specs.declared.environment_number.EnvironmentNumber.TheVariants.{Zero, One, Two}
 use Rattle.roff_run.specs.declared.event.PageEvent.{PageEvent}
 use Rattle.roff_run.specs.declared.event.PageEvent.TheVariants.{Text, Space, Interrupt, Environment, Back}
 use Rattle.roff_run.specs.declared.reading.TextLine.{TextLine}

@@ -4,8 +4,8 @@ use Rattle.roff_lines.specs.declared.event.Event.TheVariants.{Resume, Set}
 use Rattle.roff_lines.specs.declared.settings.Param.TheVariants.{NoStops, Stop}
 use Rattle.roff_run.specs.declared.event.PageEvent.{PageEvent}
 use Rattle.roff_run.specs.declared.event.PageEvent.TheVariants.{Text}
-use Rattle.roff_run.specs.declared.event.RequestEvents.{RequestEvents}
-use Rattle.roff_run.specs.declared.event.RequestEvents.TheVariants.{Nothing, One, Two}
+use Rattle.roff_run.specs.declared.events.RequestEvents.{RequestEvents}
+use Rattle.roff_run.specs.declared.events.RequestEvents.TheVariants.{Nothing, One, Two}
 pub mod Kept
 pub mod Lines
 pub mod Meant

@@ -5,7 +5,7 @@ use Rattle.roff_num.specs.declared.limits.Limits.{Limits}
 use Rattle.roff_source.specs.Bytes.{newline, backslash, is_dropped}
 use Rattle.roff_escape.specs.HalfLaws.{is_special, short_escape, long_escape, string_escape, argument_escape}
 use Rattle.roff_escape.specs.Half.{Half, Backslash, Comment, Name as NameHalf, Size, Delimited, Width, Condition, names_in}
-use Rattle.roff_escape.specs.Halves.{most_names, seen_stays}
+use Rattle.roff_escape.specs.Halves.{most_names}
 use Rattle.roff_ahead.specs.Input.{Ahead, ByteAhead, pushing, item_taken, cost, counting}
 use Rattle.roff_ahead.specs.Input.Calls.{arguments_live}
 use Rattle.roff_ahead.specs.Input.Names.{body_named}
@@ -13,26 +13,19 @@ use Rattle.roff_escape.specs.declared.escapes.NameUse.{NameUse}
 use Rattle.roff_escape.specs.declared.escapes.NameUse.TheVariants.{Register, Text as OfText, Argument}
 use Rattle.roff_escape.specs.declared.half.ConditionPart.{ConditionPart}
 use Rattle.roff_escape.specs.declared.half.ConditionPart.TheVariants.{Choice, Expression, Compared, Decided}
-use Rattle.roff_source.specs.Tape.{Tape, Gives, OneByte, front, items_then}
+use Rattle.roff_source.specs.Tape.{Tape, OneByte, front, items_then}
 use Rattle.roff_num.specs.declared.direction.Direction.{Direction}
-use Rattle.roff_run.specs.Laws.{IsWithin}
+use Rattle.roff_run.specs.Within.{IsWithin}
 use Rattle.roff_run.specs.Messages.{message_lines}
 use Rattle.roff_run.specs.Reading.{interrupted}
-use Rattle.roff_run.specs.Reading.Ends.{due}
 use Rattle.roff_run.specs.Reading.Escapes.{argument_named}
 use Rattle.roff_run.specs.Reading.Items.{PageInput}
 use Rattle.roff_run.specs.Registers.{Known, StepBy, changed_by, step_messages, text_of_register}
 use Rattle.roff_run.specs.Requests.{PageEvent}
-use Rattle.roff_run.specs.Run.{State, known, made, byte_taken, moved, answered, item_read, step, after}
+use Rattle.roff_run.specs.Run.{State, known, answered, item_read, step, after}
 use Rattle.roff_run.specs.declared.reading.Reading.{Reading}
 use Rattle.roff_run.specs.declared.reading.Reading.TheVariants.{LineStart, Branch, Braced, Text as InText, Control, Name, Arguments as InArguments, Deciding, StringName, StringText, Skipping, Dropped, Telling, Told, Exiting, Calling, Defining}
-
--- a run takes items: it hasn't ended and isn't about to, and there is nothing to do first, and nothing due
-pub record TakesItems (s : State) : Type 0 where
-  pub going : s.ended ≡ None
-  pub not_closing : s.is_closing ≡ false
-  pub idle : s.to_do ≡ []
-  pub none_due : due s.reading ≡ None
+use Rattle.roff_run.specs.ItemsTaken.{TakesItems}
 
 -- where nothing is ahead and nothing is half read, the unread input is the source's tape
 abbrev pub UnreadInputIsTheTape : Type 0
@@ -43,20 +36,6 @@ UnreadInputIsTheTape =
 abbrev pub StepsFollowTheTape : Type 0
 StepsFollowTheTape =
     (l : Limits) (s : State) → TakesItems s → s.input.ahead ≡ [] → s.input.half ≡ [] → step l s ≡ answered l (front s.tape) s
-
--- a byte ahead that doesn't end what is half read is taken in one step, at the cost of one
-abbrev pub BytesAheadAreTaken : Type 0
-BytesAheadAreTaken =
-    (l : Limits) (s : State) (b : ℕ) (behind : List (Ahead PageEvent)) → TakesItems s → s.input.ahead ≡ ByteAhead b ∷ behind →
-    seen_stays s.input.half (Some b) ≡ false → s.input.charge < l.bytes →
-    step l s ≡ made l s (byte_taken b (record s { input = item_taken (ByteAhead b) behind s.input }))
-
--- and so is a byte of the source where nothing is ahead: it is counted
-abbrev pub BytesOfTheSourceAreTaken : Type 0
-BytesOfTheSourceAreTaken =
-    (l : Limits) (s : State) (b : ℕ) → TakesItems s → s.input.ahead ≡ [] → front s.tape ≡ Gives (OneByte b) →
-    seen_stays s.input.half (Some b) ≡ false → s.input.charge < l.bytes →
-    step l s ≡ made l s (byte_taken b (moved (record s { input = counting b s.input })))
 
 -- a byte that stands for itself wherever bytes are read: it isn't dropped, doesn't end the line, and begins no escape
 abbrev pub StandsForItself : ℕ → Type 0

@@ -1,16 +1,13 @@
 -- Laws over whole runs: what limits and failing sources leave as it is.
-use Rattle.std.specs.Prelude.{◌≡◌, ◌≢◌, ℕ, ◌+◌, ◌≤◌, List, ◌++◌, length, Some}
-use Rattle.roff_lines.specs.Lines.{pending_length}
+use Rattle.std.specs.Prelude.{◌≡◌, ◌≢◌, ℕ, ◌+◌, List, ◌++◌, Some}
 use Rattle.roff_num.specs.Lists.{IsBeginning}
 use Rattle.roff_num.specs.declared.limit.Limit.{Limit}
 use Rattle.roff_run.specs.declared.status.Status.TheVariants.{Device, Limit as Limited}
 use Rattle.roff_num.specs.declared.limits.Limits.{Limits}
-use Rattle.roff_run.specs.Environments.{Environments, environments}
 use Rattle.roff_run.specs.Limits.{AreWithin}
 use Rattle.roff_run.specs.Run.{State, initial, after, output, reported}
-use Rattle.roff_ahead.specs.Input.{pushed, depth, results}
-use Rattle.roff_ahead.specs.Input.Names.{names_added, stored}
 use Rattle.roff_source.specs.Tape.{Tape, Item, Ending, Failed}
+use Rattle.roff_run.specs.Within.{IsWithin}
 
 -- one run is only cut beside another: what it wrote is a beginning of what the other did, and so are its
 -- messages, without the one with which it ended
@@ -56,25 +53,6 @@ SameUntilTheFault =
     let cut : State = after l n (initial (failing_behind items)) in
     let whole : State = after l n (initial (going_on_behind items more ending)) in
     cut.ended ≢ Some Device → over cut.tape whole ≡ cut
-
--- the pending line of each environment is within the limit on lines, and so few of them were left as may be
-pub record EnvironmentsWithin (l : Limits) (es : Environments) : Type 0 where
-  pub in_force : pending_length es.in_force.text ≤ l.line
-  pub next : pending_length es.next.text ≤ l.line
-  pub last : pending_length es.last.text ≤ l.line
-  pub left : length es.left ≤ l.environments
-
--- a state is within the limits: it took no more, and no count is above its limit
-pub record IsWithin (l : Limits) (s : State) : Type 0 where
-  pub bytes : s.input.charge ≤ l.bytes
-  pub stack : pushed s.input ≤ l.stack
-  pub depth : depth s.input ≤ l.depth
-  pub store : stored s.input ≤ l.store
-  pub texts : names_added s.input ≤ l.names
-  pub making : length s.input.open_texts ≤ l.diversions + 1
-  pub conditions : results s.input ≤ l.conditions
-  pub names : length s.registers.named ≤ l.names
-  pub environments : EnvironmentsWithin l (environments s.history)
 
 -- no run passes a limit
 abbrev pub NoLimitIsPassed : Type 0

@@ -34,3 +34,6 @@ pub mod Clauses
 pub mod TurnsToCome
 pub mod Stages
 pub mod ControlFronts
+pub mod Within
+pub mod ItemsTaken
+pub mod RequestRows

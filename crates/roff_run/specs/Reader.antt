@@ -1,5 +1,5 @@
 -- What the code reads, as the definition reads it.
 pub mod State
 pub mod Taken
-pub mod Above
 pub mod AtOnce
+pub mod Stages

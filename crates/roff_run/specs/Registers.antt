@@ -13,8 +13,8 @@ use Rattle.roff_store.specs.declared.register.Register.{Register}
 use Rattle.roff_run.specs.declared.message.Message.{Message}
 use Rattle.roff_run.specs.declared.reading.TextLine.{TextLine}
 use Rattle.roff_run.specs.declared.message.Message.TheVariants.{BadNumber}
-use Rattle.roff_run.specs.declared.registers.Query.{Query}
-use Rattle.roff_run.specs.declared.registers.Query.TheVariants.{Newlines, Indent, LineLength, LastWidth, Filling, LineSpacing, ColumnWidth, Arguments, Later}
+use Rattle.roff_run.specs.declared.query.Query.{Query}
+use Rattle.roff_run.specs.declared.query.Query.TheVariants.{Newlines, Indent, LineLength, LastWidth, Filling, LineSpacing, ColumnWidth, Arguments, Later}
 pub mod Capped
 pub mod Kept
 pub mod Coded

@@ -1,21 +1,16 @@
 -- Stages of the reading: what bytes change that change only what is read.
-use Rattle.std.specs.Prelude.{◌≡◌, ℕ, ◌+◌, ◌≤◌, ◌==◌, ◌&&◌, Bool, false, if◌then◌else◌, List, [], ◌∷◌, length, min, nat_lt, not, sum_by, take, Option, None, Some}
+use Rattle.std.specs.Prelude.{◌≡◌, ℕ, ◌+◌, ◌≤◌, ◌==◌, ◌&&◌, Bool, false, if◌then◌else◌, List, [], ◌∷◌, length, min, nat_lt, not, sum_by, Option, None, Some}
 use Rattle.roff_arguments.specs.Arguments.{AreFewer, Arguments, held}
 use Rattle.roff_source.specs.Bytes.{is_dropped, newline}
 use Rattle.roff_escape.specs.ConditionFronts.{TakesOn}
 use Rattle.roff_escape.specs.Half.{Half, texts_held}
 use Rattle.roff_escape.specs.Halves.{byte_read, seen_stays}
 use Rattle.roff_ahead.specs.Input.Names.{adding}
-use Rattle.roff_source.specs.Tape.{Tape}
-use Rattle.roff_scan.specs.Unread.{IsWithin}
-use Rattle.roff_scan.specs.Unread.Calls.{NoNewline, PassesFront}
 use Rattle.roff_escape.specs.declared.half.CopyUnit.TheVariants.{Byte}
 use Rattle.roff_escape.specs.declared.half.Read.TheVariants.{GoesOn}
 use Rattle.roff_escape.specs.declared.half.Surroundings.{Surroundings}
 use Rattle.roff_store.specs.Named.{Named}
 use Rattle.roff_store.specs.Texts.{Entry}
-use Rattle.roff_run.specs.Reader.State.{ReaderState}
-use Rattle.roff_run.specs.Reader.Taken.{PageUnread}
 use Rattle.roff_run.specs.Reading.{taking}
 use Rattle.roff_run.specs.Reading.Ends.{due}
 use Rattle.roff_run.specs.Reading.Items.{PageInput, going_on}
@@ -103,26 +98,6 @@ pub data Turned (names : Named Entry) : Stage → List ℕ → Stage → Type 0 
 -- an input with the stage of another one
 abbrev pub with_stage_of : PageInput → PageInput → PageInput
 with_stage_of before i = record i { half = before.half; arguments = before.arguments; open_texts = before.open_texts }
-
--- Bytes that came next were read at once, and changed only what is read: they lead from the stage before to the one behind
--- them, and are taken as bytes are that change nothing. No count is above its limit behind them.
-pub record ReadsPast (gave gives : Tape → Type 0) (old new : ReaderState) (before after : PageUnread) : Type 0 where
-  pub bytes : List ℕ
-  pub turned : Turned before.input.names (stage_of old.reading before.input) bytes (stage_of new.reading after.input)
-  pub passes : PassesFront gave gives bytes before (record after { input = with_stage_of before.input after.input })
-  pub registers : new.registers ≡ old.registers
-  pub requested : new.requested ≡ old.requested
-  pub within : IsWithin after
-
--- So many of these bytes, from the first on, lead from what was read to what is read now, where nothing is half read. None is a
--- newline.
-pub record TurnsFront (front : List ℕ) (count : ℕ) (old new : ReaderState) : Type 0 where
-  pub few : count ≤ length front
-  pub no_newline : NoNewline (take count front)
-  pub turned : (names : Named Entry) (i : PageInput) → i.half ≡ []
-      → Turned names (stage_of old.reading i) (take count front) (stage_of new.reading i)
-  pub registers : new.registers ≡ old.registers
-  pub requested : new.requested ≡ old.requested
 
 -- blanks only count where this is read and nothing is half read: in front of the first glyph of a text line, behind another blank
 abbrev pub counts_blanks : Reading → Bool

@@ -14,8 +14,9 @@ use Rattle.roff_escape.specs.Half.{Half, Width}
 use Rattle.roff_ahead.specs.Input.{Ahead, ByteAhead, pushing}
 use Rattle.roff_escape.specs.Measures.{byte_columns, most_width}
 use Rattle.roff_source.specs.Tape.{Tape, Gives, OneByte, Ends, Ended, front, items_then}
-use Rattle.roff_run.specs.InterpolationLaws.{TakesItems, StandsForItself, reads_escapes, with_source_behind}
-use Rattle.roff_run.specs.Laws.{IsWithin}
+use Rattle.roff_run.specs.InterpolationLaws.{StandsForItself, reads_escapes, with_source_behind}
+use Rattle.roff_run.specs.ItemsTaken.{TakesItems}
+use Rattle.roff_run.specs.Within.{IsWithin}
 use Rattle.roff_run.specs.Output.{PageHistory, text_of}
 use Rattle.roff_run.specs.Reading.{interrupted}
 use Rattle.roff_run.specs.Requests.{PageEvent, Text}

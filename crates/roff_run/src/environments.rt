@@ -1,8 +1,11 @@
 //! The three environments: the one in force, and the others (manual, section 17).
 
-ghost use Rattle.std.specs.Prelude.{◌≡◌, ◌+◌, ◌<◌, ◌↔◌, [], ◌∷◌, length, not, IfOk, IsErr, IsOkUnless, MatchOption, OnErr, OnOk};
+ghost use Rattle.std.specs.Prelude.{◌≡◌, ◌+◌, ◌<◌, ◌↔◌, [], ◌∷◌, length, not, IfOk, IsErr};
+ghost use Rattle.std.specs.Prelude.{IsOkUnless, MatchOption, OnOk};
 ghost use Rattle.roff_lines.specs.Words.{is_empty};
-ghost use Rattle.roff_run.specs.Environments.{PageHistory, environment_numbered, environments, fresh_environment, gone_back, interrupted_line, is_same, number_behind, switched_to, turned, turned_to, turned_unless, with_interruption};
+ghost use Rattle.roff_run.specs.Environments.{PageHistory, environments, fresh_environment};
+ghost use Rattle.roff_run.specs.Environments.{gone_back, interrupted_line, switched_to, turned};
+ghost use Rattle.roff_run.specs.Environments.{turned_to, turned_unless, with_interruption};
 ghost use Rattle.roff_num.specs.declared.limits.Limits.{Limits as LimitsOf};
 
 use crate::reading::TextLine;
@@ -11,17 +14,7 @@ use roff_num::{Limit, Limits};
 use std::alloc::{AllocError, Global};
 use std::marker::Model;
 use std::mem;
-
-/// The number of an environment.
-#[derive(Clone, Copy, Debug, PartialEq, Eq)]
-pub enum EnvironmentNumber {
-    /// That of the environment that is in force at first.
-    Zero,
-    /// The next.
-    One,
-    /// The last.
-    Two,
-}
+use crate::environment_number::EnvironmentNumber;
 
 /// An environment, and what isn't told yet of its interrupted line.
 #[derive(Drop)]
@@ -65,43 +58,6 @@ impl Model for Left {
     ghost view = { kept_by };
 
     ghost invariant = { IsSound };
-}
-
-impl EnvironmentNumber {
-    /// The number of this value, if there is one.
-    pub(crate) fn of(value: u32) -> Option<EnvironmentNumber>
-        ensures { result ≡ environment_numbered value }
-    {
-        match value {
-            0 => Some(EnvironmentNumber::Zero),
-            1 => Some(EnvironmentNumber::One),
-            2 => Some(EnvironmentNumber::Two),
-            _ => None,
-        }
-    }
-
-    /// The one behind it, 0 behind 2.
-    fn behind(self) -> EnvironmentNumber
-        ensures { result ≡ number_behind self }
-    {
-        match self {
-            EnvironmentNumber::Zero => EnvironmentNumber::One,
-            EnvironmentNumber::One => EnvironmentNumber::Two,
-            EnvironmentNumber::Two => EnvironmentNumber::Zero,
-        }
-    }
-
-    /// Whether it is this one.
-    fn is(self, other: EnvironmentNumber) -> bool
-        ensures { result ≡ is_same self other }
-    {
-        match (self, other) {
-            (EnvironmentNumber::Zero, EnvironmentNumber::Zero) => true,
-            (EnvironmentNumber::One, EnvironmentNumber::One) => true,
-            (EnvironmentNumber::Two, EnvironmentNumber::Two) => true,
-            _ => false,
-        }
-    }
 }
 
 impl Environment {

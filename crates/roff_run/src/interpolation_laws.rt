@@ -1,6 +1,8 @@
 //! Facts about what is read in the place of escapes, as contracts of functions that do nothing.
 
-ghost use Rattle.roff_run.specs.InterpolationLaws.{UnreadInputIsTheTape, StepsFollowTheTape, BytesAheadAreTaken, BytesOfTheSourceAreTaken, EscapesReadAsTexts, EscapesOfTheSourceReadAsTexts, EscapesOfTextReadAsTexts, PushedBytesCostAsOthers, TextsCostTheirBytesAndOne};
+ghost use Rattle.roff_run.specs.InterpolationLaws.{UnreadInputIsTheTape, StepsFollowTheTape, EscapesReadAsTexts, EscapesOfTheSourceReadAsTexts, EscapesOfTextReadAsTexts, PushedBytesCostAsOthers, TextsCostTheirBytesAndOne};
+
+ghost use Rattle.roff_run.specs.ItemsTaken.{BytesAheadAreTaken, BytesOfTheSourceAreTaken};
 ghost use Rattle.roff_run.specs.Quoting.{RequestsGetQuotedArguments};
 ghost use Rattle.roff_run.specs.WidthLaws.{WidthsReadAsDigits, WidthsOfTheSourceReadAsDigits, MeasuredTextsReadAsDigits, MeasuredTextsOfTheSourceReadAsDigits, WidthsEndWithTheirLine};
 ghost use Rattle.roff_run.specs.WidthLaws.{MotionsAreAsLongAsTheirColumns, MotionsCountInTheLine, TabsAreAsLongAsTheirColumns, TabsCountInTheLine};

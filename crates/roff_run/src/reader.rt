@@ -27,7 +27,8 @@ mod strings;
 mod text_lines;
 
 use crate::environments::Environments;
-use crate::event::{AllEvents, Events, FewEvents, PageEvent, RequestedEvents};
+use crate::event::PageEvent;
+use crate::events::{AllEvents, Events, FewEvents, RequestedEvents};
 use crate::message::Message;
 use crate::reading::{Due, Reading};
 use crate::registers::RunRegisters;

@@ -6,7 +6,7 @@ ghost use Rattle.roff_num.specs.ShortNames.{name_bytes};
 ghost use Rattle.roff_num.specs.ShortNames.{short_name};
 ghost use Rattle.roff_run.specs.Reading.ControlLines.{ends_name};
 ghost use Rattle.roff_source.specs.Bytes.{blank};
-ghost use Rattle.roff_run.specs.Reader.Above.{reads_above};
+ghost use Rattle.roff_run.specs.Reading.Items.{reads_above};
 
 mod behind;
 mod text_line;

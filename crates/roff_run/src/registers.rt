@@ -20,29 +20,6 @@ use roff_store::{RegTable, Register};
 use std::alloc::{AllocError, Global};
 use std::marker::Model;
 
-/// What a read-only register asks for.
-#[derive(Clone, Copy, Debug, PartialEq, Eq)]
-pub(crate) enum Query {
-    /// How many newlines were taken of the source.
-    Newlines,
-    /// The indent.
-    Indent,
-    /// The line length.
-    LineLength,
-    /// The width of the last finished line.
-    LastWidth,
-    /// Whether words are filled into lines: 1 or 0.
-    Filling,
-    /// The distance of two lines.
-    LineSpacing,
-    /// The width of a column.
-    ColumnWidth,
-    /// How many arguments the innermost body has that a line called.
-    Arguments,
-    /// What nothing sets yet: 0.
-    Later,
-}
-
 /// What is known of a run beside its registers.
 #[derive(Clone, Copy, Debug)]
 pub(crate) struct Facts {
@@ -64,7 +41,7 @@ pub(crate) struct Facts {
 
 /// A change that a request makes.
 #[derive(Drop)]
-pub(crate) enum Change {
+pub enum Change {
     /// `nr`: a value and an increment.
     SetTo {
         name: Name,
@@ -80,11 +57,11 @@ pub(crate) enum Change {
 
 /// What the escape `\n` gives.
 #[derive(Drop)]
-pub(crate) struct Interpolated {
+pub struct Interpolated {
     /// The register as it is written.
-    pub(crate) text: NumText,
+    pub text: NumText,
     /// What is said of its step.
-    pub(crate) message: Option<Message>,
+    pub message: Option<Message>,
 }
 
 /// The registers that can be set: those by name, and the page number `%`.
@@ -147,7 +124,7 @@ impl RunRegisters {
         ensures { result.items ≡ text_of_register (known_of facts self.now.all) name.now }
     {
         match query_of(name) {
-            Some(query) => written(Num(query.answer(facts) as i32), Format::Decimal(1)),
+            Some(query) => written(Num(facts.answer(query) as i32), Format::Decimal(1)),
             None => {
                 let register = self.settable(name);
                 written(register.value, register.format)
@@ -160,7 +137,7 @@ impl RunRegisters {
         ensures { result ≡ value_in_force (known_of facts self.now.all) name.now }
     {
         match query_of(name) {
-            Some(query) => Num(query.answer(facts) as i32),
+            Some(query) => Num(facts.answer(query) as i32),
             None => self.settable(name).value,
         }
     }

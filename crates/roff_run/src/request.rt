@@ -1,26 +1,12 @@
-//! The requests: a row for each, and what each does.
+//! The requests: a row for each.
 
-ghost use Rattle.std.specs.Prelude.{◌≡◌, ℕ, List, slice_get};
-ghost use Rattle.roff_run.specs.Registers.{Known as KnownOfRun};
-ghost use Rattle.roff_run.specs.Request.Coded.{GivesFirst, KnowsOf, coded_row, done_of, effect_of};
-ghost use Rattle.roff_run.specs.Requests.{request_effect, requests, row_of};
-
-mod adjustment;
-mod effects;
-mod lengths;
-mod naming;
-mod numbering;
-mod spacing;
-mod switching;
-mod tabs;
+ghost use Rattle.std.specs.Prelude.{◌≡◌, slice_get};
+ghost use Rattle.roff_run.specs.RequestRows.{coded_row};
+ghost use Rattle.roff_run.specs.Requests.{requests};
 
 use roff_num::ShortName;
 use LineReading::{ByArguments, ByCondition, ByElse, ByLastLine, ByLines, ByMessage, ByString};
 use Request::{LeftOut, WithoutEffect};
-pub(crate) use effects::{Changes, Done, Effect, Known};
-pub(crate) use numbering::{name_given, register_named};
-use roff_lines::Param;
-pub(crate) use tabs::tab_stops;
 
 /// A request.
 #[derive(Clone, Copy, Debug, PartialEq, Eq)]
@@ -140,23 +126,15 @@ pub(crate) enum Called {
     Nothing,
 }
 
-/// The first arguments of a request, as far as they are given.
-#[derive(Clone, Copy, Debug)]
-pub(crate) struct Given<'a> {
-    pub(crate) first: Option<&'a [u8]>,
-    pub(crate) second: Option<&'a [u8]>,
-    pub(crate) third: Option<&'a [u8]>,
-}
-
 /// What is known of a request before it is called.
 #[derive(Clone, Copy, Debug, PartialEq, Eq)]
-pub(crate) struct Row {
+pub struct Row {
     /// Its name.
-    pub(crate) name: [u8; 2],
+    pub name: [u8; 2],
     /// How its line is read.
-    pub(crate) line: LineReading,
+    pub line: LineReading,
     /// Whether it breaks, if a dot called it.
-    pub(crate) breaks: bool,
+    pub breaks: bool,
 }
 
 /// The requests that are built, in the order of their names.
@@ -217,7 +195,7 @@ static LEFT_OUT: [[u8; 2]; 24] = [
 
 impl Request {
     /// How many there are.
-    pub(crate) const COUNT: u16 = 68;
+    pub const COUNT: u16 = 68;
 
     /// The request of this place in the table, if there is one.
     pub(crate) fn numbered(number: usize) -> Option<Request>
@@ -270,56 +248,6 @@ impl Request {
             Request::TellMessage => Row { name: *b"tm", line: ByMessage { aborts: false }, breaks: false },
             WithoutEffect(name) => Row { name, line: ByArguments, breaks: false },
             LeftOut(name) => Row { name, line: ByArguments, breaks: false },
-        }
-    }
-
-    /// What it means, called by a dot or not, as far as the run is known, with these arguments.
-    pub(crate) fn effect(self, by_dot: bool, known: Known, given: Given<'_>) -> Effect
-        ensures { (k : KnownOfRun) (as_given : List (List ℕ))
-            → KnowsOf k self as_given known → GivesFirst as_given given.entry
-            → effect_of as_given result ≡ request_effect k by_dot self as_given }
-    {
-        self.does(known, given).meaning(by_dot && self.row().breaks)
-    }
-
-    /// What it does behind its break.
-    fn does(self, known: Known, given: Given<'_>) -> Done
-        ensures { (k : KnownOfRun) (as_given : List (List ℕ))
-            → KnowsOf k self as_given known → GivesFirst as_given given.entry
-            → done_of as_given result ≡ (row_of self).does k as_given }
-    {
-        match self {
-            Request::Abort => Done::nothing(),
-            Request::Adjust => adjustment::adjust(given.first),
-            Request::AssignFormat => numbering::assign_format(given.first, given.second),
-            Request::AppendMacro => Done::nothing(),
-            Request::AppendString => Done::nothing(),
-            Request::Break => Done::nothing(),
-            Request::Centre => adjustment::centre(given.first),
-            Request::DefineMacro => Done::nothing(),
-            Request::DefineString => Done::nothing(),
-            Request::Else => Done::nothing(),
-            Request::Environment => switching::switch(known, given.first),
-            Request::Exit => Done::nothing(),
-            Request::Fill => Done::setting(Param::Filling(true)),
-            Request::IfElse => Done::nothing(),
-            Request::If => Done::nothing(),
-            Request::Ignore => Done::nothing(),
-            Request::Indent => lengths::indent(known, given.first),
-            Request::LineLength => lengths::line_length(known, given.first),
-            Request::LineSpacing => spacing::line_spacing(known, given.first),
-            Request::NoAdjust => Done::setting(Param::Adjusting(false)),
-            Request::NoFill => Done::setting(Param::Filling(false)),
-            Request::NumberRegister => numbering::set_register(known, given),
-            Request::RemoveNames => Done::changing(Changes::RemoveNamesGiven),
-            Request::Rename => naming::rename(given.first, given.second),
-            Request::RemoveRegisters => Done::changing(Changes::RemoveGiven),
-            Request::Space => spacing::space_down(given.first),
-            Request::TabStops => Done::SetsStops,
-            Request::TemporaryIndent => lengths::temporary_indent(known, given.first),
-            Request::TellMessage => Done::nothing(),
-            WithoutEffect(_) => Done::nothing(),
-            LeftOut(name) => Done::left_out(name),
         }
     }
 }

@@ -21,7 +21,8 @@ use Rattle.roff_run.specs.declared.event.PageEvent.TheVariants.{Text}
 use Rattle.roff_run.specs.declared.message.Message.{Message}
 use Rattle.roff_run.specs.declared.reading.Reading.{Reading}
 use Rattle.roff_run.specs.Run.{State, Leads, initial, step, stopped_by, made, taken_as, known_at, output, reported}
-use Rattle.roff_run.specs.Reader.Taken.{Became, IsReady, PageUnread}
+use Rattle.roff_run.specs.Reader.Taken.{Became, IsReady}
+use Rattle.roff_run.specs.Reading.Items.{PageUnread}
 use Rattle.roff_engine.specs.Sinks.{Sunk}
 
 -- the same state going on, with these events to do behind this history

@@ -15,7 +15,8 @@ use Rattle.roff_engine.specs.declared.halt.Halt.TheVariants.{Limit as Limited, R
 use Rattle.roff_engine.specs.Engine.Outcome.{Seen, NoFewerFaults, IsLeftOf, Reaches, OutputStops, MessagesFail, Outcome}
 use Rattle.roff_engine.specs.Formatter.Performing.{Opens, going}
 use Rattle.roff_run.specs.Reader.State.{fresh_reader}
-use Rattle.roff_run.specs.Reader.Taken.{IsReady, PageUnread}
+use Rattle.roff_run.specs.Reader.Taken.{IsReady}
+use Rattle.roff_run.specs.Reading.Items.{PageUnread}
 use Rattle.roff_run.specs.TurnsToCome.{begun, turns_to_come}
 use Rattle.roff_run.specs.Reading.Ends.{due, line_ends_first}
 use Rattle.roff_run.specs.declared.reading.Reading.{Reading}

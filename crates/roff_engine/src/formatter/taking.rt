@@ -3,7 +3,7 @@
 ghost use Rattle.std.specs.Prelude.{[]};
 ghost use Rattle.roff_run.specs.Reading.Items.{Taking};
 ghost use Rattle.roff_run.specs.Reader.AtOnce.{IsReadAbove};
-ghost use Rattle.roff_run.specs.Reader.Taken.{PageUnread};
+ghost use Rattle.roff_run.specs.Reading.Items.{PageUnread};
 ghost use Rattle.roff_run.specs.Registers.{Known as KnownOf};
 ghost use Rattle.roff_run.specs.declared.reader.AtOnce.TheVariants.{Found};
 ghost use Rattle.roff_engine.specs.Clauses.{DoesTaking, sinks, taking};

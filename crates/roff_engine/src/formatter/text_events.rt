@@ -2,7 +2,7 @@
 
 ghost use Rattle.std.specs.Prelude.{[], ◌∷◌, ◌++◌, IsOkUnless, option_map};
 ghost use Rattle.roff_run.specs.Reading.TextLines.{blank_line, leading_blank_events, leading_glyph};
-ghost use Rattle.roff_run.specs.Reader.AtOnce.{text_byte_events};
+ghost use Rattle.roff_run.specs.Events.Lines.{text_byte_events};
 ghost use Rattle.roff_engine.specs.Clauses.{finished_of, Gap, Print, WordEnd, LineEnd, Break};
 ghost use Rattle.roff_engine.specs.Clauses.{finished_bytes};
 ghost use Rattle.roff_lines.specs.declared.event.Event.TheVariants.{Count};

@@ -1,6 +1,6 @@
 -- What the code keeps of the environments that were left.
 use Rattle.std.specs.Prelude.{ℕ, ◌≤◌, List, length, reverse, vec_capacity}
-use Rattle.roff_run.specs.declared.environments.EnvironmentNumber.{EnvironmentNumber}
+use Rattle.roff_run.specs.declared.environment_number.EnvironmentNumber.{EnvironmentNumber}
 use Rattle.roff_run.specs.declared.environments.Left.TheInside.{Inside}
 
 -- their numbers, the newest first, and how many there may be

@@ -1,6 +1,6 @@
 -- What the code keeps of the events of a request.
 use Rattle.std.specs.Prelude.{List, if◌then◌else◌}
-use Rattle.roff_run.specs.declared.event.RequestedEvents.TheInside.{Inside}
+use Rattle.roff_run.specs.declared.events.RequestedEvents.TheInside.{Inside}
 use Rattle.roff_run.specs.declared.event.PageEvent.{PageEvent}
 use Rattle.roff_run.specs.Events.{request_events, stops_set}
 use Rattle.roff_run.specs.Requests.Effects.{behind_break}

@@ -1,12 +1,15 @@
--- The events of something of a text line, as the code keeps them.
+-- The events of something of a text line, and of a byte of one, as the code tells them.
 use Rattle.std.specs.Prelude.{ℕ, List, [], ◌∷◌, ◌++◌, map}
-use Rattle.roff_lines.specs.declared.event.Event.TheVariants.{Break as PageBreak, Count, Gap as PageGap, LineEnd as PageLineEnd, Print as PagePrint, Tab as PageTab, WordEnd}
+use Rattle.roff_lines.specs.declared.event.Event.TheVariants.{Break as PageBreak, Count, Gap as PageGap, LineEnd as PageLineEnd, Print as PagePrint, Tab as PageTab, WordEnd, LineEnd, Print, Tab}
 use Rattle.roff_lines.specs.declared.glyph.Glyph.TheVariants.{Printed}
-use Rattle.roff_run.specs.Reading.TextLines.{blank_line, leading_glyph}
+use Rattle.roff_run.specs.Reading.TextLines.{blank_line, leading_glyph, leading_blank_events}
 use Rattle.roff_run.specs.declared.event.LineEvents.{LineEvents}
 use Rattle.roff_run.specs.declared.event.LineEvents.TheVariants.{Nothing, LineEnd, Break, BlankLine, Gap, Interrupt, Tab, Leading, Print, Two, Three, Four}
 use Rattle.roff_run.specs.declared.event.PageEvent.{PageEvent}
 use Rattle.roff_run.specs.declared.event.PageEvent.TheVariants.{Text, Interrupt as PageInterrupt}
+use Rattle.roff_run.specs.Requests.{PageEvent, Text}
+use Rattle.roff_run.specs.declared.reading.TextByte.{TextByte}
+use Rattle.roff_run.specs.declared.reading.TextByte.TheVariants.{Glyph, Tab as IsTab, LeadingBlank, LineEnd as EndsLine, BlankLine}
 
 -- the event of a byte that is printed
 abbrev pub print_event : ℕ → PageEvent
@@ -26,3 +29,11 @@ line_events (Print leading glyph) = leading_glyph leading ++ Text (PagePrint gly
 line_events (Two leading bytes) = leading_glyph leading ++ map print_event bytes
 line_events (Three leading bytes) = leading_glyph leading ++ map print_event bytes
 line_events (Four leading bytes) = leading_glyph leading ++ map print_event bytes
+
+-- what a byte of a text line means, by what it is
+abbrev pub text_byte_events : ℕ → TextByte → List PageEvent
+text_byte_events b (Glyph leading) = leading_glyph leading ++ Text (Print (Printed b)) ∷ []
+text_byte_events b (IsTab leading) = leading_glyph leading ++ Text Tab ∷ []
+text_byte_events b (LeadingBlank before) = leading_blank_events before
+text_byte_events b EndsLine = Text WordEnd ∷ Text LineEnd ∷ Text Count ∷ []
+text_byte_events b BlankLine = blank_line

@@ -2,7 +2,7 @@
 use Rattle.std.specs.Prelude.{Bool, true, false, List, [], if◌then◌else◌}
 use Rattle.roff_run.specs.Events.{resumed_if}
 use Rattle.roff_run.specs.Events.Lines.{line_events}
-use Rattle.roff_run.specs.declared.event.Events.TheInside.{Inside}
+use Rattle.roff_run.specs.declared.events.Events.TheInside.{Inside}
 use Rattle.roff_run.specs.declared.event.PageEvent.{PageEvent}
 
 -- a few events, or those of a request that are kept

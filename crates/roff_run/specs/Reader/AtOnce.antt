@@ -1,5 +1,5 @@
 -- What the code takes at once, and what that means.
-use Rattle.std.specs.Prelude.{◌≡◌, ℕ, Bool, true, false, List, [], ◌∷◌, ◌++◌, Option, None, Result, Ok}
+use Rattle.std.specs.Prelude.{◌≡◌, ℕ, Bool, true, false, List, [], Option, None, Result, Ok}
 use Rattle.roff_num.specs.declared.limit.Limit.{Limit}
 use Rattle.roff_escape.specs.Escapes.{is_copied}
 use Rattle.roff_ahead.specs.Input.{holding_text}
@@ -7,35 +7,23 @@ use Rattle.roff_scan.specs.Unread.{changing}
 use Rattle.roff_escape.specs.declared.escapes.NameUse.{NameUse}
 use Rattle.roff_escape.specs.declared.half.Read.{Read}
 use Rattle.roff_escape.specs.declared.half.Read.TheVariants.{Asks, GoesOn, Holds}
-use Rattle.roff_lines.specs.declared.event.Event.TheVariants.{Count, LineEnd, Print, Tab, WordEnd}
-use Rattle.roff_lines.specs.declared.glyph.Glyph.TheVariants.{Printed}
 use Rattle.roff_run.specs.Events.Meant.{few_meant}
 use Rattle.roff_run.specs.Reading.Found.{found_in}
 use Rattle.roff_run.specs.Reader.State.{ReaderState}
-use Rattle.roff_run.specs.Reader.Taken.{PageUnread, TakesAs}
+use Rattle.roff_run.specs.Reader.Taken.{TakesAs}
+use Rattle.roff_run.specs.Reading.Items.{PageUnread}
 use Rattle.roff_run.specs.Reading.Escapes.{asking}
 use Rattle.roff_run.specs.Reading.Items.{Taking}
-use Rattle.roff_run.specs.Reading.TextLines.{blank_line, leading_blank_events, leading_glyph}
 use Rattle.roff_run.specs.Registers.{Known}
-use Rattle.roff_run.specs.Requests.{PageEvent, Text}
+use Rattle.roff_run.specs.Requests.{PageEvent}
 use Rattle.roff_run.specs.declared.environments.Environments.{Environments as EnvironmentsOf}
 use Rattle.roff_run.specs.declared.reader.AtOnce.{AtOnce}
 use Rattle.roff_run.specs.declared.reader.AtOnce.TheVariants.{Done, Found, Not}
 use Rattle.roff_run.specs.declared.reader.Meaning.{Meaning}
-use Rattle.roff_run.specs.declared.reading.TextByte.{TextByte}
-use Rattle.roff_run.specs.declared.reading.TextByte.TheVariants.{Glyph, Tab as IsTab, LeadingBlank, LineEnd as EndsLine, BlankLine}
 
 -- events alone
 abbrev pub only_events : List PageEvent → Meaning
 only_events events = record { message = None; events = few_meant events }
-
--- what a byte of a text line means, by what it is
-abbrev pub text_byte_events : ℕ → TextByte → List PageEvent
-text_byte_events b (Glyph leading) = leading_glyph leading ++ Text (Print (Printed b)) ∷ []
-text_byte_events b (IsTab leading) = leading_glyph leading ++ Text Tab ∷ []
-text_byte_events b (LeadingBlank before) = leading_blank_events before
-text_byte_events b EndsLine = Text WordEnd ∷ Text LineEnd ∷ Text Count ∷ []
-text_byte_events b BlankLine = blank_line
 
 -- The code took what the definition takes, which means these events alone; or nothing happened.
 abbrev pub TakesAtOnce : (Known → Taking) → List PageEvent → ReaderState → ReaderState → PageUnread → PageUnread → Bool → Type 0

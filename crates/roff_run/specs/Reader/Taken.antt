@@ -4,23 +4,18 @@ use Rattle.std.specs.Option.{option_to_list}
 use Rattle.roff_num.specs.declared.limit.Limit.{Limit}
 use Rattle.roff_num.specs.declared.limit.Limit.TheVariants.{Names}
 use Rattle.roff_num.specs.declared.limits.Limits.{Limits}
-use Rattle.roff_scan.specs.Unread.{Unread, input_refusal}
+use Rattle.roff_scan.specs.Unread.{input_refusal}
 use Rattle.roff_run.specs.Environments.{PageHistory}
 use Rattle.roff_run.specs.Events.Meant.{events_meant}
 use Rattle.roff_run.specs.Environments.Standing.{StandFor}
 use Rattle.roff_run.specs.declared.environments.Environments.{Environments as EnvironmentsOf}
-use Rattle.roff_run.specs.Reading.Items.{PageInput, Taking}
 use Rattle.roff_run.specs.Registers.{Change, Known, changed_by_all}
 use Rattle.roff_run.specs.Registers.Capped.{Capped, is_past_cap}
-use Rattle.roff_run.specs.Requests.{PageEvent}
 use Rattle.roff_run.specs.Run.{known_at}
 use Rattle.roff_run.specs.Run.Counts.{counts_in, first_passed}
 use Rattle.roff_run.specs.Reader.State.{ReaderState}
 use Rattle.roff_run.specs.declared.reader.Meaning.{Meaning}
-
--- the unread input of a run
-abbrev pub PageUnread : Type 0
-PageUnread = Unread PageEvent
+use Rattle.roff_run.specs.Reading.Items.{PageInput, Taking, PageUnread}
 
 -- registers behind some changes
 abbrev pub behind_changes : List Change → Capped → Capped

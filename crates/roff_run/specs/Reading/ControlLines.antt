@@ -1,6 +1,6 @@
 -- The names of control lines, and how what is behind one is read (manual, sections 1.1 and 7.2).
-use Rattle.std.specs.Prelude.{ℕ, Bool, true, ◌||◌, if◌then◌else◌, ◌==◌}
-use Rattle.roff_source.specs.Bytes.{tab, newline, blank, backslash}
+use Rattle.std.specs.Prelude.{ℕ, Bool, true, ◌||◌, if◌then◌else◌, ◌==◌, not, IsTrue}
+use Rattle.roff_source.specs.Bytes.{tab, newline, blank, backslash, is_dropped}
 use Rattle.roff_escape.specs.Halves.{byte_read}
 use Rattle.roff_ahead.specs.Input.{choosing}
 use Rattle.roff_ahead.specs.Input.Calls.{kept_last, without_last}
@@ -74,3 +74,7 @@ behind_called i breaks Unknown = going_on i Dropped
 -- the last byte of a name of two bytes
 abbrev pub name_whole_taking : PageInput → Bool → ShortName → Taking
 name_whole_taking i breaks name = behind_called i breaks (called_by name i.names)
+
+-- a byte of a name: it isn't dropped, and doesn't end the name
+abbrev pub BelongsToName : ℕ → Type 0
+BelongsToName b = IsTrue (not (is_dropped b || ends_name b))

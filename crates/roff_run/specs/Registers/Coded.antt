@@ -3,7 +3,7 @@ use Rattle.std.specs.Prelude.{ℕ, List}
 use Rattle.roff_run.specs.declared.registers.Change.{Change as CodedChange}
 use Rattle.roff_run.specs.declared.registers.Change.TheVariants.{SetTo as CodedSetTo, FormatAs as CodedFormatAs}
 use Rattle.roff_run.specs.declared.registers.Facts.{Facts}
-use Rattle.roff_run.specs.declared.registers.Query.{Query}
+use Rattle.roff_run.specs.declared.query.Query.{Query}
 use Rattle.roff_run.specs.declared.registers.read_only.ReadOnly.{ReadOnly}
 use Rattle.roff_run.specs.Registers.{AllRegisters, Known, Change, SetTo, FormatAs}
 

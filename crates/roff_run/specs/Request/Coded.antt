@@ -1,35 +1,28 @@
--- The code's table of requests, and what it does, as the definition's.
+-- What the code of requests is given, and what it answers, as the definition has it.
 use Rattle.std.specs.Prelude.{◌≡◌, ℕ, List, [], ◌∷◌, slice_get, IfSome, Option, Some, None, if◌then◌else◌}
 use Rattle.arrayvec.specs.ArrayVec.{ArrayVec}
 use Rattle.std.specs.Option.{option_copied, option_to_list}
 use Rattle.roff_num.specs.Names.{name_of}
-use Rattle.roff_run.specs.declared.request.Given.{Given}
+use Rattle.roff_run.specs.declared.requests.Given.{Given}
 use Rattle.roff_run.specs.declared.request.Request.{Request}
 use Rattle.roff_run.specs.declared.request.Request.TheVariants.{NumberRegister}
-use Rattle.roff_run.specs.declared.request.Row.{Row as CodedRow}
-use Rattle.roff_run.specs.declared.request.effects.Changes.{Changes}
-use Rattle.roff_run.specs.declared.request.effects.Changes.TheVariants.{Nothing, One, RemoveGiven, RemoveNamesGiven, Rename as RenameGiven}
-use Rattle.roff_run.specs.declared.request.effects.Done.{Done as CodedDone}
-use Rattle.roff_run.specs.declared.request.effects.Done.TheVariants.{Ignored as IgnoredWith, Does as DoesWith, SetsStops}
-use Rattle.roff_run.specs.declared.request.effects.Effect.{Effect as CodedEffect}
-use Rattle.roff_run.specs.declared.request.effects.Known.{Known as CodedKnown}
+use Rattle.roff_run.specs.declared.requests.effects.Changes.{Changes}
+use Rattle.roff_run.specs.declared.requests.effects.Changes.TheVariants.{Nothing, One, RemoveGiven, RemoveNamesGiven, Rename as RenameGiven}
+use Rattle.roff_run.specs.declared.requests.effects.Done.{Done as CodedDone}
+use Rattle.roff_run.specs.declared.requests.effects.Done.TheVariants.{Ignored as IgnoredWith, Does as DoesWith, SetsStops}
+use Rattle.roff_run.specs.declared.requests.effects.Effect.{Effect as CodedEffect}
+use Rattle.roff_run.specs.declared.requests.effects.Known.{Known as CodedKnown}
 use Rattle.roff_run.specs.Events.{request_events, stops_set}
 use Rattle.roff_run.specs.Registers.{Known, Change, Remove, value_in_force}
 use Rattle.roff_run.specs.Registers.Coded.{change_of}
 use Rattle.roff_store.specs.TextCalls.{Call, Rename}
-use Rattle.roff_run.specs.Requests.{Row, row_of, Done, Ignored, Does, Effect}
+use Rattle.roff_run.specs.Requests.{Done, Ignored, Does, Effect}
 use Rattle.roff_run.specs.Requests.Effects.{bad_number, behind_break, happens, meant_by}
 use Rattle.roff_run.specs.Requests.Naming.{removals}
 use Rattle.roff_run.specs.Requests.Numbering.{name_given, names_given}
 use Rattle.roff_run.specs.Requests.Tabs.{tab_stops}
 use Rattle.roff_run.specs.declared.event.PageEvent.{PageEvent}
 use Rattle.roff_run.specs.declared.message.Message.{Message}
-
--- the row that the code has for a request
-abbrev pub coded_row : Request → CodedRow
-coded_row request =
-    let row : Row = row_of request in
-    record { name = row.name; line = row.line; breaks = row.breaks }
 
 -- the code was given the first of these arguments
 pub record GivesFirst (as_given : List (List ℕ)) (given : Given) : Type 0 where

@@ -1,12 +1,12 @@
 //! The front of a control line, read at once where it stands ready.
 
 ghost use Rattle.std.specs.Prelude.{◌≡◌, ◌∷◌, [], None, Some, true, false, IfSome};
-ghost use Rattle.roff_run.specs.CallLaws.{BelongsToName};
+ghost use Rattle.roff_run.specs.Reading.ControlLines.{BelongsToName};
 ghost use Rattle.roff_run.specs.Clauses.{PageUnread, behind_name, called_by, due, row_of};
 ghost use Rattle.roff_run.specs.ControlFronts.{BeginsControl, Fronts, LeadsTo, StandsReady};
 ghost use Rattle.roff_run.specs.ControlFronts.{control_byte, input_begun};
 ghost use Rattle.roff_run.specs.Reading.ControlLines.{behind_called};
-ghost use Rattle.roff_run.specs.Stages.{ReadsPast};
+ghost use Rattle.roff_run.specs.Reader.Stages.{ReadsPast};
 ghost use Rattle.roff_scan.specs.Unread.{IsWithin};
 
 use super::Reader;

@@ -2,11 +2,13 @@
 
 ghost use Rattle.std.specs.Prelude.{◌≡◌, [], IfSome, None, Ok, true};
 ghost use Rattle.roff_source.specs.Bytes.{newline};
-ghost use Rattle.roff_run.specs.Reader.AtOnce.{TakesAtOnce, only_events, text_byte_events};
+ghost use Rattle.roff_run.specs.Reader.AtOnce.{TakesAtOnce, only_events};
+ghost use Rattle.roff_run.specs.Events.Lines.{text_byte_events};
 ghost use Rattle.roff_run.specs.Reading.Items.{PageInput, meaning_events};
 ghost use Rattle.roff_run.specs.Reading.Beginnings.{line_begun};
 ghost use Rattle.roff_run.specs.Reading.TextLines.{text_taking};
-ghost use Rattle.roff_run.specs.Stages.{TurnsFront, counts_blanks};
+ghost use Rattle.roff_run.specs.Stages.{counts_blanks};
+ghost use Rattle.roff_run.specs.Reader.Stages.{TurnsFront};
 ghost use Rattle.roff_run.specs.Clauses.{LineStart, NameOf, PageUnread, TakesAs, kept_taking};
 ghost use Rattle.roff_run.specs.Clauses.{taking};
 ghost use Rattle.roff_run.specs.declared.reading.Reading.TheVariants.{Arguments as InArguments};

@@ -6,7 +6,8 @@ ghost use Rattle.roff_run.specs.Clauses.{end_taking, half_ended, interrupted_end
 
 use super::{Meaning, Reader};
 use crate::environments::Environments;
-use crate::event::{Events, PageEvent};
+use crate::event::PageEvent;
+use crate::events::Events;
 use crate::message::Message;
 use crate::reading::{Reading, TextStep};
 use roff_num::{Limit, ShortName};

@@ -7,7 +7,8 @@ ghost use Rattle.roff_run.specs.Clauses.{putting_argument};
 
 use super::{Meaning, Reader};
 use crate::environments::Environments;
-use crate::event::{Events, PageEvent};
+use crate::event::PageEvent;
+use crate::events::Events;
 use crate::message::Message;
 use crate::reading::Reading;
 use itoa::Buffer;

@@ -15,10 +15,12 @@ ghost use Rattle.roff_run.specs.declared.request.Request.TheVariants.{NumberRegi
 
 use super::{Meaning, Reader};
 use crate::environments::Environments;
-use crate::event::{Events, PageEvent, RequestEvents, are_none};
+use crate::event::PageEvent;
+use crate::events::{Events, RequestEvents, are_none};
 use crate::message::Message;
 use crate::reading::Reading;
-use crate::request::{Changes, Effect, Given, Known, Request, name_given, tab_stops};
+use crate::request::Request;
+use crate::requests::{Changes, Effect, Given, Known, effect, name_given, tab_stops};
 use roff_num::{Limit, Name, Num};
 use roff_scan::{ArgumentList, Unread};
 
@@ -124,7 +126,7 @@ impl Reader {
             in_force: self.in_force_for(request, given.first, environments, unread),
             has_left: environments.has_left(),
         };
-        request.effect(breaks, known, given)
+        effect(request, breaks, known, given)
     }
 
     /// The value in force of the register that a first argument names, if the request asks for it.

@@ -9,9 +9,10 @@ ghost use Rattle.roff_run.specs.Clauses.{names_given, register_named, value_in_f
 
 use super::{Meaning, Reader};
 use crate::environments::Environments;
-use crate::event::{Events, PageEvent};
+use crate::event::PageEvent;
+use crate::events::Events;
 use crate::registers::Facts;
-use crate::request::{name_given, register_named};
+use crate::requests::{name_given, register_named};
 use roff_num::{Direction, Limit, Name, Num};
 use roff_scan::{ArgumentList, Unread};
 

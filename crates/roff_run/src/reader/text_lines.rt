@@ -8,7 +8,8 @@ ghost use Rattle.roff_run.specs.Clauses.{first_taking, going_on_told, line_begun
 
 use super::{Meaning, Reader};
 use crate::environments::Environments;
-use crate::event::{Events, PageEvent};
+use crate::event::PageEvent;
+use crate::events::Events;
 use crate::reading::{Reading, TextLine, TextStep};
 use roff_num::{Limit, Name};
 use roff_scan::{CopyUnit, NameUse, Read, Unread};

@@ -13,7 +13,7 @@ ghost use Rattle.roff_run.specs.Stages.{blanks_counted, counts_blanks};
 ghost use Rattle.roff_run.specs.Telling.{Prints};
 ghost use Rattle.roff_source.specs.Bytes.{is_text_byte};
 ghost use Rattle.roff_run.specs.Registers.{Known};
-ghost use Rattle.roff_run.specs.Reader.AtOnce.{text_byte_events};
+ghost use Rattle.roff_run.specs.Events.Lines.{text_byte_events};
 ghost use Rattle.roff_run.specs.declared.reading.Reading.TheVariants.{LineStart, Text as InText};
 
 use super::{Reading, TextByte, TextLine};

@@ -6,7 +6,8 @@ ghost use Rattle.roff_run.specs.Registers.{AllRegisters, answer, greatest_number
 ghost use Rattle.roff_run.specs.Registers.ReadOnly.{begins_read_only};
 ghost use Rattle.roff_run.specs.Registers.Coded.{known_of};
 
-use super::{Facts, Query};
+use super::Facts;
+use crate::query::Query;
 use roff_num::Name;
 
 /// A read-only register.
@@ -80,23 +81,23 @@ fn begins_read_only(name: &[u8]) -> bool
     }
 }
 
-impl Query {
-    /// What is known about it, in basic units where it is a length.
-    pub(super) fn answer(self, facts: Facts) -> u32
+impl Facts {
+    /// What a read-only register asks for, in basic units where it is a length.
+    pub(super) fn answer(self, query: Query) -> u32
         ensures value { (all : AllRegisters) →
-            result ≡ min (answer (known_of facts all) self) greatest_number }
+            result ≡ min (answer (known_of self all) query) greatest_number }
         ensures within { result ≤ GREATEST_NUMBER }
     {
-        let settings = facts.settings;
-        let answer = match self {
-            Query::Newlines => u64::from(facts.newlines),
+        let settings = self.settings;
+        let answer = match query {
+            Query::Newlines => u64::from(self.newlines),
             Query::Indent => in_units(u64::from(settings.indent)),
             Query::LineLength => in_units(u64::from(settings.line_length)),
-            Query::LastWidth => in_units(u64::from(facts.last_width)),
+            Query::LastWidth => in_units(u64::from(self.last_width)),
             Query::Filling => u64::from(settings.filling),
             Query::LineSpacing => 40,
             Query::ColumnWidth => COLUMN,
-            Query::Arguments => facts.arguments as u64,
+            Query::Arguments => self.arguments as u64,
             Query::Later => 0,
         };
         answer.min(GREATEST_NUMBER) as u32

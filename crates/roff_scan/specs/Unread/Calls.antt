@@ -1,4 +1,4 @@
--- What a call tells that is lent the source.
+-- What calls tell that take, see or pass over what is unread.
 use Rattle.std.specs.Prelude.{◌≡◌, ◌⊎◌, ℕ, ◌+◌, ◌≤◌, ◌==◌, Bool, true, false, List, [], ◌∷◌, ◌++◌, length, map, take, Option, Some, None}
 use Rattle.std.specs.List.{AllByRecursion}
 use Rattle.roff_arguments.specs.Arguments.{HeldFewer, bytes_held}

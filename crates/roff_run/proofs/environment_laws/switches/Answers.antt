@@ -1,5 +1,5 @@
 use Rattle.roff_run.specs.Environments.{environments}
-use Rattle.roff_run.proofs.EnvironmentRing.{environment_of-gone_back, environment_of-switched_to, environments-back, environments-nowhere, number-switched_to, text-environment_of}
+use Rattle.roff_run.proofs.EnvironmentTurns.{environment_of-gone_back, environment_of-switched_to, environments-back, environments-nowhere, number-switched_to, text-environment_of}
 use Rattle.roff_run.proofs.environment_laws.switches.Goals as goal
 
 pub returns-clause-texts : goal.returns-clause-texts

@@ -2,7 +2,7 @@ use Rattle.std.proofs.Common.{◌≡◌, ◌∙◌, Some, None, Result, ap, arit
 use Rattle.std.specs.Prelude.{slice_get}
 use Rattle.std.proofs.lemmas.Option.{slice_get-get_or}
 use Rattle.roff_num.specs.declared.limit.Limit.{Limit}
-use Rattle.roff_run.specs.Reader.Taken.{PageUnread}
+use Rattle.roff_run.specs.Reading.Items.{PageUnread}
 use Rattle.roff_run.specs.Requests.{requests, row_of}
 use Rattle.roff_run.specs.declared.request.Request.TheVariants.{Break}
 use Rattle.roff_run.proofs.FirstNames.{names_next, unread_at}

@@ -1,5 +1,5 @@
 use Rattle.std.proofs.Common.{ap}
-use Rattle.roff_run.specs.Reader.Taken.{PageUnread}
+use Rattle.roff_run.specs.Reading.Items.{PageUnread}
 use Rattle.roff_engine.proofs.PassingOn.{goes_further_ended, goes_further_none, goes_past_kept}
 use Rattle.roff_engine.proofs.running.Running.end_dropped.Goals as goal
 

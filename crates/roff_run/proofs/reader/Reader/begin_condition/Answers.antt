@@ -6,7 +6,8 @@ use Rattle.roff_escape.specs.declared.half.Decision.TheVariants.{Is}
 use Rattle.roff_escape.specs.declared.half.Read.TheVariants.{Decides}
 use Rattle.roff_escape.specs.declared.half.Surroundings.TheVariants.{Arguments as AboveArguments}
 use Rattle.roff_escape.proofs.TextsHeld.{texts_held-byte_read}
-use Rattle.roff_run.specs.Reader.Taken.{PageUnread, TakesAs}
+use Rattle.roff_run.specs.Reader.Taken.{TakesAs}
+use Rattle.roff_run.specs.Reading.Items.{PageUnread}
 use Rattle.roff_run.specs.Reading.Branches.{condition_begun, condition_found}
 use Rattle.roff_run.specs.Reading.Found.{read_in}
 use Rattle.roff_run.specs.declared.reading.Reading.TheVariants.{Deciding}

@@ -1,6 +1,7 @@
 use Rattle.std.proofs.Common.{◌≡◌, false, List, ℕ, Option, Some, None, ap, reverse, rules, subst, sym, ◌∙◌}
 use Rattle.roff_ahead.specs.Input.Calls.{arguments_given}
-use Rattle.roff_run.specs.Reader.Taken.{PageUnread, TakesAs}
+use Rattle.roff_run.specs.Reader.Taken.{TakesAs}
+use Rattle.roff_run.specs.Reading.Items.{PageUnread}
 use Rattle.roff_run.specs.Reading.Definitions.{definition_begun, definition_named}
 use Rattle.roff_num.specs.ShortNames.{name_at, name_or_none}
 use Rattle.roff_num.specs.declared.short_name.ShortName.{ShortName}

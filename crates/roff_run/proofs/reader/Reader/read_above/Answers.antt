@@ -1,6 +1,6 @@
 use Rattle.std.proofs.Common.{◌≡◌, false, rules, true}
 use Rattle.roff_source.specs.Bytes.{is_dropped}
-use Rattle.roff_run.specs.Reader.Above.{reads_above}
+use Rattle.roff_run.specs.Reading.Items.{reads_above}
 use Rattle.roff_run.proofs.ReadAtOnce.{asked-above, read-above}
 use Rattle.roff_run.proofs.reader.Reader.read_above.Goals as goal
 

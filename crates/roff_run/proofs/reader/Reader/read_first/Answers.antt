@@ -3,7 +3,8 @@ use Rattle.roff_escape.specs.Halves.{byte_read}
 use Rattle.roff_ahead.specs.Input.Calls.{kept_last, without_last}
 use Rattle.roff_escape.specs.declared.half.Surroundings.TheVariants.{Arguments as AboveArguments, Copy as AboveCopy}
 use Rattle.roff_escape.proofs.TextsHeld.{texts_held-byte_read}
-use Rattle.roff_run.specs.Reader.Taken.{PageUnread, TakesAs}
+use Rattle.roff_run.specs.Reader.Taken.{TakesAs}
+use Rattle.roff_run.specs.Reading.Items.{PageUnread}
 use Rattle.roff_run.specs.Reading.Arguments.{arguments_found}
 use Rattle.roff_run.specs.Reading.Branches.{branch_taking, reads_else}
 use Rattle.roff_run.specs.Reading.ControlLines.{line_taking}

@@ -1,6 +1,7 @@
 use Rattle.std.proofs.Common.{◌≡◌, ◌∙◌, ◌<◌, ◌≤◌, length, ap, arith, Ok, Err, rules}
 use Rattle.std.proofs.lemmas.List.{length-reverse}
-use Rattle.roff_run.specs.Reader.Taken.{PageUnread, TakesAs}
+use Rattle.roff_run.specs.Reader.Taken.{TakesAs}
+use Rattle.roff_run.specs.Reading.Items.{PageUnread}
 use Rattle.roff_run.specs.Reading.Calls.{call_unit, holding_call}
 use Rattle.roff_run.specs.Reading.Items.{going_on}
 use Rattle.roff_run.specs.declared.reading.Reading.TheVariants.{Calling}

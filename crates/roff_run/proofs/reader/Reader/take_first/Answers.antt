@@ -1,6 +1,6 @@
 use Rattle.std.proofs.Common.{◌≡◌, ◌∙◌, ◌==◌, ap, false, rules, sym}
 use Rattle.std.proofs.lemmas.Option.{IfSome_then}
-use Rattle.roff_run.specs.Reader.AtOnce.{text_byte_events}
+use Rattle.roff_run.specs.Events.Lines.{text_byte_events}
 use Rattle.roff_run.specs.Reading.Beginnings.{line_begun}
 use Rattle.roff_run.specs.Reading.TextLines.{text_taking}
 use Rattle.roff_run.specs.declared.reading.TextLine.{TextLine}

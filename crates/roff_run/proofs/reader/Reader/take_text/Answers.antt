@@ -1,7 +1,8 @@
 use Rattle.std.proofs.Common.{◌≡◌, ◌∙◌, ◌==◌, Ok, false, refl, rules, sym}
 use Rattle.std.proofs.lemmas.Option.{IfSome_then}
 use Rattle.roff_source.specs.Bytes.{is_dropped}
-use Rattle.roff_run.specs.Reader.AtOnce.{only_events, text_byte_events}
+use Rattle.roff_run.specs.Reader.AtOnce.{only_events}
+use Rattle.roff_run.specs.Events.Lines.{text_byte_events}
 use Rattle.roff_run.specs.Reading.{taking}
 use Rattle.roff_run.specs.Reading.Beginnings.{line_begun}
 use Rattle.roff_run.specs.declared.reading.Reading.{Reading}

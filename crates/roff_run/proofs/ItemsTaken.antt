@@ -1,0 +1,184 @@
+-- Items that a run takes one after another.
+use Rattle.std.proofs.Common.{◌≡◌, ℕ, ◌+◌, ◌-◌, ◌<◌, ◌≤◌, Bool, true, false, List, [], ◌∷◌, ◌++◌, length, Option, Some, None, refl, ap, ◌∙◌, arith}
+use Rattle.std.specs.Prelude.{nat_lt, not, ◌||◌, map, IsTrue, if◌then◌else◌}
+use Rattle.std.proofs.lemmas.Bool.{le-ltb}
+use Rattle.std.proofs.lemmas.List.{append-nil}
+use Rattle.roff_num.specs.declared.limit.Limit.{Limit}
+use Rattle.roff_num.specs.declared.limit.Limit.TheVariants.{Bytes}
+use Rattle.roff_num.specs.declared.limits.Limits.{Limits}
+use Rattle.roff_arguments.specs.Arguments.{Arguments}
+use Rattle.roff_escape.specs.Conditions.{ends_condition, is_decided}
+use Rattle.roff_escape.specs.Halves.{decides_now, newline_stays, seen_stays}
+use Rattle.roff_ahead.specs.Input.{Ahead, ByteAhead, counting, item_taken, pushed, depth, results}
+use Rattle.roff_ahead.specs.Input.Names.{names_added, stored}
+use Rattle.roff_source.specs.Tape.{Tape, Answer, Gives, OneByte, front, items_then}
+use Rattle.roff_ahead.specs.Shown.{seen_ahead}
+use Rattle.roff_escape.specs.Half.{Half, Backslash, Comment, Name, Size, Delimited, Width, Condition}
+use Rattle.roff_escape.specs.declared.half.ConditionPart.{ConditionPart}
+use Rattle.roff_escape.specs.declared.half.ConditionPart.TheVariants.{Choice, Expression, Compared, Decided}
+use Rattle.roff_run.specs.declared.reading.Reading.{Reading}
+use Rattle.roff_run.specs.ItemsTaken.{TakesItems, BytesAheadAreTaken, BytesOfTheSourceAreTaken}
+use Rattle.roff_run.specs.Within.{IsWithin}
+use Rattle.roff_run.specs.Reading.Items.{PageInput, going_on}
+use Rattle.roff_run.specs.Registers.{AllRegisters}
+use Rattle.roff_run.specs.Requests.{PageEvent}
+use Rattle.roff_run.specs.Run.{State, made, byte_taken, front_seen, half_ends, awaited, awaited_of_source, answered, moved, in_front_taken, taking_ahead, taking_byte, taken_as, grown, unless_refused, stopped_by, item_read, step}
+use Rattle.roff_run.specs.Run.Counts.{first_passed}
+
+-- where bytes come from: they stand ahead of these items, or in the source in front of this tape
+pub data Origin : Type 0 where
+  FromAhead : (rest : List (Ahead PageEvent)) → Origin
+  FromSource : (tape : Tape) → Origin
+
+-- what is ahead of the source, where these bytes come first
+abbrev pub ahead_at : Origin → List ℕ → List (Ahead PageEvent)
+ahead_at (FromAhead rest) bytes = map ByteAhead bytes ++ rest
+ahead_at (FromSource tape) bytes = []
+
+-- the source's tape
+abbrev pub tape_at : Origin → List ℕ → Tape → Tape
+tape_at (FromAhead rest) bytes tape = tape
+tape_at (FromSource behind) bytes tape = items_then (map OneByte bytes) behind
+
+-- an input where these bytes come first
+abbrev pub input_of : State → Origin → List ℕ → Arguments → List Half → ℕ → ℕ → PageInput
+input_of s from bytes arguments half charge line =
+    record s.input { ahead = ahead_at from bytes; arguments = arguments; half = half; charge = charge; line = line }
+
+-- a run that reads this, where these bytes come first
+abbrev pub going : State → Reading → Origin → List ℕ → Arguments → List Half → ℕ → ℕ → State
+going s reading from bytes arguments half charge line = record s {
+  tape = tape_at from bytes s.tape;
+  input = input_of s from bytes arguments half charge line;
+  reading = reading;
+  to_do = [];
+  is_closing = false;
+  ended = None;
+}
+
+-- a byte that doesn't end what is half read is taken, whether it is waited for or not
+taken-awaited : (l : Limits) (stays : Bool) (b : ℕ) (behind : List (Ahead PageEvent)) (s : State) → s.input.ahead ≡ ByteAhead b ∷ behind
+    → seen_stays s.input.half (Some b) ≡ false
+    → (if stays then front_seen l (Some b) s else in_front_taken l s.input.ahead s) ≡ taking_ahead l (ByteAhead b) behind s
+taken-awaited l true b behind s ahead is =
+    ap (λ (c : Bool). if c then made l s (half_ends s) else in_front_taken l s.input.ahead s) is
+    ∙ ap (λ (items : List (Ahead PageEvent)). in_front_taken l items s) ahead
+taken-awaited l false b behind s ahead is = ap (λ (items : List (Ahead PageEvent)). in_front_taken l items s) ahead
+
+-- a condition that is read ends, whatever is seen
+undecided-part : (part : ConditionPart) (seen : Option ℕ) → ends_condition part seen ≡ false → is_decided part ≡ false
+undecided-part (Choice negated) seen goes_on = refl
+undecided-part (Expression negated) seen goes_on = refl
+undecided-part (Compared negated d first) seen goes_on = refl
+undecided-part (Decided decision freed) seen goes_on = absurd (cc)
+
+undecided : (half : List Half) (seen : Option ℕ) → seen_stays half seen ≡ false → decides_now half ≡ false
+undecided [] seen goes_on = refl
+undecided (Backslash ∷ rest) seen goes_on = refl
+undecided (Comment ∷ rest) seen goes_on = refl
+undecided (Name purpose part ∷ rest) seen goes_on = refl
+undecided (Size part ∷ rest) seen goes_on = refl
+undecided (Delimited purpose d text ∷ rest) seen goes_on = refl
+undecided (Width d width is_deep ∷ rest) seen goes_on = refl
+undecided (Condition part text ∷ rest) seen goes_on = undecided-part part seen goes_on
+
+-- so where a byte doesn't end what is half read, nothing decides first
+looks : (l : Limits) (b : ℕ) (s : State) → seen_stays s.input.half (Some b) ≡ false
+    → item_read l s ≡ (if newline_stays s.input.half then awaited l (seen_ahead s.input.ahead) s else in_front_taken l s.input.ahead s)
+looks l b s is =
+    ap (λ (c : Bool). if newline_stays s.input.half then (if c then made l s (half_ends s) else awaited l (seen_ahead s.input.ahead) s) else in_front_taken l s.input.ahead s)
+    (undecided s.input.half (Some b) is)
+
+-- the input is read where a byte is ahead
+item_read-byte : (l : Limits) (b : ℕ) (behind : List (Ahead PageEvent)) (s : State) → s.input.ahead ≡ ByteAhead b ∷ behind
+    → seen_stays s.input.half (Some b) ≡ false → item_read l s ≡ taking_ahead l (ByteAhead b) behind s
+item_read-byte l b behind s ahead is =
+    looks l b s is
+    ∙ ap (λ (items : List (Ahead PageEvent)). if newline_stays s.input.half then awaited l (seen_ahead items) s else in_front_taken l s.input.ahead s) ahead
+    ∙ taken-awaited l (newline_stays s.input.half) b behind s ahead is
+
+-- it is taken within the limit on bytes
+taking_ahead-within : (l : Limits) (b : ℕ) (behind : List (Ahead PageEvent)) (s : State) → s.input.charge < l.bytes
+    → taking_ahead l (ByteAhead b) behind s ≡ made l s (byte_taken b (record s { input = item_taken (ByteAhead b) behind s.input }))
+taking_ahead-within l b behind s within =
+    let done : State = made l s (byte_taken b (record s { input = item_taken (ByteAhead b) behind s.input })) in
+    ap (λ (c : Bool). if c then stopped_by l Bytes s else done) (le-ltb l.bytes (s.input.charge + 1) (omega arith))
+
+-- a step of a run that takes items
+pub step-TakesItems : (l : Limits) (s : State) → TakesItems s → step l s ≡ item_read l s
+step-TakesItems l s on = rw (on.going, on.idle, on.not_closing, on.none_due) refl
+
+pub bytes_ahead_are_taken : BytesAheadAreTaken
+bytes_ahead_are_taken l s b behind on ahead is within =
+    step-TakesItems l s on ∙ item_read-byte l b behind s ahead is ∙ taking_ahead-within l b behind s within
+
+-- a byte of the source is taken, whether it is waited for or not
+answered-awaited : (l : Limits) (stays : Bool) (b : ℕ) (s : State) → seen_stays s.input.half (Some b) ≡ false → s.input.ahead ≡ []
+    → (if stays then awaited_of_source l (Gives (OneByte b)) s else in_front_taken l s.input.ahead s) ≡ answered l (front s.tape) s
+answered-awaited l true b s is none =
+    ap (λ (c : Bool). if c then made l s (half_ends s) else in_front_taken l s.input.ahead s) is
+    ∙ ap (λ (items : List (Ahead PageEvent)). in_front_taken l items s) none
+answered-awaited l false b s is none = ap (λ (items : List (Ahead PageEvent)). in_front_taken l items s) none
+
+-- the input is read where a byte of the source comes first
+item_read-source : (l : Limits) (b : ℕ) (s : State) → s.input.ahead ≡ [] → front s.tape ≡ Gives (OneByte b) → seen_stays s.input.half (Some b) ≡ false
+    → item_read l s ≡ taking_byte l b s
+item_read-source l b s none gives is =
+    looks l b s is
+    ∙ ap (λ (items : List (Ahead PageEvent)). if newline_stays s.input.half then awaited l (seen_ahead items) s else in_front_taken l s.input.ahead s) none
+    ∙ ap (λ (a : Answer). if newline_stays s.input.half then awaited_of_source l a s else in_front_taken l s.input.ahead s) gives
+    ∙ answered-awaited l (newline_stays s.input.half) b s is none
+    ∙ ap (λ (a : Answer). answered l a s) gives
+
+-- it is taken within the limit on bytes
+taking_byte-within : (l : Limits) (b : ℕ) (s : State) → s.input.charge < l.bytes
+    → taking_byte l b s ≡ made l s (byte_taken b (moved (record s { input = counting b s.input })))
+taking_byte-within l b s within =
+    let done : State = made l s (byte_taken b (moved (record s { input = counting b s.input }))) in
+    ap (λ (c : Bool). if c then stopped_by l Bytes s else done) (le-ltb l.bytes (s.input.charge + 1) (omega arith))
+
+pub bytes_of_the_source_are_taken : BytesOfTheSourceAreTaken
+bytes_of_the_source_are_taken l s b on none gives is within =
+    step-TakesItems l s on ∙ item_read-source l b s none gives is ∙ taking_byte-within l b s within
+
+-- of two tests neither holds
+pub not-first : (first second : Bool) → IsTrue (not (first || second)) → first ≡ false
+not-first true second neither = absurd (cc)
+not-first false second neither = refl
+
+pub not-second : (first second : Bool) → IsTrue (not (first || second)) → second ≡ false
+not-second true second neither = absurd (cc)
+not-second false true neither = absurd (cc)
+not-second false false neither = refl
+
+-- what is within the limits on names, on the stack, on the depth and on conditions
+pub record Fits (l : Limits) (registers : AllRegisters) (i : PageInput) : Type 0 where
+  pub names : length registers.named ≤ l.names
+  pub stack : pushed i ≤ l.stack
+  pub depth : depth i ≤ l.depth
+  pub store : stored i ≤ l.store
+  pub texts : names_added i ≤ l.names
+  pub making : length i.open_texts ≤ l.diversions + 1
+  pub conditions : results i ≤ l.conditions
+
+-- a step that leads within them is made
+pub made-Fits : (l : Limits) (from done : State) → Fits l done.registers done.input → made l from done ≡ done
+made-Fits l from done fits =
+    let names : nat_lt l.names (length done.registers.named) ≡ false = le-ltb _ _ fits.names in
+    let stack : nat_lt l.stack (pushed done.input) ≡ false = le-ltb _ _ fits.stack in
+    let depth : nat_lt l.depth (depth done.input) ≡ false = le-ltb _ _ fits.depth in
+    let conditions : nat_lt l.conditions (results done.input) ≡ false = le-ltb _ _ fits.conditions in
+    let store : nat_lt l.store (stored done.input) ≡ false = le-ltb _ _ fits.store in
+    let texts : nat_lt l.names (names_added done.input) ≡ false = le-ltb _ _ fits.texts in
+    let making : nat_lt l.diversions (length done.input.open_texts - 1) ≡ false = le-ltb _ _ (omega (arith, fits.making)) in
+    let allowed : first_passed l (grown done) ≡ None = rw (names, stack, depth, store, texts, making, conditions) refl in
+    ap (λ (r : Option Limit). unless_refused l r from done) allowed
+
+-- this is read on, and nothing is meant
+pub taken_as-going_on : (i : PageInput) (reading : Reading) (s : State) → taken_as (going_on i reading) s ≡ record s { input = i; reading = reading }
+taken_as-going_on i reading s = ap (λ (m : List ℕ). record s { input = i; reading = reading; messages = m }) (append-nil s.messages)
+
+-- a state within the limits is within those that a step looks at
+pub Fits-IsWithin : (l : Limits) (s : State) → IsWithin l s → Fits l s.registers s.input
+Fits-IsWithin l s within =
+    record { names = within.names; stack = within.stack; depth = within.depth; store = within.store; texts = within.texts; making = within.making; conditions = within.conditions }

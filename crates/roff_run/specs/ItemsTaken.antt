@@ -1,0 +1,30 @@
+-- A run that takes items, and the bytes that it takes in one step each.
+use Rattle.std.specs.Prelude.{◌≡◌, ℕ, ◌<◌, false, List, [], ◌∷◌, Some, None}
+use Rattle.roff_num.specs.declared.limits.Limits.{Limits}
+use Rattle.roff_escape.specs.Halves.{seen_stays}
+use Rattle.roff_ahead.specs.Input.{Ahead, ByteAhead, item_taken, counting}
+use Rattle.roff_source.specs.Tape.{Gives, OneByte, front}
+use Rattle.roff_run.specs.Reading.Ends.{due}
+use Rattle.roff_run.specs.Requests.{PageEvent}
+use Rattle.roff_run.specs.Run.{State, made, byte_taken, moved, step}
+
+-- a run takes items: it hasn't ended and isn't about to, and there is nothing to do first, and nothing due
+pub record TakesItems (s : State) : Type 0 where
+  pub going : s.ended ≡ None
+  pub not_closing : s.is_closing ≡ false
+  pub idle : s.to_do ≡ []
+  pub none_due : due s.reading ≡ None
+
+-- a byte ahead that doesn't end what is half read is taken in one step, at the cost of one
+abbrev pub BytesAheadAreTaken : Type 0
+BytesAheadAreTaken =
+    (l : Limits) (s : State) (b : ℕ) (behind : List (Ahead PageEvent)) → TakesItems s → s.input.ahead ≡ ByteAhead b ∷ behind →
+    seen_stays s.input.half (Some b) ≡ false → s.input.charge < l.bytes →
+    step l s ≡ made l s (byte_taken b (record s { input = item_taken (ByteAhead b) behind s.input }))
+
+-- and so is a byte of the source where nothing is ahead: it is counted
+abbrev pub BytesOfTheSourceAreTaken : Type 0
+BytesOfTheSourceAreTaken =
+    (l : Limits) (s : State) (b : ℕ) → TakesItems s → s.input.ahead ≡ [] → front s.tape ≡ Gives (OneByte b) →
+    seen_stays s.input.half (Some b) ≡ false → s.input.charge < l.bytes →
+    step l s ≡ made l s (byte_taken b (moved (record s { input = counting b s.input })))

@@ -1,0 +1,24 @@
+//! What read-only registers ask for (manual, section 8).
+
+/// What a read-only register asks for.
+#[derive(Clone, Copy, Debug, PartialEq, Eq)]
+pub(crate) enum Query {
+    /// How many newlines were taken of the source.
+    Newlines,
+    /// The indent.
+    Indent,
+    /// The line length.
+    LineLength,
+    /// The width of the last finished line.
+    LastWidth,
+    /// Whether words are filled into lines: 1 or 0.
+    Filling,
+    /// The distance of two lines.
+    LineSpacing,
+    /// The width of a column.
+    ColumnWidth,
+    /// How many arguments the innermost body has that a line called.
+    Arguments,
+    /// What nothing sets yet: 0.
+    Later,
+}
