@@ -20,11 +20,11 @@ use Rattle.roff_engine.specs.Engine.Outcome.{Seen, IsLeftOf, IsRest, Reaches, Ou
 use Rattle.roff_engine.specs.Formatter.Performing.{AllPerformed, Did, DoesTaking, Opens, Performs, PerformsOnly, acting, going, sinks}
 use Rattle.roff_engine.specs.Running.Turning.{Acts, Halts, IsAt, MayEnd, TookFrom, input_ends, line_told, state_at}
 use Rattle.roff_engine.specs.Sinks.{Sunk}
-use Rattle.roff_run.specs.Environments.Standing.{StandFor}
-use Rattle.roff_run.specs.declared.environments.Environments.{Environments as EnvironmentsOf}
+use Rattle.roff_requests.specs.Environments.Standing.{StandFor}
+use Rattle.roff_requests.specs.declared.environments.Environments.{Environments as EnvironmentsOf}
 use Rattle.roff_run.specs.Output.{PageHistory}
-use Rattle.roff_run.specs.Reader.State.{ReaderState}
-use Rattle.roff_run.specs.Reader.Taken.{Became, IsReady}
+use Rattle.roff_reader.specs.Reader.State.{ReaderState}
+use Rattle.roff_reader.specs.Reader.Taken.{Became, IsReady}
 use Rattle.roff_run.specs.Reading.Items.{PageUnread}
 use Rattle.roff_run.specs.Reading.{half_ended, interrupted}
 use Rattle.roff_run.specs.Reading.Beginnings.{at_start}

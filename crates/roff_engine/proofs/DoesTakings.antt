@@ -12,13 +12,13 @@ use Rattle.roff_engine.specs.Formatter.Performing.{Did, Does, DoesMeaning, DoesT
 use Rattle.roff_engine.specs.Sinks.{Sunk}
 use Rattle.roff_engine.proofs.Appending.{Writes-nothing}
 use Rattle.roff_engine.proofs.Performed.{does_events, does_halted, messages_told}
-use Rattle.roff_run.specs.Environments.Standing.{StandFor}
-use Rattle.roff_run.specs.Events.Meant.{events_meant}
-use Rattle.roff_run.specs.declared.environments.Environments.{Environments as EnvironmentsOf}
+use Rattle.roff_requests.specs.Environments.Standing.{StandFor}
+use Rattle.roff_requests.specs.Events.Meant.{events_meant}
+use Rattle.roff_requests.specs.declared.environments.Environments.{Environments as EnvironmentsOf}
 use Rattle.roff_run.specs.Output.{PageHistory}
-use Rattle.roff_run.specs.Reader.Taken.{Became, IsReady, TakesAs}
+use Rattle.roff_reader.specs.Reader.Taken.{Became, IsReady, TakesAs}
 use Rattle.roff_run.specs.Reading.Items.{PageUnread}
-use Rattle.roff_run.specs.Reader.State.{ReaderState}
+use Rattle.roff_reader.specs.Reader.State.{ReaderState}
 use Rattle.roff_run.specs.Reading.Items.{PageInput, Taking, meaning_events}
 use Rattle.roff_run.specs.Registers.{AllRegisters, Known, changed_by_all}
 use Rattle.roff_run.specs.Run.{State, known_at, taken_as, unless_refused}
@@ -26,7 +26,7 @@ use Rattle.roff_run.specs.Run.Counts.{counts_in, first_passed}
 use Rattle.roff_run.specs.declared.event.PageEvent.{PageEvent}
 use Rattle.roff_run.specs.declared.message.Message.{Message}
 use Rattle.roff_run.specs.declared.reading.Reading.{Reading}
-use Rattle.roff_run.specs.declared.reader.Meaning.{Meaning}
+use Rattle.roff_reader.specs.declared.reader.Meaning.{Meaning}
 
 -- what was done of a meaning was done of the taking
 did_does : (l : Limits) (t : Tape) (before now : Seen) (from s : State) (rest : List PageEvent) (r : Result (Unit {0}) Halt) (es : EnvironmentsOf)

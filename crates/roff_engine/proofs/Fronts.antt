@@ -5,8 +5,8 @@ use Rattle.roff_source.specs.Tape.{Tape}
 use Rattle.roff_scan.specs.Unread.{IsWithin}
 use Rattle.roff_scan.specs.Unread.Calls.{PassesFront, front_bytes}
 use Rattle.roff_run.specs.Reading.Items.{PageUnread}
-use Rattle.roff_run.specs.Reader.Stages.{TurnsFront}
-use Rattle.roff_run.proofs.BlankRuns.{reads-turned}
+use Rattle.roff_reader.specs.Reader.Stages.{TurnsFront}
+use Rattle.roff_reader.proofs.BlankRuns.{reads-turned}
 use Rattle.roff_engine.specs.declared.formatter.Formatter.{Formatter}
 use Rattle.roff_engine.specs.declared.running.Running.{Running as Coded}
 use Rattle.roff_engine.specs.Engine.Outcome.{seen}

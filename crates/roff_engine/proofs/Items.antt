@@ -10,7 +10,7 @@ use Rattle.roff_run.specs.declared.message.Message.TheVariants.{ReadFailed}
 use Rattle.roff_run.specs.declared.status.Status.{Status}
 use Rattle.roff_run.specs.declared.status.Status.TheVariants.{Device, Limit as Limited}
 use Rattle.roff_run.specs.Messages.{message_line}
-use Rattle.roff_run.specs.Reader.Taken.{IsReady}
+use Rattle.roff_reader.specs.Reader.Taken.{IsReady}
 use Rattle.roff_run.specs.Reading.Items.{PageUnread}
 use Rattle.roff_run.specs.Reading.Calls.{behind_return}
 use Rattle.roff_run.specs.Registers.Capped.{Capped}

@@ -10,10 +10,10 @@ use Rattle.roff_run.specs.Run.{State, step, output, reported}
 use Rattle.roff_engine.specs.Sinks.{AppendsFront}
 use Rattle.roff_run.specs.declared.status.Status.{Status}
 use Rattle.roff_source.specs.Tape.{Tape}
-use Rattle.roff_run.proofs.Beginnings.{IsBeginning-same}
-use Rattle.roff_run.proofs.Endings.{no_other_state_is_last}
+use Rattle.roff_laws.proofs.Beginnings.{IsBeginning-same}
+use Rattle.roff_laws.proofs.Endings.{no_other_state_is_last}
 use Rattle.roff_run.proofs.Leads.{Leads-step}
-use Rattle.roff_run.proofs.RunsAppend.{each_state_is_a_beginning}
+use Rattle.roff_laws.proofs.RunsAppend.{each_state_is_a_beginning}
 
 -- a beginning of a text was written
 AppendsFront-beginning : (old new : Option (List ℕ)) (piece all : List ℕ) → Appends old new piece → IsBeginning piece all → AppendsFront old new all

@@ -9,9 +9,9 @@ use Rattle.roff_ahead.specs.Input.{lines_taken}
 use Rattle.roff_source.specs.Tape.{Tape, OneByte, items_then}
 use Rattle.roff_scan.specs.Unread.{Stays, looked_then}
 use Rattle.roff_scan.specs.Unread.Calls.{IsBare, PassesOver}
-use Rattle.roff_run.specs.Environments.Standing.{StandFor}
+use Rattle.roff_requests.specs.Environments.Standing.{StandFor}
 use Rattle.roff_run.specs.Output.{PageHistory, written}
-use Rattle.roff_run.specs.Reader.Taken.{IsReady}
+use Rattle.roff_reader.specs.Reader.Taken.{IsReady}
 use Rattle.roff_run.specs.Reading.Items.{PageUnread}
 use Rattle.roff_run.specs.Reading.{Passes}
 use Rattle.roff_run.specs.Reading.Ends.{due}
@@ -27,7 +27,7 @@ use Rattle.roff_engine.specs.Running.Turning.{GoesPast, HasCome, IsAt, state_at}
 use Rattle.roff_engine.specs.Sinks.{Sunk}
 use Rattle.roff_engine.proofs.Waiting.{items_then-append}
 use Rattle.roff_run.proofs.Leads.{Leads-trans}
-use Rattle.roff_run.proofs.PassingRuns.{IsPlain, IsPlain-lines_taken, after-passed, turns_within-lines_taken}
+use Rattle.roff_reader.proofs.PassingRuns.{IsPlain, IsPlain-lines_taken, after-passed, turns_within-lines_taken}
 
 -- what is so of each of these bytes, where something else is
 pub all_by : (P Q : ℕ → Type 0) → ((b : ℕ) → P b → Q b) → (bytes : List ℕ) → AllByRecursion P bytes → AllByRecursion Q bytes

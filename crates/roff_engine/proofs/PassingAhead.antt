@@ -15,7 +15,7 @@ use Rattle.roff_run.specs.Reading.Items.{PageInput}
 use Rattle.roff_run.specs.declared.event.PageEvent.{PageEvent}
 use Rattle.roff_run.specs.Run.{State, Leads}
 use Rattle.roff_run.specs.TurnsToCome.{turns_to_come}
-use Rattle.roff_run.proofs.PassingBodies.{after-bytes_taken, turns_within-bytes_taken, within-bytes_taken}
+use Rattle.roff_reader.proofs.PassingBodies.{after-bytes_taken, turns_within-bytes_taken, within-bytes_taken}
 use Rattle.roff_engine.specs.declared.running.Running.{Running as Coded}
 use Rattle.roff_engine.specs.Engine.Outcome.{Seen}
 use Rattle.roff_engine.specs.Running.Turning.{GoesPast, HasTape, IsAt, state_at}

@@ -28,7 +28,7 @@ use Rattle.roff_run.specs.declared.reading.Reading.TheVariants.{Arguments as InA
 use Rattle.roff_run.specs.declared.reading.Reading.TheVariants.{LineStart, Name as NameOf, Skipping, StringName, StringText, Telling, Text as InText, Told}
 use Rattle.roff_run.proofs.InputCounts.{IsWithin-allowed, first_passed-few_names}
 use Rattle.roff_run.proofs.ItemsTaken.{step-TakesItems}
-use Rattle.roff_run.proofs.TakesAs.{few_names}
+use Rattle.roff_reader.proofs.TakesAs.{few_names}
 use Rattle.roff_engine.specs.declared.formatter.Formatter.{Formatter}
 use Rattle.roff_engine.specs.declared.running.Running.{Running as Coded}
 use Rattle.roff_engine.specs.Engine.Outcome.{Seen}

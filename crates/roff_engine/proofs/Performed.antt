@@ -12,8 +12,8 @@ use Rattle.roff_lines.specs.declared.event.Event.{Event}
 use Rattle.roff_lines.specs.Env.Stands.{StandsBehind}
 use Rattle.roff_lines.specs.Lines.{Finished, finished, pending_length}
 use Rattle.roff_run.specs.Environments.{environments}
-use Rattle.roff_run.specs.Environments.Standing.{StandFor}
-use Rattle.roff_run.specs.declared.environments.Environments.{Environments as EnvironmentsOf}
+use Rattle.roff_requests.specs.Environments.Standing.{StandFor}
+use Rattle.roff_requests.specs.declared.environments.Environments.{Environments as EnvironmentsOf}
 use Rattle.roff_run.specs.declared.environment_number.EnvironmentNumber.{EnvironmentNumber}
 use Rattle.roff_engine.specs.declared.formatter.Formatter.{Formatter}
 use Rattle.roff_engine.specs.declared.halt.Halt.{Halt}

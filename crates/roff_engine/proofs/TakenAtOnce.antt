@@ -7,13 +7,13 @@ use Rattle.roff_engine.specs.Sinks.{Puts, Sunk}
 use Rattle.roff_engine.proofs.Appending.{Writes-nothing}
 use Rattle.roff_engine.proofs.DoesTakings.{taking_done}
 use Rattle.roff_engine.proofs.Performed.{told_then_performed}
-use Rattle.roff_run.specs.Reader.AtOnce.{TakesAtOnce, only_events}
-use Rattle.roff_run.specs.Reader.State.{ReaderState}
-use Rattle.roff_run.specs.Reader.Taken.{TakesAs}
+use Rattle.roff_reader.specs.Reader.AtOnce.{TakesAtOnce, only_events}
+use Rattle.roff_reader.specs.Reader.State.{ReaderState}
+use Rattle.roff_reader.specs.Reader.Taken.{TakesAs}
 use Rattle.roff_run.specs.Reading.Items.{PageUnread}
 use Rattle.roff_run.specs.Reading.Items.{Taking}
 use Rattle.roff_run.specs.Registers.{Known}
-use Rattle.roff_run.specs.declared.environments.Environments.{Environments as EnvironmentsOf}
+use Rattle.roff_requests.specs.declared.environments.Environments.{Environments as EnvironmentsOf}
 use Rattle.roff_run.specs.declared.event.PageEvent.{PageEvent}
 
 -- something was taken at once

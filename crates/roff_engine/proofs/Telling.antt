@@ -16,9 +16,9 @@ use Rattle.roff_source.specs.Tape.{Tape, OneByte, items_then}
 use Rattle.roff_scan.specs.Unread.{looked_then}
 use Rattle.roff_scan.specs.Unread.Calls.{OfSource, OfTexts, PassesFront, PassesSource, PassesTexts, front_bytes, next_bytes}
 use Rattle.roff_run.specs.Environments.{Environments, environments, text_of}
-use Rattle.roff_run.specs.Environments.Standing.{StandBy, StandFor}
+use Rattle.roff_requests.specs.Environments.Standing.{StandBy, StandFor}
 use Rattle.roff_run.specs.Output.{PageHistory}
-use Rattle.roff_run.specs.Reader.State.{ReaderState}
+use Rattle.roff_reader.specs.Reader.State.{ReaderState}
 use Rattle.roff_run.specs.Reading.Items.{PageUnread}
 use Rattle.roff_run.specs.Reading.Ends.{due}
 use Rattle.roff_run.specs.Reading.Items.{PageInput}
@@ -27,12 +27,12 @@ use Rattle.roff_run.specs.Run.{State, Leads}
 use Rattle.roff_run.specs.Run.Counts.{counts_in, first_passed}
 use Rattle.roff_run.specs.Telling.{Prints, page_told}
 use Rattle.roff_run.specs.TurnsToCome.{turns_to_come}
-use Rattle.roff_run.specs.declared.environments.Environments.{Environments as EnvironmentsOf}
+use Rattle.roff_requests.specs.declared.environments.Environments.{Environments as EnvironmentsOf}
 use Rattle.roff_run.specs.declared.event.PageEvent.{PageEvent}
 use Rattle.roff_run.specs.declared.reading.Reading.{Reading}
-use Rattle.roff_run.proofs.PassingBodies.{turns_within-bytes_taken, within-bytes_taken}
-use Rattle.roff_run.proofs.PassingRuns.{IsPlain, IsPlain-lines_taken, turns_within-lines_taken}
-use Rattle.roff_run.proofs.PrintedRuns.{environments-told, leads-ahead, leads-source, with_text, written-told}
+use Rattle.roff_reader.proofs.PassingBodies.{turns_within-bytes_taken, within-bytes_taken}
+use Rattle.roff_reader.proofs.PassingRuns.{IsPlain, IsPlain-lines_taken, turns_within-lines_taken}
+use Rattle.roff_reader.proofs.PrintedRuns.{environments-told, leads-ahead, leads-source, with_text, written-told}
 use Rattle.roff_engine.specs.declared.formatter.Formatter.{Formatter}
 use Rattle.roff_engine.specs.declared.running.Running.{Running as Coded}
 use Rattle.roff_engine.specs.Engine.Outcome.{Seen, seen}

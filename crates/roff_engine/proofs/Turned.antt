@@ -6,8 +6,8 @@ use Rattle.roff_ahead.specs.Input.{Ahead, ByteAhead, is_none_ahead}
 use Rattle.roff_source.specs.Tape.{Tape, OneByte, items_then}
 use Rattle.roff_scan.specs.Unread.{Stays, input_refusal, looked_then}
 use Rattle.roff_scan.specs.Unread.Calls.{OfSource, OfTexts, PassesFront, PassesSource, PassesTexts}
-use Rattle.roff_run.specs.Reader.State.{ReaderState}
-use Rattle.roff_run.specs.Reader.Taken.{IsReady}
+use Rattle.roff_reader.specs.Reader.State.{ReaderState}
+use Rattle.roff_reader.specs.Reader.Taken.{IsReady}
 use Rattle.roff_run.specs.Reading.Items.{PageUnread}
 use Rattle.roff_run.specs.Reading.Ends.{due}
 use Rattle.roff_run.specs.Reading.Items.{PageInput}
@@ -17,14 +17,14 @@ use Rattle.roff_run.specs.declared.event.PageEvent.{PageEvent}
 use Rattle.roff_run.specs.Run.{State, Leads, after, known_at}
 use Rattle.roff_run.specs.Run.Counts.{counts_in, first_passed}
 use Rattle.roff_run.specs.Stages.{Stage, Turned, stage_of, with_stage_of}
-use Rattle.roff_run.specs.Reader.Stages.{ReadsPast}
+use Rattle.roff_reader.specs.Reader.Stages.{ReadsPast}
 use Rattle.roff_run.specs.TurnsToCome.{begun, turns_within}
 use Rattle.roff_run.specs.declared.reading.Reading.{Reading}
 use Rattle.roff_run.proofs.InputCounts.{IsWithin-allowed, first_passed-few_names}
 use Rattle.roff_run.proofs.ItemsTaken.{FromAhead, FromSource, Origin, ahead_at, tape_at}
 use Rattle.roff_run.proofs.PlainRuns.{behind_bytes, counted, counted-source, is-run_at, run_at}
-use Rattle.roff_run.proofs.TakesAs.{few_names}
-use Rattle.roff_run.proofs.TurnedRuns.{FitsAt, Turned-none, after-Turned, counted-bytes_taken, input-passed, stage_input, stage_input-counted, turns_left-turned}
+use Rattle.roff_reader.proofs.TakesAs.{few_names}
+use Rattle.roff_reader.proofs.TurnedRuns.{FitsAt, Turned-none, after-Turned, counted-bytes_taken, input-passed, stage_input, stage_input-counted, turns_left-turned}
 use Rattle.roff_engine.specs.declared.running.Running.{Running as Coded}
 use Rattle.roff_engine.specs.Engine.Outcome.{Seen, seen}
 use Rattle.roff_engine.specs.Running.Turning.{GoesPast, HasTape, IsAt, state_at, turns_left}

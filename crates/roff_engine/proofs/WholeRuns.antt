@@ -7,10 +7,10 @@ use Rattle.roff_escape.specs.Halves.{newline_stays}
 use Rattle.roff_source.specs.Tape.{Tape, items_then}
 use Rattle.roff_scan.specs.Unread.{asks_to_take, looked_then}
 use Rattle.roff_run.specs.declared.status.Status.{Status}
-use Rattle.roff_run.specs.Environments.Standing.{StandFor}
+use Rattle.roff_requests.specs.Environments.Standing.{StandFor}
 use Rattle.roff_run.specs.Output.{PageHistory}
-use Rattle.roff_run.specs.Reader.State.{ReaderState, fresh_reader}
-use Rattle.roff_run.specs.Reader.Taken.{IsReady}
+use Rattle.roff_reader.specs.Reader.State.{ReaderState, fresh_reader}
+use Rattle.roff_reader.specs.Reader.Taken.{IsReady}
 use Rattle.roff_run.specs.Reading.Items.{PageUnread}
 use Rattle.roff_run.specs.Registers.{no_registers}
 use Rattle.roff_run.specs.Run.{State, Leads, first_input, first_unread, in_front_taken, initial, reading_by, step, waiting}

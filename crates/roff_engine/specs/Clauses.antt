@@ -3,7 +3,7 @@ pub use Rattle.roff_engine.specs.Engine.Outcome.{Outcome, Seen, seen, Runs}
 pub use Rattle.roff_engine.specs.Formatter.Performing.{DoesMeaning, DoesTaking, PerformsEvents, PerformsOnly, closing_events, sinks}
 pub use Rattle.roff_run.specs.Messages.{message_line, message_lines, text_told, told_line}
 pub use Rattle.roff_run.specs.Output.{finished_bytes}
-pub use Rattle.roff_run.specs.Reader.State.{fresh_reader}
+pub use Rattle.roff_reader.specs.Reader.State.{fresh_reader}
 pub use Rattle.roff_run.specs.Reading.{half_ended, interrupted, taking}
 pub use Rattle.roff_run.specs.Reading.Calls.{behind_return}
 pub use Rattle.roff_run.specs.Reading.Ends.{due, end_taking, line_ends_first}
@@ -15,7 +15,7 @@ pub use Rattle.roff_engine.specs.Sinks.{Puts, Sunk}
 pub use Rattle.roff_run.specs.declared.message.Message.TheVariants.{ReadFailed}
 pub use Rattle.roff_run.specs.declared.status.Status.TheVariants.{Device}
 pub use Rattle.roff_lines.specs.Columns.{finished_of}
-pub use Rattle.roff_run.specs.Environments.Standing.{StandFor}
+pub use Rattle.roff_requests.specs.Environments.Standing.{StandFor}
 pub use Rattle.roff_lines.specs.declared.event.Event.TheVariants.{Tab, Gap, Print, WordEnd, LineEnd, Break}
 pub use Rattle.roff_num.specs.declared.limits.Limits.{Limits}
 pub use Rattle.roff_source.specs.Tape.{Tape}

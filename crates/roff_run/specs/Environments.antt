@@ -11,8 +11,6 @@ pub use Rattle.roff_run.specs.declared.environment_number.EnvironmentNumber.TheV
 use Rattle.roff_run.specs.declared.event.PageEvent.{PageEvent}
 use Rattle.roff_run.specs.declared.event.PageEvent.TheVariants.{Text, Space, Interrupt, Environment, Back}
 use Rattle.roff_run.specs.declared.reading.TextLine.{TextLine}
-pub mod Kept
-pub mod Standing
 
 -- all that happened to the page, the newest first
 abbrev pub PageHistory : Type 0

@@ -16,9 +16,6 @@ use Rattle.roff_run.specs.declared.message.Message.TheVariants.{BadNumber}
 use Rattle.roff_run.specs.declared.query.Query.{Query}
 use Rattle.roff_run.specs.declared.query.Query.TheVariants.{Newlines, Indent, LineLength, LastWidth, Filling, LineSpacing, ColumnWidth, Arguments, Later}
 pub mod Capped
-pub mod Kept
-pub mod Coded
-pub mod ReadOnly
 
 -- the registers that can be set: those by name, and the page number `%`, which always is one
 pub record AllRegisters : Type 0 where

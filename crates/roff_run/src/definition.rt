@@ -9,7 +9,7 @@ use roff_scan::CopyUnit;
 
 /// What a line of a definition is, as far as it was read.
 #[derive(Clone, Copy, Debug, PartialEq, Eq)]
-pub(crate) enum DefinitionLine {
+pub enum DefinitionLine {
     /// It may be the last line: so many bytes of the mark stand in front, and nothing else.
     MayBeLast(u8),
     /// It is the last line, and this byte stands behind the mark.
@@ -20,13 +20,13 @@ pub(crate) enum DefinitionLine {
 
 /// What stands in front of the line that ends a definition: a dot and a name, or two dots.
 #[derive(Drop)]
-pub(crate) struct EndMark {
+pub struct EndMark {
     bytes: ArrayVec<u8, 3>,
 }
 
 impl EndMark {
     /// That of the line that ends with this name, or with two dots.
-    pub(crate) fn of(end: Option<ShortName>) -> EndMark
+    pub fn of(end: Option<ShortName>) -> EndMark
         ensures { result.bytes.items ≡ end_mark end }
     {
         let mut bytes = ArrayVec::new();
@@ -44,7 +44,7 @@ impl EndMark {
     }
 
     /// So many bytes of it, which stand in front of a line.
-    pub(crate) fn front(&self, matched: Option<u8>) -> &[u8]
+    pub fn front(&self, matched: Option<u8>) -> &[u8]
         ensures { result.now ≡ front_of self.now.bytes.items matched }
     {
         match matched {
@@ -54,7 +54,7 @@ impl EndMark {
     }
 
     /// What a unit makes of a line, behind so many bytes of the mark, if the line may be the last one.
-    pub(crate) fn line_with(&self, matched: Option<u8>, unit: CopyUnit) -> DefinitionLine
+    pub fn line_with(&self, matched: Option<u8>, unit: CopyUnit) -> DefinitionLine
         ensures { result ≡ line_from self.now.bytes.items matched unit }
     {
         let Some(matched) = matched else {
@@ -89,7 +89,7 @@ fn ends_mark(byte: u8) -> bool
 }
 
 /// How many bytes of the mark stand in front of the line behind a unit of the text.
-pub(crate) fn matched_behind(unit: CopyUnit) -> Option<u8>
+pub fn matched_behind(unit: CopyUnit) -> Option<u8>
     ensures { result ≡ matched_behind unit }
 {
     match unit {

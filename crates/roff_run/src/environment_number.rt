@@ -16,7 +16,7 @@ pub enum EnvironmentNumber {
 
 impl EnvironmentNumber {
     /// The number of this value, if there is one.
-    pub(crate) fn of(value: u32) -> Option<EnvironmentNumber>
+    pub fn of(value: u32) -> Option<EnvironmentNumber>
         ensures { result ≡ environment_numbered value }
     {
         match value {
@@ -28,7 +28,7 @@ impl EnvironmentNumber {
     }
 
     /// The one behind it, 0 behind 2.
-    pub(crate) fn behind(self) -> EnvironmentNumber
+    pub fn behind(self) -> EnvironmentNumber
         ensures { result ≡ number_behind self }
     {
         match self {
@@ -39,7 +39,7 @@ impl EnvironmentNumber {
     }
 
     /// Whether it is this one.
-    pub(crate) fn is(self, other: EnvironmentNumber) -> bool
+    pub fn is(self, other: EnvironmentNumber) -> bool
         ensures { result ≡ is_same self other }
     {
         match (self, other) {

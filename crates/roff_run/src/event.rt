@@ -26,7 +26,7 @@ impl Default for PageEvent {
 
 /// The events of something of a text line: small, as they are told of each byte.
 #[derive(Clone, Copy, Debug, PartialEq, Eq)]
-pub(crate) enum LineEvents {
+pub enum LineEvents {
     /// None.
     Nothing,
     /// The open word ends, and a line of the input, which counts.

@@ -97,7 +97,7 @@ impl Message {
 
 impl Message {
     /// What is said of something that was read.
-    pub(crate) fn of_remark(remark: Remark) -> Message
+    pub fn of_remark(remark: Remark) -> Message
         ensures { result ≡ remark_message remark }
     {
         match remark {
@@ -114,7 +114,7 @@ impl Message {
 
 impl CharacterName {
     /// The first two bytes of a name.
-    pub(crate) fn of(name: &Name) -> CharacterName
+    pub fn of(name: &Name) -> CharacterName
         ensures { result ≡ character_name (Some name.now) }
     {
         let bytes = name.as_bytes();

@@ -2,7 +2,7 @@
 
 /// What a read-only register asks for.
 #[derive(Clone, Copy, Debug, PartialEq, Eq)]
-pub(crate) enum Query {
+pub enum Query {
     /// How many newlines were taken of the source.
     Newlines,
     /// The indent.

@@ -20,7 +20,7 @@ use roff_num::{Name, ShortName};
 
 /// What is being read of a line.
 #[derive(Clone, Copy, Debug, PartialEq, Eq)]
-pub(crate) enum Reading {
+pub enum Reading {
     /// A line begins.
     LineStart,
     /// A branch of a condition begins.
@@ -121,30 +121,30 @@ pub enum TextByte {
 
 /// What stands on a text line so far.
 #[derive(Clone, Copy, Debug, PartialEq, Eq)]
-pub(crate) struct TextLine {
+pub struct TextLine {
     /// Whether a glyph does.
-    pub(crate) has_glyph: bool,
+    pub has_glyph: bool,
     /// Whether something else does that prints nothing.
-    pub(crate) has_other: bool,
+    pub has_other: bool,
     /// Whether a brace does.
-    pub(crate) has_brace: bool,
+    pub has_brace: bool,
     /// The blanks before its first glyph.
-    pub(crate) leading: u32,
+    pub leading: u32,
 }
 
 /// What something of a text line does: what is read behind it, what it says, and the events that it
 /// means.
 #[derive(Drop)]
-pub(crate) struct TextStep {
-    pub(crate) reading: Reading,
-    pub(crate) message: Option<Message>,
-    pub(crate) events: LineEvents,
+pub struct TextStep {
+    pub reading: Reading,
+    pub message: Option<Message>,
+    pub events: LineEvents,
 }
 
 impl Reading {
     /// What is due before anything more is taken.
     #[inline(always)]
-    pub(crate) fn due(self) -> Option<Due>
+    pub fn due(self) -> Option<Due>
         ensures { result ≡ due self }
     {
         match self {
@@ -156,7 +156,7 @@ impl Reading {
 
     /// Whether a control line is read that ends where the input does, or a definition that is dropped
     /// there, before the input's end is met.
-    pub(crate) fn line_ends_first(self) -> bool
+    pub fn line_ends_first(self) -> bool
         ensures { result ≡ line_ends_first self }
     {
         match self {
@@ -171,7 +171,7 @@ impl Reading {
 
     /// Whether what is found above it means nothing where nothing is found, or a unit of a text that
     /// is being read: where a line begins, on a text line and in a condition.
-    pub(crate) fn reads_above(self) -> bool
+    pub fn reads_above(self) -> bool
         ensures { result ≡ reads_above self }
     {
         match self {
@@ -185,14 +185,14 @@ impl Reading {
 
 /// How many blanks these bytes begin with.
 #[inline(always)]
-pub(crate) fn blanks_in_front(bytes: &[u8]) -> usize
+pub fn blanks_in_front(bytes: &[u8]) -> usize
     ensures { result ≡ length (take_while (λ b. b == blank) bytes.now) }
 {
     bytes.iter().take_while(|byte| **byte == b' ').count()
 }
 
 /// Whether a byte ends a name, and doesn't belong to it.
-pub(crate) fn ends_name(byte: u8) -> bool
+pub fn ends_name(byte: u8) -> bool
     ensures { result ≡ ends_name byte }
 {
     matches!(byte, b' ' | b'\t' | b'\n' | b'\\')

@@ -10,7 +10,7 @@ use Request::{LeftOut, WithoutEffect};
 
 /// A request.
 #[derive(Clone, Copy, Debug, PartialEq, Eq)]
-pub(crate) enum Request {
+pub enum Request {
     /// `ab`: a message, and the end of the run.
     Abort,
     /// `ad`: adjusting on, in a mode.
@@ -77,7 +77,7 @@ pub(crate) enum Request {
 
 /// How the rest of a request's line is read.
 #[derive(Clone, Copy, Debug, PartialEq, Eq)]
-pub(crate) enum LineReading {
+pub enum LineReading {
     /// As arguments, with blanks between them.
     ByArguments,
     /// As a condition, and then its branch; its result may be kept for the other one.
@@ -105,7 +105,7 @@ pub(crate) enum LineReading {
 
 /// What gets the lines of a definition.
 #[derive(Clone, Copy, Debug, PartialEq, Eq)]
-pub(crate) enum LinesFor {
+pub enum LinesFor {
     /// A macro.
     Macro {
         /// Whether they are put behind it.
@@ -117,7 +117,7 @@ pub(crate) enum LinesFor {
 
 /// What a line does that begins with a name.
 #[derive(Clone, Copy, Debug, PartialEq, Eq)]
-pub(crate) enum Called {
+pub enum Called {
     /// It is a request's.
     Request(Request),
     /// It calls the body of this name.
@@ -198,7 +198,7 @@ impl Request {
     pub const COUNT: u16 = 68;
 
     /// The request of this place in the table, if there is one.
-    pub(crate) fn numbered(number: usize) -> Option<Request>
+    pub fn numbered(number: usize) -> Option<Request>
         ensures { result ≡ slice_get requests number }
     {
         if let Some(request) = BUILT.get(number) {
@@ -213,7 +213,7 @@ impl Request {
 
     /// Its row.
     #[rattlefmt::skip]
-    pub(crate) fn row(self) -> Row
+    pub fn row(self) -> Row
         ensures { result ≡ coded_row self }
     {
         match self {

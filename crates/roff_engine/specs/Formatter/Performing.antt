@@ -6,8 +6,8 @@ use Rattle.roff_num.specs.declared.limits.Limits.{Limits}
 use Rattle.roff_source.specs.Tape.{Tape}
 use Rattle.roff_num.specs.Faults.{Rises}
 use Rattle.roff_lines.specs.declared.event.Event.TheVariants.{WordEnd, Break}
-use Rattle.roff_run.specs.Environments.Standing.{StandFor}
-use Rattle.roff_run.specs.declared.environments.Environments.{Environments as EnvironmentsOf}
+use Rattle.roff_requests.specs.Environments.Standing.{StandFor}
+use Rattle.roff_requests.specs.declared.environments.Environments.{Environments as EnvironmentsOf}
 use Rattle.roff_engine.specs.declared.formatter.Formatter.{Formatter}
 use Rattle.roff_engine.specs.declared.halt.Halt.{Halt}
 use Rattle.roff_engine.specs.declared.halt.Halt.TheVariants.{Limit as Limited, Refused, Output, Messages}
@@ -21,7 +21,7 @@ use Rattle.roff_run.specs.declared.event.PageEvent.TheVariants.{Text}
 use Rattle.roff_run.specs.declared.message.Message.{Message}
 use Rattle.roff_run.specs.declared.reading.Reading.{Reading}
 use Rattle.roff_run.specs.Run.{State, Leads, initial, step, stopped_by, made, taken_as, known_at, output, reported}
-use Rattle.roff_run.specs.Reader.Taken.{Became, IsReady}
+use Rattle.roff_reader.specs.Reader.Taken.{Became, IsReady}
 use Rattle.roff_run.specs.Reading.Items.{PageUnread}
 use Rattle.roff_engine.specs.Sinks.{Sunk}
 

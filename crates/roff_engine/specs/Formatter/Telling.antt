@@ -5,7 +5,7 @@ use Rattle.roff_num.specs.declared.limits.Limits.{Limits}
 use Rattle.roff_lines.specs.Telling.{QuietlyTold}
 use Rattle.roff_source.specs.Bytes.{is_text_byte}
 use Rattle.roff_run.specs.Environments.{PageHistory, text_of}
-use Rattle.roff_run.specs.Environments.Standing.{StandFor}
+use Rattle.roff_requests.specs.Environments.Standing.{StandFor}
 use Rattle.roff_run.specs.Telling.{page_told}
 use Rattle.roff_engine.specs.declared.formatter.Formatter.{Formatter}
 

@@ -5,7 +5,7 @@ use Rattle.roff_num.specs.declared.limit.Limit.{Limit}
 use Rattle.roff_num.specs.declared.limits.Limits.{Limits}
 use Rattle.roff_source.specs.Tape.{Tape, Item, items_then}
 use Rattle.roff_scan.specs.Unread.{asks_to_take, looked_then}
-use Rattle.roff_run.specs.Environments.Standing.{StandFor}
+use Rattle.roff_requests.specs.Environments.Standing.{StandFor}
 use Rattle.roff_engine.specs.declared.formatter.Formatter.{Formatter}
 use Rattle.roff_engine.specs.declared.running.Running.{Running as Coded}
 use Rattle.roff_run.specs.declared.status.Status.{Status}
@@ -14,8 +14,8 @@ use Rattle.roff_engine.specs.declared.halt.Halt.{Halt}
 use Rattle.roff_engine.specs.declared.halt.Halt.TheVariants.{Limit as Limited, Refused, Output, Messages}
 use Rattle.roff_engine.specs.Engine.Outcome.{Seen, NoFewerFaults, IsLeftOf, Reaches, OutputStops, MessagesFail, Outcome}
 use Rattle.roff_engine.specs.Formatter.Performing.{Opens, going}
-use Rattle.roff_run.specs.Reader.State.{fresh_reader}
-use Rattle.roff_run.specs.Reader.Taken.{IsReady}
+use Rattle.roff_reader.specs.Reader.State.{fresh_reader}
+use Rattle.roff_reader.specs.Reader.Taken.{IsReady}
 use Rattle.roff_run.specs.Reading.Items.{PageUnread}
 use Rattle.roff_run.specs.TurnsToCome.{begun, turns_to_come}
 use Rattle.roff_run.specs.Reading.Ends.{due, line_ends_first}

@@ -8,7 +8,8 @@ use super::Formatter;
 use crate::halt::Halt;
 use crate::sink::ByteSink;
 use roff_lines::Event;
-use roff_run::{AtOnce, PageEvent};
+use roff_reader::AtOnce;
+use roff_run::PageEvent;
 use roff_scan::Unread;
 
 /// What finishes the last line.

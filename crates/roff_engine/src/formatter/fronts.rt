@@ -3,10 +3,10 @@
 ghost use Rattle.std.specs.Prelude.{◌≡◌, ℕ, true, None, Some, [], IfSome, take, false};
 ghost use Rattle.roff_source.specs.Bytes.{is_argument_byte};
 ghost use Rattle.roff_source.specs.Bytes.{is_passed, is_text_byte};
-ghost use Rattle.roff_run.specs.ControlFronts.{BeginsControl};
+ghost use Rattle.roff_reader.specs.ControlFronts.{BeginsControl};
 ghost use Rattle.roff_run.specs.Stages.{Adds, EndsLine, Holds, HoldsIfFewer, Ignores, ReadsHalves};
 ghost use Rattle.roff_run.specs.Stages.{TakesHalf, counts_blanks};
-ghost use Rattle.roff_run.specs.Reader.Stages.{ReadsPast, TurnsFront};
+ghost use Rattle.roff_reader.specs.Reader.Stages.{ReadsPast, TurnsFront};
 ghost use Rattle.roff_run.specs.Reading.{Passes};
 ghost use Rattle.roff_run.specs.Telling.{Prints};
 ghost use Rattle.roff_engine.specs.Formatter.Telling.{TellsFront};

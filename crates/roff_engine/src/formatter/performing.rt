@@ -1,7 +1,7 @@
 //! What is meant is done: the message is told, and the events are performed.
 
 ghost use Rattle.std.specs.Prelude.{[], ◌∷◌, IsOkUnless};
-ghost use Rattle.roff_run.specs.Events.Meant.{events_meant};
+ghost use Rattle.roff_requests.specs.Events.Meant.{events_meant};
 ghost use Rattle.roff_engine.specs.Clauses.{option_to_list, message_lines, DoesMeaning};
 ghost use Rattle.roff_engine.specs.Clauses.{PerformsOnly, sinks, Text, Puts, Sunk, Environment};
 
@@ -10,7 +10,9 @@ use crate::halt::Halt;
 use crate::report::report;
 use crate::sink::ByteSink;
 use roff_lines::Event;
-use roff_run::{EnvironmentNumber, Events, Meaning, Message, PageEvent};
+use roff_run::{EnvironmentNumber, Message, PageEvent};
+use roff_requests::Events;
+use roff_reader::Meaning;
 
 impl Formatter {
     /// Does what was meant on this line of the input: its message is told, and then its events are

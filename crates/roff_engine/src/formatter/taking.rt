@@ -2,17 +2,18 @@
 
 ghost use Rattle.std.specs.Prelude.{[]};
 ghost use Rattle.roff_run.specs.Reading.Items.{Taking};
-ghost use Rattle.roff_run.specs.Reader.AtOnce.{IsReadAbove};
+ghost use Rattle.roff_reader.specs.Reader.AtOnce.{IsReadAbove};
 ghost use Rattle.roff_run.specs.Reading.Items.{PageUnread};
 ghost use Rattle.roff_run.specs.Registers.{Known as KnownOf};
-ghost use Rattle.roff_run.specs.declared.reader.AtOnce.TheVariants.{Found};
+ghost use Rattle.roff_reader.specs.declared.reader.AtOnce.TheVariants.{Found};
 ghost use Rattle.roff_engine.specs.Clauses.{DoesTaking, sinks, taking};
 
 use super::Formatter;
 use crate::halt::Halt;
 use crate::sink::ByteSink;
 use roff_lines::Glyph;
-use roff_run::{AtOnce, PageEvent};
+use roff_reader::AtOnce;
+use roff_run::PageEvent;
 use roff_scan::{Read, Unread};
 
 impl Formatter {

@@ -1,7 +1,7 @@
 //! Bytes that are taken at once: those that change nothing, and fronts of control lines.
 
 ghost use Rattle.std.specs.Prelude.{◌≡◌, ℕ, [], true, false, None};
-ghost use Rattle.roff_run.specs.ControlFronts.{BeginsControl};
+ghost use Rattle.roff_reader.specs.ControlFronts.{BeginsControl};
 ghost use Rattle.roff_run.specs.Reading.{Passes};
 ghost use Rattle.roff_run.specs.Reading.Calls.{behind_return};
 ghost use Rattle.roff_run.specs.Stages.{EndsLine};

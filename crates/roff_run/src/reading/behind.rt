@@ -17,7 +17,7 @@ use crate::request::LineReading;
 
 impl Reading {
     /// Where a branch of a condition begins, which is read or skipped.
-    pub(crate) fn branch(is_read: bool) -> Reading
+    pub fn branch(is_read: bool) -> Reading
         ensures { result ≡ branch_of is_read }
     {
         if is_read {
@@ -32,7 +32,7 @@ impl Reading {
     }
 
     /// What is read behind a request's line, by how that is read.
-    pub(crate) fn behind_line(line: LineReading) -> Reading
+    pub fn behind_line(line: LineReading) -> Reading
         ensures { result ≡ reading_behind line }
     {
         match line {
@@ -49,7 +49,7 @@ impl Reading {
     /// What is read behind a byte of a branch that is skipped, in which so many braces were opened
     /// and closed.
     #[inline(always)]
-    pub(crate) fn behind_skipped(opened: u32, closed: u32, behind: bool, byte: u8) -> Reading
+    pub fn behind_skipped(opened: u32, closed: u32, behind: bool, byte: u8) -> Reading
         ensures { (i : PageInput) → skipping_taking i opened closed behind byte ≡ going_on i result }
     {
         if behind {
@@ -70,7 +70,7 @@ impl Reading {
     }
 
     /// What is read behind a byte behind a control line's dot or apostrophe, and the blanks there.
-    pub(crate) fn behind_control(breaks: bool, byte: u8) -> Reading
+    pub fn behind_control(breaks: bool, byte: u8) -> Reading
         ensures { (k : Known) (i : PageInput)
             → kept_taking k (BehindControl breaks) i byte ≡ going_on i result }
     {
@@ -88,7 +88,7 @@ impl Reading {
 
     /// What is read behind the end of a body that a line called: a line begins, unless a control line
     /// is being read.
-    pub(crate) fn behind_return(self) -> Reading
+    pub fn behind_return(self) -> Reading
         ensures { result ≡ behind_return self }
     {
         match self {
@@ -98,7 +98,7 @@ impl Reading {
     }
 
     /// What is read behind a byte of a line that is dropped.
-    pub(crate) fn behind_dropped(byte: u8) -> Reading
+    pub fn behind_dropped(byte: u8) -> Reading
         ensures { (i : PageInput) → dropped_taking i byte ≡ going_on i result }
     {
         if byte == b'\n' {

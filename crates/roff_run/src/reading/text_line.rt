@@ -24,7 +24,7 @@ pub(super) const MOST_LEADING: u32 = 2_147_483_647;
 
 impl TextLine {
     /// Nothing yet.
-    pub(crate) fn new() -> Self
+    pub fn new() -> Self
         ensures { result ≡ fresh_line }
     {
         TextLine {
@@ -36,7 +36,7 @@ impl TextLine {
     }
 
     /// The line that begins: the interrupted one, if one is to go on.
-    pub(crate) fn begun_as(interrupted: Option<TextLine>) -> Self
+    pub fn begun_as(interrupted: Option<TextLine>) -> Self
         ensures { result ≡ line_begun_as interrupted }
     {
         match interrupted {
@@ -46,7 +46,7 @@ impl TextLine {
     }
 
     /// Whether a byte is a glyph behind another on the line, and does nothing else. Most are.
-    pub(crate) fn goes_on_with(self, byte: u8) -> bool
+    pub fn goes_on_with(self, byte: u8) -> bool
         ensures { result ≡ true → (k : Known) (i : PageInput) → i.half ≡ []
             → taking k (InText self) i byte
             ≡ meaning_events i (InText self) (Text (Print (Printed byte)) ∷ []) }
@@ -55,7 +55,7 @@ impl TextLine {
     }
 
     /// Whether a byte is a gap behind a glyph on the line, and does nothing else.
-    pub(crate) fn goes_on_with_gap(self, byte: u8) -> bool
+    pub fn goes_on_with_gap(self, byte: u8) -> bool
         ensures { result ≡ true → (k : Known) (i : PageInput) → i.half ≡ []
             → taking k (InText self) i byte
             ≡ meaning_events i (InText self) (Text WordEnd ∷ Text (Gap 1) ∷ []) }
@@ -65,7 +65,7 @@ impl TextLine {
 
     /// Whether bytes of plain text are told, each as a glyph or a gap, and the line stays as it is.
     #[tactic(auto, using(crate::proofs::TextBytes::prints_text))]
-    pub(crate) fn prints(self) -> bool
+    pub fn prints(self) -> bool
         ensures { result ≡ true → (b : ℕ) → is_text_byte b ≡ true → Prints (InText self) b }
     {
         self.leading == 0 && self.has_glyph
@@ -74,7 +74,7 @@ impl TextLine {
     /// What a byte that isn't dropped does, if it is one of those that most often stand at the
     /// beginning of a line, or at its end: what is read behind it, and what it is.
     #[inline(always)]
-    pub(crate) fn at_once(self, byte: u8) -> Option<(Reading, TextByte)>
+    pub fn at_once(self, byte: u8) -> Option<(Reading, TextByte)>
         ensures { IfSome result (λ taken. (i : PageInput) → text_taking i self byte
             ≡ meaning_events i taken.0 (text_byte_events byte taken.1)) }
     {
@@ -134,7 +134,7 @@ impl TextLine {
 
     /// Whether blanks only count: in front of the first glyph, behind another blank.
     #[inline(always)]
-    pub(crate) fn counts_blanks(self) -> bool
+    pub fn counts_blanks(self) -> bool
         ensures { result ≡ counts_blanks (InText self) }
     {
         !self.has_glyph && self.leading > 0
@@ -142,7 +142,7 @@ impl TextLine {
 
     /// The same line behind so many blanks more.
     #[inline(always)]
-    pub(crate) fn behind_blanks(self, count: usize) -> Self
+    pub fn behind_blanks(self, count: usize) -> Self
         ensures { result ≡ record self { leading = blanks_counted count self.leading } }
     {
         if count == 0 {

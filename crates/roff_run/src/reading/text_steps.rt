@@ -26,7 +26,7 @@ use roff_scan::{Escape, Remark, TextUse, character, escape_of, is_silent};
 impl TextLine {
     /// The events of the line's end: a line of blanks alone is a break and a blank line, and one of
     /// braces and blanks nothing.
-    pub(crate) fn end(self) -> LineEvents
+    pub fn end(self) -> LineEvents
         ensures { line_events result ≡ text_line_end self }
     {
         if self.has_glyph || self.has_other {
@@ -39,7 +39,7 @@ impl TextLine {
     }
 
     /// What a byte does that isn't dropped.
-    pub(crate) fn taking(self, byte: u8) -> TextStep
+    pub fn taking(self, byte: u8) -> TextStep
         ensures { (i : PageInput) → step_at i result ≡ text_taking i self byte }
     {
         if byte == b'\n' {
@@ -60,7 +60,7 @@ impl TextLine {
     }
 
     /// What an escape without a name does, by the byte behind its backslash.
-    pub(crate) fn escape(self, byte: u8) -> TextStep
+    pub fn escape(self, byte: u8) -> TextStep
         ensures { (i : PageInput) → step_at i result ≡ escape_taking i self byte }
     {
         match escape_of(byte) {
@@ -82,7 +82,7 @@ impl TextLine {
     }
 
     /// What a character does, by its name, if there is one.
-    pub(crate) fn character(self, name: Option<Name>) -> TextStep
+    pub fn character(self, name: Option<Name>) -> TextStep
         ensures { (i : PageInput) → step_at i result ≡ character_taking i self name }
     {
         match name {
@@ -95,14 +95,14 @@ impl TextLine {
     }
 
     /// An escape that is left out, by the byte behind its backslash.
-    pub(crate) fn left_out(self, byte: u8) -> TextStep
+    pub fn left_out(self, byte: u8) -> TextStep
         ensures { (i : PageInput) → step_at i result ≡ left_out_taking i self byte }
     {
         self.say(Message::LeftOut([b'\\', byte]))
     }
 
     /// A motion of so many columns, and what is said of it.
-    pub(crate) fn motion(self, columns: u32, remark: Option<Remark>) -> TextStep
+    pub fn motion(self, columns: u32, remark: Option<Remark>) -> TextStep
         ensures { (i : PageInput) → step_at i result ≡ motion_taking i self columns remark }
     {
         let mut step = self.glyph(Glyph::Blanks(columns));
@@ -155,7 +155,7 @@ impl TextLine {
     }
 
     /// Something that prints nothing.
-    pub(crate) fn other(self) -> TextStep
+    pub fn other(self) -> TextStep
         ensures { (i : PageInput) → step_at i result ≡ other_taking i self }
     {
         let mut behind = self;

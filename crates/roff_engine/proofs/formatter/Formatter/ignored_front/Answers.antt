@@ -1,4 +1,4 @@
-use Rattle.roff_run.proofs.AddedRuns.{turns-ignored}
+use Rattle.roff_reader.proofs.AddedRuns.{turns-ignored}
 use Rattle.roff_engine.proofs.formatter.Formatter.ignored_front.Goals as goal
 
 pub returns : goal.returns

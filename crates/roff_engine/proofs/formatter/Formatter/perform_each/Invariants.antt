@@ -3,7 +3,7 @@ use Rattle.roff_num.specs.declared.limits.Limits.{Limits}
 use Rattle.roff_source.specs.Tape.{Tape}
 use Rattle.roff_engine.specs.Engine.Outcome.{Reaches, Seen, seen}
 use Rattle.roff_engine.specs.Formatter.Performing.{AllPerformed, acting}
-use Rattle.roff_run.specs.Environments.Standing.{StandFor}
+use Rattle.roff_requests.specs.Environments.Standing.{StandFor}
 use Rattle.roff_run.specs.Output.{PageHistory}
 use Rattle.roff_run.specs.declared.event.PageEvent.{PageEvent}
 use Rattle.roff_run.specs.Run.{State}

@@ -1,6 +1,6 @@
 use Rattle.std.proofs.Common.{refl, ap}
 use Rattle.roff_run.specs.Events.Lines.{text_byte_events}
-use Rattle.roff_run.specs.Reader.State.{ReaderState}
+use Rattle.roff_reader.specs.Reader.State.{ReaderState}
 use Rattle.roff_run.specs.Reading.{taking}
 use Rattle.roff_engine.proofs.TakenAtOnce.{at_once_done, taken_behind_nothing}
 use Rattle.roff_engine.proofs.formatter.Formatter.take_at_once.Goals as goal

@@ -1,5 +1,5 @@
 use Rattle.std.proofs.Common.{refl, ap}
-use Rattle.roff_run.specs.Reader.State.{ReaderState}
+use Rattle.roff_reader.specs.Reader.State.{ReaderState}
 use Rattle.roff_run.specs.Reading.{taking}
 use Rattle.roff_engine.proofs.DoesTakings.{refused_taking, taking_done, took_so}
 use Rattle.roff_engine.proofs.TakenAtOnce.{taken_behind_nothing}

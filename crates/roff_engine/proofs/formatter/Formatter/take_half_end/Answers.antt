@@ -1,5 +1,5 @@
 use Rattle.std.proofs.Common.{[], Ok, refl, ap}
-use Rattle.roff_run.specs.Reader.State.{ReaderState}
+use Rattle.roff_reader.specs.Reader.State.{ReaderState}
 use Rattle.roff_run.specs.Reading.{half_ended}
 use Rattle.roff_run.specs.Reading.Items.{Taking}
 use Rattle.roff_run.specs.Registers.{Known}

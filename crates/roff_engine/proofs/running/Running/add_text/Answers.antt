@@ -1,4 +1,4 @@
-use Rattle.roff_run.proofs.AddedRuns.{reads-added}
+use Rattle.roff_reader.proofs.AddedRuns.{reads-added}
 use Rattle.roff_engine.proofs.Turned.{goes_past_turned}
 use Rattle.roff_engine.proofs.running.Running.add_text.Goals as goal
 

@@ -1,4 +1,4 @@
-use Rattle.roff_run.proofs.HeldRuns.{reads-held}
+use Rattle.roff_reader.proofs.HeldRuns.{reads-held}
 use Rattle.roff_engine.proofs.Turned.{goes_past_turned}
 use Rattle.roff_engine.proofs.running.Running.hold_arguments.Goals as goal
 

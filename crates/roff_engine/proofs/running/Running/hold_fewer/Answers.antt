@@ -1,5 +1,5 @@
 use Rattle.std.specs.Prelude.{Some}
-use Rattle.roff_run.proofs.HeldRuns.{reads-fewer}
+use Rattle.roff_reader.proofs.HeldRuns.{reads-fewer}
 use Rattle.roff_engine.proofs.Turned.{goes_past_turned}
 use Rattle.roff_engine.proofs.running.Running.hold_fewer.Goals as goal
 

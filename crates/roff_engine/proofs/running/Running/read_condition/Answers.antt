@@ -1,4 +1,4 @@
-use Rattle.roff_run.proofs.ConditionRuns.{reads-condition}
+use Rattle.roff_reader.proofs.ConditionRuns.{reads-condition}
 use Rattle.roff_engine.proofs.PassingOn.{goes_past_none}
 use Rattle.roff_engine.proofs.Turned.{goes_past_turned}
 use Rattle.roff_engine.proofs.running.Running.read_condition.Goals as goal

@@ -1,4 +1,4 @@
-use Rattle.roff_run.proofs.NameFronts.{reads-names}
+use Rattle.roff_reader.proofs.NameFronts.{reads-names}
 use Rattle.roff_engine.proofs.Turned.{goes_past_turned}
 use Rattle.roff_engine.proofs.running.Running.read_name.Goals as goal
 

@@ -1,0 +1,202 @@
+-- The laws over number registers.
+use Rattle.std.proofs.Common.{◌≡◌, ℕ, Bool, true, false, cond, not, List, [], ◌∷◌, ◌++◌, Option, Some, None, is_some, unwrap_or, codes, refl, ap, ◌∙◌, arith}
+use Rattle.std.proofs.lemmas.Bool.{cond-true}
+use Rattle.std.specs.Fmt.{decimal, digits}
+use Rattle.std.specs.List.{fold}
+use Rattle.std.specs.Prelude.{min, ◌&&◌, if◌then◌else◌}
+use Rattle.roff_num.specs.Ranges.{is_in_range}
+use Rattle.roff_num.specs.RegisterText.{register_text}
+use Rattle.roff_num.specs.declared.format.Format.{Format}
+use Rattle.roff_num.specs.declared.num.Num.{Num}
+use Rattle.roff_store.proofs.Entries.{bytes_eq_tells, entry_of-with_entry, entry_of-without_entry}
+use Rattle.roff_store.specs.Named.{entry_of, with_entry, without_entry}
+use Rattle.roff_store.specs.Registers.{Registers, next_value, register_of, unset_register, with_format, with_setting, with_step}
+use Rattle.roff_num.specs.declared.direction.Direction.{Direction}
+use Rattle.roff_num.specs.declared.direction.Direction.TheVariants.{Up, Down}
+use Rattle.roff_store.specs.declared.register.Register.{Register}
+use Rattle.roff_run.specs.declared.message.Message.{Message}
+use Rattle.roff_run.specs.declared.message.Message.TheVariants.{BadNumber}
+use Rattle.roff_run.specs.declared.query.Query.{Query}
+use Rattle.roff_run.specs.declared.query.Query.TheVariants.{Newlines, Indent, LineLength, LastWidth, Filling, LineSpacing, ColumnWidth, Arguments, Later}
+use Rattle.roff_laws.specs.RegisterLaws.{ValuesReadBack, FormatsReadBack, FormatsStay, UndefinedReadAsZero, ReadingMakesNone, ReadingIsSilent, ReadOnlyStay, ReadOnlyAreLeftAlone, RemovedReadAsZero}
+use Rattle.roff_run.specs.Registers.{AllRegisters, Known, SetTo, FormatAs, Remove, answer, greatest_number, is_page, is_read_only, known_behind, query_of, settable, stepped_page, text_asked}
+
+-- what a name reads as, if this says whether it is the page number's
+abbrev settable_by : Bool → List ℕ → AllRegisters → Register
+settable_by of_page name rs = if of_page then rs.page else register_of name rs.named
+
+-- a change of one register, if these say whether it is read-only and whether it is the page number
+abbrev changing_by : Bool → Bool → Register → Registers → AllRegisters → AllRegisters
+changing_by read_only of_page page named rs =
+    if read_only then rs else if of_page then record rs { page = page } else record rs { named = named }
+
+-- a name that isn't read-only asks for nothing
+asks_nothing : (asked : Option Query) → is_some asked ≡ false → asked ≡ None
+asks_nothing None settable = refl
+asks_nothing (Some query) settable = cc
+
+-- the register that a name is given is what it reads as
+register_of-with_entry : (name : List ℕ) (r : Register) (named : Registers) → register_of name (with_entry name r named) ≡ r
+register_of-with_entry name r named = let has = entry_of-with_entry name name r named in grind (arith, bytes_eq_tells)
+
+-- a register that is set
+settable_by-set : (read_only of_page : Bool) (name : List ℕ) (value increment : Num) (rs : AllRegisters) → read_only ≡ false
+    → settable_by of_page name (changing_by read_only of_page (record rs.page { value = value; increment = increment })
+    (with_setting name value increment rs.named) rs)
+    ≡ record (settable_by of_page name rs) { value = value; increment = increment }
+settable_by-set true of_page name value increment rs free = cc
+settable_by-set false true name value increment rs free = refl
+settable_by-set false false name value increment rs free = register_of-with_entry name _ rs.named
+
+-- a register that is given a format
+settable_by-format : (read_only of_page : Bool) (name : List ℕ) (format : Format) (rs : AllRegisters) → read_only ≡ false
+    → settable_by of_page name (changing_by read_only of_page (record rs.page { format = format }) (with_format name format rs.named) rs)
+    ≡ record (settable_by of_page name rs) { format = format }
+settable_by-format true of_page name format rs free = cc
+settable_by-format false true name format rs free = refl
+settable_by-format false false name format rs free = register_of-with_entry name _ rs.named
+
+-- the text of a register that isn't read-only
+text_asked-nothing : (asked : Option Query) (k : Known) (name : List ℕ) (r : Register) → is_some asked ≡ false
+    → settable name k.registers ≡ r → text_asked asked k name ≡ register_text r.format r.value.0
+text_asked-nothing asked k name r free same =
+    ap (λ (asked : Option Query). text_asked asked k name) (asks_nothing asked free)
+    ∙ ap (λ (r : Register). register_text r.format r.value.0) same
+
+pub values_read_back : ValuesReadBack
+values_read_back k name value increment free =
+    text_asked-nothing (query_of name) (known_behind (SetTo name value increment ∷ []) k) name
+    (record (settable name k.registers) { value = value; increment = increment }) free
+    (settable_by-set (is_read_only name) (is_page name) name value increment k.registers free)
+
+pub formats_read_back : FormatsReadBack
+formats_read_back k name format free =
+    text_asked-nothing (query_of name) (known_behind (FormatAs name format ∷ []) k) name
+    (record (settable name k.registers) { format = format }) free
+    (settable_by-format (is_read_only name) (is_page name) name format k.registers free)
+
+-- a register's format as it is set
+format-set : (read_only of_page : Bool) (name : List ℕ) (value increment : Num) (rs : AllRegisters)
+    → (settable_by of_page name (changing_by read_only of_page (record rs.page { value = value; increment = increment })
+    (with_setting name value increment rs.named) rs)).format
+    ≡ (settable_by of_page name rs).format
+format-set true of_page name value increment rs = refl
+format-set false of_page name value increment rs =
+    ap (λ (r : Register). r.format) (settable_by-set false of_page name value increment rs refl)
+
+pub formats_stay : FormatsStay
+formats_stay rs name value increment = format-set (is_read_only name) (is_page name) name value increment rs
+
+-- what isn't set reads as the register that isn't
+settable_by-absent : (of_page : Bool) (name : List ℕ) (rs : AllRegisters) → of_page ≡ false → entry_of name rs.named ≡ None
+    → settable_by of_page name rs ≡ unset_register
+settable_by-absent true name rs other absent = cc
+settable_by-absent false name rs other absent = ap (λ (r : Option Register). unwrap_or r unset_register) absent
+
+-- which is 0
+text_of-unset : register_text unset_register.format unset_register.value.0 ≡ codes "0"
+unfolding digits
+text_of-unset = refl
+
+pub undefined_read_as_zero : UndefinedReadAsZero
+undefined_read_as_zero k name undefined =
+    text_asked-nothing (query_of name) k name unset_register undefined.not_read_only
+    (settable_by-absent (is_page name) name k.registers undefined.not_page undefined.absent)
+    ∙ text_of-unset
+
+-- a step of what isn't set is none
+with_step-absent : (entry : Option Register) (in_range : Bool) (stepped named : Registers) → entry ≡ None
+    → cond (is_some entry && in_range) stepped named ≡ named
+with_step-absent None in_range stepped named absent = refl
+with_step-absent (Some r) in_range stepped named absent = cc
+
+-- a change to the same registers is none
+changing_by-same : (read_only of_page : Bool) (page : Register) (named : Registers) (rs : AllRegisters) → of_page ≡ false → named ≡ rs.named
+    → changing_by read_only of_page page named rs ≡ rs
+changing_by-same true of_page page named rs other same = refl
+changing_by-same false true page named rs other same = cc
+changing_by-same false false page named rs other same = ap (λ (named : Registers). let next : AllRegisters = record rs { named = named } in next) same
+
+pub reading_makes_none : ReadingMakesNone
+reading_makes_none rs name None undefined = refl
+reading_makes_none rs name (Some direction) undefined =
+    changing_by-same (is_read_only name) (is_page name) (stepped_page direction rs.page) (with_step direction name rs.named) rs undefined.not_page
+    (with_step-absent (entry_of name rs.named) (is_in_range (next_value direction (register_of name rs.named)))
+    (with_entry name (record (register_of name rs.named) { value = record { 0 = next_value direction (register_of name rs.named) } }) rs.named)
+    rs.named undefined.absent)
+
+-- a step of the register that isn't set stays in range
+unset-in_range : (direction : Direction) → is_in_range (next_value direction unset_register) ≡ true
+unset-in_range Up = refl
+unset-in_range Down = refl
+
+-- a step in range is silent
+step-silent : (read_only in_range : Bool) → in_range ≡ true
+    → (let said : List Message = if not read_only && not in_range then BadNumber ∷ [] else [] in said) ≡ []
+step-silent true in_range is = refl
+step-silent false true is = refl
+step-silent false false is = cc
+
+pub reading_is_silent : ReadingIsSilent
+reading_is_silent rs name None undefined = refl
+reading_is_silent rs name (Some direction) undefined =
+    step-silent (is_read_only name) (is_in_range (next_value direction (settable name rs)))
+    (ap (λ (r : Register). is_in_range (next_value direction r)) (settable_by-absent (is_page name) name rs undefined.not_page undefined.absent)
+    ∙ unset-in_range direction)
+
+-- what a read-only register asks for isn't a register
+answer-same : (query : Query) (k : Known) (rs : AllRegisters) → answer (record k { registers = rs }) query ≡ answer k query
+answer-same Newlines k rs = refl
+answer-same Indent k rs = refl
+answer-same LineLength k rs = refl
+answer-same LastWidth k rs = refl
+answer-same Filling k rs = refl
+answer-same LineSpacing k rs = refl
+answer-same ColumnWidth k rs = refl
+answer-same Arguments k rs = refl
+answer-same Later k rs = refl
+
+-- nor is its text that of one
+text_asked-same : (asked : Option Query) (k : Known) (rs : AllRegisters) (name : List ℕ) → is_some asked ≡ true
+    → text_asked asked (record k { registers = rs }) name ≡ text_asked asked k name
+text_asked-same None k rs name read_only = cc
+text_asked-same (Some query) k rs name read_only = ap (λ n. decimal (min n greatest_number)) (answer-same query k rs)
+
+pub read_only_stay : ReadOnlyStay
+read_only_stay k name changes read_only = text_asked-same (query_of name) k (known_behind changes k).registers name read_only
+
+pub read_only_are_left_alone : ReadOnlyAreLeftAlone
+read_only_are_left_alone rs name read_only = record {
+  set = λ value increment. cond-true (is_read_only name) rs _ read_only;
+  formatted = λ format. cond-true (is_read_only name) rs _ read_only;
+  stepped = λ direction. cond-true (is_read_only name) rs _ read_only;
+}
+
+-- the registers without some names
+abbrev without_all : Registers → List (List ℕ) → Registers
+without_all named names = fold (λ named name. without_entry name named) named names
+
+-- a name that is taken away has no register
+entry_of-without : (name : List ℕ) (named : Registers) → entry_of name (without_entry name named) ≡ None
+entry_of-without name named = let has = entry_of-without_entry name name named in grind (arith, bytes_eq_tells)
+
+-- nor does it get one as others are
+absent-without_entry : (name other : List ℕ) (named : Registers) → entry_of name named ≡ None → entry_of name (without_entry other named) ≡ None
+absent-without_entry name other named absent = let has = entry_of-without_entry name other named in grind (arith, bytes_eq_tells)
+
+absent-without_all : (name : List ℕ) (names : List (List ℕ)) (named : Registers) → entry_of name named ≡ None
+    → entry_of name (without_all named names) ≡ None
+absent-without_all name [] named absent = absent
+absent-without_all name (other ∷ names) named absent =
+    absent-without_all name names (without_entry other named) (absent-without_entry name other named absent)
+
+-- so it has none behind the removal of names among which it is
+absent-removed : (before : List (List ℕ)) (name : List ℕ) (behind : List (List ℕ)) (named : Registers)
+    → entry_of name (without_all named (before ++ name ∷ behind)) ≡ None
+absent-removed [] name behind named = absent-without_all name behind (without_entry name named) (entry_of-without name named)
+absent-removed (other ∷ before) name behind named = absent-removed before name behind (without_entry other named)
+
+pub removed_read_as_zero : RemovedReadAsZero
+removed_read_as_zero k before name behind free other =
+    undefined_read_as_zero (known_behind (Remove (before ++ name ∷ behind) ∷ []) k) name
+    (record { not_read_only = free; not_page = other; absent = absent-removed before name behind k.registers.named })

@@ -1,0 +1,82 @@
+-- Whole runs, of which one is cut short by smaller limits, or by a source that fails.
+use Rattle.std.proofs.Common.{◌≡◌, ◌⊎◌, inl, inr, ℕ, List, [], ◌∷◌, Some, refl, ◌∙◌, ap}
+use Rattle.roff_num.specs.declared.limit.Limit.{Limit}
+use Rattle.roff_run.specs.declared.status.Status.{Status}
+use Rattle.roff_run.specs.declared.status.Status.TheVariants.{Device, Limit as Limited}
+use Rattle.roff_num.specs.declared.limits.Limits.{Limits}
+use Rattle.roff_laws.specs.Laws.{OnlyCuts, LimitsOnlyCut, SameUntilALimit, FailingOnlyCuts, SameUntilTheFault, over, failing_behind, going_on_behind}
+use Rattle.roff_laws.specs.Limits.{AreWithin}
+use Rattle.roff_run.specs.Run.{State, initial, after}
+use Rattle.roff_source.specs.Tape.{Tape, Item, Ending, Ends, Failed, front, behind_front}
+use Rattle.roff_laws.proofs.StepsAppend.{OnlyCuts-same}
+use Rattle.roff_laws.proofs.StepsOnlyCut.{Cut, Same, Short, Differ, Cut-after}
+
+-- a run that may be cut short was only cut
+pub OnlyCuts-Cut : (Beside : Tape → Tape → Type 0) (IsCause : Status → Type 0) (s whole : State) → Cut Beside IsCause s whole → OnlyCuts s whole
+OnlyCuts-Cut Beside IsCause s whole (Same tape beside same) = rw same (OnlyCuts-same s (over tape s) refl refl)
+OnlyCuts-Cut Beside IsCause s whole (Short status ended cause cuts) = cuts
+
+-- the same tape
+abbrev IsSame : Tape → Tape → Type 0
+IsSame t u = u ≡ t
+
+-- a limit
+abbrev IsLimit : Status → Type 0
+IsLimit status = (limit : Limit) × (status ≡ Limited limit)
+
+-- runs that differ in their limits
+Differ-limits : (small large : Limits) → AreWithin small large → Differ IsSame IsLimit small large
+Differ-limits small large within = record {
+  limits = inr (within, λ limit. (limit, refl));
+  tapes = λ t u same. inr (ap front same, ap behind_front same);
+}
+
+-- the one with the smaller limits may be cut short
+Cut-limits : (small large : Limits) → AreWithin small large → (tape : Tape) (n : ℕ) → Cut IsSame IsLimit (after small n (initial tape)) (after large n (initial tape))
+Cut-limits small large within tape n =
+    Cut-after IsSame IsLimit small large (Differ-limits small large within) n (initial tape) (initial tape) (Same tape refl refl)
+
+-- limits only cut
+pub limits_only_cut : LimitsOnlyCut
+limits_only_cut small large within tape n = OnlyCuts-Cut IsSame IsLimit _ _ (Cut-limits small large within tape n)
+
+-- larger limits change nothing until a limit stops the run
+pub same_until_a_limit : SameUntilALimit
+same_until_a_limit small large within tape n not_stopped =
+    elim (Cut-limits small large within tape n) [
+      | Same left same_tape same ↦ same ∙ ap (λ t. over t (after small n (initial tape))) same_tape
+      | Short status ended cause cuts ↦ absurd (not_stopped cause.0 (ended ∙ ap Some cause.1))
+    ]
+
+-- a tape that fails, and one that goes on there
+data GoesOn : Tape → Tape → Type 0 where
+  Behind : (items more : List Item) (ending : Ending) → GoesOn (failing_behind items) (going_on_behind items more ending)
+
+-- a fault of the device
+abbrev IsFault : Status → Type 0
+IsFault status = status ≡ Device
+
+-- runs that differ in their sources: both answer the same until the first one fails
+Differ-sources : (l : Limits) → Differ GoesOn IsFault l l
+Differ-sources l = record { limits = inl refl; tapes = fronts }
+  where
+    fronts : (t u : Tape) → GoesOn t u → ((front t ≡ Ends Failed) × IsFault Device) ⊎ ((front u ≡ front t) × GoesOn (behind_front t) (behind_front u))
+    fronts t u (Behind [] more ending) = inl (refl, refl)
+    fronts t u (Behind (item ∷ items) more ending) = inr (refl, Behind items more ending)
+
+-- the one whose source fails may be cut short
+Cut-sources : (l : Limits) (items more : List Item) (ending : Ending) (n : ℕ) → Cut GoesOn IsFault (after l n (initial (failing_behind items))) (after l n (initial (going_on_behind items more ending)))
+Cut-sources l items more ending n =
+    Cut-after GoesOn IsFault l l (Differ-sources l) n _ _ (Same (going_on_behind items more ending) (Behind items more ending) refl)
+
+-- a failing source only cuts
+pub failing_only_cuts : FailingOnlyCuts
+failing_only_cuts l items more ending n = OnlyCuts-Cut GoesOn IsFault _ _ (Cut-sources l items more ending n)
+
+-- a source that goes on changes nothing but what is left to take, until the run meets the fault
+pub same_until_the_fault : SameUntilTheFault
+same_until_the_fault l items more ending n not_met =
+    elim (Cut-sources l items more ending n) [
+      | Same left beside same ↦ ap (over (after l n (initial (failing_behind items))).tape) same
+      | Short status ended cause cuts ↦ absurd (not_met (ended ∙ ap Some cause))
+    ]

@@ -1,0 +1,157 @@
+-- No step passes a limit.
+--
+-- Each function f of the run has its lemma IsWithin-f here, with a line for each of its cases.
+use Rattle.std.proofs.Common.{◌≡◌, ◌≤◌, ◌+◌, ℕ, zero, suc, Bool, true, false, List, [], ◌∷◌, Some, None, inl, inr, refl, arith}
+use Rattle.std.specs.Prelude.{length, nat_lt, if◌then◌else◌}
+use Rattle.std.proofs.lemmas.Bool.{cases_Bool}
+use Rattle.roff_num.specs.declared.limit.Limit.{Limit}
+use Rattle.roff_num.specs.LimitValues.{value_of}
+use Rattle.roff_num.specs.declared.limits.Limits.{Limits}
+use Rattle.roff_run.specs.Environments.{PageHistory, EnvironmentNumber, Environments, environments, gone_back, is_same, turned, turned_to, turned_unless}
+use Rattle.roff_laws.specs.Laws.{NoLimitIsPassed}
+use Rattle.roff_run.specs.Within.{EnvironmentsWithin, IsWithin}
+use Rattle.roff_run.specs.Requests.{PageEvent, Text, Space, Interrupt, Environment, Back}
+use Rattle.roff_run.specs.Run.{State, known, initial, grown, input_left, moved, step_with, step, after}
+use Rattle.roff_run.specs.Run.Counts.{counts, first_passed, refusal}
+use Rattle.roff_run.proofs.Keeping.{Keeps-end_taking}
+use Rattle.roff_laws.proofs.PerformedOrStopped.{PerformedOrStopped, Performed, StoppedAt, performed_or_stopped}
+use Rattle.roff_run.proofs.Readings.{IsMade, ReadsOn, LimitStops, AheadTaken, ByteTaken, NoteTaken, HalfEnds, InputEnds, InputLeft, LineEnds, MessageTold, RunAborts, SourceFails, SourceStops, ReadsOn-reading_on, Behind-byte_taken, Behind-ahead_taken, Behind-half_ends, Behind-line_ends, within}
+use Rattle.roff_ahead.specs.Input.{counting, item_taken}
+
+-- a state of the same input, registers and history
+IsWithin-same : (l : Limits) (s t : State) → t.input ≡ s.input → t.registers ≡ s.registers → t.history ≡ s.history → IsWithin l s → IsWithin l t
+IsWithin-same l s t input registers history is = record {
+  bytes = rw input is.bytes;
+  stack = rw input is.stack;
+  depth = rw input is.depth;
+  store = rw input is.store;
+  texts = rw input is.texts;
+  making = rw input is.making;
+  conditions = rw input is.conditions;
+  names = rw registers is.names;
+  environments = rw history is.environments;
+}
+
+-- either of two states, by a test
+IsWithin-if : (l : Limits) (b : Bool) (s t : State) → IsWithin l s → IsWithin l t → IsWithin l (if b then s else t)
+IsWithin-if l true s t first second = first
+IsWithin-if l false s t first second = second
+
+-- each count is within its own limit
+abbrev AllWithin : Limits → List (Limit × ℕ) → Type 0
+AllWithin l [] = Unit {0}
+AllWithin l (c ∷ cs) = (c.1 ≤ value_of l c.0) × AllWithin l cs
+
+-- so it is where no limit is passed
+counts_within : (l : Limits) (cs : List (Limit × ℕ)) → first_passed l cs ≡ None → AllWithin l cs
+counts_within l [] none = tt
+counts_within l (c ∷ cs) none = elim (cases_Bool (nat_lt (value_of l c.0) c.1)) [
+  | inl passes ↦ let wrong : Some c.0 ≡ None = rw passes at none in cc
+  | inr goes ↦ (within (value_of l c.0) c.1 goes, counts_within l cs (rw goes at none))
+]
+
+-- turning the ring of environments makes no line longer, and leaves none of them
+within-turned : (l : Limits) (es : Environments) → EnvironmentsWithin l es → EnvironmentsWithin l (turned es)
+within-turned l es is = record { in_force = is.next; next = is.last; last = is.in_force; left = is.left }
+
+within-turned_unless : (l : Limits) (is_there : Bool) (es : Environments) → EnvironmentsWithin l es → EnvironmentsWithin l (turned_unless is_there es)
+within-turned_unless l true es is = is
+within-turned_unless l false es is = within-turned l es is
+
+within-turned_to : (l : Limits) (number : EnvironmentNumber) (es : Environments) → EnvironmentsWithin l es → EnvironmentsWithin l (turned_to number es)
+within-turned_to l number es is =
+    let once : Environments = turned_unless (is_same es.number number) es in
+    within-turned_unless l (is_same once.number number) once (within-turned_unless l (is_same es.number number) es is)
+
+-- these are left, and no others
+within-left : (l : Limits) (left : List EnvironmentNumber) (es : Environments) → EnvironmentsWithin l es → length left ≤ l.environments
+    → EnvironmentsWithin l (record es { left = left })
+within-left l left es is few = record { in_force = is.in_force; next = is.next; last = is.last; left = few }
+
+-- the newest of those that were left is gone back to
+within-gone_back : (l : Limits) (left : List EnvironmentNumber) (es : Environments) → EnvironmentsWithin l es → length left ≤ l.environments
+    → EnvironmentsWithin l (gone_back left es)
+within-gone_back l [] es is few = is
+within-gone_back l (number ∷ left) es is few = within-turned_to l number _ (within-left l left es is (omega (arith, few)))
+
+-- the environments behind an event that no limit refuses
+environments_within : (l : Limits) (h : PageHistory) (e : PageEvent) → EnvironmentsWithin l (environments h) → refusal l h e ≡ None
+    → EnvironmentsWithin l (environments (e ∷ h))
+environments_within l h (Text e) is allowed =
+    record { in_force = (counts_within l (counts h (Text e)) allowed).0; next = is.next; last = is.last; left = is.left }
+environments_within l h (Space lines) is allowed = is
+environments_within l h (Interrupt untold) is allowed = record { in_force = is.in_force; next = is.next; last = is.last; left = is.left }
+environments_within l h (Environment number) is allowed =
+    let es : Environments = environments h in
+    let few : length es.left + 1 ≤ l.environments = (counts_within l (counts h (Environment number)) allowed).0 in
+    within-turned_to l number _ (within-left l (es.number ∷ es.left) es is (omega (arith, few)))
+environments_within l h Back is allowed = within-gone_back l (environments h).left (environments h) is is.left
+
+-- an event is performed, or the run ends at it
+IsWithin-event : (l : Limits) (e : PageEvent) (rest : List PageEvent) (s t : State) → PerformedOrStopped l e rest s t → IsWithin l s → IsWithin l t
+IsWithin-event l e rest s t (Performed allowed) is =
+    record { bytes = is.bytes; stack = is.stack; depth = is.depth; store = is.store; texts = is.texts; making = is.making; conditions = is.conditions; names = is.names; environments = environments_within l s.history e is.environments allowed }
+IsWithin-event l e rest s t (StoppedAt limit) is = IsWithin-same l s t refl refl refl is
+
+-- a step that is made, and takes no more than the limit says
+IsWithin-made : (l : Limits) (s t : State) → t.input.charge ≤ l.bytes → t.history ≡ s.history → IsMade l t → IsWithin l s → IsWithin l t
+IsWithin-made l s t charge history is_made is =
+    let others : AllWithin l (grown t) = counts_within l (grown t) is_made in
+    let ahead = others.1.1.1.1 in
+    record {
+      bytes = charge;
+      stack = ahead.0;
+      depth = ahead.1.0;
+      store = others.1.1.0;
+      texts = others.1.1.1.0;
+      making = omega (arith, others.1.0);
+      conditions = ahead.1.1.0;
+      names = others.0;
+      environments = rw history is.environments;
+    }
+
+-- what was read, or how the run ended
+IsWithin-read : (l : Limits) (s t : State) → ReadsOn l s t → IsWithin l s → IsWithin l t
+IsWithin-read l s t (LimitStops limit) is = IsWithin-same l s t refl refl refl is
+IsWithin-read l s t (AheadTaken item behind ahead charge is_made) is =
+    let read = Behind-ahead_taken item (record s { input = item_taken item behind s.input }) in
+    IsWithin-made l s t (rw read.input.charge charge) read.history is_made is
+IsWithin-read l s t (ByteTaken b none gives charge is_made) is =
+    let read = Behind-byte_taken b (moved (record s { input = counting b s.input })) in
+    IsWithin-made l s t (rw read.input.charge charge) refl is_made is
+IsWithin-read l s t (NoteTaken message gives) is = IsWithin-same l s t refl refl refl is
+IsWithin-read l s t (HalfEnds first others half is_made) is =
+    IsWithin-made l s t (rw (Behind-half_ends s first others half).input.charge is.bytes) refl is_made is
+IsWithin-read l s t (InputEnds none half ends is_made) is =
+    IsWithin-made l s t (rw (Keeps-end_taking (known s) s.reading s.input).charge is.bytes) refl is_made is
+IsWithin-read l s t (LineEnds first none is_made) is =
+    IsWithin-made l s t (rw (Behind-line_ends s first none).input.charge is.bytes) refl is_made is
+IsWithin-read l s t (MessageTold told is_made) is = IsWithin-made l s t is.bytes refl is_made is
+IsWithin-read l s t (RunAborts told) is = IsWithin-same l s t refl refl refl is
+IsWithin-read l s t (InputLeft leaves is_made) is =
+    IsWithin-made l s t (rw (Keeps-end_taking (known (input_left s)) s.reading (input_left s).input).charge is.bytes) refl is_made is
+IsWithin-read l s t (SourceFails fails) is = IsWithin-same l s t refl refl refl is
+IsWithin-read l s t (SourceStops limit stops) is = IsWithin-same l s t refl refl refl is
+
+-- a step of a run that hasn't ended
+IsWithin-step_with : (l : Limits) (es : List PageEvent) (s : State) → IsWithin l s → IsWithin l (step_with l es s)
+IsWithin-step_with l (e ∷ rest) s is = IsWithin-event l e rest s _ (performed_or_stopped l e rest s) is
+IsWithin-step_with l [] s is =
+    IsWithin-if l s.is_closing _ _ (IsWithin-same l s _ refl refl refl is) (IsWithin-read l s _ (ReadsOn-reading_on l s) is)
+
+-- a step
+IsWithin-step : (l : Limits) (s : State) → IsWithin l s → IsWithin l (step l s)
+IsWithin-step l s is =
+    elim s.ended as (λ o. IsWithin l (elim o [ None ↦ step_with l s.to_do s | Some status ↦ s ])) [
+      | None ↦ IsWithin-step_with l s.to_do s is
+      | Some status ↦ is
+    ]
+
+-- so many steps
+IsWithin-after : (l : Limits) (n : ℕ) (s : State) → IsWithin l s → IsWithin l (after l n s)
+IsWithin-after l zero s is = is
+IsWithin-after l (suc n) s is = IsWithin-after l n (step l s) (IsWithin-step l s is)
+
+-- no run passes a limit
+pub no_limit_is_passed : NoLimitIsPassed
+no_limit_is_passed l tape n = IsWithin-after l n (initial tape) (record { bytes = omega arith; stack = omega arith; depth = omega arith; store = omega arith; texts = omega arith; making = omega arith; conditions = omega arith; names = omega arith; environments = record { in_force = omega arith; next = omega arith; last = omega arith; left = omega arith } })

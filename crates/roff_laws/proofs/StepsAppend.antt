@@ -1,0 +1,185 @@
+-- A step appends to what the run wrote and to its messages, and takes nothing back.
+--
+-- Each function f of the run has its lemma OnlyCuts-f here, with a line for each of its cases. Where a case
+-- leaves the history and the messages as they are, the line is `OnlyCuts-same s _ refl refl`; where it appends
+-- messages alone, `OnlyCuts-message s _ _ refl refl`; and where it calls another function, that one's lemma.
+use Rattle.std.proofs.Common.{◌≡◌, ℕ, ◌+◌, Bool, true, false, List, [], ◌∷◌, ◌++◌, Option, Some, None, refl}
+use Rattle.std.specs.Prelude.{nat_lt, if◌then◌else◌}
+use Rattle.roff_num.specs.declared.limit.Limit.{Limit}
+use Rattle.roff_num.specs.declared.limits.Limits.{Limits}
+use Rattle.roff_escape.specs.Halves.{decides_now, seen_stays, newline_stays}
+use Rattle.roff_ahead.specs.Input.{Ahead, ByteAhead, FreeAhead, EndAhead, ReturnAhead, DoAhead, cost, item_taken, counting}
+use Rattle.roff_source.specs.Tape.{Answer, Gives, Ends, OneByte, OneNote, Ended, Failed, Stopped, front}
+use Rattle.roff_ahead.specs.Shown.{Sighted, SeesByte, SeesNothing, SeesNote, SeesEnding, seen_ahead}
+use Rattle.roff_escape.specs.Half.{Half}
+use Rattle.roff_laws.specs.Laws.{OnlyCuts}
+use Rattle.roff_run.specs.Reading.Ends.{due, line_ends_first}
+use Rattle.roff_run.specs.declared.reading.Due.{Due}
+use Rattle.roff_run.specs.declared.reading.Due.TheVariants.{Leaves, Tells as TellsText}
+use Rattle.roff_run.specs.Requests.{PageEvent}
+use Rattle.roff_run.specs.Run.{waiting, State, performing, unless_refused, grown, made, moved, byte_taken, half_ends, end_met, ahead_taken, taking_ahead, taking_byte, ending_input, answered, in_front_taken, front_seen, awaited_of_source, awaited, item_read, input_ended, message_told, input_left, reading_by, step_with, step}
+use Rattle.roff_run.specs.Run.Counts.{passes_bytes, refusal, first_passed}
+use Rattle.roff_laws.proofs.Beginnings.{IsBeginning-same, IsBeginning-append, IsBeginning-trans}
+
+-- a state of the same history and messages
+pub OnlyCuts-same : (s t : State) → t.history ≡ s.history → t.messages ≡ s.messages → OnlyCuts s t
+OnlyCuts-same s t history messages =
+    record { text = rw history (IsBeginning-same _); messages = rw messages (IsBeginning-same _) }
+
+-- a state with more messages
+pub OnlyCuts-message : (s t : State) (message : List ℕ) → t.history ≡ s.history → t.messages ≡ s.messages ++ message → OnlyCuts s t
+OnlyCuts-message s t message history messages =
+    record { text = rw history (IsBeginning-same _); messages = rw messages (IsBeginning-append _ _) }
+
+-- a state behind one more event
+pub OnlyCuts-event : (s t : State) (e : PageEvent) → t.history ≡ e ∷ s.history → t.messages ≡ s.messages → OnlyCuts s t
+OnlyCuts-event s t e history messages =
+    record { text = rw history (IsBeginning-append _ _); messages = rw messages (IsBeginning-same _) }
+
+-- one state behind another
+pub OnlyCuts-trans : {s t u : State} → OnlyCuts s t → OnlyCuts t u → OnlyCuts s u
+OnlyCuts-trans first second = record {
+  text = IsBeginning-trans first.text second.text;
+  messages = IsBeginning-trans first.messages second.messages;
+}
+
+-- either of two states
+pub OnlyCuts-if : (b : Bool) {s t u : State} → OnlyCuts s t → OnlyCuts s u → OnlyCuts s (if b then t else u)
+OnlyCuts-if true first second = first
+OnlyCuts-if false first second = second
+
+-- a step that a limit may refuse
+pub OnlyCuts-unless_refused : (l : Limits) (r : Option Limit) (s : State) {t : State} → OnlyCuts s t → OnlyCuts s (unless_refused l r s t)
+OnlyCuts-unless_refused l None s done = done
+OnlyCuts-unless_refused l (Some limit) s done = OnlyCuts-same s _ refl refl
+
+-- an event is performed
+pub OnlyCuts-performing : (l : Limits) (e : PageEvent) (rest : List PageEvent) (s : State) → OnlyCuts s (performing l e rest s)
+OnlyCuts-performing l e rest s = OnlyCuts-unless_refused l (refusal l s.history e) s (OnlyCuts-event s _ e refl refl)
+
+-- a step that leads to this state
+pub OnlyCuts-made : (l : Limits) (s done : State) → OnlyCuts s done → OnlyCuts s (made l s done)
+OnlyCuts-made l s done cuts = OnlyCuts-unless_refused l (first_passed l (grown done)) s cuts
+
+-- what is half read ends
+pub OnlyCuts-half_ends : (s : State) → OnlyCuts s (half_ends s)
+OnlyCuts-half_ends s = OnlyCuts-message s _ _ refl refl
+
+-- the end of the input is met
+pub OnlyCuts-end_met : (s : State) → OnlyCuts s (end_met s)
+OnlyCuts-end_met s = OnlyCuts-message s _ _ refl refl
+
+-- with nothing half read
+pub OnlyCuts-input_ended : (first : Bool) (s : State) → OnlyCuts s (input_ended first s)
+OnlyCuts-input_ended false s = OnlyCuts-end_met s
+OnlyCuts-input_ended true s = OnlyCuts-message s _ _ refl refl
+
+-- a message is told
+pub OnlyCuts-message_told : (s : State) → OnlyCuts s (message_told s)
+OnlyCuts-message_told s = OnlyCuts-message s _ _ refl refl
+
+-- the input is left
+pub OnlyCuts-input_left : (s : State) → OnlyCuts s (end_met (input_left s))
+OnlyCuts-input_left s = OnlyCuts-message s _ _ refl refl
+
+-- an item ahead was taken
+pub OnlyCuts-ahead_taken : (item : Ahead PageEvent) (s : State) → OnlyCuts s (ahead_taken item s)
+OnlyCuts-ahead_taken (ByteAhead b) s = OnlyCuts-message s _ _ refl refl
+OnlyCuts-ahead_taken (FreeAhead b) s = OnlyCuts-message s _ _ refl refl
+OnlyCuts-ahead_taken EndAhead s = OnlyCuts-same s s refl refl
+OnlyCuts-ahead_taken ReturnAhead s = OnlyCuts-same s _ refl refl
+OnlyCuts-ahead_taken (DoAhead e) s = OnlyCuts-same s _ refl refl
+
+-- the state behind an item ahead, if no limit refuses it
+abbrev pub ahead_done : Ahead PageEvent → List (Ahead PageEvent) → State → State
+ahead_done item behind s = ahead_taken item (record s { input = item_taken item behind s.input })
+
+pub OnlyCuts-ahead_done : (item : Ahead PageEvent) (behind : List (Ahead PageEvent)) (s : State) → OnlyCuts s (ahead_done item behind s)
+OnlyCuts-ahead_done item behind s = OnlyCuts-trans (OnlyCuts-same s _ refl refl) (OnlyCuts-ahead_taken item _)
+
+-- an item ahead is taken
+pub OnlyCuts-taking_ahead : (l : Limits) (item : Ahead PageEvent) (behind : List (Ahead PageEvent)) (s : State) → OnlyCuts s (taking_ahead l item behind s)
+OnlyCuts-taking_ahead l item behind s =
+    OnlyCuts-if (nat_lt l.bytes (s.input.charge + cost item)) (OnlyCuts-same s _ refl refl)
+    (OnlyCuts-made l s _ (OnlyCuts-ahead_done item behind s))
+
+-- the state behind a byte of the source, if no limit refuses it
+abbrev pub byte_done : ℕ → State → State
+byte_done b s = byte_taken b (moved (record s { input = counting b s.input }))
+
+pub OnlyCuts-byte_done : (b : ℕ) (s : State) → OnlyCuts s (byte_done b s)
+OnlyCuts-byte_done b s = OnlyCuts-message s _ _ refl refl
+
+-- a byte of the source is taken
+pub OnlyCuts-taking_byte : (l : Limits) (b : ℕ) (s : State) → OnlyCuts s (taking_byte l b s)
+OnlyCuts-taking_byte l b s =
+    OnlyCuts-if (passes_bytes l s.input) (OnlyCuts-same s _ refl refl) (OnlyCuts-made l s _ (OnlyCuts-byte_done b s))
+
+-- the end of the input
+pub OnlyCuts-ending_input : (l : Limits) (half : List Half) (s : State) → OnlyCuts s (ending_input l half s)
+OnlyCuts-ending_input l [] s = OnlyCuts-made l s _ (OnlyCuts-input_ended (line_ends_first s.reading) s)
+OnlyCuts-ending_input l (first ∷ others) s = OnlyCuts-made l s _ (OnlyCuts-half_ends s)
+
+-- the source answered
+pub OnlyCuts-answered : (l : Limits) (a : Answer) (s : State) → OnlyCuts s (answered l a s)
+OnlyCuts-answered l (Gives (OneByte b)) s = OnlyCuts-taking_byte l b s
+OnlyCuts-answered l (Gives (OneNote message)) s = OnlyCuts-message s _ _ refl refl
+OnlyCuts-answered l (Ends Ended) s = OnlyCuts-ending_input l s.input.half s
+OnlyCuts-answered l (Ends Failed) s = OnlyCuts-same s _ refl refl
+OnlyCuts-answered l (Ends (Stopped limit)) s = OnlyCuts-same s _ refl refl
+
+-- the item in front is taken
+pub OnlyCuts-in_front_taken : (l : Limits) (ahead : List (Ahead PageEvent)) (s : State) → OnlyCuts s (in_front_taken l ahead s)
+OnlyCuts-in_front_taken l [] s = OnlyCuts-answered l (front s.tape) s
+OnlyCuts-in_front_taken l (item ∷ behind) s = OnlyCuts-taking_ahead l item behind s
+
+-- something is seen in front, or nothing
+pub OnlyCuts-front_seen : (l : Limits) (seen : Option ℕ) (s : State) → OnlyCuts s (front_seen l seen s)
+OnlyCuts-front_seen l seen s =
+    OnlyCuts-if (seen_stays s.input.half seen) (OnlyCuts-made l s _ (OnlyCuts-half_ends s)) (OnlyCuts-in_front_taken l s.input.ahead s)
+
+-- what is half read waits, and the source answers this
+pub OnlyCuts-awaited_of_source : (l : Limits) (a : Answer) (s : State) → OnlyCuts s (awaited_of_source l a s)
+OnlyCuts-awaited_of_source l (Gives (OneByte b)) s = OnlyCuts-front_seen l (Some b) s
+OnlyCuts-awaited_of_source l (Gives (OneNote message)) s = OnlyCuts-message s _ _ refl refl
+OnlyCuts-awaited_of_source l (Ends Ended) s = OnlyCuts-front_seen l None s
+OnlyCuts-awaited_of_source l (Ends Failed) s = OnlyCuts-same s _ refl refl
+OnlyCuts-awaited_of_source l (Ends (Stopped limit)) s = OnlyCuts-same s _ refl refl
+
+-- it waits, and this is seen
+pub OnlyCuts-awaited : (l : Limits) (seen : Option Sighted) (s : State) → OnlyCuts s (awaited l seen s)
+OnlyCuts-awaited l (Some (SeesByte b)) s = OnlyCuts-front_seen l (Some b) s
+OnlyCuts-awaited l (Some SeesNothing) s = OnlyCuts-front_seen l None s
+OnlyCuts-awaited l (Some (SeesNote message)) s = OnlyCuts-front_seen l None s
+OnlyCuts-awaited l (Some (SeesEnding ending)) s = OnlyCuts-front_seen l None s
+OnlyCuts-awaited l None s = OnlyCuts-awaited_of_source l (front s.tape) s
+
+-- what is half read waits
+pub OnlyCuts-waiting : (l : Limits) (s : State) → OnlyCuts s (waiting l s)
+OnlyCuts-waiting l s =
+    OnlyCuts-if (decides_now s.input.half) (OnlyCuts-made l s _ (OnlyCuts-half_ends s)) (OnlyCuts-awaited l (seen_ahead s.input.ahead) s)
+
+-- one item of the input
+pub OnlyCuts-item_read : (l : Limits) (s : State) → OnlyCuts s (item_read l s)
+OnlyCuts-item_read l s =
+    OnlyCuts-if (newline_stays s.input.half) (OnlyCuts-waiting l s) (OnlyCuts-in_front_taken l s.input.ahead s)
+
+-- what is due
+pub OnlyCuts-reading_by : (l : Limits) (what : Option Due) (s : State) → OnlyCuts s (reading_by l what s)
+OnlyCuts-reading_by l None s = OnlyCuts-item_read l s
+OnlyCuts-reading_by l (Some (TellsText false)) s = OnlyCuts-made l s _ (OnlyCuts-message_told s)
+OnlyCuts-reading_by l (Some (TellsText true)) s = OnlyCuts-same s _ refl refl
+OnlyCuts-reading_by l (Some Leaves) s = OnlyCuts-made l s _ (OnlyCuts-input_left s)
+
+-- a step of a run that hasn't ended
+pub OnlyCuts-step_with : (l : Limits) (es : List PageEvent) (s : State) → OnlyCuts s (step_with l es s)
+OnlyCuts-step_with l (e ∷ rest) s = OnlyCuts-performing l e rest s
+OnlyCuts-step_with l [] s = OnlyCuts-if s.is_closing (OnlyCuts-same s _ refl refl) (OnlyCuts-reading_by l (due s.reading) s)
+
+-- a step
+pub OnlyCuts-step : (l : Limits) (s : State) → OnlyCuts s (step l s)
+OnlyCuts-step l s =
+    elim s.ended as (λ o. OnlyCuts s (elim o [ None ↦ step_with l s.to_do s | Some status ↦ s ])) [
+      | None ↦ OnlyCuts-step_with l s.to_do s
+      | Some status ↦ OnlyCuts-same s s refl refl
+    ]

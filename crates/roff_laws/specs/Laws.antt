@@ -1,0 +1,69 @@
+-- Laws over whole runs: what limits and failing sources leave as it is.
+use Rattle.std.specs.Prelude.{◌≡◌, ◌≢◌, ℕ, ◌+◌, List, ◌++◌, Some}
+use Rattle.roff_num.specs.Lists.{IsBeginning}
+use Rattle.roff_num.specs.declared.limit.Limit.{Limit}
+use Rattle.roff_run.specs.declared.status.Status.TheVariants.{Device, Limit as Limited}
+use Rattle.roff_num.specs.declared.limits.Limits.{Limits}
+use Rattle.roff_laws.specs.Limits.{AreWithin}
+use Rattle.roff_run.specs.Run.{State, initial, after, output, reported}
+use Rattle.roff_source.specs.Tape.{Tape, Item, Ending, Failed}
+use Rattle.roff_run.specs.Within.{IsWithin}
+
+-- one run is only cut beside another: what it wrote is a beginning of what the other did, and so are its
+-- messages, without the one with which it ended
+pub record OnlyCuts (cut whole : State) : Type 0 where
+  pub text : IsBeginning (output cut) (output whole)
+  pub messages : IsBeginning cut.messages whole.messages
+
+-- limits only cut
+abbrev pub LimitsOnlyCut : Type 0
+LimitsOnlyCut =
+    (small large : Limits) → AreWithin small large → (tape : Tape) (n : ℕ) →
+    OnlyCuts (after small n (initial tape)) (after large n (initial tape))
+
+-- larger limits change nothing until a limit stops the run
+abbrev pub SameUntilALimit : Type 0
+SameUntilALimit =
+    (small large : Limits) → AreWithin small large → (tape : Tape) (n : ℕ) →
+    ((limit : Limit) → (after small n (initial tape)).ended ≢ Some (Limited limit)) →
+    after large n (initial tape) ≡ after small n (initial tape)
+
+-- a source that fails behind these items
+abbrev pub failing_behind : List Item → Tape
+failing_behind items = record { items = items; ending = Failed }
+
+-- a source that has more behind these items, and ends in any way
+abbrev pub going_on_behind : List Item → List Item → Ending → Tape
+going_on_behind items more ending = record { items = items ++ more; ending = ending }
+
+-- a source that fails only cuts
+abbrev pub FailingOnlyCuts : Type 0
+FailingOnlyCuts =
+    (l : Limits) (items more : List Item) (ending : Ending) (n : ℕ) →
+    OnlyCuts (after l n (initial (failing_behind items))) (after l n (initial (going_on_behind items more ending)))
+
+-- the same state over another tape
+abbrev pub over : Tape → State → State
+over tape s = record s { tape = tape }
+
+-- a source that goes on changes nothing but what is left to take, until the run meets the fault
+abbrev pub SameUntilTheFault : Type 0
+SameUntilTheFault =
+    (l : Limits) (items more : List Item) (ending : Ending) (n : ℕ) →
+    let cut : State = after l n (initial (failing_behind items)) in
+    let whole : State = after l n (initial (going_on_behind items more ending)) in
+    cut.ended ≢ Some Device → over cut.tape whole ≡ cut
+
+-- no run passes a limit
+abbrev pub NoLimitIsPassed : Type 0
+NoLimitIsPassed = (l : Limits) (tape : Tape) (n : ℕ) → IsWithin l (after l n (initial tape))
+
+-- a run has gone on from one state to another: nothing that it wrote or reported was taken back
+pub record GoesOnTo (s t : State) : Type 0 where
+  pub text : IsBeginning (output s) (output t)
+  pub messages : IsBeginning (reported s) (reported t)
+
+-- steps only append
+abbrev pub StepsOnlyAppend : Type 0
+StepsOnlyAppend =
+    (l : Limits) (tape : Tape) (n more : ℕ) → GoesOnTo (after l n (initial tape)) (after l (n + more) (initial tape))

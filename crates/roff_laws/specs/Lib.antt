@@ -1,0 +1,16 @@
+pub mod Limits
+pub mod RegisterLaws
+pub mod EnvironmentLaws
+pub mod RequestLaws
+pub mod Rows
+pub mod Laws
+pub mod InterpolationLaws
+pub mod ConditionLaws
+pub mod WidthLaws
+pub mod Quoting
+pub mod MessageLaws
+pub mod CallLaws
+pub mod DefinitionLaws
+pub mod ResultLaws
+pub mod Taken
+pub mod Statuses

@@ -1,0 +1,21 @@
+//! Facts about control lines that call a body, and about those whose names stand for nothing, as
+//! contracts of functions that do nothing.
+
+ghost use Rattle.roff_laws.specs.CallLaws.{BodiesAreCalled, BodiesAreCalledFromTheSource, UnknownNamesDoNothing, UnknownNamesOfTheSourceDoNothing};
+
+/// A line that calls a body, with arguments in quotes, leads to where the body stands in front of
+/// what stood behind the line, and behind it its end: so many steps lead there as the line has
+/// bytes, and each costs one, if the limits allow the state before and the state behind. The first
+/// nine arguments are in force then, and a line begins. No byte of an argument is a backslash or a
+/// newline, or is dropped as it is taken. So it is where the line is read again, and where it
+/// stands in the source.
+pub fn called_bodies()
+    ensures ahead { BodiesAreCalled }
+    ensures source { BodiesAreCalledFromTheSource }
+{}
+
+/// A line whose name stands for nothing does nothing but cost its bytes.
+pub fn unknown_names()
+    ensures ahead { UnknownNamesDoNothing }
+    ensures source { UnknownNamesOfTheSourceDoNothing }
+{}

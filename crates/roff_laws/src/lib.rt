@@ -1,0 +1,11 @@
+//! Laws over whole runs: facts about the definitions alone, as contracts of functions that do nothing.
+#![tactic(auto)]
+
+pub mod call_laws;
+pub mod condition_laws;
+pub mod definition_laws;
+pub mod environment_laws;
+pub mod interpolation_laws;
+pub mod laws;
+pub mod register_laws;
+

@@ -1,0 +1,90 @@
+-- What the code does where a definition begins and ends, as the definition does it.
+use Rattle.std.proofs.Common.{◌≡◌, ℕ, ◌≤◌, Bool, true, List, length, Option, Some, None, Result, refl, subst, ◌∙◌, arith}
+use Rattle.std.specs.Prelude.{is_some}
+use Rattle.std.specs.Option.{option_flatten}
+use Rattle.std.proofs.lemmas.List.{length-take}
+use Rattle.roff_requests.specs.declared.environments.Environments.{Environments as EnvironmentsOf}
+use Rattle.roff_num.specs.declared.limit.Limit.{Limit}
+use Rattle.roff_arguments.proofs.KeptArguments.{held-finished, held-only_kept}
+use Rattle.roff_arguments.specs.Arguments.{finished}
+use Rattle.roff_ahead.specs.Input.{with_arguments}
+use Rattle.roff_ahead.specs.Input.Names.{adding}
+use Rattle.roff_scan.specs.Unread.{changing}
+use Rattle.roff_run.specs.Definitions.{end_mark, front_of}
+use Rattle.roff_reader.specs.Reader.State.{ReaderState}
+use Rattle.roff_reader.specs.Reader.Taken.{InputBecame, TakesAs}
+use Rattle.roff_run.specs.Reading.Items.{PageUnread}
+use Rattle.roff_run.specs.Reading.Arguments.{arguments_ended, line_ended}
+use Rattle.roff_run.specs.Reading.Definitions.{definition_begun, definition_grown}
+use Rattle.roff_run.specs.Reading.Items.{PageInput, Taking}
+use Rattle.roff_run.specs.Registers.{Known}
+use Rattle.roff_num.specs.ShortNames.{name_or_none}
+use Rattle.roff_reader.specs.declared.reader.Meaning.{Meaning}
+use Rattle.roff_num.specs.declared.short_name.ShortName.{ShortName}
+use Rattle.roff_run.specs.declared.request.LineReading.{LineReading}
+use Rattle.roff_run.specs.declared.request.LineReading.TheVariants.{ByArguments, ByCondition, ByElse, ByLastLine, ByMessage, ByString, ByLines}
+use Rattle.roff_run.specs.declared.request.LinesFor.{LinesFor}
+use Rattle.roff_run.specs.declared.request.Request.{Request}
+use Rattle.roff_run.proofs.InputCounts.{NoMore}
+use Rattle.roff_reader.proofs.Strings.{InputBecame-changing}
+use Rattle.roff_reader.proofs.TakesAs.{TakesAs-less}
+
+-- the line of any request but one by which lines are defined ends as the request is obeyed
+pub arguments_ended-obeyed : (k : Known) (i : PageInput) (breaks : Bool) (request : Request) (line : LineReading) → ((lines : LinesFor) → line ≡ ByLines lines → ⊥)
+    → line_ended k i breaks request ≡ arguments_ended k i breaks request line
+arguments_ended-obeyed k i breaks request ByArguments no_lines = refl
+arguments_ended-obeyed k i breaks request (ByCondition keeps) no_lines = refl
+arguments_ended-obeyed k i breaks request (ByString appends) no_lines = refl
+arguments_ended-obeyed k i breaks request ByLastLine no_lines = refl
+arguments_ended-obeyed k i breaks request (ByMessage aborts) no_lines = refl
+arguments_ended-obeyed k i breaks request ByElse no_lines = refl
+arguments_ended-obeyed k i breaks request (ByLines lines) no_lines = absurd (no_lines lines refl)
+
+-- the input of a line that has ended
+abbrev pub line_finished : PageUnread → PageUnread
+line_finished u = record u { input = with_arguments (finished u.input.arguments) u.input }
+
+-- its arguments count for no more
+NoMore-finished : (i : PageInput) → NoMore (with_arguments (finished i.arguments) i) i
+NoMore-finished i =
+    let same = held-only_kept (finished i.arguments) ∙ held-finished i.arguments in
+    record { bytes = omega (arith, same); texts = omega arith; results = omega arith; stored = omega arith; names = omega arith; open_texts = omega arith }
+
+-- a definition begins behind a line as it does where the line's arguments are
+definition_begun-finished : (i : PageInput) (name : Option ShortName) (appends : Bool) (end : Option ShortName)
+    → definition_begun (with_arguments (finished i.arguments) i) name appends end ≡ definition_begun i name appends end
+definition_begun-finished i None appends end = refl
+definition_begun-finished i (Some name) appends end = refl
+
+pub TakesAs-behind_line : (name : Option ShortName) (appends : Bool) (end : Option ShortName) (es : EnvironmentsOf) (old new : ReaderState) (before mid behind : PageUnread)
+    (result : Result Meaning Limit) → mid ≡ line_finished before → TakesAs (λ k. definition_begun mid.input name appends end) es old new mid behind result
+    → TakesAs (λ k. definition_begun before.input name appends end) es old new before behind result
+TakesAs-behind_line name appends end es old new before mid behind result finishes takes =
+    let i : PageInput = with_arguments (finished before.input.arguments) before.input in
+    let there : TakesAs (λ k. definition_begun i name appends end) es old new (line_finished before) behind result =
+    subst (λ (u : PageUnread). TakesAs (λ k. definition_begun u.input name appends end) es old new u behind result) finishes takes in
+    TakesAs-less i (λ k. definition_begun before.input name appends end) es old new before behind result (NoMore-finished before.input) refl refl
+    (subst (λ (t : Taking). TakesAs (λ k. t) es old new (line_finished before) behind result) (definition_begun-finished before.input name appends end) there)
+
+-- the text of a definition grows, if a name gets it
+pub InputBecame-defined : (name : Option ShortName) (bytes : List ℕ) (before behind : PageUnread) (result : Result (Unit {0}) Limit) → is_some name ≡ true
+    → (result, behind) ≡ changing (adding bytes before.input) before → InputBecame (definition_grown name bytes before.input) before behind result
+InputBecame-defined None bytes before behind result is changes = absurd (cc)
+InputBecame-defined (Some name) bytes before behind result is changes = InputBecame-changing (adding bytes before.input) before behind result changes
+
+-- what stands in front of a line that may be the last one is a part of its mark
+mark_few : (end : Option ShortName) → length (end_mark end) ≤ 3
+mark_few None = omega arith
+mark_few (Some name) = elim name.second as (λ second. length (end_mark (Some (record { first = name.first; second = second }))) ≤ 3) [
+  | None ↦ omega arith
+  | Some second ↦ omega arith
+]
+
+pub front_of-few : (end : Option ShortName) (matched : Option ℕ) → length (front_of (end_mark end) matched) ≤ 3
+front_of-few end None = omega arith
+front_of-few end (Some matched) = omega (arith, mark_few end, length-take matched (end_mark end))
+
+-- the name that an argument gives, if it is there and gives one
+pub flatten-name : (name : Option (Option ShortName)) → option_flatten name ≡ name_or_none name
+flatten-name None = refl
+flatten-name (Some name) = refl

@@ -1,0 +1,151 @@
+-- Leading blanks of a text line behind the first of them only count, and bytes that change only what is read are read past.
+use Rattle.std.proofs.Common.{◌≡◌, ℕ, ◌+◌, ◌≤◌, ◌==◌, Bool, true, false, if◌then◌else◌, List, [], ◌∷◌, length, min, not, take, take_while, inl, inr, refl, sym, ap, subst, ◌∙◌, arith}
+use Rattle.std.specs.List.{AllByRecursion, prefix_len}
+use Rattle.std.specs.Prelude.{◌&&◌, nat_lt}
+use Rattle.std.proofs.lemmas.Bool.{cases_Bool, eqb-true, ltb-true, ne_eqb}
+use Rattle.std.proofs.lemmas.List.Folds.{length-prefix_len}
+use Rattle.std.proofs.lemmas.List.Sums.{prefix_len-le-length}
+use Rattle.std.proofs.lemmas.List.{length-take-le}
+use Rattle.roff_lines.specs.declared.event.Event.TheVariants.{Break, Gap, WordEnd}
+use Rattle.roff_source.proofs.PlainBytes.{take_while-plain}
+use Rattle.roff_arguments.specs.Arguments.{Arguments}
+use Rattle.roff_source.specs.Bytes.{blank, newline}
+use Rattle.roff_escape.specs.Half.{Half}
+use Rattle.roff_source.specs.Tape.{Tape}
+use Rattle.roff_scan.specs.Unread.{IsWithin}
+use Rattle.roff_scan.specs.Unread.Calls.{NoNewline, PassesFront}
+use Rattle.roff_store.specs.Named.{Named}
+use Rattle.roff_store.specs.Texts.{Entry}
+use Rattle.roff_reader.proofs.HeldRuns.{passed-counted}
+use Rattle.roff_reader.proofs.TextTaken.{text_line-reads}
+use Rattle.roff_reader.specs.Reader.State.{ReaderState}
+use Rattle.roff_run.specs.Reading.Items.{PageUnread}
+use Rattle.roff_run.specs.Reading.{taking}
+use Rattle.roff_run.specs.Reading.Items.{PageInput, going_on, meaning_events}
+use Rattle.roff_run.specs.Reading.TextLines.{most_leading}
+use Rattle.roff_run.specs.Registers.{Known}
+use Rattle.roff_run.specs.Requests.{Text}
+use Rattle.roff_run.specs.Stages.{Here, Onward, Stage, Turned, blanks_counted, counts_blanks, input_at, stage_of, with_stage_of}
+use Rattle.roff_reader.specs.Reader.Stages.{ReadsPast, TurnsFront}
+use Rattle.roff_run.specs.declared.reading.Reading.{Reading}
+use Rattle.roff_run.specs.declared.reading.Reading.TheVariants.{Text as InText}
+use Rattle.roff_run.specs.declared.reading.TextLine.{TextLine}
+
+-- a line with so many leading blanks
+abbrev led : TextLine → ℕ → TextLine
+led line n = record line { leading = n }
+
+-- where there is a leading blank, another one only counts
+counts-blank : (k : Known) (i : PageInput) (line : TextLine) (n b : ℕ) → i.half ≡ [] → line.has_glyph ≡ false → 1 ≤ n → (b == blank) ≡ true
+    → taking k (InText (led line n)) i b ≡ going_on i (InText (led line (min (n + 1) most_leading)))
+counts-blank k i line n b none_half no_glyph some is =
+    let next : Reading = InText (led line (min (n + 1) most_leading)) in
+    let more : (n == 0) ≡ false = ne_eqb n 0 (λ none. absurd (omega (arith, none, some))) in
+    subst (λ (c : ℕ). taking k (InText (led line n)) i c ≡ going_on i next) (sym (eqb-true b blank is))
+    (text_line-reads k i (led line n) blank none_half refl refl
+    ∙ ap (λ (c : Bool). if c then meaning_events i (InText (led line n)) (Text WordEnd ∷ Text (Gap 1) ∷ []) else meaning_events i next (if n == 0 then Text WordEnd ∷ Text Break ∷ [] else [])) no_glyph
+    ∙ ap (λ (c : Bool). meaning_events i next (if c then Text WordEnd ∷ Text Break ∷ [] else [])) more)
+
+-- some blanks more
+counted-some : (count n : ℕ) → 1 ≤ count → blanks_counted count n ≡ min (n + count) most_leading
+counted-some count n some =
+    let more : (count == 0) ≡ false = ne_eqb count 0 (λ none. absurd (omega (arith, none, some))) in
+    ap (λ (c : Bool). if c then n else min (n + count) most_leading) more
+
+-- one, and then others
+counted-again : (count n : ℕ) → blanks_counted count (min (n + 1) most_leading) ≡ min (n + (count + 1)) most_leading
+counted-again count n = elim (cases_Bool (count == 0)) [
+  | inl none ↦
+      let is : count ≡ 0 = eqb-true count 0 none in
+      ap (λ (c : Bool). if c then min (n + 1) most_leading else min (min (n + 1) most_leading + count) most_leading) none ∙ omega (arith, is)
+  | inr some ↦
+      ap (λ (c : Bool). if c then min (n + 1) most_leading else min (min (n + 1) most_leading + count) most_leading) some ∙ omega arith
+]
+
+-- where such a line is read and nothing is half read
+abbrev stage_with : TextLine → Arguments → List (List ℕ) → ℕ → Stage
+stage_with line a texts n = record { reading = InText (led line n); half = []; arguments = a; texts = texts }
+
+-- blanks lead from stage to stage
+turned-blanks : (names : Named Entry) (line : TextLine) (a : Arguments) (texts : List (List ℕ)) (n last : ℕ) (bytes : List ℕ) → line.has_glyph ≡ false → 1 ≤ n
+    → last ≡ blanks_counted (length bytes) n → AllByRecursion (λ b. (b == blank) ≡ true) bytes
+    → Turned names (stage_with line a texts n) bytes (stage_with line a texts last)
+turned-blanks names line a texts n last [] no_glyph some is blanks =
+    subst (λ (m : ℕ). Turned names (stage_with line a texts n) [] (stage_with line a texts m)) (sym is) (Here (stage_with line a texts n))
+turned-blanks names line a texts n last (b ∷ bytes) no_glyph some is blanks =
+    let p : Stage = stage_with line a texts n in
+    let next : ℕ = min (n + 1) most_leading in
+    let counted : last ≡ min (n + length (b ∷ bytes)) most_leading = is ∙ counted-some (length (b ∷ bytes)) n (omega arith) in
+    let again : blanks_counted (length bytes) next ≡ min (n + (length bytes + 1)) most_leading = counted-again (length bytes) n in
+    let there : last ≡ blanks_counted (length bytes) next = counted ∙ ap (λ (m : ℕ). min m most_leading) (omega arith) ∙ sym again in
+    Onward p (stage_with line a texts next) (stage_with line a texts last) b bytes refl refl
+    (λ k i. counts-blank k (input_at names p i) line n b refl no_glyph some blanks.0) refl (omega arith) (omega arith)
+    (turned-blanks names line a texts next last bytes no_glyph (omega (arith, some)) there blanks.1)
+
+-- a blank is no newline
+no_newline : (bytes : List ℕ) → AllByRecursion (λ b. (b == blank) ≡ true) bytes → NoNewline bytes
+no_newline [] blanks = tt
+no_newline (b ∷ bytes) blanks =
+    (subst (λ (c : ℕ). (c == newline) ≡ false) (sym (eqb-true b blank blanks.0)) refl, no_newline bytes blanks.1)
+
+-- what only counts blanks has one, and no glyph
+counts_none : (has_glyph more : Bool) → not has_glyph && more ≡ true → (has_glyph ≡ false) × (more ≡ true)
+counts_none true more so = cc
+counts_none false more so = (refl, so)
+
+-- the blanks that come first were counted
+pub turns-blanks : (front : List ℕ) (line behind : TextLine) (count : ℕ) (old new : ReaderState) → old.reading ≡ InText line → counts_blanks old.reading ≡ true
+    → count ≡ length (take_while (λ b. b == blank) front) → behind ≡ record line { leading = blanks_counted count line.leading }
+    → new ≡ record old { reading = InText behind } → TurnsFront front count old new
+turns-blanks front line behind count old new is so counted led_on came =
+    let here : not line.has_glyph && nat_lt 0 line.leading ≡ true = subst (λ (r : Reading). counts_blanks r ≡ true) is so in
+    let bare : (line.has_glyph ≡ false) × (nat_lt 0 line.leading ≡ true) = counts_none line.has_glyph (nat_lt 0 line.leading) here in
+    let some : 1 ≤ line.leading = omega (arith, ltb-true 0 line.leading bare.1) in
+    let are : count ≡ prefix_len (λ b. b == blank) front = counted ∙ length-prefix_len (λ b. b == blank) front in
+    let few : count ≤ length front = omega (arith, are, prefix_len-le-length (λ b. b == blank) front) in
+    let blanks : AllByRecursion (λ b. (b == blank) ≡ true) (take count front) =
+    subst (λ (n : ℕ). AllByRecursion (λ b. (b == blank) ≡ true) (take n front)) (sym are) (take_while-plain (λ b. b == blank) front) in
+    let last : ℕ = blanks_counted count line.leading in
+    let taken : last ≡ blanks_counted (length (take count front)) line.leading = ap (λ (n : ℕ). blanks_counted n line.leading) (sym (length-take-le count front few)) in
+    let reading : InText (led line last) ≡ new.reading = sym (ap (λ (r : ReaderState). r.reading) came ∙ ap (λ (l : TextLine). InText l) led_on) in
+    record {
+      few = few;
+      no_newline = no_newline (take count front) blanks;
+      turned = λ names i none_half.
+          subst (λ (r : Reading). Turned names (stage_of r i) (take count front) (stage_of new.reading i)) (sym is)
+          (subst (λ (r : Reading). Turned names (stage_of (InText line) i) (take count front) (stage_of r i)) reading
+          (subst
+          (λ (half : List Half). Turned names (record (stage_of (InText line) i) { half = half }) (take count front) (record (stage_of (InText (led line last)) i) { half = half }))
+          (sym none_half)
+          (turned-blanks names line i.arguments i.open_texts line.leading last (take count front) bare.0 some taken blanks)));
+      registers = ap (λ (r : ReaderState). r.registers) came;
+      requested = ap (λ (r : ReaderState). r.requested) came;
+    }
+
+-- bytes that change only what is read were read past
+pub reads-turned : (gave gives : Tape → Type 0) (front : List ℕ) (count : ℕ) (old new : ReaderState) (before after : PageUnread) → before.input.half ≡ []
+    → TurnsFront front count old new → PassesFront gave gives (take count front) before after → IsWithin after → ReadsPast gave gives old new before after
+reads-turned gave gives front count old new before after none_half turns passes within =
+    let i : PageInput = before.input in
+    let j : PageInput = after.input in
+    let passed = passed-counted gave gives (take count front) before after passes in
+    let half : j.half ≡ i.half = ap (λ (there : PageInput). there.half) passed.1 in
+    let arguments : j.arguments ≡ i.arguments = ap (λ (there : PageInput). there.arguments) passed.1 in
+    let texts : j.open_texts ≡ i.open_texts = ap (λ (there : PageInput). there.open_texts) passed.1 in
+    let same : j ≡ with_stage_of i j =
+    ap (λ (h : List Half). record j { half = h }) half
+    ∙ ap (λ (a : Arguments). record j { half = i.half; arguments = a }) arguments
+    ∙ ap (λ (making : List (List ℕ)). record j { half = i.half; arguments = i.arguments; open_texts = making }) texts in
+    let stage : List Half → Arguments → List (List ℕ) → Stage = λ h a making. record { reading = new.reading; half = h; arguments = a; texts = making } in
+    let behind : stage_of new.reading j ≡ stage_of new.reading i =
+    ap (λ (h : List Half). stage h j.arguments j.open_texts) half
+    ∙ ap (λ (a : Arguments). stage i.half a j.open_texts) arguments
+    ∙ ap (stage i.half i.arguments) texts in
+    record {
+      bytes = take count front;
+      turned = subst (λ (q : Stage). Turned i.names (stage_of old.reading i) (take count front) q) (sym behind) (turns.turned i.names i none_half);
+      passes = subst (λ (there : PageInput). PassesFront gave gives (take count front) before (record after { input = there })) same passes;
+      registers = turns.registers;
+      requested = turns.requested;
+      within = within;
+    }

@@ -1,0 +1,171 @@
+-- Runs over bytes of a text line that are told behind a glyph: a step for each, and one for each of its events.
+use Rattle.std.proofs.Common.{◌≡◌, ℕ, ◌+◌, ◌≤◌, Bool, true, false, List, [], ◌∷◌, ◌++◌, length, Option, Some, None, refl, sym, ap, subst, ◌∙◌, arith}
+use Rattle.std.specs.Prelude.{map, ◌==◌, if◌then◌else◌}
+use Rattle.std.specs.List.{AllByRecursion}
+use Rattle.std.proofs.lemmas.Bool.{le-ltb}
+use Rattle.std.proofs.lemmas.List.{append-nil}
+use Rattle.roff_num.specs.declared.limit.Limit.{Limit}
+use Rattle.roff_num.specs.declared.limits.Limits.{Limits}
+use Rattle.roff_lines.specs.Events.{History}
+use Rattle.roff_lines.specs.declared.event.Event.{Event}
+use Rattle.roff_lines.specs.declared.event.Event.TheVariants.{Print, WordEnd, Gap}
+use Rattle.roff_lines.specs.Lines.{Finished, finished, pending_length}
+use Rattle.roff_lines.specs.Telling.{QuietlyTold, bytes_told}
+use Rattle.roff_lines.specs.declared.glyph.Glyph.TheVariants.{Printed}
+use Rattle.roff_escape.specs.Half.{Half}
+use Rattle.roff_escape.specs.Halves.{seen_stays}
+use Rattle.roff_ahead.specs.Input.{Ahead, ByteAhead, bytes_taken, counting, lines_taken}
+use Rattle.roff_source.specs.Tape.{Tape, OneByte, items_then}
+use Rattle.roff_run.proofs.ItemsTaken.{bytes_ahead_are_taken, bytes_of_the_source_are_taken}
+use Rattle.roff_run.proofs.Leads.{Leads-refl, Leads-trans}
+use Rattle.roff_reader.proofs.PassingBodies.{behind_byte, within-byte}
+use Rattle.roff_run.specs.Environments.{Environments, environments}
+use Rattle.roff_run.specs.Output.{PageHistory, finished_bytes, text_of, written}
+use Rattle.roff_run.specs.Reading.Ends.{due}
+use Rattle.roff_run.specs.Reading.Items.{PageInput, Taking, meaning_events}
+use Rattle.roff_run.specs.Registers.{AllRegisters}
+use Rattle.roff_run.specs.Requests.{PageEvent, Text}
+use Rattle.roff_run.specs.Run.{State, Leads, byte_taken, known_at, made, step, taken_as, unless_refused}
+use Rattle.roff_run.specs.Run.Counts.{counts_in, first_passed, refusal}
+use Rattle.roff_run.specs.Telling.{Prints, byte_events, byte_told, page_told}
+use Rattle.roff_run.specs.declared.reading.Reading.{Reading}
+
+-- what happened in the environment in force became this
+abbrev pub with_text : History → Environments → Environments
+with_text text es = record es { in_force = record es.in_force { text = text } }
+
+-- a byte is told to the environment in force, and to no other
+environments-byte : (is_blank : Bool) (b : ℕ) (h : PageHistory)
+    → environments (if is_blank then Text (Gap 1) ∷ Text WordEnd ∷ h else Text (Print (Printed b)) ∷ h)
+    ≡ with_text (if is_blank then Gap 1 ∷ WordEnd ∷ text_of h else Print (Printed b) ∷ text_of h) (environments h)
+environments-byte true b h = refl
+environments-byte false b h = refl
+
+-- so it is in the history of that environment
+text_of-byte : (b : ℕ) (h : PageHistory) → text_of (byte_told b h) ≡ bytes_told (b ∷ []) (text_of h)
+text_of-byte b h = ap (λ (es : Environments). es.in_force.text) (environments-byte (b == 32) b h)
+
+-- and so are several
+pub environments-told : (bytes : List ℕ) (h : PageHistory) → environments (page_told bytes h) ≡ with_text (bytes_told bytes (text_of h)) (environments h)
+environments-told [] h = refl
+environments-told (b ∷ bytes) h =
+    environments-told bytes (byte_told b h)
+    ∙ ap (λ (es : Environments). with_text (bytes_told bytes es.in_force.text) es) (environments-byte (b == 32) b h)
+
+-- behind a byte that can be told others can be
+quiet-byte : (cap : ℕ) (b : ℕ) (bytes : List ℕ) (h : PageHistory) → QuietlyTold cap bytes (bytes_told (b ∷ []) (text_of h))
+    → QuietlyTold cap bytes (text_of (byte_told b h))
+quiet-byte cap b bytes h quiet = subst (λ (text : History). QuietlyTold cap bytes text) (sym (text_of-byte b h)) quiet
+
+-- a byte that finishes no line writes nothing
+written-byte : (is_blank : Bool) (b : ℕ) (h : PageHistory) → (if is_blank then finished (text_of h) WordEnd else None) ≡ None
+    → written (if is_blank then Text (Gap 1) ∷ Text WordEnd ∷ h else Text (Print (Printed b)) ∷ h) ≡ written h
+written-byte true b h quiet =
+    append-nil (written (Text WordEnd ∷ h)) ∙ ap (λ (line : Option Finished). written h ++ finished_bytes line) quiet ∙ append-nil (written h)
+written-byte false b h quiet = append-nil (written h)
+
+-- and so it is of several
+pub written-told : (cap : ℕ) (bytes : List ℕ) (h : PageHistory) → QuietlyTold cap bytes (text_of h) → written (page_told bytes h) ≡ written h
+written-told cap [] h quiet = refl
+written-told cap (b ∷ bytes) h quiet =
+    written-told cap bytes (byte_told b h) (quiet-byte cap b bytes h quiet.2) ∙ written-byte (b == 32) b h quiet.0
+
+-- an event of the text is refused by no limit where the pending line stays within its own
+allowed : (l : Limits) (h : PageHistory) (e : Event) → pending_length (e ∷ text_of h) ≤ l.line → refusal l h (Text e) ≡ None
+allowed l h e within = rw (le-ltb l.line (pending_length (e ∷ text_of h)) within) refl
+
+-- a run that reads this on, with these registers and messages
+module _ (l : Limits) (reading : Reading) (rs : AllRegisters) (messages : List ℕ) where
+  -- where it has come to: the tape, the input, the history and the events to do
+  abbrev pub told_at : Tape → PageInput → PageHistory → List PageEvent → State
+  told_at tape input h to_do = record {
+    tape = tape;
+    input = input;
+    reading = reading;
+    registers = rs;
+    to_do = to_do;
+    history = h;
+    messages = messages;
+    is_closing = false;
+    ended = None;
+    last_message = [];
+  }
+
+  -- a step at an event that no limit refuses
+  step-event : (tape : Tape) (input : PageInput) (h : PageHistory) (e : PageEvent) (rest : List PageEvent) → refusal l h e ≡ None
+      → step l (told_at tape input h (e ∷ rest)) ≡ told_at tape input (e ∷ h) rest
+  step-event tape input h e rest may =
+      ap (λ (r : Option Limit). unless_refused l r (told_at tape input h (e ∷ rest)) (told_at tape input (e ∷ h) rest)) may
+
+  -- the steps at the events of a byte
+  leads-events : (is_blank : Bool) (b : ℕ) (tape : Tape) (input : PageInput) (h : PageHistory)
+      → pending_length (if is_blank then Gap 1 ∷ WordEnd ∷ text_of h else Print (Printed b) ∷ text_of h) ≤ l.line
+      → Leads l (told_at tape input h (if is_blank then Text WordEnd ∷ Text (Gap 1) ∷ [] else Text (Print (Printed b)) ∷ []))
+      (told_at tape input (if is_blank then Text (Gap 1) ∷ Text WordEnd ∷ h else Text (Print (Printed b)) ∷ h) [])
+  leads-events true b tape input h within = record {
+    steps = 2;
+    there = ap (step l) (step-event tape input h (Text WordEnd) (Text (Gap 1) ∷ []) (allowed l h WordEnd within))
+        ∙ step-event tape input (Text WordEnd ∷ h) (Text (Gap 1)) [] (allowed l (Text WordEnd ∷ h) (Gap 1) within);
+  }
+  leads-events false b tape input h within = record {
+    steps = 1;
+    there = step-event tape input h (Text (Print (Printed b))) [] (allowed l h (Print (Printed b)) within);
+  }
+
+  -- what a byte means is to be done
+  taken_as-told : (tape : Tape) (input : PageInput) (h : PageHistory) (events : List PageEvent)
+      → taken_as (meaning_events input reading events) (told_at tape input h []) ≡ told_at tape input h events
+  taken_as-told tape input h events =
+      ap (λ (said : List ℕ). record (told_at tape input h (events ++ [])) { messages = said }) (append-nil messages)
+      ∙ ap (told_at tape input h) (append-nil events)
+
+  -- a byte that was taken, and is told
+  leads-byte : (b : ℕ) (before : State) (tape : Tape) (input : PageInput) (h : PageHistory)
+      → step l before ≡ made l before (byte_taken b (told_at tape input h [])) → input.half ≡ [] → first_passed l (counts_in rs input) ≡ None
+      → Prints reading b → pending_length (bytes_told (b ∷ []) (text_of h)) ≤ l.line
+      → Leads l before (told_at tape input (byte_told b h) [])
+  leads-byte b before tape input h taken none_half within prints short =
+      let here : State = told_at tape input h [] in
+      let done : State = told_at tape input h (byte_events b) in
+      let there : step l before ≡ done =
+      taken
+      ∙ ap (λ (t : Taking). made l before (taken_as t here)) (prints (known_at h rs input) input none_half)
+      ∙ ap (made l before) (taken_as-told tape input h (byte_events b))
+      ∙ ap (λ (r : Option Limit). unless_refused l r before done) within in
+      Leads-trans l before done _ (record { steps = 1; there = there }) (leads-events (b == 32) b tape input h short)
+
+  -- the steps at such bytes of the source
+  pub leads-source : (tape : Tape) (bytes : List ℕ) (input : PageInput) (h : PageHistory) → due reading ≡ None
+      → input.ahead ≡ [] → input.half ≡ [] → first_passed l (counts_in rs input) ≡ None → input.charge + length bytes ≤ l.bytes
+      → AllByRecursion (λ b. Prints reading b) bytes → QuietlyTold l.line bytes (text_of h)
+      → Leads l (told_at (items_then (map OneByte bytes) tape) input h []) (told_at tape (lines_taken bytes input) (page_told bytes h) [])
+  leads-source tape [] input h none_due none_ahead none_half within few prints quiet = Leads-refl l (told_at tape input h [])
+  leads-source tape (b ∷ bytes) input h none_due none_ahead none_half within few prints quiet =
+      let before : State = told_at (items_then (map OneByte (b ∷ bytes)) tape) input h [] in
+      let rest : Tape = items_then (map OneByte bytes) tape in
+      Leads-trans l before (told_at rest (counting b input) (byte_told b h) []) _
+      (leads-byte b before rest (counting b input) h
+      (bytes_of_the_source_are_taken l before b (record { going = refl; not_closing = refl; idle = refl; none_due = none_due }) none_ahead refl
+      (ap (λ (half : List Half). seen_stays half (Some b)) none_half) (omega (arith, few)))
+      none_half within prints.0 quiet.1)
+      (leads-source tape bytes (counting b input) (byte_told b h) none_due none_ahead none_half within (omega (arith, few)) prints.1
+      (quiet-byte l.line b bytes h quiet.2))
+
+  -- and at those that stand ahead
+  pub leads-ahead : (tape : Tape) (items : List (Ahead PageEvent)) (bytes : List ℕ) (input : PageInput) (h : PageHistory) → due reading ≡ None
+      → input.ahead ≡ map ByteAhead bytes ++ items → input.half ≡ [] → first_passed l (counts_in rs input) ≡ None → input.charge + length bytes ≤ l.bytes
+      → AllByRecursion (λ b. Prints reading b) bytes → QuietlyTold l.line bytes (text_of h)
+      → Leads l (told_at tape input h []) (told_at tape (bytes_taken bytes items input) (page_told bytes h) [])
+  leads-ahead tape items [] input h none_due front none_half within few prints quiet = Leads-refl l (told_at tape input h [])
+  leads-ahead tape items (b ∷ bytes) input h none_due front none_half within few prints quiet =
+      let before : State = told_at tape input h [] in
+      let behind : List (Ahead PageEvent) = map ByteAhead bytes ++ items in
+      let there : PageInput = behind_byte b behind input in
+      let still : first_passed l (counts_in rs there) ≡ None = within-byte l rs b behind input front within in
+      Leads-trans l before (told_at tape there (byte_told b h) []) _
+      (leads-byte b before tape there h
+      (bytes_ahead_are_taken l before b behind (record { going = refl; not_closing = refl; idle = refl; none_due = none_due }) front
+      (ap (λ (half : List Half). seen_stays half (Some b)) none_half) (omega (arith, few)))
+      none_half still prints.0 quiet.1)
+      (leads-ahead tape items bytes there (byte_told b h) none_due refl none_half still (omega (arith, few)) prints.1
+      (quiet-byte l.line b bytes h quiet.2))

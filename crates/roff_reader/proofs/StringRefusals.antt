@@ -1,0 +1,214 @@
+-- What a limit refuses where a string's name is whole, or its text begins.
+use Rattle.std.proofs.Common.{◌≡◌, ◌⊎◌, inl, inr, ℕ, ◌+◌, ◌-◌, Bool, true, false, List, [], ◌∷◌, length, reverse, Option, Some, None, Err, refl, sym, ap, ◌∙◌, ◌==◌, arith}
+use Rattle.std.specs.Prelude.{nat_lt, if◌then◌else◌}
+use Rattle.std.proofs.lemmas.Bool.{cases_Bool}
+use Rattle.std.proofs.lemmas.List.{length-reverse, length-set}
+use Rattle.std.proofs.lemmas.List.Sums.{sum_by-append}
+use Rattle.roff_requests.specs.declared.environments.Environments.{Environments as EnvironmentsOf}
+use Rattle.roff_num.specs.declared.limit.Limit.{Limit}
+use Rattle.roff_num.specs.declared.limit.Limit.TheVariants.{Stack, Depth, Diversions, Store, Names, Conditions}
+use Rattle.roff_num.specs.declared.limits.Limits.{Limits}
+use Rattle.roff_arguments.specs.Arguments.{Arguments, held, no_arguments, settled_at, with_byte_at, with_unit, with_whole}
+use Rattle.roff_escape.specs.Half.{texts_held, unit_bytes}
+use Rattle.roff_ahead.specs.Input.{bytes_ahead, depth, pushed, results}
+use Rattle.roff_arguments.specs.Arguments.{live_bytes}
+use Rattle.roff_ahead.specs.Input.Names.{adding, calling, calling_on, names_added, stored}
+use Rattle.roff_scan.specs.Unread.{input_refusal}
+use Rattle.roff_arguments.specs.declared.arguments.Place.{Place}
+use Rattle.roff_arguments.specs.declared.arguments.Place.TheVariants.{Between, InPlain, InQuotes, BehindQuote}
+use Rattle.roff_escape.specs.declared.half.CopyUnit.{CopyUnit}
+use Rattle.roff_escape.specs.declared.half.CopyUnit.TheVariants.{Byte, Kept}
+use Rattle.roff_arguments.proofs.KeptArguments.{held-only_kept}
+use Rattle.roff_store.specs.TextCalls.{Open, PushOpen}
+use Rattle.roff_store.specs.Texts.{newest}
+use Rattle.roff_reader.specs.Reader.State.{ReaderState}
+use Rattle.roff_reader.specs.Reader.Taken.{InputBecame, TakesAs}
+use Rattle.roff_run.specs.Reading.Items.{PageUnread}
+use Rattle.roff_num.specs.ShortNames.{name_at}
+use Rattle.roff_run.specs.Reading.Items.{PageInput, Taking, going_on}
+use Rattle.roff_run.specs.Reading.Strings.{name_read, string_begun, string_grown, string_name_behind, string_unit}
+use Rattle.roff_run.specs.Reading.Units.{holding}
+use Rattle.roff_run.specs.declared.reading.Reading.TheVariants.{StringName, StringText}
+use Rattle.roff_num.specs.declared.short_name.ShortName.{ShortName}
+use Rattle.roff_run.proofs.InputCounts.{NoMore, NoMore-released, input_refusal-no_more, not_above, one_of}
+use Rattle.roff_reader.proofs.Strings.{TakesAs-not_became, other, refused_none}
+use Rattle.roff_reader.proofs.TakesAs.{TakesAs-as}
+
+-- the first of the limits that is passed
+abbrev first_of : Bool → Bool → Bool → Bool → Bool → Bool → Option Limit
+first_of diversions store names stack depth conditions =
+    if diversions then Some Diversions
+    else if store then Some Store
+    else if names then Some Names
+    else if stack then Some Stack
+    else if depth then Some Depth
+    else if conditions then Some Conditions
+    else None
+
+-- none of them is but for that on diversions
+record NonePassed (store names stack depth conditions : Bool) : Type 0 where
+  store_not : store ≡ false
+  names_not : names ≡ false
+  stack_not : stack ≡ false
+  depth_not : depth ≡ false
+  conditions_not : conditions ≡ false
+
+none_passed : (diversions store names stack depth conditions : Bool) → first_of diversions store names stack depth conditions ≡ None
+    → NonePassed store names stack depth conditions
+none_passed true b c d e f none = cc
+none_passed false true c d e f none = cc
+none_passed false false true d e f none = cc
+none_passed false false false true e f none = cc
+none_passed false false false false true f none = cc
+none_passed false false false false false true none = cc
+none_passed false false false false false false none =
+    record { store_not = refl; names_not = refl; stack_not = refl; depth_not = refl; conditions_not = refl }
+
+-- one of them is, and it isn't another than that on diversions
+diversions_passed : (diversions store names stack depth conditions : Bool) (limit : Limit) → NonePassed store names stack depth conditions
+    → first_of diversions store names stack depth conditions ≡ Some limit → diversions ≡ true
+diversions_passed true b c d e f limit others is = refl
+diversions_passed false b c d e f limit others is =
+    let none : first_of false b c d e f ≡ None =
+    rw (others.store_not, others.names_not, others.stack_not, others.depth_not, others.conditions_not) refl in cc
+
+-- so it is whatever the limits behind it say
+first_of-diversions : (diversions store names stack depth conditions : Bool) → diversions ≡ true
+    → first_of diversions store names stack depth conditions ≡ Some Diversions
+first_of-diversions a b c d e f passed = rw passed refl
+
+-- the input once the argument is released and a text more is in the making
+abbrev begun : PageInput → PageInput
+begun i = calling Open (record i { arguments = no_arguments })
+
+-- it stores as much
+stored-begun : (i : PageInput) → stored (begun i) ≡ stored i
+stored-begun i = let more = sum_by-append (λ (text : List ℕ). length text) i.open_texts ([] ∷ []) in omega (arith, more)
+
+-- the others are passed as little as before
+others_not : (l : Limits) (i : PageInput) → input_refusal l i ≡ None
+    → NonePassed (nat_lt l.store (stored (begun i))) (nat_lt l.names (names_added (begun i))) (nat_lt l.stack (pushed (begun i)))
+    (nat_lt l.depth (depth (begun i))) (nat_lt l.conditions (results (begun i)))
+others_not l i none =
+    let before = none_passed _ _ _ _ _ _ none in
+    let released = NoMore-released i in
+    record {
+      store_not = ap (λ (bytes : ℕ). nat_lt l.store bytes) (stored-begun i) ∙ before.store_not;
+      names_not = before.names_not;
+      stack_not = not_above l.stack (pushed i) (pushed (begun i)) released.bytes before.stack_not;
+      depth_not = before.depth_not;
+      conditions_not = before.conditions_not;
+    }
+
+-- bytes put behind a text in the making leave as many of them
+making-adding : (bytes : List ℕ) (id : Option ℕ) (i : PageInput) → length (calling_on (λ id. PushOpen id bytes) id i).open_texts ≡ length i.open_texts
+making-adding bytes None i = refl
+making-adding bytes (Some id) i = length-set i.open_texts id _
+
+-- where no text more may be begun, none is that grows
+refused-grown : (l : Limits) (i : PageInput) (bytes : List ℕ) (limit : Limit) → input_refusal l i ≡ None → input_refusal l (begun i) ≡ Some limit
+    → input_refusal l (adding bytes (begun i)) ≡ Some limit
+refused-grown l i bytes limit none is =
+    let passed = diversions_passed _ _ _ _ _ _ limit (others_not l i none) is in
+    let same = making-adding bytes (newest (begun i).open_texts) (begun i) in
+    let was = first_of-diversions _ (nat_lt l.store (stored (begun i))) (nat_lt l.names (names_added (begun i))) (nat_lt l.stack (pushed (begun i)))
+    (nat_lt l.depth (depth (begun i))) (nat_lt l.conditions (results (begun i))) passed in
+    let grown : PageInput = adding bytes (begun i) in
+    first_of-diversions _ (nat_lt l.store (stored grown)) (nat_lt l.names (names_added grown)) (nat_lt l.stack (pushed grown)) (nat_lt l.depth (depth grown)) (nat_lt l.conditions (results grown))
+    (ap (λ (n : ℕ). nat_lt l.diversions (n - 1)) same ∙ passed)
+    ∙ sym was ∙ is
+
+InputBecame-refused_grown : (name : Option ShortName) (unit : CopyUnit) (before behind : PageUnread) (limit : Limit)
+    → InputBecame (string_begun name before.input) before behind (Err limit)
+    → InputBecame (string_grown name unit (string_begun name before.input)) before behind (Err limit)
+InputBecame-refused_grown None unit before behind limit refused = refused
+InputBecame-refused_grown (Some name) unit before behind limit refused = record {
+  becomes = λ within. refused-grown before.limits before.input (unit_bytes unit) limit within (refused.becomes within);
+}
+
+-- where a text can't be begun, its first unit isn't read
+pub TakesAs-not_begun : (name : Option ShortName) (appends : Bool) (unit : CopyUnit) (es : EnvironmentsOf) (old new : ReaderState) (before behind : PageUnread)
+    (limit : Limit) → (unit ≡ Byte 10 → ⊥) → InputBecame (string_begun name before.input) before behind (Err limit)
+    → TakesAs (λ k. string_unit (string_begun name before.input) name appends true unit) es old new before behind (Err limit)
+TakesAs-not_begun name appends (Kept b) es old new before behind limit no_newline refused =
+    TakesAs-not_became _ (StringText name appends false) es old new before behind limit
+    (InputBecame-refused_grown name (Kept b) before behind limit refused)
+TakesAs-not_begun name appends (Byte b) es old new before behind limit no_newline refused =
+    let newline : (b == 10) ≡ false = other b 10 (λ is. no_newline (ap (λ (c : ℕ). Byte c) is)) in
+    let Refuses : Taking → Type 0 = λ t. TakesAs (λ k. t) es old new before behind (Err limit) in
+    rw newline
+    (one_of Refuses (b == 32) _ _ (TakesAs-not_became _ (StringText name appends true) es old new before behind limit refused)
+    (one_of Refuses (b == 34) _ _ (TakesAs-not_became _ (StringText name appends false) es old new before behind limit refused)
+    (TakesAs-not_became _ (StringText name appends false) es old new before behind limit
+    (InputBecame-refused_grown name (Byte b) before behind limit refused))))
+
+-- the arguments behind a unit have none that is whole, or hold as many bytes as before
+abbrev NoneOrAsMany : Arguments → Arguments → Type 0
+NoneOrAsMany before now = (now.whole ≡ []) ⊎ (held now ≡ held before)
+
+NoneOrAsMany-whole : (a : Arguments) → NoneOrAsMany a (with_whole a)
+NoneOrAsMany-whole a = inr (let same = length-reverse a.begun in omega (arith, same))
+
+NoneOrAsMany-byte : (place : Place) (a : Arguments) (b : ℕ) → a.whole ≡ [] → ((b ≡ 34 → ⊥) → place ≡ BehindQuote → ⊥) → NoneOrAsMany a (with_byte_at place a b)
+NoneOrAsMany-byte Between a b none apart = one_of (NoneOrAsMany a) (b == 32) _ _ (inl none) (one_of (NoneOrAsMany a) (b == 34) _ _ (inl none) (inl none))
+NoneOrAsMany-byte InPlain a b none apart = one_of (NoneOrAsMany a) (b == 32) _ _ (NoneOrAsMany-whole a) (inl none)
+NoneOrAsMany-byte InQuotes a b none apart = one_of (NoneOrAsMany a) (b == 34) _ _ (inl none) (inl none)
+NoneOrAsMany-byte BehindQuote a b none apart = elim (cases_Bool (b == 34)) [
+  | inl quote ↦ rw quote (inl none)
+  | inr differs ↦ absurd (apart (λ is. let same : (b == 34) ≡ true = rw is refl in cc) refl)
+]
+
+-- an escape that is kept doesn't end an argument that no quote ended
+settled-none : (place : Place) (a : Arguments) → a.whole ≡ [] → (place ≡ BehindQuote → ⊥) → (settled_at place a).whole ≡ []
+settled-none Between a none apart = none
+settled-none InPlain a none apart = none
+settled-none InQuotes a none apart = none
+settled-none BehindQuote a none apart = absurd (apart refl)
+
+NoneOrAsMany-unit : (a : Arguments) (unit : CopyUnit) → a.whole ≡ [] → ((unit ≡ Byte 34 → ⊥) → a.place ≡ BehindQuote → ⊥) → NoneOrAsMany a (with_unit a unit)
+NoneOrAsMany-unit a (Byte b) none apart =
+    NoneOrAsMany-byte a.place a b none (λ no_quote. apart (λ is. no_quote (ap (λ (unit : CopyUnit). elim unit [ Byte c ↦ c | Kept c ↦ c ]) is)))
+NoneOrAsMany-unit a (Kept b) none apart = inl (settled-none a.place a none (apart (λ is. cc)))
+
+-- without a first name there is no text
+no_texts : (texts : List (List ℕ)) → name_at 0 texts ≡ None → length texts ≡ 0
+no_texts [] none = refl
+no_texts (text ∷ texts) none = cc
+
+empty : (texts : List (List ℕ)) → length texts ≡ 0 → texts ≡ []
+empty [] none = refl
+empty (text ∷ texts) none = cc
+
+none_whole : (i : PageInput) → name_read i ≡ None → i.arguments.whole ≡ []
+none_whole i none = empty i.arguments.whole (sym (length-reverse i.arguments.whole) ∙ no_texts (reverse i.arguments.whole) none)
+
+-- where as many bytes are held the unit counts for no more
+NoMore-held : (i : PageInput) (unit : CopyUnit) → held (with_unit i.arguments unit) ≡ held i.arguments → NoMore (holding unit i) i
+NoMore-held i unit same =
+    let bytes : pushed (holding unit i) ≡ pushed i =
+    ap (λ n. bytes_ahead i.ahead + n + texts_held i.half + live_bytes i.calls) (held-only_kept (with_unit i.arguments unit) ∙ same) in
+    record { bytes = omega (arith, bytes); texts = omega arith; results = omega arith; stored = omega arith; names = omega arith; open_texts = omega arith }
+
+-- no name is whole behind a unit that a limit refuses
+no_name : (i : PageInput) (unit : CopyUnit) (l : Limits) (limit : Limit) → input_refusal l i ≡ None → input_refusal l (holding unit i) ≡ Some limit
+    → NoneOrAsMany i.arguments (with_unit i.arguments unit) → name_read (holding unit i) ≡ None
+no_name i unit l limit none refused (inl no_whole) = rw no_whole refl
+no_name i unit l limit none refused (inr same) =
+    let passes = input_refusal-no_more l (holding unit i) i (NoMore-held i unit same) none in cc
+
+-- where a unit of a name is refused, the name isn't whole behind it
+pub TakesAs-not_held : (appends : Bool) (unit : CopyUnit) (es : EnvironmentsOf) (old new : ReaderState) (before behind : PageUnread) (limit : Limit)
+    → ((unit ≡ Byte 34 → ⊥) → before.input.arguments.place ≡ BehindQuote → ⊥) → name_read before.input ≡ None
+    → InputBecame (holding unit before.input) before behind (Err limit)
+    → TakesAs (λ k. string_name_behind (holding unit before.input) appends (name_read (holding unit before.input))) es old new before behind (Err limit)
+TakesAs-not_held appends unit es old new before behind limit apart none refused = record {
+  takes = λ l h stands ready.
+      let within = refused_none old.registers before ready in
+      let held = NoneOrAsMany-unit before.input.arguments unit (none_whole before.input none) apart in
+      let still = no_name before.input unit before.limits limit within (refused.becomes within) held in
+      let here = TakesAs-as (λ k. going_on (holding unit before.input) (StringName appends))
+      (λ k. string_name_behind (holding unit before.input) appends (name_read (holding unit before.input))) es old new before behind (Err limit)
+      (λ k. ap (string_name_behind (holding unit before.input) appends) (sym still))
+      (TakesAs-not_became (holding unit before.input) (StringName appends) es old new before behind limit refused) in
+      here.takes l h stands ready;
+}

@@ -1,0 +1,208 @@
+-- What the code does where a string's name and text are read, as the definition does it.
+use Rattle.std.proofs.Common.{◌≡◌, ℕ, Bool, true, false, [], Option, Some, None, Result, Ok, Err, inl, inr, refl, sym, subst, ap, ◌∙◌, ◌==◌}
+use Rattle.std.specs.Option.{option_to_list}
+use Rattle.std.specs.Prelude.{is_some, option_map, ◌&&◌}
+use Rattle.std.proofs.lemmas.Bool.{cases_Bool, eqb-true}
+use Rattle.roff_requests.specs.declared.environments.Environments.{Environments as EnvironmentsOf}
+use Rattle.roff_num.specs.declared.limit.Limit.{Limit}
+use Rattle.roff_escape.specs.Half.{unit_bytes}
+use Rattle.roff_ahead.specs.Input.{holding_plain}
+use Rattle.roff_ahead.specs.Input.Names.{adding, calling, texts_of}
+use Rattle.roff_store.specs.Named.{entry_of}
+use Rattle.roff_store.specs.TextCalls.{Set}
+use Rattle.roff_store.specs.Texts.{Entry, Body as BodyOfName, Request as RequestOfName, has_body, is_body, kind_given, kind_of}
+use Rattle.roff_store.specs.declared.text.Kind.{Kind}
+use Rattle.roff_store.specs.declared.text.Kind.TheVariants.{Body as BodyGiven, Request as RequestGiven}
+use Rattle.roff_scan.specs.Unread.{changing, input_refusal}
+use Rattle.roff_escape.specs.declared.half.CopyUnit.{CopyUnit}
+use Rattle.roff_escape.specs.declared.half.CopyUnit.TheVariants.{Byte, Kept}
+use Rattle.roff_escape.specs.declared.half.Read.{Read}
+use Rattle.roff_escape.specs.declared.half.Read.TheVariants.{GoesOn, Unit as OneUnit, Holds, Escape, Asks, Motion, Measures, Tells, Decides}
+use Rattle.roff_requests.specs.Events.Meant.{events_meant, none_meant}
+use Rattle.roff_reader.specs.Reader.State.{ReaderState}
+use Rattle.roff_reader.specs.Reader.Taken.{InputBecame, IsInputNow, IsReady, TakesAs}
+use Rattle.roff_run.specs.Reading.Items.{PageUnread}
+use Rattle.roff_run.specs.Reading.Items.{PageInput, Taking, going_on}
+use Rattle.roff_run.specs.Reading.Messages.{message_unit}
+use Rattle.roff_run.specs.Reading.Strings.{name_read, string_emptied, string_grown, string_name_found, string_name_or_text, string_name_unit, string_text_found, string_unit}
+use Rattle.roff_run.specs.Reading.Units.{no_unit_found, settling}
+use Rattle.roff_num.specs.ShortNames.{name_bytes}
+use Rattle.roff_run.specs.Registers.{Known}
+use Rattle.roff_run.specs.Registers.Capped.{Capped}
+use Rattle.roff_run.specs.declared.message.Message.{Message}
+use Rattle.roff_reader.specs.declared.reader.Meaning.{Meaning}
+use Rattle.roff_run.specs.declared.reading.Reading.{Reading}
+use Rattle.roff_run.specs.declared.reading.Reading.TheVariants.{StringName, StringText, Telling}
+use Rattle.roff_num.specs.declared.short_name.ShortName.{ShortName}
+use Rattle.roff_run.proofs.InputCounts.{first_passed-few_names}
+use Rattle.roff_reader.proofs.TakesAs.{Takes-elsewhere, few_names, passed_none, passed_one}
+
+-- what is no unit there
+pub string_name_found-no_unit : (k : Known) (i : PageInput) (appends : Bool) (found : Read) → ((unit : CopyUnit) → found ≡ OneUnit unit → ⊥) → ((b : ℕ) → found ≡ Escape b → ⊥)
+    → no_unit_found k (settling i) (StringName appends) found ≡ string_name_found k i appends found
+string_name_found-no_unit k i appends (OneUnit unit) no_unit no_escape = absurd (no_unit unit refl)
+string_name_found-no_unit k i appends (Escape b) no_unit no_escape = absurd (no_escape b refl)
+string_name_found-no_unit k i appends GoesOn no_unit no_escape = refl
+string_name_found-no_unit k i appends (Holds unit) no_unit no_escape = refl
+string_name_found-no_unit k i appends (Asks purpose text) no_unit no_escape = refl
+string_name_found-no_unit k i appends (Motion columns remark) no_unit no_escape = refl
+string_name_found-no_unit k i appends (Measures width) no_unit no_escape = refl
+string_name_found-no_unit k i appends (Tells remark) no_unit no_escape = refl
+string_name_found-no_unit k i appends (Decides decision freed) no_unit no_escape = refl
+
+-- what is no unit there
+pub string_text_found-no_unit : (k : Known) (i : PageInput) (name : Option ShortName) (appends is_front : Bool) (found : Read) → ((unit : CopyUnit) → found ≡ OneUnit unit → ⊥) → ((b : ℕ) → found ≡ Escape b → ⊥)
+    → no_unit_found k i (StringText name appends is_front) found ≡ string_text_found k i name appends is_front found
+string_text_found-no_unit k i name appends is_front (OneUnit unit) no_unit no_escape = absurd (no_unit unit refl)
+string_text_found-no_unit k i name appends is_front (Escape b) no_unit no_escape = absurd (no_escape b refl)
+string_text_found-no_unit k i name appends is_front GoesOn no_unit no_escape = refl
+string_text_found-no_unit k i name appends is_front (Holds unit) no_unit no_escape = refl
+string_text_found-no_unit k i name appends is_front (Asks purpose text) no_unit no_escape = refl
+string_text_found-no_unit k i name appends is_front (Motion columns remark) no_unit no_escape = refl
+string_text_found-no_unit k i name appends is_front (Measures width) no_unit no_escape = refl
+string_text_found-no_unit k i name appends is_front (Tells remark) no_unit no_escape = refl
+string_text_found-no_unit k i name appends is_front (Decides decision freed) no_unit no_escape = refl
+
+-- what a change of the input answers says what is the input now
+IsInputNow-changing : (i : PageInput) (before behind : PageUnread) (result : Result (Unit {0}) Limit) → (result, behind) ≡ changing i before
+    → IsInputNow i before behind result
+IsInputNow-changing i before behind (Ok done) changes = passed_none (input_refusal before.limits i) i before behind done changes
+IsInputNow-changing i before behind (Err limit) changes = passed_one (input_refusal before.limits i) i before behind limit changes
+
+pub InputBecame-changing : (i : PageInput) (before behind : PageUnread) (result : Result (Unit {0}) Limit) → (result, behind) ≡ changing i before
+    → InputBecame i before behind result
+InputBecame-changing i before behind result changes = record { becomes = λ within. IsInputNow-changing i before behind result changes }
+
+-- so does one behind another change that no limit is asked for
+IsInputNow-elsewhere : (i j : PageInput) (before behind : PageUnread) (result : Result (Unit {0}) Limit)
+    → IsInputNow i (record before { input = j }) behind result → IsInputNow i before behind result
+IsInputNow-elsewhere i j before behind (Ok done) now = now
+IsInputNow-elsewhere i j before behind (Err limit) now = now
+
+-- no limit refuses the input of a reader that is ready
+pub refused_none : (r : Capped) (u : PageUnread) → IsReady r u → input_refusal u.limits u.input ≡ None
+refused_none r u ready = sym (first_passed-few_names u.limits r.all u.input (few_names r u ready)) ∙ ready.within
+
+-- the input became this, and this is read on
+pub TakesAs-became : (i : PageInput) (place : Reading) (es : EnvironmentsOf) (old new : ReaderState) (before behind : PageUnread) (m : Meaning) (done : Unit {0})
+    → InputBecame i before behind (Ok done) → new ≡ record old { reading = place } → m.message ≡ None → m.events ≡ none_meant
+    → TakesAs (λ k. going_on i place) es old new before behind (Ok m)
+TakesAs-became i place es old new before behind m done became came silent none = record {
+  takes = λ l h stands ready.
+      let now = became.becomes (refused_none old.registers before ready) in
+      record {
+        became = record {
+          input = now.0;
+          reading = ap (λ (s : ReaderState). s.reading) came;
+          registers = ap (λ (s : ReaderState). s.registers) came;
+          within = first_passed-few_names before.limits old.registers.all i (few_names old.registers before ready) ∙ now.1;
+        };
+        messages = ap (λ (message : Option Message). option_to_list message) silent;
+        events = ap (events_meant new.requested) none;
+      };
+}
+
+-- or a limit refuses it
+pub TakesAs-not_became : (i : PageInput) (place : Reading) (es : EnvironmentsOf) (old new : ReaderState) (before behind : PageUnread) (limit : Limit)
+    → InputBecame i before behind (Err limit) → TakesAs (λ k. going_on i place) es old new before behind (Err limit)
+TakesAs-not_became i place es old new before behind limit became = record {
+  takes = λ l h stands ready.
+      first_passed-few_names before.limits old.registers.all i (few_names old.registers before ready)
+      ∙ became.becomes (refused_none old.registers before ready);
+}
+
+-- other numbers differ
+pub other : (b n : ℕ) → (b ≡ n → ⊥) → (b == n) ≡ false
+other b n differs = elim (cases_Bool (b == n)) [ inl is ↦ absurd (differs (eqb-true b n is)) | inr differing ↦ differing ]
+
+-- a unit of a string's text that isn't dropped in front, and doesn't end it
+pub string_unit-grown : (i : PageInput) (name : Option ShortName) (appends is_front : Bool) (unit : CopyUnit) → (unit ≡ Byte 10 → ⊥)
+    → (unit ≡ Byte 32 → is_front ≡ true → ⊥) → (unit ≡ Byte 34 → is_front ≡ true → ⊥)
+    → going_on (string_grown name unit i) (StringText name appends false) ≡ string_unit i name appends is_front unit
+string_unit-grown i name appends is_front (Kept b) no_newline no_blank no_quote = refl
+string_unit-grown i name appends false (Byte b) no_newline no_blank no_quote =
+    let newline : (b == 10) ≡ false = other b 10 (λ is. no_newline (ap (λ (c : ℕ). Byte c) is)) in rw newline refl
+string_unit-grown i name appends true (Byte b) no_newline no_blank no_quote =
+    let newline : (b == 10) ≡ false = other b 10 (λ is. no_newline (ap (λ (c : ℕ). Byte c) is)) in
+    let blank : (b == 32) ≡ false = other b 32 (λ is. no_blank (ap (λ (c : ℕ). Byte c) is) refl) in
+    let quote : (b == 34) ≡ false = other b 34 (λ is. no_quote (ap (λ (c : ℕ). Byte c) is) refl) in
+    rw (newline, blank, quote) refl
+
+-- a unit of a message's text that isn't dropped in front, and doesn't end it
+pub message_unit-held : (i : PageInput) (aborts is_front : Bool) (unit : CopyUnit) → (unit ≡ Byte 10 → ⊥) → (unit ≡ Byte 32 → is_front ≡ true → ⊥)
+    → going_on (holding_plain unit i) (Telling aborts false) ≡ message_unit i aborts is_front unit
+message_unit-held i aborts is_front (Kept b) no_newline no_blank = refl
+message_unit-held i aborts false (Byte b) no_newline no_blank =
+    let newline : (b == 10) ≡ false = other b 10 (λ is. no_newline (ap (λ (c : ℕ). Byte c) is)) in rw newline refl
+message_unit-held i aborts true (Byte b) no_newline no_blank =
+    let newline : (b == 10) ≡ false = other b 10 (λ is. no_newline (ap (λ (c : ℕ). Byte c) is)) in
+    let blank : (b == 32) ≡ false = other b 32 (λ is. no_blank (ap (λ (c : ℕ). Byte c) is) refl) in
+    rw (newline, blank) refl
+
+-- a string with a name grows by what is added
+pub InputBecame-grown : (name : Option ShortName) (unit : CopyUnit) (before behind : PageUnread) (result : Result (Unit {0}) Limit) → is_some name ≡ true
+    → (result, behind) ≡ changing (adding (unit_bytes unit) before.input) before → InputBecame (string_grown name unit before.input) before behind result
+InputBecame-grown None unit before behind result is changes = absurd (cc)
+InputBecame-grown (Some name) unit before behind result is changes = InputBecame-changing (adding (unit_bytes unit) before.input) before behind result changes
+
+-- a name that stands for nothing, or for a request, has no body
+is_body-kind : (entry : Option Entry) (kind : Option Kind) → option_map kind_given kind ≡ option_map kind_of entry → ((count : ℕ) → kind ≡ Some (BodyGiven count) → ⊥)
+    → is_body entry ≡ false
+is_body-kind None kind same no_body = refl
+is_body-kind (Some (RequestOfName number)) kind same no_body = refl
+is_body-kind (Some (BodyOfName bytes)) None same no_body = cc
+is_body-kind (Some (BodyOfName bytes)) (Some (BodyGiven count)) same no_body = absurd (no_body count refl)
+is_body-kind (Some (BodyOfName bytes)) (Some (RequestGiven number)) same no_body = cc
+
+no_second : (appends has : Bool) → has ≡ false → (appends && has) ≡ false
+no_second true has none = none
+no_second false has none = refl
+
+-- a string that isn't appended to, or has no body to append to, is empty
+emptied : (name : ShortName) (appends : Bool) (before behind : PageUnread) (result : Result (Unit {0}) Limit)
+    → (appends && has_body (name_bytes name) (texts_of before.input)) ≡ false
+    → (result, behind) ≡ changing (calling (Set (name_bytes name) (BodyOfName [])) before.input) before
+    → InputBecame (string_emptied (Some name) appends before.input) before behind result
+emptied name appends before behind result none changes =
+    rw none (InputBecame-changing (calling (Set (name_bytes name) (BodyOfName [])) before.input) before behind result changes)
+
+pub InputBecame-fresh : (name : ShortName) (appends : Bool) (before behind : PageUnread) (result : Result (Unit {0}) Limit) → appends ≡ false
+    → (result, behind) ≡ changing (calling (Set (name_bytes name) (BodyOfName [])) before.input) before
+    → InputBecame (string_emptied (Some name) appends before.input) before behind result
+InputBecame-fresh name appends before behind result fresh changes = emptied name appends before behind result (rw fresh refl) changes
+
+pub InputBecame-new : (name : ShortName) (appends : Bool) (kind : Option Kind) (before behind : PageUnread) (result : Result (Unit {0}) Limit)
+    → option_map kind_given kind ≡ option_map kind_of (entry_of (name_bytes name) before.input.names) → ((count : ℕ) → kind ≡ Some (BodyGiven count) → ⊥)
+    → (result, behind) ≡ changing (calling (Set (name_bytes name) (BodyOfName [])) before.input) before
+    → InputBecame (string_emptied (Some name) appends before.input) before behind result
+InputBecame-new name appends kind before behind result same no_body changes =
+    emptied name appends before behind result
+    (no_second appends _ (is_body-kind (entry_of (name_bytes name) before.input.names) kind same no_body)) changes
+
+-- what is taken once the input became another
+pub TakesAs-elsewhere : (t : PageInput → Taking) (i : PageInput) (es : EnvironmentsOf) (old new : ReaderState) (before mid behind : PageUnread) (done : Unit {0})
+    (result : Result Meaning Limit) → InputBecame i before mid (Ok done) → TakesAs (λ k. t mid.input) es old new mid behind result
+    → TakesAs (λ k. t i) es old new before behind result
+TakesAs-elsewhere t i es old new before mid behind done result became takes = record {
+  takes = λ l h stands ready.
+      let now = became.becomes (refused_none old.registers before ready) in
+      let moved : TakesAs (λ k. t i) es old new (record before { input = i }) behind result =
+      subst (λ (u : PageUnread). TakesAs (λ k. t u.input) es old new u behind result) now.0 takes in
+      let within = first_passed-few_names before.limits old.registers.all i (few_names old.registers before ready) ∙ now.1 in
+      Takes-elsewhere (t i) old.registers new before behind i result (moved.takes l h stands (record { cap = ready.cap; within = within }));
+}
+
+-- another unit than a newline or a quote may be the text's first one, where no quote follows the quote before
+pub string_name_unit-other : (i : PageInput) (appends : Bool) (unit : CopyUnit) → (unit ≡ Byte 10 → ⊥) → (unit ≡ Byte 34 → ⊥)
+    → string_name_or_text (settling i) appends unit (name_read (settling i)) ≡ string_name_unit i appends unit
+string_name_unit-other i appends (Kept b) no_newline no_quote = refl
+string_name_unit-other i appends (Byte b) no_newline no_quote =
+    let newline : (b == 10) ≡ false = other b 10 (λ is. no_newline (ap (λ (c : ℕ). Byte c) is)) in
+    let quote : (b == 34) ≡ false = other b 34 (λ is. no_quote (ap (λ (c : ℕ). Byte c) is)) in
+    rw (newline, quote) refl
+
+-- a quote may belong to the name
+pub string_name_unit-quote : (i : PageInput) (appends : Bool) (unit : CopyUnit) → unit ≡ Byte 34
+    → string_name_or_text i appends unit (name_read i) ≡ string_name_unit i appends unit
+string_name_unit-quote i appends unit is =
+    subst (λ (u : CopyUnit). string_name_or_text i appends u (name_read i) ≡ string_name_unit i appends u) (sym is) refl

@@ -1,0 +1,587 @@
+-- What the code of the reader takes, piece by piece, as the definition takes it.
+use Rattle.std.proofs.Common.{◌≡◌, ℕ, ◌≤◌, Bool, true, false, cond, List, [], ◌∷◌, ◌++◌, length, Option, Some, None, Result, Ok, Err, refl, sym, subst, ap, ◌∙◌, arith}
+use Rattle.std.specs.Option.{option_to_list}
+use Rattle.std.specs.Prelude.{nat_lt, ◌&&◌, drop, is_some, if◌then◌else◌, ◌==◌}
+use Rattle.roff_num.specs.declared.limits.Limits.{Limits}
+use Rattle.roff_run.specs.Environments.{interrupted_line}
+use Rattle.roff_run.specs.Events.Lines.{line_events}
+use Rattle.roff_requests.specs.Events.Meant.{events_meant, few_meant, none_meant}
+use Rattle.roff_requests.specs.Environments.Standing.{StandFor}
+use Rattle.roff_requests.specs.declared.environments.Environments.{Environments as EnvironmentsOf}
+use Rattle.roff_num.specs.declared.limit.Limit.{Limit}
+use Rattle.roff_num.specs.declared.limit.Limit.TheVariants.{Names}
+use Rattle.roff_num.specs.Ranges.{is_in_range}
+use Rattle.roff_source.specs.Bytes.{blank, is_dropped, newline}
+use Rattle.roff_escape.specs.Half.{Half, texts_held}
+use Rattle.roff_escape.specs.Halves.{Reads, byte_read, reading_ended}
+use Rattle.roff_ahead.specs.Input.{choosing, pushing, with_half}
+use Rattle.roff_ahead.specs.Input.Calls.{without_last}
+use Rattle.roff_scan.specs.Unread.{changing, input_refusal, reading, unless_passed}
+use Rattle.roff_escape.specs.declared.half.CopyUnit.{CopyUnit}
+use Rattle.roff_escape.specs.declared.half.Read.{Read}
+use Rattle.roff_escape.specs.declared.half.Read.TheVariants.{GoesOn, Unit as OneUnit, Holds, Escape, Asks, Motion, Measures, Tells, Decides}
+use Rattle.roff_escape.specs.declared.half.Surroundings.{Surroundings}
+use Rattle.roff_escape.proofs.TextsHeld.{texts_held-byte_read, texts_held-reading_ended}
+use Rattle.roff_store.proofs.Entries.{length-with_entry}
+use Rattle.roff_store.specs.Named.{with_entry, entry_of}
+use Rattle.roff_store.specs.Registers.{Registers, register_of, with_step, next_value}
+use Rattle.roff_num.specs.declared.direction.Direction.{Direction}
+use Rattle.roff_store.specs.declared.register.Register.{Register}
+use Rattle.roff_run.specs.Output.{PageHistory}
+use Rattle.roff_reader.specs.Reader.State.{ReaderState}
+use Rattle.roff_reader.specs.Reader.Taken.{IsReady, Takes, TakesAs, Took}
+use Rattle.roff_run.specs.Reading.Items.{PageUnread}
+use Rattle.roff_run.specs.Reading.{interrupted, kept_taking, taking}
+use Rattle.roff_run.specs.Reading.Arguments.{arguments_found}
+use Rattle.roff_run.specs.Reading.Beginnings.{beginning_text, escape_begun, first_escape, first_taking, going_on_told, line_begun, line_begun_as}
+use Rattle.roff_run.specs.Reading.ControlLines.{line_taking}
+use Rattle.roff_run.specs.Reading.Ends.{end_taking, last_line_ended}
+use Rattle.roff_run.specs.Reading.Escapes.{interpolating}
+use Rattle.roff_run.specs.Reading.Items.{PageInput, Taking, behind_events, going_on, meaning_events}
+use Rattle.roff_run.specs.Reading.Messages.{message_found}
+use Rattle.roff_run.specs.Reading.Strings.{string_line_ended}
+use Rattle.roff_run.specs.Reading.Units.{no_unit_found, settling}
+use Rattle.roff_run.specs.Registers.{AllRegisters, Known, changed_by_all, is_page, is_read_only, known_behind, step_changes, step_messages, stepped_page, text_of_register}
+use Rattle.roff_run.specs.Registers.Capped.{Capped}
+use Rattle.roff_requests.specs.Registers.Coded.{known_of}
+use Rattle.roff_run.specs.Requests.{PageEvent, row_of}
+use Rattle.roff_run.specs.Run.{known_at}
+use Rattle.roff_run.specs.Run.Counts.{counts_in, first_passed}
+use Rattle.roff_run.specs.declared.message.Message.{Message}
+use Rattle.roff_reader.specs.declared.reader.Meaning.{Meaning}
+use Rattle.roff_run.specs.declared.reading.Reading.{Reading}
+use Rattle.roff_run.specs.declared.reading.Reading.TheVariants.{StringName, StringText, LineStart, Branch, Braced, Text as InText, Control, Name, Arguments as InArguments, Deciding, Skipping, Dropped, Telling, Told, Exiting, Calling, Defining}
+use Rattle.roff_num.specs.declared.short_name.ShortName.{ShortName}
+use Rattle.roff_run.specs.declared.reading.TextLine.{TextLine}
+use Rattle.roff_run.specs.declared.reading.TextStep.{TextStep}
+use Rattle.roff_requests.specs.declared.registers.Facts.{Facts}
+use Rattle.roff_run.specs.declared.request.LineReading.{LineReading}
+use Rattle.roff_run.specs.declared.request.Request.{Request}
+use Rattle.roff_run.specs.TextLine.Stepping.{step_at}
+use Rattle.roff_run.proofs.InputCounts.{NoMore, NoMore-interrupted, NoMore-settling, first_passed-few_names, first_passed-no_more, one_of}
+
+-- what is taken where other units are half read, and something else was read of the line
+pub Takes-elsewhere : (t : Taking) (old : Capped) (new : ReaderState) (before behind : PageUnread) (i : PageInput) (result : Result Meaning Limit)
+    → Takes t old new (record before { input = i }) behind result → Takes t old new before behind result
+Takes-elsewhere t old new before behind i (Ok m) took = record {
+  became = record {
+    input = took.became.input;
+    reading = took.became.reading;
+    registers = took.became.registers;
+    within = took.became.within;
+  };
+  messages = took.messages;
+  events = took.events;
+}
+Takes-elsewhere t old new before behind i (Err limit) passed = passed
+
+-- where no more is held of texts that are half read
+NoMore-with_half : (half : List Half) (i : PageInput) → texts_held half ≤ texts_held i.half → NoMore (with_half half i) i
+NoMore-with_half half i fewer = record { bytes = omega (arith, fewer); texts = omega arith; results = omega arith; stored = omega arith; names = omega arith; open_texts = omega arith }
+
+-- where a condition begins
+pub NoMore-choosing : (i : PageInput) → NoMore (choosing i) i
+NoMore-choosing i = NoMore-with_half (choosing i).half i (omega arith)
+
+-- where the newest result is taken
+fewer_kept : (kept : List (Bool × ℕ)) → length (drop 1 kept) ≤ length kept
+fewer_kept [] = omega arith
+fewer_kept (result ∷ kept) = omega arith
+
+pub NoMore-without_last : (i : PageInput) → NoMore (without_last i) i
+NoMore-without_last i =
+    let fewer = fewer_kept i.kept in
+    record { bytes = omega arith; texts = omega arith; results = omega arith; stored = omega arith; names = omega arith; open_texts = omega arith }
+
+-- what something reads, with what is half read then
+pub TakesAs-read : (t : Known → PageInput → Read → Taking) (r : Reads) (es : EnvironmentsOf) (old new : ReaderState) (before mid behind : PageUnread)
+    (found : Read) (result : Result Meaning Limit) → (found, mid) ≡ reading r before → texts_held r.1 ≤ texts_held before.input.half
+    → TakesAs (λ k. t k mid.input found) es old new mid behind result
+    → TakesAs (λ k. t k (with_half r.1 before.input) r.0) es old new before behind result
+TakesAs-read t r es old new before mid behind found result reads fewer takes =
+    let half : PageInput = with_half r.1 before.input in
+    let behind_it : PageUnread = record before { input = half } in
+    let moved : TakesAs (λ k. t k half r.0) es old new behind_it behind result =
+    subst (λ (p : Read × PageUnread). TakesAs (λ k. t k p.1.input p.0) es old new p.1 behind result) reads takes in
+    record {
+      takes = λ l h stands ready.
+          let within = first_passed-no_more before.limits old.registers.all half before.input (NoMore-with_half r.1 before.input fewer) ready.within in
+          Takes-elsewhere (t (known_at h old.registers.all before.input) half r.0) old.registers new before behind half result
+          (moved.takes l h stands (record { cap = ready.cap; within = within }));
+    }
+
+-- the same from where something else is read of the line
+pub TakesAs-set : (t : Known → Taking) (es : EnvironmentsOf) (old set new : ReaderState) (before behind : PageUnread) (result : Result Meaning Limit)
+    → set.registers ≡ old.registers → TakesAs t es set new before behind result → TakesAs t es old new before behind result
+TakesAs-set t es old set new before behind result same takes = record {
+  takes = λ l h stands ready.
+      subst (λ (r : Capped). Takes (t (known_at h r.all before.input)) r new before behind result) same
+      (takes.takes l h stands (subst (λ (r : Capped). IsReady r before) (sym same) ready));
+}
+
+-- what is taken where this is being read
+pub TakesAs-where : (t : Known → Reading → Taking) (place : Reading) (es : EnvironmentsOf) (old new : ReaderState) (before behind : PageUnread) (result : Result Meaning Limit)
+    → old.reading ≡ place → TakesAs (λ k. t k place) es old new before behind result → TakesAs (λ k. t k old.reading) es old new before behind result
+TakesAs-where t place es old new before behind result is takes =
+    subst (λ (r : Reading). TakesAs (λ k. t k r) es old new before behind result) (sym is) takes
+
+-- what is taken as one of two that are equal is taken as the other
+pub TakesAs-as : (s t : Known → Taking) (es : EnvironmentsOf) (old new : ReaderState) (before behind : PageUnread) (result : Result Meaning Limit)
+    → ((k : Known) → s k ≡ t k) → TakesAs s es old new before behind result → TakesAs t es old new before behind result
+TakesAs-as s t es old new before behind result same takes = record {
+  takes = λ l h stands ready.
+      subst (λ (taking : Taking). Takes taking old.registers new before behind result) (same (known_at h old.registers.all before.input))
+      (takes.takes l h stands ready);
+}
+
+-- what is taken once no quote follows the quote before
+pub TakesAs-settled : (t : Known → PageInput → Taking) (es : EnvironmentsOf) (old new : ReaderState) (before mid behind : PageUnread) (result : Result Meaning Limit)
+    → mid ≡ record before { input = settling before.input } → TakesAs (λ k. t k mid.input) es old new mid behind result
+    → TakesAs (λ k. t k (settling before.input)) es old new before behind result
+TakesAs-settled t es old new before mid behind result settles takes =
+    let i : PageInput = settling before.input in
+    let moved : TakesAs (λ k. t k i) es old new (record before { input = i }) behind result =
+    subst (λ (u : PageUnread). TakesAs (λ k. t k u.input) es old new u behind result) settles takes in
+    record {
+      takes = λ l h stands ready.
+          let within = first_passed-no_more before.limits old.registers.all i before.input (NoMore-settling before.input) ready.within in
+          Takes-elsewhere (t (known_at h old.registers.all before.input) i) old.registers new before behind i result
+          (moved.takes l h stands (record { cap = ready.cap; within = within }));
+    }
+
+-- of as many newlines and the same calls the same is known
+known_at-same : (h : PageHistory) (rs : AllRegisters) (now before : PageInput) → now.newlines ≡ before.newlines → now.calls ≡ before.calls
+    → known_at h rs now ≡ known_at h rs before
+known_at-same h rs now before newlines calls =
+    ap (λ (lines : ℕ). known_at h rs (record now { newlines = lines })) newlines
+    ∙ ap (λ (calls : List (List (List ℕ))). known_at h rs (record now { newlines = before.newlines; calls = calls })) calls
+
+-- what is taken once the input is another one, of no more counts, as many newlines and the same calls
+pub TakesAs-less : (i : PageInput) (t : Known → Taking) (es : EnvironmentsOf) (old new : ReaderState) (before behind : PageUnread) (result : Result Meaning Limit)
+    → NoMore i before.input → i.newlines ≡ before.input.newlines → i.calls ≡ before.input.calls
+    → TakesAs t es old new (record before { input = i }) behind result → TakesAs t es old new before behind result
+TakesAs-less i t es old new before behind result less newlines calls takes = record {
+  takes = λ l h stands ready.
+      let within = first_passed-no_more before.limits old.registers.all i before.input less ready.within in
+      let known : known_at h old.registers.all i ≡ known_at h old.registers.all before.input =
+      known_at-same h old.registers.all i before.input newlines calls in
+      Takes-elsewhere (t (known_at h old.registers.all before.input)) old.registers new before behind i result
+      (subst (λ (k : Known). Takes (t k) old.registers new (record before { input = i }) behind result) known
+      (takes.takes l h stands (record { cap = ready.cap; within = within })));
+}
+
+-- what the first byte behind a name does, by how the line of its request is read
+pub TakesAs-line : (line : LineReading) (breaks : Bool) (request : Request) (b : ℕ) (es : EnvironmentsOf) (old new : ReaderState) (before behind : PageUnread) (result : Result Meaning Limit)
+    → (row_of request).line ≡ line → TakesAs (λ k. line_taking k before.input breaks request line b) es old new before behind result
+    → TakesAs (λ k. line_taking k before.input breaks request (row_of request).line b) es old new before behind result
+TakesAs-line line breaks request b es old new before behind result is takes =
+    subst (λ (l : LineReading). TakesAs (λ k. line_taking k before.input breaks request l b) es old new before behind result) (sym is) takes
+
+-- an input that changed
+pub passed_none : (refusal : Option Limit) (i : PageInput) (u behind : PageUnread) (done : Unit {0}) → (Ok done, behind) ≡ unless_passed refusal i u
+    → (behind ≡ record u { input = i }) × (refusal ≡ None)
+passed_none None i u behind done is = (ap (λ (answer : Result (Unit {0}) Limit × PageUnread). answer.1) is, refl)
+passed_none (Some limit) i u behind done is =
+    let differs = ap (λ (answer : Result (Unit {0}) Limit × PageUnread). answer.0) is in cc
+
+pub passed_one : (refusal : Option Limit) (i : PageInput) (u behind : PageUnread) (limit : Limit) → (Err limit, behind) ≡ unless_passed refusal i u → refusal ≡ Some limit
+passed_one None i u behind limit is =
+    let differs = ap (λ (answer : Result (Unit {0}) Limit × PageUnread). answer.0) is in cc
+passed_one (Some other) i u behind limit is =
+    let same = ap (λ (answer : Result (Unit {0}) Limit × PageUnread). answer.0) is in cc
+
+-- a step makes no name a register
+length-stepped : (name : List ℕ) (r : Register) (named : Registers) (has in_range : Bool) → is_some (entry_of name named) ≡ has
+    → length (cond (has && in_range) (with_entry name r named) named) ≡ length named
+length-stepped name r named true true has = rw has at (length-with_entry name r named)
+length-stepped name r named true false has = refl
+length-stepped name r named false in_range has = refl
+
+-- registers with as many names
+abbrev SameNames : AllRegisters → AllRegisters → Type 0
+SameNames before now = length now.named ≡ length before.named
+
+length-step_changes : (step : Option Direction) (name : List ℕ) (rs : AllRegisters) → SameNames rs (changed_by_all (step_changes step name) rs)
+length-step_changes None name rs = refl
+length-step_changes (Some direction) name rs =
+    one_of (SameNames rs) (is_read_only name) _ _ refl
+    (one_of (SameNames rs) (is_page name) (record rs { page = stepped_page direction rs.page }) (record rs { named = with_step direction name rs.named }) refl
+    (length-stepped name _ rs.named (is_some (entry_of name rs.named)) (is_in_range (next_value direction (register_of name rs.named))) refl))
+
+-- no count is above its limit, so no more names than may have a register
+pub few_names-of : {A : Type 0} (x : A) (rest : Option A) (many : Bool) → (if many then Some x else rest) ≡ None → many ≡ false
+few_names-of x rest true none = cc
+few_names-of x rest false none = refl
+
+pub few_names : (r : Capped) (u : PageUnread) → IsReady r u → nat_lt u.limits.names (length r.all.named) ≡ false
+few_names r u ready = few_names-of Names (input_refusal u.limits u.input) (nat_lt u.limits.names (length r.all.named)) ready.within
+
+-- behind a step the input's counts decide
+passed-stepped : (step : Option Direction) (name : List ℕ) (r : Capped) (u : PageUnread) (i : PageInput) → IsReady r u
+    → first_passed u.limits (counts_in (changed_by_all (step_changes step name) r.all) i) ≡ input_refusal u.limits i
+passed-stepped step name r u i ready =
+    let names : nat_lt u.limits.names (length (changed_by_all (step_changes step name) r.all).named) ≡ false =
+    ap (nat_lt u.limits.names) (length-step_changes step name r.all) ∙ few_names r u ready in
+    first_passed-few_names u.limits (changed_by_all (step_changes step name) r.all) i names
+
+-- what a register's text is, as it is known at a history
+pub record KnowsText (es : EnvironmentsOf) (rs : AllRegisters) (i : PageInput) (step : Option Direction) (name text : List ℕ) : Type 0 where
+  pub facts : Facts
+  pub known : (l : Limits) (h : PageHistory) (all : AllRegisters) → StandFor l h es → known_of facts all ≡ known_at h all i
+  pub text_is : text ≡ text_of_register (known_behind (step_changes step name) (known_of facts rs)) name
+
+text_at : (es : EnvironmentsOf) (rs : AllRegisters) (i : PageInput) (step : Option Direction) (name text : List ℕ) → KnowsText es rs i step name text
+    → (l : Limits) (h : PageHistory) → StandFor l h es
+    → text ≡ text_of_register (known_behind (step_changes step name) (known_at h rs i)) name
+text_at es rs i step name text knows l h stands =
+    knows.text_is ∙ ap (λ (k : Known). text_of_register (known_behind (step_changes step name) k) name) (knows.known l h rs stands)
+
+-- a register is read in the place of its escape
+pub TakesAs-interpolated : (es : EnvironmentsOf) (old : ReaderState) (registers : Capped) (before behind : PageUnread) (step : Option Direction) (name text : List ℕ) (m : Meaning) (done : Unit {0})
+    → KnowsText es old.registers.all before.input step name text
+    → registers ≡ record old.registers { all = changed_by_all (step_changes step name) old.registers.all }
+    → option_to_list m.message ≡ step_messages step name old.registers.all → m.events ≡ none_meant
+    → (Ok done, behind) ≡ changing (pushing text before.input) before
+    → TakesAs (λ k. interpolating k before.input old.reading step name) es old (record old { registers = registers }) before behind (Ok m)
+TakesAs-interpolated es old registers before behind step name text m done knows changed messages events pushes = record {
+  takes = λ l h stands ready.
+      let known : text ≡ text_of_register (known_behind (step_changes step name) (known_at h old.registers.all before.input)) name =
+      text_at es old.registers.all before.input step name text knows l h stands in
+      let passed = passed_none (input_refusal before.limits (pushing text before.input)) (pushing text before.input) before behind done pushes in
+      let new : ReaderState = record old { registers = registers } in
+      let at : List ℕ → Taking = λ t. record {
+        input = pushing t before.input;
+        reading = old.reading;
+        effect = record { messages = step_messages step name old.registers.all; changes = step_changes step name; calls = []; events = [] };
+      } in
+      subst (λ (t : List ℕ). Took (at t) old.registers new before behind m) known
+      (record {
+        became = record {
+          input = passed.0;
+          reading = refl;
+          registers = changed;
+          within = passed-stepped step name old.registers before (pushing text before.input) ready ∙ passed.1;
+        };
+        messages = messages;
+        events = ap (events_meant old.requested) events;
+      });
+}
+
+-- or its text doesn't fit
+pub TakesAs-not_interpolated : (es : EnvironmentsOf) (old new : ReaderState) (before behind : PageUnread) (step : Option Direction) (name text : List ℕ) (limit : Limit)
+    → KnowsText es old.registers.all before.input step name text
+    → (Err limit, behind) ≡ changing (pushing text before.input) before
+    → TakesAs (λ k. interpolating k before.input old.reading step name) es old new before behind (Err limit)
+TakesAs-not_interpolated es old new before behind step name text limit knows pushes = record {
+  takes = λ l h stands ready.
+      let known : text ≡ text_of_register (known_behind (step_changes step name) (known_at h old.registers.all before.input)) name =
+      text_at es old.registers.all before.input step name text knows l h stands in
+      let refused = passed_one (input_refusal before.limits (pushing text before.input)) (pushing text before.input) before behind limit pushes in
+      subst (λ (t : List ℕ). first_passed before.limits (counts_in (changed_by_all (step_changes step name) old.registers.all) (pushing t before.input)) ≡ Some limit) known
+      (passed-stepped step name old.registers before (pushing text before.input) ready ∙ refused);
+}
+
+-- a byte that isn't one of the line is taken
+pub TakesAs-interrupted : (es : EnvironmentsOf) (old : ReaderState) (u behind : PageUnread) (m : Meaning) → behind ≡ record u { input = interrupted old.reading u.input }
+    → m.message ≡ None → m.events ≡ none_meant → TakesAs (λ k. going_on (interrupted old.reading u.input) old.reading) es old old u behind (Ok m)
+TakesAs-interrupted es old u behind m came silent none = record {
+  takes = λ l h stands ready. record {
+    became = record {
+      input = came;
+      reading = refl;
+      registers = refl;
+      within = first_passed-no_more u.limits old.registers.all (interrupted old.reading u.input) u.input (NoMore-interrupted old.reading u.input) ready.within;
+    };
+    messages = ap (λ (message : Option Message). option_to_list message) silent;
+    events = ap (events_meant old.requested) none;
+  };
+}
+
+-- this is read on, and some events are meant
+pub TakesAs-meant : (t : Known → Taking) (behind : Reading) (events : List PageEvent) (es : EnvironmentsOf) (old new : ReaderState) (u : PageUnread) (m : Meaning)
+    → ((k : Known) → t k ≡ meaning_events u.input behind events) → new ≡ record old { reading = behind } → m.message ≡ None → m.events ≡ few_meant events
+    → TakesAs t es old new u u (Ok m)
+TakesAs-meant t behind events es old new u m as_defined came silent means = record {
+  takes = λ l h stands ready.
+      subst (λ (taking : Taking). Took taking old.registers new u u m) (sym (as_defined (known_at h old.registers.all u.input)))
+      (record {
+        became = record {
+          input = refl;
+          reading = ap (λ (s : ReaderState). s.reading) came;
+          registers = ap (λ (s : ReaderState). s.registers) came;
+          within = ready.within;
+        };
+        messages = ap (λ (message : Option Message). option_to_list message) silent;
+        events = ap (events_meant new.requested) means;
+      });
+}
+
+-- a step of a text line
+pub TakesAs-stepped : (t : PageInput → Taking) (step : TextStep) (es : EnvironmentsOf) (old new : ReaderState) (u : PageUnread) (m : Meaning)
+    → ((i : PageInput) → step_at i step ≡ t i) → new ≡ record old { reading = step.reading } → m.message ≡ step.message → m.events ≡ few_meant (line_events step.events)
+    → TakesAs (λ k. t u.input) es old new u u (Ok m)
+TakesAs-stepped t step es old new u m as_defined came says means = record {
+  takes = λ l h stands ready.
+      subst (λ (taking : Taking). Took taking old.registers new u u m) (as_defined u.input)
+      (record {
+        became = record {
+          input = refl;
+          reading = ap (λ (s : ReaderState). s.reading) came;
+          registers = ap (λ (s : ReaderState). s.registers) came;
+          within = ready.within;
+        };
+        messages = ap (λ (message : Option Message). option_to_list message) says;
+        events = ap (events_meant new.requested) means;
+      });
+}
+
+-- the input changes, and this is read on
+pub TakesAs-changed : (i : PageInput) (place : Reading) (es : EnvironmentsOf) (old new : ReaderState) (before behind : PageUnread) (m : Meaning) (done : Unit {0})
+    → (Ok done, behind) ≡ changing i before → new ≡ record old { reading = place } → m.message ≡ None → m.events ≡ none_meant
+    → TakesAs (λ k. going_on i place) es old new before behind (Ok m)
+TakesAs-changed i place es old new before behind m done changes came silent none = record {
+  takes = λ l h stands ready.
+      let passed = passed_none (input_refusal before.limits i) i before behind done changes in
+      record {
+        became = record {
+          input = passed.0;
+          reading = ap (λ (s : ReaderState). s.reading) came;
+          registers = ap (λ (s : ReaderState). s.registers) came;
+          within = first_passed-few_names before.limits old.registers.all i (few_names old.registers before ready) ∙ passed.1;
+        };
+        messages = ap (λ (message : Option Message). option_to_list message) silent;
+        events = ap (events_meant new.requested) none;
+      };
+}
+
+-- or a limit refuses the change
+pub TakesAs-not_changed : (i : PageInput) (place : Reading) (es : EnvironmentsOf) (old new : ReaderState) (before behind : PageUnread) (limit : Limit)
+    → (Err limit, behind) ≡ changing i before → TakesAs (λ k. going_on i place) es old new before behind (Err limit)
+TakesAs-not_changed i place es old new before behind limit changes = record {
+  takes = λ l h stands ready.
+      let refused = passed_one (input_refusal before.limits i) i before behind limit changes in
+      first_passed-few_names before.limits old.registers.all i (few_names old.registers before ready) ∙ refused;
+}
+
+-- what asks something of the run, from the answer that the environments give
+pub TakesAs-asked : {A : Type 0} (t : Known → A → Taking) (asked : Known → A) (answer : A) (es : EnvironmentsOf) (old new : ReaderState)
+    (before behind : PageUnread) (result : Result Meaning Limit)
+    → ((l : Limits) (h : PageHistory) (rs : AllRegisters) (i : PageInput) → StandFor l h es → answer ≡ asked (known_at h rs i))
+    → TakesAs (λ k. t k answer) es old new before behind result
+    → TakesAs (λ k. t k (asked k)) es old new before behind result
+TakesAs-asked t asked answer es old new before behind result answers takes = record {
+  takes = λ l h stands ready.
+      subst (λ x. Takes (t (known_at h old.registers.all before.input) x) old.registers new before behind result)
+      (answers l h old.registers.all before.input stands) (takes.takes l h stands ready);
+}
+
+-- how a byte is read, by the place on the line
+module _ (found_at : Known → PageInput → Read → Taking) (place : Known → Surroundings) (answer : Surroundings) (es : EnvironmentsOf)
+    (answers : (l : Limits) (h : PageHistory) (rs : AllRegisters) (i : PageInput) → StandFor l h es → answer ≡ place (known_at h rs i))
+    (old new : ReaderState) (before mid behind : PageUnread) (found : Read) (result : Result Meaning Limit) where
+  -- a byte of the line
+  pub TakesAs-read_at : (b : ℕ) → (found, mid) ≡ reading (byte_read answer before.input.half b) before
+      → TakesAs (λ k. found_at k mid.input found) es old new mid behind result
+      → TakesAs (λ k.
+      found_at k (with_half (byte_read (place k) before.input.half b).1 before.input) (byte_read (place k) before.input.half b).0)
+      es old new before behind result
+  TakesAs-read_at b reads takes =
+      let half : List Half = before.input.half in
+      TakesAs-asked (λ k s. found_at k (with_half (byte_read s half b).1 before.input) (byte_read s half b).0) place answer es old new
+      before behind result answers
+      (TakesAs-read found_at (byte_read answer half b) es old new before mid behind found result reads
+      (texts_held-byte_read answer b half) takes)
+
+  -- or the end of what is half read
+  pub TakesAs-ended_at : (found, mid) ≡ reading (reading_ended answer before.input.half) before
+      → TakesAs (λ k. found_at k mid.input found) es old new mid behind result
+      → TakesAs (λ k.
+      found_at k (with_half (reading_ended (place k) before.input.half).1 before.input) (reading_ended (place k) before.input.half).0)
+      es old new before behind result
+  TakesAs-ended_at reads takes =
+      let half : List Half = before.input.half in
+      TakesAs-asked (λ k s. found_at k (with_half (reading_ended s half).1 before.input) (reading_ended s half).0) place answer es old new
+      before behind result answers
+      (TakesAs-read found_at (reading_ended answer half) es old new before mid behind found result reads
+      (texts_held-reading_ended answer half) takes)
+
+-- a step that begins a text line, by the interrupted line that the environments have
+pub TakesAs-begun : (t : PageInput → TextLine → Taking) (step : TextStep) (interrupted : Option TextLine) (line : TextLine)
+    (es : EnvironmentsOf) (old new : ReaderState) (u : PageUnread) (m : Meaning)
+    → ((l : Limits) (h : PageHistory) → StandFor l h es → interrupted ≡ interrupted_line h) → line ≡ line_begun_as interrupted
+    → ((i : PageInput) → step_at i step ≡ t i line) → new ≡ record old { reading = step.reading } → m.message ≡ step.message
+    → m.events ≡ few_meant (going_on_told interrupted ++ line_events step.events)
+    → TakesAs (λ k. beginning_text k (t u.input)) es old new u u (Ok m)
+TakesAs-begun t step interrupted line es old new u m asked begun steps came says means =
+    let at : Option TextLine → Taking = λ l. behind_events (going_on_told l) (t u.input (line_begun_as l)) in
+    TakesAs-asked (λ k l. at l) (λ k. k.interrupted) interrupted es old new u u (Ok m) (λ l h rs i stands. asked l h stands)
+    (record {
+      takes = λ l h stands ready.
+          subst (λ (taking : Taking). Took (behind_events (going_on_told interrupted) taking) old.registers new u u m)
+          (steps u.input ∙ ap (t u.input) begun)
+          (record {
+            became = record {
+              input = refl;
+              reading = ap (λ (s : ReaderState). s.reading) came;
+              registers = ap (λ (s : ReaderState). s.registers) came;
+              within = ready.within;
+            };
+            messages = ap (λ (message : Option Message). option_to_list message) says;
+            events = ap (events_meant new.requested) means;
+          });
+    })
+
+-- where a branch begins, or its rest behind its brace, a byte without a meaning of its own there begins a line
+pub first_taking-any : (k : Known) (i : PageInput) (at : Reading) (b : ℕ) → (at ≡ Branch → (b == blank) ≡ false)
+    → (at ≡ Braced → ((b == blank) ≡ false) × ((b == newline) ≡ false)) → line_begun k i b ≡ first_taking k i at b
+first_taking-any k i LineStart b in_branch in_brace = refl
+first_taking-any k i Branch b in_branch in_brace =
+    ap (λ (c : Bool). if c then going_on i Branch else line_begun k i b) (sym (in_branch refl))
+first_taking-any k i Braced b in_branch in_brace =
+    ap (λ (c : Bool). if c then going_on i LineStart else line_begun k i b) (sym (in_brace refl).1)
+    ∙ ap (λ (c : Bool). if c then going_on i Braced else (if b == newline then going_on i LineStart else line_begun k i b)) (sym (in_brace refl).0)
+first_taking-any k i (InText line) b in_branch in_brace = refl
+first_taking-any k i (Control breaks) b in_branch in_brace = refl
+first_taking-any k i (Name breaks first) b in_branch in_brace = refl
+first_taking-any k i (InArguments breaks request) b in_branch in_brace = refl
+first_taking-any k i (Deciding keeps) b in_branch in_brace = refl
+first_taking-any k i (Skipping opened closed behind) b in_branch in_brace = refl
+first_taking-any k i (StringName appends) b in_branch in_brace = refl
+first_taking-any k i (StringText name appends is_front) b in_branch in_brace = refl
+first_taking-any k i (Calling name) b in_branch in_brace = refl
+first_taking-any k i (Defining name appends end matched) b in_branch in_brace = refl
+first_taking-any k i (Telling aborts is_front) b in_branch in_brace = refl
+first_taking-any k i (Told aborts) b in_branch in_brace = refl
+first_taking-any k i Exiting b in_branch in_brace = refl
+first_taking-any k i Dropped b in_branch in_brace = refl
+
+-- and so it is with an escape
+pub first_escape-any : (k : Known) (i : PageInput) (at : Reading) (b : ℕ) → (at ≡ Branch → (b == 123) ≡ false) → (at ≡ Braced → (b == newline) ≡ false)
+    → escape_begun k i b ≡ first_escape k i at b
+first_escape-any k i LineStart b in_branch in_brace = refl
+first_escape-any k i Branch b in_branch in_brace =
+    ap (λ (c : Bool). if c then going_on i Braced else escape_begun k i b) (sym (in_branch refl))
+first_escape-any k i Braced b in_branch in_brace =
+    ap (λ (c : Bool). if c then going_on i LineStart else escape_begun k i b) (sym (in_brace refl))
+first_escape-any k i (InText line) b in_branch in_brace = refl
+first_escape-any k i (Control breaks) b in_branch in_brace = refl
+first_escape-any k i (Name breaks first) b in_branch in_brace = refl
+first_escape-any k i (InArguments breaks request) b in_branch in_brace = refl
+first_escape-any k i (Deciding keeps) b in_branch in_brace = refl
+first_escape-any k i (Skipping opened closed behind) b in_branch in_brace = refl
+first_escape-any k i (StringName appends) b in_branch in_brace = refl
+first_escape-any k i (StringText name appends is_front) b in_branch in_brace = refl
+first_escape-any k i (Calling name) b in_branch in_brace = refl
+first_escape-any k i (Defining name appends end matched) b in_branch in_brace = refl
+first_escape-any k i (Telling aborts is_front) b in_branch in_brace = refl
+first_escape-any k i (Told aborts) b in_branch in_brace = refl
+first_escape-any k i Exiting b in_branch in_brace = refl
+first_escape-any k i Dropped b in_branch in_brace = refl
+
+-- by whether a byte is dropped
+pub taking-of : (k : Known) (r : Reading) (i : PageInput) (b : ℕ) (c : Bool) → c ≡ is_dropped b
+    → (if c then going_on (interrupted r i) r else kept_taking k r i b) ≡ taking k r i b
+taking-of k r i b c is = ap (λ (dropped : Bool). if dropped then going_on (interrupted r i) r else kept_taking k r i b) is
+
+-- within a line the end of the input is a newline, where no interrupted line ends with it, but of a definition
+pub end_taking-newline : (k : Known) (r : Reading) (i : PageInput) → (r ≡ LineStart → ⊥) → (r ≡ Dropped → ⊥) → (r ≡ Exiting → ⊥)
+    → (r ≡ Braced → ⊥) → ((breaks : Bool) → r ≡ Control breaks → ⊥) → ((appends : Bool) → r ≡ StringName appends → ⊥)
+    → ((name : Option ShortName) (appends is_front : Bool) → r ≡ StringText name appends is_front → ⊥)
+    → ((opened closed : ℕ) (behind : Bool) → r ≡ Skipping opened closed behind → ⊥)
+    → ((name : Option ShortName) (appends : Bool) (end : Option ShortName) (matched : Option ℕ) → r ≡ Defining name appends end matched → ⊥)
+    → kept_taking k r i newline ≡ end_taking k r i
+end_taking-newline k LineStart i begun dropped left braced control named strings skips defines = absurd (begun refl)
+end_taking-newline k Branch i begun dropped left braced control named strings skips defines = refl
+end_taking-newline k Braced i begun dropped left braced control named strings skips defines = absurd (braced refl)
+end_taking-newline k (InText line) i begun dropped left braced control named strings skips defines = refl
+end_taking-newline k (Control breaks) i begun dropped left braced control named strings skips defines =
+    absurd (control breaks refl)
+end_taking-newline k (Name breaks first) i begun dropped left braced control named strings skips defines = refl
+end_taking-newline k (InArguments breaks request) i begun dropped left braced control named strings skips defines = refl
+end_taking-newline k (Deciding keeps) i begun dropped left braced control named strings skips defines = refl
+end_taking-newline k (Skipping opened closed behind) i begun dropped left braced control named strings skips defines =
+    absurd (skips opened closed behind refl)
+end_taking-newline k (StringName appends) i begun dropped left braced control named strings skips defines =
+    absurd (named appends refl)
+end_taking-newline k (StringText name appends is_front) i begun dropped left braced control named strings skips defines =
+    absurd (strings name appends is_front refl)
+end_taking-newline k (Calling name) i begun dropped left braced control named strings skips defines = refl
+end_taking-newline k (Defining name appends end matched) i begun dropped left braced control named strings skips defines =
+    absurd (defines name appends end matched refl)
+end_taking-newline k (Telling aborts is_front) i begun dropped left braced control named strings skips defines = refl
+end_taking-newline k (Told aborts) i begun dropped left braced control named strings skips defines = refl
+end_taking-newline k Exiting i begun dropped left braced control named strings skips defines = absurd (left refl)
+end_taking-newline k Dropped i begun dropped left braced control named strings skips defines = absurd (dropped refl)
+
+-- a string's line leaves the line's beginning
+pub string_line_ended-going : (i : PageInput) (appends : Bool) (name : Option (Option ShortName))
+    → string_line_ended i appends name ≡ going_on (string_line_ended i appends name).input LineStart
+string_line_ended-going i appends None = refl
+string_line_ended-going i appends (Some name) = refl
+
+-- a line ends, and then an interrupted one
+pub TakesAs-last_line : (t : Taking) (es : EnvironmentsOf) (old mid new : ReaderState)
+    (before behind : PageUnread) (ends m : Meaning)
+    → t ≡ going_on t.input LineStart → TakesAs (λ k. t) es old mid before behind (Ok ends)
+    → ((u : PageUnread) → TakesAs (λ k. last_line_ended k u.input) es mid new u u (Ok m))
+    → TakesAs (λ k. last_line_ended k t.input) es old new before behind (Ok m)
+TakesAs-last_line t es old mid new before behind ends m goes_on line interrupted =
+    let i : PageInput = t.input in
+    let first : TakesAs (λ k. going_on i LineStart) es old mid before behind (Ok ends) =
+    subst (λ (taking : Taking). TakesAs (λ k. taking) es old mid before behind (Ok ends)) goes_on line in
+    record {
+      takes = λ l h stands ready.
+          let one : Took (going_on i LineStart) old.registers mid before behind ends = first.takes l h stands ready in
+          let there : PageUnread = record before { input = i } in
+          let two : TakesAs (λ k. last_line_ended k i) es mid new there there (Ok m) = interrupted there in
+          let registers : mid.registers ≡ old.registers = one.became.registers in
+          let at_mid : IsReady mid.registers there =
+          subst (λ (r : Capped). IsReady r there) (sym registers) (record { cap = ready.cap; within = one.became.within }) in
+          let taken = two.takes l h stands at_mid in
+          record {
+            became = record {
+              input = one.became.input;
+              reading = taken.became.reading;
+              registers = taken.became.registers ∙ registers;
+              within = one.became.within;
+            };
+            messages = taken.messages;
+            events = taken.events;
+          };
+    }
+
+-- or a limit refuses the first
+pub TakesAs-no_last_line : (t : Taking) (es : EnvironmentsOf) (old new : ReaderState) (before behind : PageUnread) (limit : Limit)
+    → t ≡ going_on t.input LineStart → TakesAs (λ k. t) es old new before behind (Err limit)
+    → TakesAs (λ k. last_line_ended k t.input) es old new before behind (Err limit)
+TakesAs-no_last_line t es old new before behind limit goes_on refused =
+    let i : PageInput = t.input in
+    let first : TakesAs (λ k. going_on i LineStart) es old new before behind (Err limit) =
+    subst (λ (taking : Taking). TakesAs (λ k. taking) es old new before behind (Err limit)) goes_on refused in
+    record { takes = λ l h stands ready. first.takes l h stands ready }
+
+-- behind a request's name anything but a unit is no byte of an argument
+pub arguments_found-no_unit : (k : Known) (i : PageInput) (breaks : Bool) (request : Request) (found : Read) → ((unit : CopyUnit) → found ≡ OneUnit unit → ⊥)
+    → ((b : ℕ) → found ≡ Escape b → ⊥) → no_unit_found k (settling i) (InArguments breaks request) found ≡ arguments_found k i breaks request found
+arguments_found-no_unit k i breaks request (OneUnit unit) no_unit no_escape = absurd (no_unit unit refl)
+arguments_found-no_unit k i breaks request (Escape b) no_unit no_escape = absurd (no_escape b refl)
+arguments_found-no_unit k i breaks request GoesOn no_unit no_escape = refl
+arguments_found-no_unit k i breaks request (Holds unit) no_unit no_escape = refl
+arguments_found-no_unit k i breaks request (Asks purpose name) no_unit no_escape = refl
+arguments_found-no_unit k i breaks request (Motion columns remark) no_unit no_escape = refl
+arguments_found-no_unit k i breaks request (Measures width) no_unit no_escape = refl
+arguments_found-no_unit k i breaks request (Tells remark) no_unit no_escape = refl
+arguments_found-no_unit k i breaks request (Decides decision freed) no_unit no_escape = refl
+
+-- of a message's text anything but a unit is none
+pub message_found-no_unit : (k : Known) (i : PageInput) (aborts is_front : Bool) (found : Read) → ((unit : CopyUnit) → found ≡ OneUnit unit → ⊥)
+    → ((b : ℕ) → found ≡ Escape b → ⊥) → no_unit_found k i (Telling aborts is_front) found ≡ message_found k i aborts is_front found
+message_found-no_unit k i aborts is_front (OneUnit unit) no_unit no_escape = absurd (no_unit unit refl)
+message_found-no_unit k i aborts is_front (Escape b) no_unit no_escape = absurd (no_escape b refl)
+message_found-no_unit k i aborts is_front GoesOn no_unit no_escape = refl
+message_found-no_unit k i aborts is_front (Holds unit) no_unit no_escape = refl
+message_found-no_unit k i aborts is_front (Asks purpose name) no_unit no_escape = refl
+message_found-no_unit k i aborts is_front (Motion columns remark) no_unit no_escape = refl
+message_found-no_unit k i aborts is_front (Measures width) no_unit no_escape = refl
+message_found-no_unit k i aborts is_front (Tells remark) no_unit no_escape = refl
+message_found-no_unit k i aborts is_front (Decides decision freed) no_unit no_escape = refl

@@ -1,0 +1,30 @@
+use Rattle.std.proofs.Common.{[], refl}
+use Rattle.roff_run.specs.Reading.Items.{going_on}
+use Rattle.roff_reader.proofs.TakesAs.{TakesAs-meant}
+use Rattle.roff_reader.proofs.reader.Reader.ask.Goals as goal
+
+pub returns-in-None : goal.returns-in-None
+returns-in-None c =
+    let old = c.args.self.now in
+    let u = c.args.unread.now in
+    rw c.in-None.is
+    (TakesAs-meant (λ k. going_on u.input old.reading) old.reading [] c.args.environments.now old old u c.nothing.result (λ k. refl) refl
+    c.nothing.ensures.message c.nothing.ensures.events)
+
+pub returns-in-Register : goal.returns-in-Register
+returns-in-Register c = rw (c.in-Some.is, c.in-Register.is) c.interpolate.ensures
+
+pub returns-in-Text : goal.returns-in-Text
+returns-in-Text c = rw (c.in-Some.is, c.in-Text.is) (c.put_string.ensures c.args.environments.now)
+
+pub returns-in-Argument : goal.returns-in-Argument
+returns-in-Argument c = rw (c.in-Some.is, c.in-Argument.is) (c.put_argument.ensures c.args.environments.now)
+
+pub returns-in-Character : goal.returns-in-Character
+returns-in-Character c = rw (c.in-Some.is, c.in-Character.is) (c.put_nothing.ensures c.args.environments.now)
+
+pub returns-in-Font : goal.returns-in-Font
+returns-in-Font c = rw (c.in-Some.is, c.in-Font.is) (c.put_nothing-in-Font.ensures c.args.environments.now)
+
+pub returns-in-LeftOut : goal.returns-in-LeftOut
+returns-in-LeftOut c = rw (c.in-Some.is, c.in-LeftOut.is) (c.put_nothing-in-LeftOut.ensures c.args.environments.now)

@@ -1,0 +1,22 @@
+use Rattle.std.proofs.Common.{◌≡◌, Ok, rules}
+use Rattle.roff_run.specs.Reading.Beginnings.{escape_begun, first_escape}
+use Rattle.roff_run.specs.Reading.TextLines.{escape_taking}
+use Rattle.roff_run.specs.Registers.{Known}
+use Rattle.roff_reader.proofs.TakesAs.{TakesAs-as, TakesAs-begun, first_escape-any}
+use Rattle.roff_reader.proofs.reader.Reader.begin_with_escape.Goals.{in_default-via-in-Branch+in_default, in_default-via-in-Braced+in_default, in_default-via-in_default}
+use Rattle.roff_reader.proofs.reader.Reader.begin_with_escape.Goals as goal
+
+pub returns-in_default : goal.returns-in_default
+returns-in_default c = λ u.
+    let b = c.args.byte in
+    let es = c.args.environments.now in
+    let old = c.args.self.now in
+    let done = c.begin_text in
+    let as_defined : (k : Known) → escape_begun k u.input b ≡ first_escape k u.input c.args.at b = λ k. elim c.in_default.branch [
+      | in_default-via-in-Branch+in_default w ↦ first_escape-any k u.input c.args.at b (λ at. search rules) (λ at. absurd (search rules))
+      | in_default-via-in-Braced+in_default w ↦ first_escape-any k u.input c.args.at b (λ at. absurd (search rules)) (λ at. search rules)
+      | in_default-via-in_default w ↦ first_escape-any k u.input c.args.at b (λ at. absurd (search rules)) (λ at. absurd (search rules))
+    ] in
+    TakesAs-as (λ k. escape_begun k u.input b) (λ k. first_escape k u.input c.args.at b) es old done.new.self u u (Ok done.result) as_defined
+    (TakesAs-begun (λ i line. escape_taking i line b) c.escape-step.result c.interrupted_line-interrupted.result c.begun_as.result es old done.new.self u done.result
+    c.interrupted_line-interrupted.ensures c.begun_as.ensures c.escape-step.ensures done.ensures.reading done.ensures.message done.ensures.events)

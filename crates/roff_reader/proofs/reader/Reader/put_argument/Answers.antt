@@ -1,0 +1,63 @@
+use Rattle.std.proofs.Common.{◌≡◌, ◌-◌, ◌≤◌, ℕ, List, [], Ok, Err, ap, rules, arith, get_or, length, refl, subst, ◌∙◌}
+use Rattle.std.proofs.lemmas.Bool.{ltb-false, ltb-true}
+use Rattle.roff_ahead.specs.Input.{pushing}
+use Rattle.roff_ahead.specs.Input.Calls.{argument_live, arguments_live}
+use Rattle.roff_reader.specs.Reader.Taken.{TakesAs}
+use Rattle.roff_run.specs.Reading.Escapes.{argument_named}
+use Rattle.roff_run.specs.Reading.Items.{going_on}
+use Rattle.roff_reader.proofs.CalledBodies.{argument_named-digit, argument_named-other}
+use Rattle.roff_reader.proofs.TakesAs.{TakesAs-changed, TakesAs-not_changed}
+use Rattle.roff_reader.proofs.reader.Reader.put_argument.Goals.{in-49-to-57+in_ok-push_argument-in-49-to-57, in_default+in_ok-push-in_default, in_default-via-then-as_bytes-lt1, in_default-via-else-as_bytes-lt1+then-this-lt2+then-this-lt49, in_default-via-else-as_bytes-lt1+then-this-lt2+else-this-lt49+else-this-lt58, in_default-via-else-as_bytes-lt1+else-this-lt2}
+use Rattle.roff_reader.proofs.reader.Reader.put_argument.Goals as goal
+
+pub returns-in_err-push-in_default : goal.returns-in_err-push-in_default
+returns-in_err-push-in_default c = λ es.
+    let old = c.args.self.now in
+    let u = c.args.unread.now in
+    let name = c.as_bytes.result.now in
+    let limit = c.in_err-push-in_default.field-0.0 in
+    let arguments = arguments_live u.input in
+    let refused : c.from_residual-in_err-push-in_default.result ≡ Err limit = search rules in
+    let not : length name ≡ 1 → 49 ≤ get_or name 0 0 → get_or name 0 0 ≤ 57 → ⊥ = λ one above below. elim c.in_default.branch [
+      | in_default-via-then-as_bytes-lt1 o ↦ absurd (omega (arith, one, above, below, ltb-true, ltb-false))
+      | in_default-via-else-as_bytes-lt1+then-this-lt2+then-this-lt49 o ↦ absurd (omega (arith, one, above, below, ltb-true, ltb-false))
+      | in_default-via-else-as_bytes-lt1+then-this-lt2+else-this-lt49+else-this-lt58 o ↦ absurd (omega (arith, one, above, below, ltb-true, ltb-false))
+      | in_default-via-else-as_bytes-lt1+else-this-lt2 o ↦ absurd (omega (arith, one, above, below, ltb-true, ltb-false))
+    ] in
+    let same = argument_named-other name arguments not ∙ ap (λ (name : List ℕ). argument_named name arguments) c.as_bytes.ensures.value in
+    rw refused
+    (subst (λ (text : List ℕ). TakesAs (λ k. going_on (pushing text u.input) old.reading) es old old u c.push.new.self (Err limit)) same
+    (TakesAs-not_changed (pushing [] u.input) old.reading es old old u c.push.new.self limit c.in_err-push-in_default.ensures.change))
+
+pub returns : goal.returns
+returns c = λ es.
+    let old = c.args.self.now in
+    let u = c.args.unread.now in
+    let name = c.as_bytes.result.now in
+    let arguments = arguments_live u.input in
+    let m = c.nothing.result in
+    let At : List ℕ → Type 0 = λ text. TakesAs (λ k. going_on (pushing text u.input) old.reading) es old old u c.if-as_bytes-lt1.unread (Ok m) in
+    let same = ap (λ (name : List ℕ). argument_named name arguments) c.as_bytes.ensures.value in
+    elim c.if-as_bytes-lt1.branch [
+      | in-49-to-57+in_ok-push_argument-in-49-to-57 w ↦
+          let one : length name ≡ 1 = omega (arith, w.in-49-to-57.len_at_least, w.in-49-to-57.len_below) in
+          let above : 49 ≤ get_or name 0 0 = omega arith in
+          let below : get_or name 0 0 ≤ 57 = omega arith in
+          let done = w.in_ok-push_argument-in-49-to-57 in
+          subst At (argument_named-digit name arguments one above below ∙ same)
+          (rw w.unread-is
+          (TakesAs-changed (pushing (argument_live (get_or name 0 0 - 49) u.input) u.input) old.reading es old old u w.push_argument.new.self m done.field-0
+          done.ensures.change refl c.nothing.ensures.message c.nothing.ensures.events))
+      | in_default+in_ok-push-in_default w ↦
+          let done = w.in_ok-push-in_default in
+          let not : length name ≡ 1 → 49 ≤ get_or name 0 0 → get_or name 0 0 ≤ 57 → ⊥ = λ one above below. elim w.in_default.branch [
+            | in_default-via-then-as_bytes-lt1 o ↦ absurd (omega (arith, one, above, below, ltb-true, ltb-false))
+            | in_default-via-else-as_bytes-lt1+then-this-lt2+then-this-lt49 o ↦ absurd (omega (arith, one, above, below, ltb-true, ltb-false))
+            | in_default-via-else-as_bytes-lt1+then-this-lt2+else-this-lt49+else-this-lt58 o ↦ absurd (omega (arith, one, above, below, ltb-true, ltb-false))
+            | in_default-via-else-as_bytes-lt1+else-this-lt2 o ↦ absurd (omega (arith, one, above, below, ltb-true, ltb-false))
+          ] in
+          subst At (argument_named-other name arguments not ∙ same)
+          (rw w.unread-is
+          (TakesAs-changed (pushing [] u.input) old.reading es old old u w.push.new.self m done.field-0
+          done.ensures.change refl c.nothing.ensures.message c.nothing.ensures.events))
+    ]

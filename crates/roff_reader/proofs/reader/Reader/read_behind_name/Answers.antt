@@ -1,0 +1,47 @@
+use Rattle.std.proofs.Common.{[], sym, ap, ◌∙◌}
+use Rattle.roff_escape.specs.Halves.{byte_read}
+use Rattle.roff_escape.specs.declared.half.Surroundings.TheVariants.{Arguments as AboveArguments}
+use Rattle.roff_escape.proofs.TextsHeld.{texts_held-byte_read}
+use Rattle.roff_run.specs.Reading.Calls.{call_found}
+use Rattle.roff_run.specs.Reading.ControlLines.{called_taking, line_taking, name_ended_taking}
+use Rattle.roff_run.specs.Reading.Found.{read_in}
+use Rattle.roff_run.specs.Requests.{row_of}
+use Rattle.roff_run.specs.declared.reading.Reading.TheVariants.{Calling}
+use Rattle.roff_run.specs.declared.request.Called.{Called}
+use Rattle.roff_reader.proofs.TakesAs.{TakesAs-as, TakesAs-meant, TakesAs-read}
+use Rattle.roff_reader.proofs.reader.Reader.read_behind_name.Goals as goal
+
+pub returns-in-Request : goal.returns-in-Request
+returns-in-Request c =
+    let i = c.args.unread.now.input in
+    let b = c.args.byte in
+    let breaks = c.args.breaks in
+    let request = c.in-Request.request in
+    let done = c.read_first in
+    TakesAs-as (λ k. line_taking k i breaks request (row_of request).line b) (λ k. name_ended_taking k i breaks c.args.name b) c.args.environments.now c.args.self.now done.new.self
+    c.args.unread.now done.new.unread done.result (λ k. ap (λ (called : Called). called_taking k i breaks called b) c.in-Request.ensures) done.ensures
+
+pub returns-in-Body : goal.returns-in-Body
+returns-in-Body c =
+    let es = c.args.environments.now in
+    let old = c.args.self.now in
+    let u = c.args.unread.now in
+    let b = c.args.byte in
+    let breaks = c.args.breaks in
+    let name = c.in-Body.name in
+    let read = c.read_byte-found in
+    let done = c.read_call in
+    TakesAs-as (λ k. read_in k (Calling name) u.input (byte_read AboveArguments u.input.half b)) (λ k. name_ended_taking k u.input breaks c.args.name b) es old done.new.self
+    u done.new.unread done.result (λ k. ap (λ (called : Called). called_taking k u.input breaks called b) c.in-Body.ensures)
+    (TakesAs-read (λ k i found. call_found k i name found) (byte_read AboveArguments u.input.half b) es old done.new.self u read.new.self done.new.unread
+    read.result done.result read.ensures.reading (texts_held-byte_read AboveArguments b u.input.half) done.ensures)
+
+pub returns-in-Nothing : goal.returns-in-Nothing
+returns-in-Nothing c =
+    let i = c.args.unread.now.input in
+    let b = c.args.byte in
+    let breaks = c.args.breaks in
+    let done = c.read_on in
+    TakesAs-meant (λ k. name_ended_taking k i breaks c.args.name b) c.behind_dropped.result [] c.args.environments.now c.args.self.now done.new.self c.args.unread.now done.result
+    (λ k. sym (ap (λ (called : Called). called_taking k i breaks called b) c.in-Nothing.ensures) ∙ c.behind_dropped.ensures i)
+    done.ensures.reading done.ensures.message done.ensures.events

@@ -1,0 +1,71 @@
+use Rattle.std.proofs.Common.{◌≡◌, true, false, Ok, Err, rules}
+use Rattle.roff_run.specs.Reading.Branches.{condition_found}
+use Rattle.roff_run.specs.Reading.Units.{no_unit_found}
+use Rattle.roff_run.specs.declared.reading.Reading.TheVariants.{Deciding}
+use Rattle.roff_reader.proofs.Deciding.{TakesAs-decides, TakesAs-kept, TakesAs-not_begun, TakesAs-not_kept, condition_found-undecided}
+use Rattle.roff_reader.proofs.TakesAs.{TakesAs-as}
+use Rattle.roff_reader.proofs.reader.Reader.read_condition.Goals.{then-keeps+in_ok-keep-in-Decides, else-keeps}
+use Rattle.roff_reader.proofs.reader.Reader.read_condition.Goals as goal
+
+pub returns-in_err-meaning-in-Decides : goal.returns-in_err-meaning-in-Decides
+returns-in_err-meaning-in-Decides c =
+    let es = c.args.environments.now in
+    let old = c.args.self.now in
+    let u = c.args.unread.now in
+    let keeps = c.args.keeps in
+    let so = c.is_so-so.result in
+    let freed = c.in-Decides.freed in
+    let begun = c.begin_branch.new in
+    let limit = c.in_err-meaning-in-Decides.field-0.0 in
+    let refused : c.from_residual.result ≡ Err limit = search rules in
+    rw (c.in-Decides.is, refused)
+    (TakesAs-decides keeps so c.in-Decides.decision freed es old begun.self u begun.unread (Err limit) c.is_so-so.ensures
+    (TakesAs-not_begun keeps so freed es old begun.self u begun.unread limit c.in_err-meaning-in-Decides.ensures))
+
+pub returns-in_err-keep-in-Decides : goal.returns-in_err-keep-in-Decides
+returns-in_err-keep-in-Decides c =
+    let es = c.args.environments.now in
+    let old = c.args.self.now in
+    let u = c.args.unread.now in
+    let so = c.is_so-so.result in
+    let freed = c.in-Decides.freed in
+    let begun = c.begin_branch.new in
+    let behind = c.keep.new.self in
+    let limit = c.in_err-keep-in-Decides.field-0.0 in
+    let refused : c.from_residual-in_err-keep-in-Decides.result ≡ Err limit = search rules in
+    rw (c.in-Decides.is, c.if-keeps.true, refused)
+    (TakesAs-decides true so c.in-Decides.decision freed es old begun.self u behind (Err limit) c.is_so-so.ensures
+    (TakesAs-not_kept so freed es old begun.self u begun.unread behind c.in_ok-meaning-in-Decides.meaning limit c.in_ok-meaning-in-Decides.ensures
+    c.in_err-keep-in-Decides.ensures.change))
+
+pub returns-after-keeps : goal.returns-after-keeps
+returns-after-keeps c =
+    let es = c.args.environments.now in
+    let old = c.args.self.now in
+    let u = c.args.unread.now in
+    let so = c.is_so-so.result in
+    let decision = c.in-Decides.decision in
+    let freed = c.in-Decides.freed in
+    let begun = c.begin_branch.new in
+    let m = c.in_ok-meaning-in-Decides.meaning in
+    let begins = c.in_ok-meaning-in-Decides.ensures in
+    elim c.if-keeps.branch [
+      | then-keeps+in_ok-keep-in-Decides w ↦
+          let behind = w.keep.new.self in
+          let kept = w.in_ok-keep-in-Decides in
+          rw (c.in-Decides.is, w.if-keeps.true, w.unread-is)
+          (TakesAs-decides true so decision freed es old begun.self u behind (Ok m) c.is_so-so.ensures
+          (TakesAs-kept so freed es old begun.self u begun.unread behind m kept.field-0 begins kept.ensures.change))
+      | else-keeps w ↦
+          rw (c.in-Decides.is, w.if-keeps.false, w.unread-is)
+          (TakesAs-decides false so decision freed es old begun.self u begun.unread (Ok m) c.is_so-so.ensures begins)
+    ]
+
+pub returns-in_default : goal.returns-in_default
+returns-in_default c =
+    let i = c.args.unread.now.input in
+    let keeps = c.args.keeps in
+    let found = c.args.found in
+    let done = c.read_in_arguments in
+    TakesAs-as (λ k. no_unit_found k i (Deciding keeps) found) (λ k. condition_found k i keeps found) c.args.environments.now c.args.self.now done.new.self
+    c.args.unread.now done.new.unread done.result (λ k. condition_found-undecided k i keeps found c.in_default.not-Decides) done.ensures

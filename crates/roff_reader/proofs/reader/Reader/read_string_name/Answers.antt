@@ -1,0 +1,25 @@
+use Rattle.roff_run.specs.Reading.Strings.{string_name_found}
+use Rattle.roff_run.specs.Reading.Units.{no_unit_found, settling}
+use Rattle.roff_run.specs.declared.reading.Reading.{Reading}
+use Rattle.roff_run.specs.declared.reading.Reading.TheVariants.{StringName}
+use Rattle.roff_reader.proofs.TakesAs.{TakesAs-as, TakesAs-settled}
+use Rattle.roff_reader.proofs.Strings.{string_name_found-no_unit}
+use Rattle.roff_reader.proofs.reader.Reader.read_string_name.Goals as goal
+
+pub returns-in-Unit : goal.returns-in-Unit
+returns-in-Unit c = rw c.in-Unit.is (c.read_unit_of_string_name.ensures c.args.environments.now)
+
+pub returns-in-Escape : goal.returns-in-Escape
+returns-in-Escape c = rw c.in-Escape.is (c.read_unit_of_string_name-in-Escape.ensures c.args.environments.now)
+
+pub returns-in_default : goal.returns-in_default
+returns-in_default c =
+    let es = c.args.environments.now in
+    let old = c.args.self.now in
+    let u = c.args.unread.now in
+    let place : Reading = StringName c.args.appends in
+    let found = c.args.found in
+    let done = c.read_in_arguments in
+    TakesAs-as (λ k. no_unit_found k (settling u.input) place found) (λ k. string_name_found k u.input c.args.appends found) es old done.new.self u done.new.unread done.result
+    (λ k. string_name_found-no_unit k u.input c.args.appends found c.in_default.not-Unit c.in_default.not-Escape)
+    (TakesAs-settled (λ k i. no_unit_found k i place found) es old done.new.self u c.settle.new.self done.new.unread done.result c.settle.ensures.change done.ensures)

@@ -1,0 +1,50 @@
+-- The front of a control line, up to its name: what its bytes lead to.
+use Rattle.std.specs.Prelude.{◌≡◌, ℕ, Bool, true, false, if◌then◌else◌, List, [], ◌∷◌, length}
+use Rattle.roff_source.specs.Bytes.{apostrophe, dot}
+use Rattle.roff_escape.specs.Half.{Half, Condition}
+use Rattle.roff_escape.specs.declared.half.ConditionPart.TheVariants.{Choice}
+use Rattle.roff_scan.specs.Unread.Calls.{IsFront, front_bytes}
+use Rattle.roff_run.specs.Reading.Items.{PageUnread}
+use Rattle.roff_run.specs.Reading.{taking}
+use Rattle.roff_run.specs.Reading.Items.{PageInput, Taking, going_on}
+use Rattle.roff_run.specs.Registers.{Known}
+use Rattle.roff_reader.specs.declared.reader.ahead.ControlFront.{ControlFront}
+use Rattle.roff_run.specs.declared.reading.Reading.{Reading}
+use Rattle.roff_run.specs.declared.reading.Reading.TheVariants.{Control, Deciding}
+
+-- the byte with which a control line begins, by whether its requests break
+abbrev pub control_byte : Bool → ℕ
+control_byte breaks = if breaks then dot else apostrophe
+
+-- where this is read and nothing is half read, a control line may begin
+abbrev pub BeginsControl : Reading → Type 0
+BeginsControl reading =
+    (k : Known) (i : PageInput) (breaks : Bool) → i.half ≡ []
+    → taking k reading i (control_byte breaks) ≡ going_on i (Control breaks)
+
+-- whether a condition is read
+abbrev pub is_deciding : Reading → Bool
+is_deciding (Deciding keeps) = true
+is_deciding (_) = false
+
+-- what is half read behind a name, by whether a condition is read then
+abbrev pub half_begun : Bool → List Half → List Half
+half_begun true half = Condition (Choice false) [] ∷ []
+half_begun false half = half
+
+-- the input behind a name, where this is read then
+abbrev pub input_begun : Reading → PageInput → PageInput
+input_begun reading i = record i { half = half_begun (is_deciding reading) i.half }
+
+-- behind something only what is half read changes, and this is read
+abbrev pub LeadsTo : (PageInput → Taking) → Reading → Type 0
+LeadsTo behind reading = (i : PageInput) → behind i ≡ going_on (input_begun reading i) reading
+
+-- these bytes begin with those of a control line's front
+abbrev pub Fronts : List ℕ → ControlFront → Type 0
+Fronts bytes front = (rest : List ℕ) × (bytes ≡ control_byte front.breaks ∷ front.first ∷ front.second ∷ rest)
+
+-- these bytes stand in front
+pub record StandsReady (bytes ready : List ℕ) (u : PageUnread) : Type 0 where
+  pub are : bytes ≡ front_bytes (length bytes) ready u
+  pub front : IsFront (length bytes) ready u

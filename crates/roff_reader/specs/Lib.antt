@@ -1,0 +1,3 @@
+pub mod Reader
+pub mod Clauses
+pub mod ControlFronts

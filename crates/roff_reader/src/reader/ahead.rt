@@ -1,0 +1,184 @@
+//! The front of a control line, read at once where it stands ready.
+
+ghost use Rattle.std.specs.Prelude.{◌≡◌, ◌∷◌, [], None, Some, true, false, IfSome};
+ghost use Rattle.roff_run.specs.Reading.ControlLines.{BelongsToName};
+ghost use Rattle.roff_reader.specs.Clauses.{PageUnread, behind_name, called_by, due, row_of};
+ghost use Rattle.roff_reader.specs.ControlFronts.{BeginsControl, Fronts, LeadsTo, StandsReady};
+ghost use Rattle.roff_reader.specs.ControlFronts.{control_byte, input_begun};
+ghost use Rattle.roff_run.specs.Reading.ControlLines.{behind_called};
+ghost use Rattle.roff_reader.specs.Reader.Stages.{ReadsPast};
+ghost use Rattle.roff_scan.specs.Unread.{IsWithin};
+
+use super::Reader;
+use super::control_lines::called_by;
+use roff_run::PageEvent;
+use roff_run::Reading;
+use roff_num::ShortName;
+use roff_run::{Called, LineReading, Request};
+use roff_scan::{ByteSource, Unread};
+
+/// The first three bytes of a control line: the dot or apostrophe, by whether requests break behind
+/// it, and two more.
+#[derive(Clone, Copy, Debug, PartialEq, Eq)]
+struct ControlFront {
+    breaks: bool,
+    first: u8,
+    second: u8,
+}
+
+impl Reader {
+    /// Whether a control line may begin where nothing is half read: where a line or a branch begins.
+    #[inline(always)]
+    #[tactic(auto, using(crate::proofs::ControlFronts::begins_at_brace, crate::proofs::ControlFronts::begins_at_branch, crate::proofs::ControlFronts::begins_at_start))]
+    pub fn begins_control_line(&self) -> bool
+        ensures begins { result ≡ true → BeginsControl self.now.reading }
+        ensures none_due { result ≡ true → due self.now.reading ≡ None }
+    {
+        match self.reading {
+            Reading::LineStart => true,
+            Reading::Branch => true,
+            Reading::Braced => true,
+            _ => false,
+        }
+    }
+
+    /// Reads at once the front of a control line, if it stands in front: the dot or apostrophe and a
+    /// name of two bytes, or a backslash, behind which the line is dropped. Else nothing happens, nor
+    /// where the name stands for the other branch of a condition. Whether it was read.
+    #[inline(always)]
+    pub fn read_control_front<S: ByteSource>(
+        &mut self,
+        unread: &mut Unread<PageEvent>,
+        source: &mut S,
+    ) -> bool
+        requires begins { BeginsControl self.old.reading }
+        requires none_due { due self.old.reading ≡ None }
+        requires none_half { unread.old.input.half ≡ [] }
+        ensures past { result ≡ true → ReadsPast (S.gives source.old) (S.gives source.new)
+            self.old self.new unread.old unread.new }
+        ensures kept { result ≡ false
+            → (self.new ≡ self.old) × (unread.new ≡ unread.old) × (source.new ≡ source.old) }
+        ensures notes { S.notes source.new ≡ S.notes source.old }
+        ensures failures { S.failures source.new ≡ S.failures source.old }
+    {
+        match control_front(unread.front(source)) {
+            Some(front) => self.read_control(front, unread, source),
+            None => false,
+        }
+    }
+
+    /// The same of such a front.
+    #[inline(never)]
+    fn read_control<S: ByteSource>(
+        &mut self,
+        front: ControlFront,
+        unread: &mut Unread<PageEvent>,
+        source: &mut S,
+    ) -> bool
+        requires begins { BeginsControl self.old.reading }
+        requires none_due { due self.old.reading ≡ None }
+        requires none_half { unread.old.input.half ≡ [] }
+        requires ready { StandsReady (control_byte front.breaks ∷ front.first ∷ front.second ∷ [])
+            (S.ready source.old) unread.old }
+        ensures past { result ≡ true → ReadsPast (S.gives source.old) (S.gives source.new)
+            self.old self.new unread.old unread.new }
+        ensures kept { result ≡ false
+            → (self.new ≡ self.old) × (unread.new ≡ unread.old) × (source.new ≡ source.old) }
+        ensures notes { S.notes source.new ≡ S.notes source.old }
+        ensures failures { S.failures source.new ≡ S.failures source.old }
+    {
+        if front.first == b'\\' {
+            unread.pass(source, 2);
+            self.go_on(Reading::Dropped);
+            return true;
+        }
+        if !belongs_to_name(front.first) || !belongs_to_name(front.second) {
+            return false;
+        }
+        let name = ShortName {
+            first: front.first,
+            second: Some(front.second),
+        };
+        match behind_called(front.breaks, called_by(name, unread)) {
+            None => false,
+            Some(reading) => {
+                unread.pass(source, 3);
+                begin_half(reading, unread);
+                self.go_on(reading);
+                true
+            }
+        }
+    }
+}
+
+/// The first three bytes of a control line, if these bytes begin with such.
+#[inline(always)]
+fn control_front(bytes: &[u8]) -> Option<ControlFront>
+    ensures { IfSome result (λ front. Fronts bytes.now front) }
+{
+    match bytes {
+        [b'.', first, second, ..] => Some(ControlFront {
+            breaks: true,
+            first: *first,
+            second: *second,
+        }),
+        [b'\'', first, second, ..] => Some(ControlFront {
+            breaks: false,
+            first: *first,
+            second: *second,
+        }),
+        _ => None,
+    }
+}
+
+/// Whether a byte belongs to a name behind a dot or apostrophe. Of a byte that prints nothing it may
+/// say no, though it does.
+fn belongs_to_name(byte: u8) -> bool
+    ensures { result ≡ true → BelongsToName byte }
+{
+    byte > b' ' && byte != 127 && byte != b'\\'
+}
+
+/// What is read behind a name that stands for this, if nothing else changes but what is half read:
+/// of all but the other branch of a condition.
+fn behind_called(breaks: bool, called: Called) -> Option<Reading>
+    ensures { IfSome result (λ reading. LeadsTo (λ i. behind_called i breaks called) reading) }
+{
+    match called {
+        Called::Request(request) => behind_request(breaks, request),
+        Called::Body(name) => Some(Reading::Calling { name }),
+        Called::Nothing => Some(Reading::Dropped),
+    }
+}
+
+/// The same of a request.
+fn behind_request(breaks: bool, request: Request) -> Option<Reading>
+    ensures { IfSome result (λ reading.
+        LeadsTo (λ i. behind_name i breaks request (row_of request).line) reading) }
+{
+    match request.row().line {
+        LineReading::ByArguments => Some(Reading::Arguments { breaks, request }),
+        LineReading::ByLines(_) => Some(Reading::Arguments { breaks, request }),
+        LineReading::ByLastLine => Some(Reading::Arguments { breaks, request }),
+        LineReading::ByCondition { keeps } => Some(Reading::Deciding { keeps }),
+        LineReading::ByString { appends } => Some(Reading::StringName { appends }),
+        LineReading::ByMessage { aborts } => Some(Reading::Telling {
+            aborts,
+            is_front: true,
+        }),
+        LineReading::ByElse => None,
+    }
+}
+
+/// Begins to read a condition, if one is read.
+fn begin_half(reading: Reading, unread: &mut Unread<PageEvent>)
+    requires within { IsWithin unread.old }
+    ensures input { unread.new
+        ≡ record unread.old { input = input_begun reading unread.old.input } }
+    ensures within { IsWithin unread.new }
+{
+    match reading {
+        Reading::Deciding { .. } => unread.begin_condition(),
+        _ => {}
+    }
+}

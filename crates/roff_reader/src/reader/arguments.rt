@@ -1,0 +1,161 @@
+//! The arguments of requests, and the names that they give.
+
+ghost use Rattle.std.specs.Prelude.{◌≡◌, None, IfSome};
+ghost use Rattle.roff_reader.specs.Clauses.{EnvironmentsOf, TakesAs, arguments_found, going_on, holding, listed};
+ghost use Rattle.roff_reader.specs.Clauses.{row_of, no_unit_found, unit_found, arguments_ended, taking};
+ghost use Rattle.roff_reader.specs.Clauses.{name_at as name_given_at};
+
+use super::{Meaning, Reader};
+use roff_requests::Environments;
+use roff_run::PageEvent;
+use roff_run::Reading;
+use roff_num::{Limit, ShortName};
+use roff_run::{LineReading, Request};
+use roff_scan::{ArgumentList, CopyUnit, Read, Unread};
+
+impl Reader {
+    /// Takes a newline that ends a request's line, with nothing half read: the request is obeyed, or
+    /// its lines begin. Another byte does nothing.
+    ///
+    /// # Errors
+    ///
+    /// A limit that it would pass; what was changed then is of no more use.
+    #[inline(always)]
+    pub fn end_request(
+        &mut self,
+        byte: u8,
+        environments: &Environments,
+        unread: &mut Unread<PageEvent>,
+    ) -> Option<Result<Meaning, Limit>>
+        ensures takes { IfSome result (λ read.
+            TakesAs (λ k. taking k self.old.reading unread.old.input byte) environments.now
+            self.old self.new unread.old unread.new read) }
+        ensures kept { result ≡ None → (self.new ≡ self.old) × (unread.new ≡ unread.old) }
+    {
+        if byte != b'\n' {
+            return None;
+        }
+        if unread.is_half_read() {
+            return None;
+        }
+        match self.reading {
+            Reading::Arguments { breaks, request } => {
+                Some(self.end_arguments(breaks, request, environments, unread))
+            }
+            _ => None,
+        }
+    }
+
+    /// Something behind a request's name.
+    pub(super) fn read_arguments(
+        &mut self,
+        breaks: bool,
+        request: Request,
+        found: Read,
+        environments: &Environments,
+        unread: &mut Unread<PageEvent>,
+    ) -> Result<Meaning, Limit>
+        ensures { TakesAs (λ k. arguments_found k unread.old.input breaks request found)
+            environments.now self.old self.new unread.old unread.new result }
+    {
+        match found {
+            Read::Unit(unit) => self.read_unit(breaks, request, unit, environments, unread),
+            Read::Escape(byte) => {
+                self.read_unit(breaks, request, CopyUnit::Kept(byte), environments, unread)
+            }
+            _ => {
+                unread.settle();
+                let reading = Reading::Arguments { breaks, request };
+                self.read_in_arguments(reading, found, environments, unread)
+            }
+        }
+    }
+
+    /// A unit behind a request's name: a newline ends the line, and all else is held.
+    fn read_unit(
+        &mut self,
+        breaks: bool,
+        request: Request,
+        unit: CopyUnit,
+        environments: &Environments,
+        unread: &mut Unread<PageEvent>,
+    ) -> Result<Meaning, Limit>
+        ensures { TakesAs (λ k. unit_found k unread.old.input breaks request unit)
+            environments.now self.old self.new unread.old unread.new result }
+    {
+        match unit {
+            CopyUnit::Byte(b'\n') => self.end_arguments(breaks, request, environments, unread),
+            _ => self.hold(unit, Reading::Arguments { breaks, request }, unread),
+        }
+    }
+
+    /// The end of a line that was read as arguments.
+    fn end_arguments(
+        &mut self,
+        breaks: bool,
+        request: Request,
+        environments: &Environments,
+        unread: &mut Unread<PageEvent>,
+    ) -> Result<Meaning, Limit>
+        ensures { TakesAs (λ k. arguments_ended k unread.old.input breaks request
+            (row_of request).line)
+            environments.now self.old self.new unread.old unread.new result }
+    {
+        match request.row().line {
+            LineReading::ByLines(lines) => self.begin_lines(lines, unread),
+            _ => self.obey(breaks, request, environments, unread),
+        }
+    }
+
+    /// A unit of an argument is held, and this is read on.
+    fn hold(
+        &mut self,
+        unit: CopyUnit,
+        reading: Reading,
+        unread: &mut Unread<PageEvent>,
+    ) -> Result<Meaning, Limit>
+        ensures { (es : EnvironmentsOf)
+            → TakesAs (λ k. going_on (holding unit unread.old.input) reading)
+            es self.old self.new unread.old unread.new result }
+    {
+        unread.hold(unit)?;
+        Ok(self.read_on(reading))
+    }
+
+    /// Something behind the name of a request that is no unit of an argument, and decides nothing.
+    pub(super) fn read_in_arguments(
+        &mut self,
+        reading: Reading,
+        found: Read,
+        environments: &Environments,
+        unread: &mut Unread<PageEvent>,
+    ) -> Result<Meaning, Limit>
+        ensures { TakesAs (λ k. no_unit_found k unread.old.input reading found)
+            environments.now self.old self.new unread.old unread.new result }
+    {
+        match found {
+            Read::Holds(unit) => self.hold_text(unit, reading, unread),
+            Read::Asks(purpose, name) => {
+                self.reading = reading;
+                self.ask(purpose, name, environments, unread)
+            }
+            Read::Measures(width) => self.measure(width, reading, unread),
+            Read::Tells(remark) => Ok(self.tell(remark, reading)),
+            _ => Ok(self.read_on(reading)),
+        }
+    }
+}
+
+/// The name that the first of these arguments gives, if there is one.
+pub(super) fn first_name(arguments: ArgumentList<'_>) -> Option<Option<ShortName>>
+    ensures { result ≡ name_given_at 0 (listed arguments.entry) }
+{
+    short_name_at(0, arguments)
+}
+
+/// The name that the argument at an index gives, if the argument is there.
+pub(super) fn short_name_at(index: usize, arguments: ArgumentList<'_>) -> Option<Option<ShortName>>
+    ensures { result ≡ name_given_at index (listed arguments.entry) }
+{
+    arguments.get(index).map(ShortName::of)
+}

@@ -1,0 +1,62 @@
+//! Lines that call bodies.
+
+ghost use Rattle.roff_reader.specs.Clauses.{EnvironmentsOf, TakesAs, call_found, call_unit};
+
+use super::{Meaning, Reader};
+use roff_requests::Environments;
+use roff_run::PageEvent;
+use roff_run::Reading;
+use roff_num::{Limit, ShortName};
+use roff_scan::{CopyUnit, Read, Unread};
+
+/// How many arguments a body gets that a line calls.
+pub(super) const CALL_ARGUMENTS: usize = 9;
+
+impl Reader {
+    /// Something behind the name of a body that a line calls.
+    pub(super) fn read_call(
+        &mut self,
+        name: ShortName,
+        found: Read,
+        environments: &Environments,
+        unread: &mut Unread<PageEvent>,
+    ) -> Result<Meaning, Limit>
+        ensures { TakesAs (λ k. call_found k unread.old.input name found)
+            environments.now self.old self.new unread.old unread.new result }
+    {
+        match found {
+            Read::Unit(unit) => self.read_unit_of_call(name, unit, unread),
+            Read::Escape(byte) => self.read_unit_of_call(name, CopyUnit::Kept(byte), unread),
+            _ => {
+                unread.settle();
+                self.read_in_arguments(Reading::Calling { name }, found, environments, unread)
+            }
+        }
+    }
+
+    /// A unit behind the name of a body that a line calls: a newline ends the line, and the body is
+    /// read.
+    fn read_unit_of_call(
+        &mut self,
+        name: ShortName,
+        unit: CopyUnit,
+        unread: &mut Unread<PageEvent>,
+    ) -> Result<Meaning, Limit>
+        ensures { (es : EnvironmentsOf)
+            → TakesAs (λ k. call_unit unread.old.input name unit)
+            es self.old self.new unread.old unread.new result }
+    {
+        match unit {
+            CopyUnit::Byte(b'\n') => {
+                unread.call(&name.name())?;
+                return Ok(self.read_on(Reading::LineStart));
+            }
+            CopyUnit::Byte(b'"') => {}
+            _ => unread.settle(),
+        }
+        if unread.arguments().len() < CALL_ARGUMENTS {
+            unread.hold(unit)?;
+        }
+        Ok(self.read_on(Reading::Calling { name }))
+    }
+}

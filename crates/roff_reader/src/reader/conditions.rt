@@ -1,0 +1,114 @@
+//! Conditions: whether one is so, and its branch.
+
+ghost use Rattle.std.specs.Prelude.{◌≡◌, []};
+ghost use Rattle.roff_run.specs.Registers.{Known as KnownOf};
+ghost use Rattle.roff_reader.specs.Clauses.{TakesAs, condition_found, decided, is_so, condition_begun};
+ghost use Rattle.roff_reader.specs.Clauses.{half_ended};
+ghost use Rattle.roff_reader.specs.Reader.AtOnce.{TakesAtOnce};
+
+use super::places::at_start;
+use super::{Meaning, Reader};
+use roff_requests::Environments;
+use roff_run::PageEvent;
+use roff_run::Reading;
+use roff_num::Limit;
+use roff_scan::{Decision, Read, Surroundings, Unread};
+
+impl Reader {
+    /// The first byte of a condition behind a name of one byte; one that isn't there is false.
+    pub(super) fn begin_condition(
+        &mut self,
+        keeps: bool,
+        byte: u8,
+        environments: &Environments,
+        unread: &mut Unread<PageEvent>,
+    ) -> Result<Meaning, Limit>
+        ensures { TakesAs (λ k. condition_begun k unread.old.input keeps byte)
+            environments.now self.old self.new unread.old unread.new result }
+    {
+        if byte == b'\n' {
+            let found = Read::Decides(Decision::Is(false), Some(byte));
+            return self.read_condition(keeps, found, environments, unread);
+        }
+        unread.begin_condition();
+        let found = unread.read_byte(Surroundings::Arguments, byte);
+        self.read_condition(keeps, found, environments, unread)
+    }
+
+    /// Something of a condition.
+    pub(super) fn read_condition(
+        &mut self,
+        keeps: bool,
+        found: Read,
+        environments: &Environments,
+        unread: &mut Unread<PageEvent>,
+    ) -> Result<Meaning, Limit>
+        ensures { TakesAs (λ k. condition_found k unread.old.input keeps found)
+            environments.now self.old self.new unread.old unread.new result }
+    {
+        match found {
+            Read::Decides(decision, freed) => {
+                let so = self.is_so(decision);
+                // The limit on results is the last that is looked at.
+                let meaning = self.begin_branch(so, freed, environments, unread)?;
+                if keeps {
+                    unread.keep(so)?;
+                }
+                Ok(meaning)
+            }
+            _ => self.read_in_arguments(Reading::Deciding { keeps }, found, environments, unread),
+        }
+    }
+
+    /// Decides a condition that is read and asks nothing more, whose result isn't kept, and reads
+    /// its branch or skips it. Whether there was one; else nothing happens.
+    #[inline(always)]
+    pub fn decides(&mut self, unread: &mut Unread<PageEvent>) -> bool
+        ensures { TakesAtOnce (λ k. half_ended k self.old.reading unread.old.input) []
+            self.old self.new unread.old unread.new result }
+    {
+        match self.reading {
+            Reading::Deciding { keeps: false } => match unread.end_decided() {
+                Some(so) => {
+                    self.go_on(Reading::branch(so));
+                    true
+                }
+                None => false,
+            },
+            _ => false,
+        }
+    }
+
+    /// Whether a condition is so that asks this.
+    fn is_so(&self, decision: Decision) -> bool
+        ensures { (k : KnownOf) → k.registers ≡ self.now.registers.all
+            → result ≡ is_so k decision }
+    {
+        match decision {
+            Decision::Is(so) => so,
+            Decision::OnPages(odd) => self.registers.is_page_odd() == odd,
+        }
+    }
+
+    /// A condition decided: its branch is read or skipped, and its first byte may be there.
+    pub(super) fn begin_branch(
+        &mut self,
+        so: bool,
+        freed: Option<u8>,
+        environments: &Environments,
+        unread: &mut Unread<PageEvent>,
+    ) -> Result<Meaning, Limit>
+        ensures { TakesAs (λ k. decided k unread.old.input so freed)
+            environments.now self.old self.new unread.old unread.new result }
+    {
+        let branch = Reading::branch(so);
+        match freed {
+            None => Ok(self.read_on(branch)),
+            Some(byte) if so => {
+                let found = unread.read_byte(at_start(environments), byte);
+                self.begin_line(branch, found, environments, unread)
+            }
+            Some(byte) => Ok(self.read_on(Reading::behind_skipped(0, 0, false, byte))),
+        }
+    }
+}

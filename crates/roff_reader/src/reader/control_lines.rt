@@ -1,0 +1,168 @@
+//! The names of control lines, and how what is behind one is read.
+
+ghost use Rattle.std.specs.Prelude.{◌≡◌, [], Ok};
+ghost use Rattle.roff_reader.specs.Reader.AtOnce.{only_events};
+ghost use Rattle.roff_reader.specs.Clauses.{EnvironmentsOf, NameOf, TakesAs, behind_name, kept_taking};
+ghost use Rattle.roff_reader.specs.Clauses.{line_taking, row_of, name_ended_taking, called_by};
+
+use super::{Meaning, Reader};
+use roff_requests::Environments;
+use roff_run::PageEvent;
+use roff_run::{Reading, ends_name};
+use roff_num::{Limit, ShortName};
+use roff_run::{Called, LineReading, Request};
+use roff_scan::{Surroundings, Unread};
+use roff_store::Kind;
+
+impl Reader {
+    /// The byte behind the first one of a name.
+    pub(super) fn end_name(
+        &mut self,
+        breaks: bool,
+        first: u8,
+        byte: u8,
+        environments: &Environments,
+        unread: &mut Unread<PageEvent>,
+    ) -> Result<Meaning, Limit>
+        ensures { TakesAs (λ k. kept_taking k (NameOf breaks first) unread.old.input byte)
+            environments.now self.old self.new unread.old unread.new result }
+    {
+        if ends_name(byte) {
+            let name = ShortName {
+                first,
+                second: None,
+            };
+            return self.read_behind_name(breaks, name, byte, environments, unread);
+        }
+        let name = ShortName {
+            first,
+            second: Some(byte),
+        };
+        match called_by(name, unread) {
+            Called::Request(request) => {
+                self.begin_request(breaks, request, unread);
+                Ok(Meaning::nothing())
+            }
+            Called::Body(name) => Ok(self.read_on(Reading::Calling { name })),
+            Called::Nothing => Ok(self.read_on(Reading::Dropped)),
+        }
+    }
+
+    /// The first byte behind a name, which doesn't belong to it.
+    pub(super) fn read_behind_name(
+        &mut self,
+        breaks: bool,
+        name: ShortName,
+        byte: u8,
+        environments: &Environments,
+        unread: &mut Unread<PageEvent>,
+    ) -> Result<Meaning, Limit>
+        ensures { TakesAs (λ k. name_ended_taking k unread.old.input breaks name byte)
+            environments.now self.old self.new unread.old unread.new result }
+    {
+        match called_by(name, unread) {
+            Called::Request(request) => self.read_first(
+                breaks,
+                request,
+                byte,
+                environments,
+                unread,
+            ),
+            Called::Body(name) => {
+                let found = unread.read_byte(Surroundings::Arguments, byte);
+                self.read_call(name, found, environments, unread)
+            }
+            Called::Nothing => Ok(self.read_on(Reading::behind_dropped(byte))),
+        }
+    }
+
+    /// The first byte behind a request's name, which ends the name.
+    fn read_first(
+        &mut self,
+        breaks: bool,
+        request: Request,
+        byte: u8,
+        environments: &Environments,
+        unread: &mut Unread<PageEvent>,
+    ) -> Result<Meaning, Limit>
+        ensures { TakesAs (λ k. line_taking k unread.old.input breaks request
+            (row_of request).line byte)
+            environments.now self.old self.new unread.old unread.new result }
+    {
+        match request.row().line {
+            LineReading::ByArguments => {
+                let found = unread.read_byte(Surroundings::Arguments, byte);
+                self.read_arguments(breaks, request, found, environments, unread)
+            }
+            LineReading::ByCondition { keeps } => self.begin_condition(
+                keeps,
+                byte,
+                environments,
+                unread,
+            ),
+            LineReading::ByString { appends } => {
+                let found = unread.read_byte(Surroundings::Arguments, byte);
+                self.read_string_name(appends, found, environments, unread)
+            }
+            LineReading::ByLastLine => {
+                let found = unread.read_byte(Surroundings::Arguments, byte);
+                self.read_arguments(breaks, request, found, environments, unread)
+            }
+            LineReading::ByMessage { aborts } => {
+                let read = unread.read_byte(Surroundings::Copy, byte);
+                self.read_message(aborts, true, read, environments, unread)
+            }
+            LineReading::ByLines(_) => {
+                let found = unread.read_byte(Surroundings::Arguments, byte);
+                self.read_arguments(breaks, request, found, environments, unread)
+            }
+            LineReading::ByElse => {
+                let so = unread.take_kept() == Some(false);
+                self.begin_branch(so, Some(byte), environments, unread)
+            }
+        }
+    }
+
+    /// What is read behind a request's name; nothing is meant.
+    pub(super) fn begin_request(
+        &mut self,
+        breaks: bool,
+        request: Request,
+        unread: &mut Unread<PageEvent>,
+    )
+        ensures { (es : EnvironmentsOf)
+            → TakesAs (λ k. behind_name unread.old.input breaks request (row_of request).line)
+            es self.old self.new unread.old unread.new (Ok (only_events [])) }
+    {
+        let reading = match request.row().line {
+            LineReading::ByArguments => Reading::Arguments { breaks, request },
+            LineReading::ByLines(_) => Reading::Arguments { breaks, request },
+            LineReading::ByCondition { keeps } => {
+                unread.begin_condition();
+                Reading::Deciding { keeps }
+            }
+            LineReading::ByString { appends } => Reading::StringName { appends },
+            LineReading::ByLastLine => Reading::Arguments { breaks, request },
+            LineReading::ByMessage { aborts } => Reading::Telling {
+                aborts,
+                is_front: true,
+            },
+            LineReading::ByElse => Reading::branch(unread.take_kept() == Some(false)),
+        };
+        self.go_on(reading);
+    }
+}
+
+/// What a line does that begins with a name.
+pub(super) fn called_by(name: ShortName, unread: &Unread<PageEvent>) -> Called
+    ensures { result ≡ called_by name unread.now.input.names }
+{
+    match unread.get(&name.name()) {
+        Some(Kind::Request(number)) => match Request::numbered(number as usize) {
+            Some(request) => Called::Request(request),
+            None => Called::Nothing,
+        },
+        Some(Kind::Body(_)) => Called::Body(name),
+        None => Called::Nothing,
+    }
+}

@@ -1,0 +1,214 @@
+//! Lines by which macros are defined, or that are ignored.
+
+ghost use Rattle.std.specs.Prelude.{◌≡◌, ◌≤◌, ◌++◌, true, length};
+ghost use Rattle.roff_reader.specs.Clauses.{EnvironmentsOf, TakesAs, InputBecame, arguments_given};
+ghost use Rattle.roff_reader.specs.Clauses.{string_entered, lines_begun, behind_definition};
+ghost use Rattle.roff_reader.specs.Clauses.{definition_begun, definition_found, definition_grown};
+ghost use Rattle.roff_reader.specs.Clauses.{definition_line, ends_mark, unit_bytes};
+
+use super::arguments::short_name_at;
+use super::strings::{begin_string, enter_string};
+use super::{Meaning, Reader};
+use roff_run::{DefinitionLine, EndMark, matched_behind};
+use roff_requests::Environments;
+use roff_run::PageEvent;
+use roff_run::Reading;
+use roff_num::{Limit, ShortName};
+use roff_run::LinesFor;
+use arrayvec::ArrayVec;
+use roff_scan::{CopyUnit, Read, Unread};
+
+impl Reader {
+    /// The end of the line of a request by which lines are defined, or ignored.
+    pub(super) fn begin_lines(
+        &mut self,
+        lines: LinesFor,
+        unread: &mut Unread<PageEvent>,
+    ) -> Result<Meaning, Limit>
+        ensures { (es : EnvironmentsOf)
+            → TakesAs (λ k. lines_begun unread.old.input lines (arguments_given unread.old.input))
+            es self.old self.new unread.old unread.new result }
+    {
+        unread.finish_arguments();
+        let first = short_name_at(0, unread.arguments());
+        let second = short_name_at(1, unread.arguments());
+        match (lines, first) {
+            (LinesFor::Nobody, end) => self.begin_definition(None, false, end.flatten(), unread),
+            (LinesFor::Macro { appends }, Some(Some(name))) => {
+                self.begin_definition(Some(name), appends, second.flatten(), unread)
+            }
+            (LinesFor::Macro { .. }, _) => {
+                unread.begin_arguments();
+                Ok(self.read_on(Reading::LineStart))
+            }
+        }
+    }
+
+    /// The text of a definition is begun, if a name gets it.
+    fn begin_definition(
+        &mut self,
+        name: Option<ShortName>,
+        appends: bool,
+        end: Option<ShortName>,
+        unread: &mut Unread<PageEvent>,
+    ) -> Result<Meaning, Limit>
+        ensures { (es : EnvironmentsOf)
+            → TakesAs (λ k. definition_begun unread.old.input name appends end)
+            es self.old self.new unread.old unread.new result }
+    {
+        begin_string(name, unread)?;
+        Ok(self.read_on(Reading::Defining {
+            name,
+            appends,
+            end,
+            matched: Some(0),
+        }))
+    }
+
+    /// Something of a definition's text.
+    pub(super) fn read_definition(
+        &mut self,
+        name: Option<ShortName>,
+        appends: bool,
+        end: Option<ShortName>,
+        matched: Option<u8>,
+        found: Read,
+        environments: &Environments,
+        unread: &mut Unread<PageEvent>,
+    ) -> Result<Meaning, Limit>
+        ensures { TakesAs (λ k. definition_found k unread.old.input name appends end matched found)
+            environments.now self.old self.new unread.old unread.new result }
+    {
+        match found {
+            Read::Unit(unit) => {
+                self.read_unit_of_definition(
+                    name,
+                    appends,
+                    end,
+                    matched,
+                    unit,
+                    environments,
+                    unread,
+                )
+            }
+            Read::Escape(byte) => {
+                let unit = CopyUnit::Kept(byte);
+                self.read_unit_of_definition(
+                    name,
+                    appends,
+                    end,
+                    matched,
+                    unit,
+                    environments,
+                    unread,
+                )
+            }
+            _ => {
+                let reading = Reading::Defining {
+                    name,
+                    appends,
+                    end,
+                    matched,
+                };
+                self.read_in_arguments(reading, found, environments, unread)
+            }
+        }
+    }
+
+    /// A unit of a definition's text: what stands in front of a line that may be the last one is no
+    /// text yet.
+    fn read_unit_of_definition(
+        &mut self,
+        name: Option<ShortName>,
+        appends: bool,
+        end: Option<ShortName>,
+        matched: Option<u8>,
+        unit: CopyUnit,
+        environments: &Environments,
+        unread: &mut Unread<PageEvent>,
+    ) -> Result<Meaning, Limit>
+        ensures { TakesAs (λ k. definition_line k unread.old.input name appends end matched unit)
+            environments.now self.old self.new unread.old unread.new result }
+    {
+        let defining = |matched| Reading::Defining {
+            name,
+            appends,
+            end,
+            matched,
+        };
+        let mark = EndMark::of(end);
+        match mark.line_with(matched, unit) {
+            DefinitionLine::MayBeLast(matched) => Ok(self.read_on(defining(Some(matched)))),
+            DefinitionLine::IsLast(byte) => {
+                self.end_definition(name, appends, end, byte, environments, unread)
+            }
+            DefinitionLine::IsText => {
+                grow_definition(name, mark.front(matched), unit, unread)?;
+                Ok(self.read_on(defining(matched_behind(unit))))
+            }
+        }
+    }
+
+    /// The line that ends a definition, up to the first byte behind its name.
+    fn end_definition(
+        &mut self,
+        name: Option<ShortName>,
+        appends: bool,
+        end: Option<ShortName>,
+        byte: u8,
+        environments: &Environments,
+        unread: &mut Unread<PageEvent>,
+    ) -> Result<Meaning, Limit>
+        requires { ends_mark byte ≡ true }
+        ensures { TakesAs (λ k. behind_definition k
+            (string_entered name appends unread.old.input) end byte)
+            environments.now self.old self.new unread.old unread.new result }
+    {
+        enter_string(name, appends, unread)?;
+        self.read_behind_definition(end, byte, environments, unread)
+    }
+
+    /// The first byte behind the name on that line: the name is called, if there is one, and else
+    /// the line is dropped.
+    fn read_behind_definition(
+        &mut self,
+        end: Option<ShortName>,
+        byte: u8,
+        environments: &Environments,
+        unread: &mut Unread<PageEvent>,
+    ) -> Result<Meaning, Limit>
+        ensures { TakesAs (λ k. behind_definition k unread.old.input end byte)
+            environments.now self.old self.new unread.old unread.new result }
+    {
+        match end {
+            Some(end) => {
+                unread.begin_line();
+                self.read_behind_name(true, end, byte, environments, unread)
+            }
+            None => Ok(self.read_on(Reading::behind_dropped(byte))),
+        }
+    }
+}
+
+/// Puts what stood in front of a line and a unit behind the text of a definition, if it has a name.
+fn grow_definition(
+    name: Option<ShortName>,
+    front: &[u8],
+    unit: CopyUnit,
+    unread: &mut Unread<PageEvent>,
+) -> Result<(), Limit>
+    requires { length front.now ≤ 3 }
+    ensures { InputBecame (definition_grown name (front.now ++ unit_bytes unit) unread.old.input)
+        unread.old unread.new result }
+{
+    if name.is_none() {
+        return Ok(());
+    }
+    let mut text: ArrayVec<u8, 5> = ArrayVec::new();
+    text.try_extend_from_slice(front).unwrap();
+    match unit {
+        CopyUnit::Byte(byte) => text.push(byte),
+        CopyUnit::Kept(byte) => text.try_extend_from_slice(&[b'\\', byte]).unwrap(),
+    }
+    unread.add(&text)
+}

@@ -1,0 +1,112 @@
+//! The end of what is half read, and of the input.
+
+ghost use Rattle.std.specs.Prelude.{Ok};
+ghost use Rattle.roff_reader.specs.Clauses.{EnvironmentsOf, PageUnread, TakesAs, definition_cut};
+ghost use Rattle.roff_reader.specs.Clauses.{end_taking, half_ended, interrupted_end, meaning_events};
+
+use super::{Meaning, Reader};
+use roff_requests::Environments;
+use roff_run::PageEvent;
+use roff_requests::Events;
+use roff_run::Message;
+use roff_run::{Reading, TextStep};
+use roff_num::{Limit, ShortName};
+use roff_scan::{CopyUnit, Unread};
+
+impl Reader {
+    /// What is half read ends, before what stays or at the end of the input.
+    ///
+    /// # Errors
+    ///
+    /// A limit that it would pass; what was changed then is of no more use.
+    pub fn end_half(
+        &mut self,
+        environments: &Environments,
+        unread: &mut Unread<PageEvent>,
+    ) -> Result<Meaning, Limit>
+        ensures { TakesAs (λ k. half_ended k self.old.reading unread.old.input)
+            environments.now self.old self.new unread.old unread.new result }
+    {
+        let place = self.place(environments);
+        let found = unread.end_reading(place);
+        self.read_found(found, environments, unread)
+    }
+
+    /// The end of the input: an unfinished line ends.
+    ///
+    /// # Errors
+    ///
+    /// A limit that it would pass; what was changed then is of no more use.
+    pub fn end_line_of_input(
+        &mut self,
+        environments: &Environments,
+        unread: &mut Unread<PageEvent>,
+    ) -> Result<Meaning, Limit>
+        ensures { TakesAs (λ k. end_taking k self.old.reading unread.old.input)
+            environments.now self.old self.new unread.old unread.new result }
+    {
+        match self.reading {
+            Reading::LineStart => Ok(self.end_interrupted(Reading::LineStart, environments)),
+            Reading::Braced => Ok(self.end_interrupted(Reading::LineStart, environments)),
+            Reading::Control { .. } => Ok(self.end_interrupted(Reading::LineStart, environments)),
+            Reading::StringName { appends } => {
+                self.end_string_line(appends, unread)?;
+                Ok(self.end_interrupted(Reading::LineStart, environments))
+            }
+            Reading::StringText {
+                name,
+                appends,
+                is_front,
+            } => {
+                let end = CopyUnit::Byte(b'\n');
+                self.read_unit_of_string(name, appends, is_front, end, unread)?;
+                Ok(self.end_interrupted(Reading::LineStart, environments))
+            }
+            Reading::Skipping { .. } => Ok(self.end_interrupted(Reading::LineStart, environments)),
+            Reading::Dropped => Ok(self.end_interrupted(Reading::LineStart, environments)),
+            Reading::Exiting => Ok(self.end_interrupted(Reading::Exiting, environments)),
+            Reading::Defining { name, .. } => Ok(self.drop_definition(name, unread)),
+            _ => self.read_kept(b'\n', environments, unread),
+        }
+    }
+
+    /// An interrupted line that no text line went on with ends, and this is read.
+    fn end_interrupted(&mut self, behind: Reading, environments: &Environments) -> Meaning
+        ensures { (u : PageUnread) → TakesAs
+            (λ k. meaning_events u.input behind (interrupted_end k.interrupted))
+            environments.now self.old self.new u u (Ok result) }
+    {
+        self.reading = behind;
+        match environments.interrupted_line() {
+            None => Meaning::nothing(),
+            Some(line) => {
+                let step = TextStep {
+                    reading: behind,
+                    message: None,
+                    events: line.end(),
+                };
+                self.begin_text(step, Some(line))
+            }
+        }
+    }
+
+    /// A definition that ends with the input is dropped.
+    fn drop_definition(
+        &mut self,
+        name: Option<ShortName>,
+        unread: &mut Unread<PageEvent>,
+    ) -> Meaning
+        ensures { (es : EnvironmentsOf)
+            → TakesAs (λ k. definition_cut unread.old.input name)
+            es self.old self.new unread.old unread.new (Ok result) }
+    {
+        if name.is_some() {
+            unread.drop_text();
+        }
+        self.reading = Reading::LineStart;
+        Meaning {
+            message: Some(Message::DefinitionNotEnded),
+            events: Events::new(),
+        }
+    }
+}

@@ -1,0 +1,119 @@
+//! What stands for something else: names behind escapes, and widths.
+
+ghost use Rattle.std.specs.Prelude.{Ok};
+ghost use Rattle.roff_reader.specs.Clauses.{EnvironmentsOf, PageUnread, TakesAs, asking, going_on, holding_text};
+ghost use Rattle.roff_reader.specs.Clauses.{measuring, putting_nothing, telling, putting_string};
+ghost use Rattle.roff_reader.specs.Clauses.{putting_argument};
+
+use super::{Meaning, Reader};
+use roff_requests::Environments;
+use roff_run::PageEvent;
+use roff_requests::Events;
+use roff_run::Message;
+use roff_run::Reading;
+use itoa::Buffer;
+use roff_num::{Limit, Name};
+use roff_scan::{CopyUnit, NameUse, Remark, Unread};
+
+impl Reader {
+    /// What the name behind an escape asks for is read in the escape's place.
+    pub(super) fn ask(
+        &mut self,
+        purpose: NameUse,
+        name: Option<Name>,
+        environments: &Environments,
+        unread: &mut Unread<PageEvent>,
+    ) -> Result<Meaning, Limit>
+        ensures { TakesAs (λ k. asking k unread.old.input self.old.reading purpose name)
+            environments.now self.old self.new unread.old unread.new result }
+    {
+        let name = match name {
+            None => return Ok(Meaning::nothing()),
+            Some(name) => name,
+        };
+        match purpose {
+            NameUse::Register(step) => self.interpolate(step, &name, environments, unread),
+            NameUse::Text => self.put_string(&name, unread),
+            NameUse::Argument => self.put_argument(&name, unread),
+            // Copy mode reads no such name, and text reads it otherwise.
+            NameUse::Character => self.put_nothing(unread),
+            NameUse::Font => self.put_nothing(unread),
+            NameUse::LeftOut(_) => self.put_nothing(unread),
+        }
+    }
+
+    /// A string is put in front.
+    fn put_string(&self, name: &Name, unread: &mut Unread<PageEvent>) -> Result<Meaning, Limit>
+        ensures { (es : EnvironmentsOf)
+            → TakesAs (λ k. putting_string unread.old.input self.now.reading name.now)
+            es self.now self.now unread.old unread.new result }
+    {
+        unread.push_body(name)?;
+        Ok(Meaning::nothing())
+    }
+
+    /// An argument is put in front.
+    fn put_argument(&self, name: &Name, unread: &mut Unread<PageEvent>) -> Result<Meaning, Limit>
+        ensures { (es : EnvironmentsOf)
+            → TakesAs (λ k. putting_argument unread.old.input self.now.reading name.now)
+            es self.now self.now unread.old unread.new result }
+    {
+        match name.as_bytes() {
+            [digit @ b'1'..=b'9'] => unread.push_argument((*digit - b'1') as usize)?,
+            _ => unread.push(&[])?,
+        }
+        Ok(Meaning::nothing())
+    }
+
+    /// An empty text is put in front.
+    fn put_nothing(&self, unread: &mut Unread<PageEvent>) -> Result<Meaning, Limit>
+        ensures { (es : EnvironmentsOf) → TakesAs (λ k. putting_nothing unread.old.input self.now.reading)
+            es self.now self.now unread.old unread.new result }
+    {
+        unread.push(&[])?;
+        Ok(Meaning::nothing())
+    }
+
+    /// A unit of a text is held, and this is read on.
+    pub(super) fn hold_text(
+        &mut self,
+        unit: CopyUnit,
+        reading: Reading,
+        unread: &mut Unread<PageEvent>,
+    ) -> Result<Meaning, Limit>
+        ensures { (es : EnvironmentsOf)
+            → TakesAs (λ k. going_on (holding_text unit unread.old.input) reading)
+            es self.old self.new unread.old unread.new result }
+    {
+        unread.hold_text(unit)?;
+        Ok(self.read_on(reading))
+    }
+
+    /// The width of a text is read in its place, and behind it this.
+    pub(super) fn measure(
+        &mut self,
+        width: u32,
+        reading: Reading,
+        unread: &mut Unread<PageEvent>,
+    ) -> Result<Meaning, Limit>
+        ensures { (es : EnvironmentsOf)
+            → TakesAs (λ k. measuring unread.old.input reading width)
+            es self.old self.new unread.old unread.new result }
+    {
+        unread.push(Buffer::new().format(width).as_bytes())?;
+        Ok(self.read_on(reading))
+    }
+
+    /// This is said of something within a text that is measured or a condition, and this is read
+    /// on.
+    pub(super) fn tell(&mut self, remark: Remark, reading: Reading) -> Meaning
+        ensures { (es : EnvironmentsOf) (u : PageUnread)
+            → TakesAs (λ k. telling u.input reading remark) es self.old self.new u u (Ok result) }
+    {
+        self.reading = reading;
+        Meaning {
+            message: Some(Message::of_remark(remark)),
+            events: Events::new(),
+        }
+    }
+}

@@ -1,0 +1,36 @@
+//! Where on the input line a motion begins.
+
+ghost use Rattle.std.specs.Prelude.{◌≡◌};
+ghost use Rattle.roff_num.specs.declared.limits.Limits.{Limits};
+ghost use Rattle.roff_reader.specs.Clauses.{AllRegisters, PageHistory, PageInput, StandFor, at_start};
+ghost use Rattle.roff_reader.specs.Clauses.{known_at, on_line};
+
+use roff_requests::Environments;
+use roff_run::TextLine;
+use roff_scan::Surroundings;
+
+/// The basic units of a column.
+const COLUMN: u64 = 24;
+
+/// A place above this reads as this, in basic units.
+const GREATEST_PLACE: u64 = 2_147_483_647;
+
+/// How the first byte of a line is read.
+pub(super) fn at_start(environments: &Environments) -> Surroundings
+    ensures { (l : Limits) (h : PageHistory) (rs : AllRegisters) (i : PageInput)
+        → StandFor l h environments.now → result ≡ at_start (known_at h rs i) }
+{
+    on_line(
+        environments,
+        TextLine::begun_as(environments.interrupted_line()),
+    )
+}
+
+/// How the bytes of a text line are read.
+pub(super) fn on_line(environments: &Environments, line: TextLine) -> Surroundings
+    ensures { (l : Limits) (h : PageHistory) (rs : AllRegisters) (i : PageInput)
+        → StandFor l h environments.now → result ≡ on_line (known_at h rs i) line }
+{
+    let columns = u64::from(environments.in_force.lines.input_place()) + u64::from(line.leading);
+    Surroundings::Text((columns * COLUMN).min(GREATEST_PLACE) as i32)
+}

@@ -1,0 +1,147 @@
+//! The names of strings that are defined.
+
+ghost use Rattle.std.specs.Prelude.{◌≢◌, Some};
+ghost use Rattle.roff_arguments.specs.declared.arguments.Place.TheVariants.{BehindQuote};
+ghost use Rattle.roff_escape.specs.declared.half.CopyUnit.TheVariants.{Byte};
+ghost use Rattle.roff_reader.specs.Clauses.{EnvironmentsOf, TakesAs, InputBecame, arguments_given, name_read};
+ghost use Rattle.roff_reader.specs.Clauses.{string_emptied, string_line_ended, string_name_behind};
+ghost use Rattle.roff_reader.specs.Clauses.{string_name_found, string_name_or_text, string_name_unit};
+ghost use Rattle.roff_reader.specs.Clauses.{name_at as name_given_at};
+
+use super::arguments::first_name;
+use super::strings::begin_string;
+use super::{Meaning, Reader};
+use roff_requests::Environments;
+use roff_run::PageEvent;
+use roff_run::Reading;
+use roff_num::{Limit, ShortName};
+use roff_scan::{CopyUnit, Read, Unread};
+use roff_store::{Entry, Kind};
+
+impl Reader {
+    /// Something of a string's name.
+    pub(super) fn read_string_name(
+        &mut self,
+        appends: bool,
+        found: Read,
+        environments: &Environments,
+        unread: &mut Unread<PageEvent>,
+    ) -> Result<Meaning, Limit>
+        ensures { TakesAs (λ k. string_name_found k unread.old.input appends found)
+            environments.now self.old self.new unread.old unread.new result }
+    {
+        match found {
+            Read::Unit(unit) => self.read_unit_of_string_name(appends, unit, unread),
+            Read::Escape(byte) => {
+                self.read_unit_of_string_name(appends, CopyUnit::Kept(byte), unread)
+            }
+            _ => {
+                unread.settle();
+                self.read_in_arguments(Reading::StringName { appends }, found, environments, unread)
+            }
+        }
+    }
+
+    /// A unit of a string's name; one in quotes ends before all but a quote.
+    fn read_unit_of_string_name(
+        &mut self,
+        appends: bool,
+        unit: CopyUnit,
+        unread: &mut Unread<PageEvent>,
+    ) -> Result<Meaning, Limit>
+        ensures { (es : EnvironmentsOf)
+            → TakesAs (λ k. string_name_unit unread.old.input appends unit)
+            es self.old self.new unread.old unread.new result }
+    {
+        match unit {
+            CopyUnit::Byte(b'\n') => self.end_string_line(appends, unread),
+            CopyUnit::Byte(b'"') => self.read_name_or_string(appends, unit, unread),
+            _ => {
+                unread.settle();
+                self.read_name_or_string(appends, unit, unread)
+            }
+        }
+    }
+
+    /// A unit where a string's name may be whole: the first one of its text, or one of the name.
+    fn read_name_or_string(
+        &mut self,
+        appends: bool,
+        unit: CopyUnit,
+        unread: &mut Unread<PageEvent>,
+    ) -> Result<Meaning, Limit>
+        requires line_goes_on { unit ≢ Byte 10 }
+        requires apart { unit ≢ Byte 34 → unread.old.input.arguments.place ≢ BehindQuote }
+        ensures { (es : EnvironmentsOf)
+            → TakesAs (λ k. string_name_or_text unread.old.input appends unit
+            (name_read unread.old.input))
+            es self.old self.new unread.old unread.new result }
+    {
+        match first_name(unread.arguments()) {
+            Some(name) => {
+                begin_string(name, unread)?;
+                self.read_unit_of_string(name, appends, true, unit, unread)
+            }
+            None => {
+                unread.hold(unit)?;
+                self.begin_text_if_named(appends, unread)
+            }
+        }
+    }
+
+    /// Behind a unit of a string's name: where the name is whole its text comes.
+    fn begin_text_if_named(
+        &mut self,
+        appends: bool,
+        unread: &mut Unread<PageEvent>,
+    ) -> Result<Meaning, Limit>
+        ensures { (es : EnvironmentsOf)
+            → TakesAs (λ k. string_name_behind unread.old.input appends
+            (name_read unread.old.input))
+            es self.old self.new unread.old unread.new result }
+    {
+        match first_name(unread.arguments()) {
+            Some(name) => {
+                begin_string(name, unread)?;
+                Ok(self.read_on(Reading::StringText {
+                    name,
+                    appends,
+                    is_front: true,
+                }))
+            }
+            None => Ok(self.read_on(Reading::StringName { appends })),
+        }
+    }
+
+    /// The line of a string ends where its name is read.
+    pub(super) fn end_string_line(
+        &mut self,
+        appends: bool,
+        unread: &mut Unread<PageEvent>,
+    ) -> Result<Meaning, Limit>
+        ensures { (es : EnvironmentsOf)
+            → TakesAs (λ k. string_line_ended unread.old.input appends
+            (name_given_at 0 (arguments_given unread.old.input)))
+            es self.old self.new unread.old unread.new result }
+    {
+        unread.finish_arguments();
+        let given = first_name(unread.arguments());
+        unread.begin_arguments();
+        if let Some(Some(name)) = given {
+            empty_string(name, appends, unread)?;
+        }
+        Ok(self.read_on(Reading::LineStart))
+    }
+}
+
+/// A string without a text is empty; one that is appended to stays.
+fn empty_string(name: ShortName, appends: bool, unread: &mut Unread<PageEvent>) -> Result<(), Limit>
+    ensures { InputBecame (string_emptied (Some name) appends unread.old.input)
+        unread.old unread.new result }
+{
+    let name = name.name();
+    match unread.get(&name) {
+        Some(Kind::Body(_)) if appends => Ok(()),
+        _ => unread.set(&name, Entry::Body(&[])),
+    }
+}

@@ -1,0 +1,4 @@
+pub mod EnvironmentRing
+pub mod TabStops
+pub mod RegisterTables
+pub mod Numbering

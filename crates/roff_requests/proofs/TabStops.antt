@@ -1,0 +1,126 @@
+-- Tab stops that are read one after another, each beside the one before.
+use Rattle.std.proofs.Common.{◌≡◌, ◌≤◌, ◌<◌, ◌+◌, Bool, ℕ, zero, suc, ℤ, pos, List, [], ◌∷◌, ◌++◌, length, length-append, map, drop, take, slice_get, Some, Result, Ok, Err, refl, sym, ap, ◌∙◌, add-one, append_assoc, arith}
+use Rattle.std.specs.Prelude.{◌/◌}
+use Rattle.std.proofs.Math.Seq.{append_snoc}
+use Rattle.std.proofs.lemmas.List.{append-nil, drop_all, map-append}
+use Rattle.roff_num.specs.Steps.{followed}
+use Rattle.roff_num.specs.declared.num.NumFault.{NumFault}
+use Rattle.roff_requests.specs.Events.{stop_at, stops_set}
+use Rattle.roff_run.specs.Numbers.{at_least_zero, rounded_in_range}
+use Rattle.roff_lines.specs.declared.event.Event.TheVariants.{Set}
+use Rattle.roff_lines.specs.declared.settings.Param.TheVariants.{NoStops}
+use Rattle.roff_run.specs.Requests.{PageEvent, Text}
+use Rattle.roff_run.specs.Requests.Effects.{Done, bad_number, happens, meant_by, saying}
+use Rattle.roff_run.specs.Requests.Tabs.{setting_stops, stop_place, stop_places, stop_set}
+
+-- the column of a stop
+abbrev pub column_at : ℤ → ℕ
+column_at stop = at_least_zero stop / 24
+
+-- these stops in front of others
+abbrev in_front : List ℤ → Result (List ℤ) NumFault → Result (List ℤ) NumFault
+in_front stops others = followed others (λ more. Ok (stops ++ more))
+
+-- these stops of the first so many texts are read, the last of them lies here, and the rest decides
+pub record ReadSoFar (texts : List (List ℕ)) (count : ℕ) (before : ℤ) (columns : List ℕ) : Type 0 where
+  pub stops : List ℤ
+  pub columns_are : columns ≡ map column_at stops
+  pub few : length columns ≤ count
+  pub decide : stop_places (pos 0) texts ≡ in_front stops (stop_places before (drop count texts))
+
+-- a stop in front of others, behind these
+in_front-more : (stops : List ℤ) (stop : ℤ) (others : Result (List ℤ) NumFault)
+    → in_front stops (followed others (λ more. Ok (stop ∷ more))) ≡ in_front (stops ++ stop ∷ []) others
+in_front-more stops stop (Ok more) = ap (λ (all : List ℤ). Ok all) (sym (append_snoc stops stop more))
+in_front-more stops stop (Err fault) = refl
+
+-- a text, and those behind it
+drop_next : (n : ℕ) (texts : List (List ℕ)) (text : List ℕ) → slice_get texts n ≡ Some text → drop n texts ≡ text ∷ drop (suc n) texts
+drop_next n [] text is = cc
+drop_next zero (first ∷ texts) text is = let same : first ≡ text = cc in ap (λ (t : List ℕ). t ∷ texts) same
+drop_next (suc n) (first ∷ texts) text is = drop_next n texts text is
+
+-- the stop of a text, in front of those behind it
+stop_places-next : (before place stop : ℤ) (text : List ℕ) (others : List (List ℕ)) → stop_place before text ≡ Ok place → Ok stop ≡ rounded_in_range 24 place
+    → stop_places before (text ∷ others) ≡ followed (stop_places stop others) (λ more. Ok (stop ∷ more))
+stop_places-next before place stop text others placed rounded =
+    let behind : Result ℤ NumFault → Result (List ℤ) NumFault = λ r. followed r (λ s. followed (stop_places s others) (λ more. Ok (s ∷ more))) in
+    ap (λ (r : Result ℤ NumFault). behind (followed r (rounded_in_range 24))) placed ∙ ap behind (sym rounded)
+
+-- a text that gives none
+stop_places-fault : (before : ℤ) (text : List ℕ) (others : List (List ℕ)) (fault : NumFault) → stop_place before text ≡ Err fault
+    → stop_places before (text ∷ others) ≡ Err fault
+stop_places-fault before text others fault fails =
+    let behind : Result ℤ NumFault → Result (List ℤ) NumFault = λ r. followed r (λ s. followed (stop_places s others) (λ more. Ok (s ∷ more))) in
+    ap (λ (r : Result ℤ NumFault). behind (followed r (rounded_in_range 24))) fails
+
+-- one stop more is read
+pub ReadSoFar-next : (texts : List (List ℕ)) (count : ℕ) (before place stop : ℤ) (columns behind text : List ℕ)
+    → ReadSoFar texts count before columns → slice_get texts count ≡ Some text → stop_place before text ≡ Ok place → Ok stop ≡ rounded_in_range 24 place
+    → behind ≡ columns ++ column_at stop ∷ [] → ReadSoFar texts (count + 1) stop behind
+ReadSoFar-next texts count before place stop columns behind text so_far is placed rounded grown = record {
+  stops = so_far.stops ++ stop ∷ [];
+  columns_are =
+      grown ∙ ap (λ (cs : List ℕ). cs ++ column_at stop ∷ []) so_far.columns_are ∙ sym (map-append column_at so_far.stops (stop ∷ []));
+  few = omega (arith, so_far.few, ap length grown, length-append columns (column_at stop ∷ []));
+  decide =
+      let next : List (List ℕ) = drop (suc count) texts in
+      so_far.decide
+      ∙ ap (λ (rest : List (List ℕ)). in_front so_far.stops (stop_places before rest)) (drop_next count texts text is)
+      ∙ ap (in_front so_far.stops) (stop_places-next before place stop text next placed rounded)
+      ∙ in_front-more so_far.stops stop (stop_places stop next)
+      ∙ ap (λ (n : ℕ). in_front (so_far.stops ++ stop ∷ []) (stop_places stop (drop n texts))) (sym (add-one count));
+}
+
+-- a text is no number: nothing is set
+pub nothing_read : (texts : List (List ℕ)) (count : ℕ) (before : ℤ) (columns text : List ℕ) (fault : NumFault)
+    → ReadSoFar texts count before columns → slice_get texts count ≡ Some text → stop_place before text ≡ Err fault
+    → bad_number ≡ setting_stops (stop_places (pos 0) texts)
+nothing_read texts count before columns text fault so_far is fails =
+    sym (ap setting_stops
+    (so_far.decide
+    ∙ ap (λ (rest : List (List ℕ)). in_front so_far.stops (stop_places before rest)) (drop_next count texts text is)
+    ∙ ap (in_front so_far.stops) (stop_places-fault before text (drop (suc count) texts) fault fails)))
+
+-- the events of stops, by their columns
+stops_set-columns : (stops : List ℤ) → map stop_at (map column_at stops) ≡ map stop_set stops
+stops_set-columns [] = refl
+stops_set-columns (stop ∷ stops) = ap (λ (es : List PageEvent). stop_set stop ∷ es) (stops_set-columns stops)
+
+-- all texts are read
+pub all_read : (texts : List (List ℕ)) (count : ℕ) (before : ℤ) (columns : List ℕ) → ReadSoFar texts count before columns → length texts ≤ count
+    → happens [] (stops_set columns) ≡ setting_stops (stop_places (pos 0) texts)
+all_read texts count before columns so_far behind =
+    let set : List PageEvent → Done = λ es. happens [] (Text (Set NoStops) ∷ es) in
+    ap (λ (cs : List ℕ). happens [] (stops_set cs)) so_far.columns_are
+    ∙ ap set (stops_set-columns so_far.stops)
+    ∙ ap (λ (stops : List ℤ). setting_stops (Ok stops)) (sym (append-nil so_far.stops))
+    ∙ ap (λ (rest : List (List ℕ)). setting_stops (in_front so_far.stops (stop_places before rest))) (sym (drop_all count texts behind))
+    ∙ ap setting_stops (sym so_far.decide)
+
+-- a request for stops says something and sets them, and changes nothing else
+pub stops_meant : (breaks : Bool) (stops : Result (List ℤ) NumFault)
+    → let effect = meant_by breaks (setting_stops stops) in saying effect.messages effect.events ≡ effect
+stops_meant breaks (Ok stops) = refl
+stops_meant breaks (Err fault) = refl
+
+-- of the first so many texts, one of them
+pub slice_get-take : (n most : ℕ) (texts : List (List ℕ)) → n < most → slice_get (take most texts) n ≡ slice_get texts n
+slice_get-take n zero texts less = absurd (omega (arith, less))
+slice_get-take n (suc most) [] less = refl
+slice_get-take zero (suc most) (text ∷ texts) less = refl
+slice_get-take (suc n) (suc most) (text ∷ texts) less = slice_get-take n most texts (omega (arith, less))
+
+-- the events of stops that are added: those of the first of them, and of the others
+abbrev pub stop_events : List ℕ → List PageEvent
+stop_events columns = map stop_at columns
+
+pub stop_events-split : (events now : List PageEvent) (columns others : List ℕ) (column : ℕ) → columns ≡ column ∷ others → now ≡ events ++ stop_at column ∷ []
+    → now ++ stop_events others ≡ events ++ stop_events columns
+stop_events-split events now columns others column split is =
+    ap (λ (es : List PageEvent). es ++ stop_events others) is ∙ append_assoc events (stop_at column ∷ []) (stop_events others)
+    ∙ ap (λ (cs : List ℕ). events ++ stop_events cs) (sym split)
+
+-- behind the last
+pub stop_events-none : (events : List PageEvent) (columns : List ℕ) → columns ≡ [] → events ++ stop_events columns ≡ events
+stop_events-none events columns none = ap (λ (cs : List ℕ). events ++ stop_events cs) none ∙ append-nil events

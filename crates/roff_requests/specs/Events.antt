@@ -1,0 +1,28 @@
+-- The events of a byte or request, as the code puts them together.
+use Rattle.std.specs.Prelude.{ℕ, Bool, List, [], ◌∷◌, map, if◌then◌else◌}
+use Rattle.roff_lines.specs.declared.event.Event.TheVariants.{Resume, Set}
+use Rattle.roff_lines.specs.declared.settings.Param.TheVariants.{NoStops, Stop}
+use Rattle.roff_run.specs.declared.event.PageEvent.{PageEvent}
+use Rattle.roff_run.specs.declared.event.PageEvent.TheVariants.{Text}
+use Rattle.roff_requests.specs.declared.events.RequestEvents.{RequestEvents}
+use Rattle.roff_requests.specs.declared.events.RequestEvents.TheVariants.{Nothing, One, Two}
+pub mod Kept
+pub mod Meant
+
+-- the event of a stop, by its column
+abbrev pub stop_at : ℕ → PageEvent
+stop_at column = Text (Set (Stop column))
+
+-- these stops are set in place of those in force
+abbrev pub stops_set : List ℕ → List PageEvent
+stops_set columns = Text (Set NoStops) ∷ map stop_at columns
+
+-- the events of a request behind its break, in order
+abbrev pub request_events : RequestEvents → List PageEvent
+request_events Nothing = []
+request_events (One event) = event ∷ []
+request_events (Two first second) = first ∷ second ∷ []
+
+-- behind the event that an interrupted line goes on, if it does
+abbrev pub resumed_if : Bool → List PageEvent → List PageEvent
+resumed_if goes_on events = if goes_on then Text Resume ∷ events else events

@@ -1,0 +1,16 @@
+-- What the code keeps of the events of a request.
+use Rattle.std.specs.Prelude.{List, if◌then◌else◌}
+use Rattle.roff_requests.specs.declared.events.RequestedEvents.TheInside.{Inside}
+use Rattle.roff_run.specs.declared.event.PageEvent.{PageEvent}
+use Rattle.roff_requests.specs.Events.{request_events, stops_set}
+use Rattle.roff_run.specs.Requests.Effects.{behind_break}
+
+-- the events, in order
+pub record Told : Type 0 where
+  pub items : List PageEvent
+
+-- what the fields keep: behind a break, if there is one, those of stops, or a few
+abbrev pub told_by : Inside → Told
+told_by e = record {
+  items = behind_break e.breaks (if e.sets_stops then stops_set e.stops.items else request_events e.behind);
+}

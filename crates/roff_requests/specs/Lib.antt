@@ -1,0 +1,4 @@
+pub mod Events
+pub mod Request
+pub mod Environments
+pub mod Registers

@@ -1,0 +1,3 @@
+pub mod Coded
+pub mod Kept
+pub mod ReadOnly

@@ -1,0 +1,23 @@
+-- What the code of the registers keeps.
+use Rattle.std.specs.Prelude.{◌≤◌, length}
+use Rattle.roff_store.specs.Named.{Table, EachOnce}
+use Rattle.roff_store.specs.declared.register.Register.{Register}
+use Rattle.roff_requests.specs.declared.registers.RunRegisters.TheInside.{Inside}
+use Rattle.roff_run.specs.Registers.Capped.{Capped}
+
+-- a table with the page number's register, as the registers and how many names may have one
+abbrev pub capped_of : Table Register → Register → Capped
+capped_of t page = record { all = record { named = t.entries; page = page }; cap = t.cap }
+
+-- what the fields keep
+abbrev pub kept_by : Inside → Capped
+kept_by a = capped_of a.named a.page
+
+-- no name has two registers, and no more names have one than may
+pub record IsCounted (t : Table Register) : Type 0 where
+  pub once : EachOnce t.entries
+  pub within : length t.entries ≤ t.cap
+
+-- the names are counted
+abbrev pub IsSound : Inside → Type 0
+IsSound a = IsCounted a.named

@@ -1,0 +1,14 @@
+//! What requests do, in code: their effects, the number registers, the events of a line, and the
+//! three environments.
+#![tactic(auto)]
+
+mod environments;
+mod events;
+mod number;
+mod registers;
+mod requests;
+
+pub use environments::{Environment, Environments, Left};
+pub use events::{AllEvents, Events, FewEvents, RequestEvents, RequestedEvents, are_none};
+pub use registers::{Facts, RunRegisters};
+pub use requests::{Changes, Effect, Given, Known, effect, name_given, register_named, tab_stops};

@@ -1,0 +1,81 @@
+//! What each request does.
+
+ghost use Rattle.std.specs.Prelude.{◌≡◌, ℕ, List};
+ghost use Rattle.roff_run.specs.Registers.{Known as KnownOfRun};
+ghost use Rattle.roff_requests.specs.Request.Coded.{GivesFirst, KnowsOf, done_of, effect_of};
+ghost use Rattle.roff_run.specs.Requests.{request_effect, row_of};
+
+mod adjustment;
+mod effects;
+mod lengths;
+mod naming;
+mod numbering;
+mod spacing;
+mod switching;
+mod tabs;
+
+use roff_run::Request;
+use Request::{LeftOut, WithoutEffect};
+pub use effects::{Changes, Effect, Known};
+pub(crate) use effects::Done;
+pub use numbering::{name_given, register_named};
+use roff_lines::Param;
+pub use tabs::tab_stops;
+
+/// The first arguments of a request, as far as they are given.
+#[derive(Clone, Copy, Debug)]
+pub struct Given<'a> {
+    pub first: Option<&'a [u8]>,
+    pub second: Option<&'a [u8]>,
+    pub third: Option<&'a [u8]>,
+}
+
+/// What a request means, called by a dot or not, as far as the run is known, with these arguments.
+pub fn effect(request: Request, by_dot: bool, known: Known, given: Given<'_>) -> Effect
+    ensures { (k : KnownOfRun) (as_given : List (List ℕ))
+        → KnowsOf k request as_given known → GivesFirst as_given given.entry
+        → effect_of as_given result ≡ request_effect k by_dot request as_given }
+{
+    does(request, known, given).meaning(by_dot && request.row().breaks)
+}
+
+/// What a request does behind its break.
+fn does(request: Request, known: Known, given: Given<'_>) -> Done
+    ensures { (k : KnownOfRun) (as_given : List (List ℕ))
+        → KnowsOf k request as_given known → GivesFirst as_given given.entry
+        → done_of as_given result ≡ (row_of request).does k as_given }
+{
+    match request {
+        Request::Abort => Done::nothing(),
+        Request::Adjust => adjustment::adjust(given.first),
+        Request::AssignFormat => numbering::assign_format(given.first, given.second),
+        Request::AppendMacro => Done::nothing(),
+        Request::AppendString => Done::nothing(),
+        Request::Break => Done::nothing(),
+        Request::Centre => adjustment::centre(given.first),
+        Request::DefineMacro => Done::nothing(),
+        Request::DefineString => Done::nothing(),
+        Request::Else => Done::nothing(),
+        Request::Environment => switching::switch(known, given.first),
+        Request::Exit => Done::nothing(),
+        Request::Fill => Done::setting(Param::Filling(true)),
+        Request::IfElse => Done::nothing(),
+        Request::If => Done::nothing(),
+        Request::Ignore => Done::nothing(),
+        Request::Indent => lengths::indent(known, given.first),
+        Request::LineLength => lengths::line_length(known, given.first),
+        Request::LineSpacing => spacing::line_spacing(known, given.first),
+        Request::NoAdjust => Done::setting(Param::Adjusting(false)),
+        Request::NoFill => Done::setting(Param::Filling(false)),
+        Request::NumberRegister => numbering::set_register(known, given),
+        Request::RemoveNames => Done::changing(Changes::RemoveNamesGiven),
+        Request::Rename => naming::rename(given.first, given.second),
+        Request::RemoveRegisters => Done::changing(Changes::RemoveGiven),
+        Request::Space => spacing::space_down(given.first),
+        Request::TabStops => Done::SetsStops,
+        Request::TemporaryIndent => lengths::temporary_indent(known, given.first),
+        Request::TellMessage => Done::nothing(),
+        WithoutEffect(_) => Done::nothing(),
+        LeftOut(name) => Done::left_out(name),
+    }
+}

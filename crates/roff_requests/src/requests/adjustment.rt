@@ -1,0 +1,65 @@
+//! Adjusting and centring.
+
+ghost use Rattle.std.specs.Prelude.{◌≡◌, ℕ, List, slice_get};
+ghost use Rattle.std.specs.Option.{option_copied};
+ghost use Rattle.roff_requests.specs.Request.Coded.{done_of};
+ghost use Rattle.roff_run.specs.Requests.Adjustment.{adjust, centre, mode_named, mode_wanted};
+
+use roff_run::PageEvent;
+use crate::events::RequestEvents;
+use crate::number::value_in;
+use crate::requests::Done;
+use roff_lines::{AdjustMode, Event, Param};
+use roff_num::Scale;
+
+/// `ad`: adjusting on, in the mode of the argument or the one in force.
+pub(super) fn adjust(argument: Option<&[u8]>) -> Done
+    ensures { (as_given : List (List ℕ)) → option_copied argument.entry ≡ slice_get as_given 0
+        → done_of as_given result ≡ adjust as_given }
+{
+    match mode_wanted(argument) {
+        None => Done::setting(Param::Adjusting(true)),
+        Some(mode) => Done::doing(
+            None,
+            RequestEvents::Two(
+                PageEvent::Text(Event::Set(Param::Mode(mode))),
+                PageEvent::Text(Event::Set(Param::Adjusting(true))),
+            ),
+        ),
+    }
+}
+
+/// `ce`: so many lines are centred, one where no number is given.
+pub(super) fn centre(argument: Option<&[u8]>) -> Done
+    ensures { (as_given : List (List ℕ)) → option_copied argument.entry ≡ slice_get as_given 0
+        → done_of as_given result ≡ centre as_given }
+{
+    match argument {
+        None => Done::setting(Param::Centring(1)),
+        Some(text) => match value_in(Scale::Units, text) {
+            Ok(count) => Done::setting(Param::Centring(count.max(0) as u32)),
+            Err(_) => Done::bad_number(),
+        },
+    }
+}
+
+/// The mode that the first letter of an argument stands for.
+fn mode_wanted(argument: Option<&[u8]>) -> Option<AdjustMode>
+    ensures { (as_given : List (List ℕ)) → option_copied argument.entry ≡ slice_get as_given 0
+        → result ≡ mode_wanted as_given }
+{
+    mode_named(*argument?.first()?)
+}
+
+/// The mode of adjusting that a letter stands for.
+fn mode_named(letter: u8) -> Option<AdjustMode>
+    ensures { result ≡ mode_named letter }
+{
+    match letter {
+        b'l' => Some(AdjustMode::Left),
+        b'r' => Some(AdjustMode::Right),
+        b'c' => Some(AdjustMode::Centre),
+        b'b' | b'n' => Some(AdjustMode::Both),
+        _ => None,
+    }
+}

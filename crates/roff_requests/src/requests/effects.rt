@@ -1,0 +1,166 @@
+//! What a request does, and what that means for the page.
+
+ghost use Rattle.std.specs.Prelude.{◌≡◌, ℕ, List, []};
+ghost use Rattle.std.specs.Option.{option_to_list};
+ghost use Rattle.roff_requests.specs.Events.{request_events};
+ghost use Rattle.roff_requests.specs.Request.Coded.{calls_of, changes_of, done_of, effect_of};
+ghost use Rattle.roff_run.specs.Requests.Effects.{Does, Ignored, bad_format, bad_number, happens, left_out, meant_by, no_such_environment, nothing, setting};
+
+use roff_run::PageEvent;
+use crate::events::RequestEvents;
+use roff_run::Message;
+use crate::registers::Change;
+use roff_lines::{Event, Param, Settings};
+use roff_num::{Name, Num};
+
+/// All that a request may ask of the run.
+#[derive(Clone, Copy, Debug)]
+pub struct Known {
+    /// The settings in force.
+    pub settings: Settings,
+    /// The value of the register that the first argument names, if it names one and the request asks
+    /// for it.
+    pub in_force: Num,
+    /// Whether an environment was left that may be gone back to.
+    pub has_left: bool,
+}
+
+/// What a request does with its arguments.
+#[derive(Drop)]
+pub(crate) enum Done {
+    /// It is ignored, and says why.
+    Ignored(Option<Message>),
+    /// It says this, registers or names change so, and this happens behind its break.
+    Does(Option<Message>, Changes, RequestEvents),
+    /// Its arguments are stops, which are set behind its break in place of those in force.
+    SetsStops,
+}
+
+/// What a request changes of the registers, or of what names stand for.
+#[derive(Drop)]
+pub enum Changes {
+    /// Nothing.
+    Nothing,
+    /// One register.
+    One(Change),
+    /// The registers that its arguments name go.
+    RemoveGiven,
+    /// What the names that its arguments give stand for goes.
+    RemoveNamesGiven,
+    /// What a name stands for goes to another one.
+    Rename {
+        /// The name.
+        from: Name,
+        /// The other one.
+        to: Name,
+    },
+}
+
+/// What a request means: a message, changes of registers or of names, and then events. Where its
+/// arguments are stops, they are read when the events are kept.
+#[derive(Drop)]
+pub struct Effect {
+    pub message: Option<Message>,
+    pub changes: Changes,
+    pub breaks: bool,
+    pub events: RequestEvents,
+    pub sets_stops: bool,
+}
+
+impl Done {
+    /// Nothing happens behind its break.
+    pub(super) fn nothing() -> Done
+        ensures { (as_given : List (List ℕ)) → done_of as_given result ≡ nothing }
+    {
+        Done::doing(None, RequestEvents::Nothing)
+    }
+
+    /// A parameter is set.
+    pub(super) fn setting(param: Param) -> Done
+        ensures { (as_given : List (List ℕ)) → done_of as_given result ≡ setting param }
+    {
+        Done::doing(None, RequestEvents::One(PageEvent::Text(Event::Set(param))))
+    }
+
+    /// Registers change, or what names stand for.
+    pub(super) fn changing(changes: Changes) -> Done
+        ensures { (as_given : List (List ℕ))
+            → done_of as_given result
+            ≡ Does [] (changes_of as_given changes) (calls_of as_given changes) [] }
+    {
+        Done::Does(None, changes, RequestEvents::Nothing)
+    }
+
+    /// An argument that it can't do without is missing.
+    pub(super) fn unsaid() -> Done
+        ensures { (as_given : List (List ℕ)) → done_of as_given result ≡ Ignored [] }
+    {
+        Done::Ignored(None)
+    }
+
+    /// An argument isn't a number, or is out of range.
+    pub(super) fn bad_number() -> Done
+        ensures { (as_given : List (List ℕ)) → done_of as_given result ≡ bad_number }
+    {
+        Done::Ignored(Some(Message::BadNumber))
+    }
+
+    /// An argument isn't a format.
+    pub(super) fn bad_format() -> Done
+        ensures { (as_given : List (List ℕ)) → done_of as_given result ≡ bad_format }
+    {
+        Done::Ignored(Some(Message::BadFormat))
+    }
+
+    /// An argument is no environment's number, or there is none to go back to.
+    pub(super) fn no_such_environment() -> Done
+        ensures { (as_given : List (List ℕ)) → done_of as_given result ≡ no_such_environment }
+    {
+        Done::Ignored(Some(Message::NoSuchEnvironment))
+    }
+
+    /// It is left out.
+    pub(super) fn left_out(name: [u8; 2]) -> Done
+        ensures { (as_given : List (List ℕ)) → done_of as_given result ≡ left_out name }
+    {
+        Done::Ignored(Some(Message::LeftOut(name)))
+    }
+
+    /// It says this, and these events happen.
+    pub(super) fn doing(message: Option<Message>, events: RequestEvents) -> Done
+        ensures { (as_given : List (List ℕ)) → done_of as_given result
+            ≡ happens (option_to_list message) (request_events events) }
+    {
+        Done::Does(message, Changes::Nothing, events)
+    }
+
+    /// What it means, with a break or without: what is ignored doesn't break.
+    pub(super) fn meaning(self, breaks: bool) -> Effect
+        ensures { (as_given : List (List ℕ))
+            → effect_of as_given result ≡ meant_by breaks (done_of as_given self) }
+    {
+        match self {
+            Done::Ignored(message) => Effect {
+                message,
+                changes: Changes::Nothing,
+                breaks: false,
+                events: RequestEvents::Nothing,
+                sets_stops: false,
+            },
+            Done::Does(message, changes, events) => Effect {
+                message,
+                changes,
+                breaks,
+                events,
+                sets_stops: false,
+            },
+            Done::SetsStops => Effect {
+                message: None,
+                changes: Changes::Nothing,
+                breaks,
+                events: RequestEvents::Nothing,
+                sets_stops: true,
+            },
+        }
+    }
+}

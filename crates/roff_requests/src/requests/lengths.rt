@@ -1,0 +1,78 @@
+//! The line length, the indent, and the indent of one line.
+
+ghost use Rattle.std.specs.Prelude.{◌≡◌, ℕ, List, slice_get};
+ghost use Rattle.std.specs.Option.{option_copied};
+ghost use Rattle.roff_run.specs.Registers.{Known as KnownOfRun};
+ghost use Rattle.roff_requests.specs.Request.Coded.{done_of};
+ghost use Rattle.roff_run.specs.Requests.Lengths.{indent, length_set, length_wanted, line_length, temporary_indent};
+
+use crate::number::{rounded_to_columns, value_beside};
+use crate::requests::{Done, Known};
+use roff_lines::Param;
+use roff_num::{NumFault, Scale};
+
+/// The basic units of a column.
+const COLUMN: u32 = 24;
+
+/// `ll`: the line length.
+pub(super) fn line_length(known: Known, argument: Option<&[u8]>) -> Done
+    ensures { (k : KnownOfRun) (as_given : List (List ℕ)) → known.settings ≡ k.settings
+        → option_copied argument.entry ≡ slice_get as_given 0
+        → done_of as_given result ≡ line_length k as_given }
+{
+    let s = known.settings;
+    match length_wanted(s.line_length, s.previous_line_length, argument) {
+        Ok(columns) => Done::setting(Param::LineLength(columns)),
+        Err(_) => Done::bad_number(),
+    }
+}
+
+/// `in`: the indent.
+pub(super) fn indent(known: Known, argument: Option<&[u8]>) -> Done
+    ensures { (k : KnownOfRun) (as_given : List (List ℕ)) → known.settings ≡ k.settings
+        → option_copied argument.entry ≡ slice_get as_given 0
+        → done_of as_given result ≡ indent k as_given }
+{
+    let s = known.settings;
+    match length_wanted(s.indent, s.previous_indent, argument) {
+        Ok(columns) => Done::setting(Param::Indent(columns)),
+        Err(_) => Done::bad_number(),
+    }
+}
+
+/// `ti`: the indent of the next line that a word begins; without an argument it is ignored.
+pub(super) fn temporary_indent(known: Known, argument: Option<&[u8]>) -> Done
+    ensures { (k : KnownOfRun) (as_given : List (List ℕ)) → known.settings ≡ k.settings
+        → option_copied argument.entry ≡ slice_get as_given 0
+        → done_of as_given result ≡ temporary_indent k as_given }
+{
+    match argument {
+        None => Done::unsaid(),
+        Some(text) => match length_set(known.settings.indent, text) {
+            Ok(columns) => Done::setting(Param::TemporaryIndent(columns)),
+            Err(_) => Done::bad_number(),
+        },
+    }
+}
+
+/// The length that is wanted, in columns: the previous one where none is given.
+fn length_wanted(in_force: u32, previous: u32, argument: Option<&[u8]>) -> Result<u32, NumFault>
+    ensures { (as_given : List (List ℕ)) → option_copied argument.entry ≡ slice_get as_given 0
+        → result ≡ length_wanted in_force previous as_given }
+{
+    match argument {
+        None => Ok(previous),
+        Some(text) => length_set(in_force, text),
+    }
+}
+
+/// The length in columns that a text sets: it is rounded, and not below 0.
+fn length_set(in_force: u32, text: &[u8]) -> Result<u32, NumFault>
+    ensures { result ≡ length_set in_force text.now }
+{
+    let units = i64::from(COLUMN) * i64::from(in_force);
+    match value_beside(units, Scale::Columns, text) {
+        Ok(length) => Ok(rounded_to_columns(length).max(0) as u32 / COLUMN),
+        Err(fault) => Err(fault),
+    }
+}

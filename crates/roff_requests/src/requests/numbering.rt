@@ -1,0 +1,98 @@
+//! Setting and formatting number registers.
+
+ghost use Rattle.std.specs.Prelude.{◌≡◌, ℕ, List, drop, slice_get};
+ghost use Rattle.std.specs.Option.{option_copied};
+ghost use Rattle.roff_num.specs.Names.{name_of};
+ghost use Rattle.roff_run.specs.Registers.{Known as KnownOfRun};
+ghost use Rattle.roff_requests.specs.Request.Coded.{GivesFirst, KnowsOf, done_of, register_named};
+ghost use Rattle.roff_run.specs.declared.request.Request.TheVariants.{NumberRegister};
+ghost use Rattle.roff_run.specs.Requests.Numbering.{assign_format, format_as, increment_given, name_given, set_register, set_to};
+
+use crate::number::{value_beside, value_in};
+use crate::registers::Change;
+use crate::requests::{Changes, Done, Given, Known};
+use roff_num::{Format, Name, Num, NumFault, Scale, read_format};
+
+/// How many bytes of an argument are a register's name.
+const NAME_BYTES: usize = 2;
+
+/// `nr`: a register's value and increment.
+pub(super) fn set_register(known: Known, given: Given<'_>) -> Done
+    ensures { (k : KnownOfRun) (as_given : List (List ℕ))
+        → KnowsOf k NumberRegister as_given known → GivesFirst as_given given.entry
+        → done_of as_given result ≡ set_register k as_given }
+{
+    match (register_named(given.first), given.second) {
+        (Some(name), Some(text)) => set_to(
+            name,
+            value_beside(i64::from(known.in_force.0), Scale::Units, text),
+            increment_given(given.third),
+        ),
+        _ => Done::unsaid(),
+    }
+}
+
+/// `af`: how a register is written.
+pub(super) fn assign_format(first: Option<&[u8]>, second: Option<&[u8]>) -> Done
+    ensures { (as_given : List (List ℕ)) → option_copied first.entry ≡ slice_get as_given 0
+        → option_copied second.entry ≡ slice_get as_given 1
+        → done_of as_given result ≡ assign_format as_given }
+{
+    match (register_named(first), second) {
+        (Some(name), Some(text)) => format_as(name, read_format(text)),
+        _ => Done::unsaid(),
+    }
+}
+
+/// The register that a first argument names, if there is one that names one.
+pub fn register_named(first: Option<&[u8]>) -> Option<Name>
+    ensures { (as_given : List (List ℕ)) → option_copied first.entry ≡ slice_get as_given 0
+        → result ≡ register_named as_given }
+{
+    match first {
+        Some(text) => name_given(text),
+        None => None,
+    }
+}
+
+/// The name that an argument gives: its first two bytes. None if it has none.
+pub fn name_given(text: &[u8]) -> Option<Name>
+    ensures { result ≡ name_of (name_given text.now) }
+{
+    Name::new(&text[..text.len().min(NAME_BYTES)])
+}
+
+/// The increment: 0 where none is given.
+fn increment_given(third: Option<&[u8]>) -> Result<i32, NumFault>
+    ensures { (as_given : List (List ℕ)) → option_copied third.entry ≡ slice_get as_given 2
+        → result ≡ increment_given (drop 2 as_given) }
+{
+    match third {
+        Some(text) => value_in(Scale::Units, text),
+        None => Ok(0),
+    }
+}
+
+/// A register is set to a value and an increment, if both are numbers.
+fn set_to(name: Name, value: Result<i32, NumFault>, increment: Result<i32, NumFault>) -> Done
+    ensures { (as_given : List (List ℕ)) → done_of as_given result ≡ set_to name value increment }
+{
+    match (value, increment) {
+        (Ok(value), Ok(increment)) => Done::changing(Changes::One(Change::SetTo {
+            name,
+            value: Num(value),
+            increment: Num(increment),
+        })),
+        _ => Done::bad_number(),
+    }
+}
+
+/// A register is given a format, if it is one.
+fn format_as(name: Name, format: Option<Format>) -> Done
+    ensures { (as_given : List (List ℕ)) → done_of as_given result ≡ format_as name format }
+{
+    match format {
+        Some(format) => Done::changing(Changes::One(Change::FormatAs { name, format })),
+        None => Done::bad_format(),
+    }
+}

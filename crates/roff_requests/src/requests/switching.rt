@@ -1,0 +1,55 @@
+//! Switching to another environment, and back.
+
+ghost use Rattle.std.specs.Prelude.{◌≡◌, ℕ, List, slice_get, Ok};
+ghost use Rattle.std.specs.Option.{option_copied};
+ghost use Rattle.roff_run.specs.Registers.{Known as KnownOfRun};
+ghost use Rattle.roff_requests.specs.Request.Coded.{done_of};
+ghost use Rattle.roff_run.specs.Requests.Switching.{switch, switching_by, switching_to};
+
+use roff_run::EnvironmentNumber;
+use roff_run::PageEvent;
+use crate::events::RequestEvents;
+use crate::number::value_in;
+use crate::requests::{Done, Known};
+use roff_num::Scale;
+
+/// `ev`: another environment, or back to the one that was left last where no number is given.
+pub(super) fn switch(known: Known, argument: Option<&[u8]>) -> Done
+    ensures { (k : KnownOfRun) (as_given : List (List ℕ)) → known.has_left ≡ k.has_left
+        → option_copied argument.entry ≡ slice_get as_given 0
+        → done_of as_given result ≡ switch k as_given }
+{
+    match argument {
+        None => {
+            if known.has_left {
+                Done::doing(None, RequestEvents::One(PageEvent::Back))
+            } else {
+                Done::no_such_environment()
+            }
+        }
+        Some(text) => match value_in(Scale::Units, text) {
+            Ok(number) => switching_by(number),
+            Err(_) => Done::bad_number(),
+        },
+    }
+}
+
+/// The environment is left for that of a number, if there is one.
+fn switching_by(number: i32) -> Done
+    ensures { (as_given : List (List ℕ)) → done_of as_given result ≡ switching_by (Ok number) }
+{
+    match u32::try_from(number) {
+        Ok(number) => switching_to(EnvironmentNumber::of(number)),
+        Err(_) => Done::no_such_environment(),
+    }
+}
+
+/// The environment is left for this one, if there is one.
+fn switching_to(number: Option<EnvironmentNumber>) -> Done
+    ensures { (as_given : List (List ℕ)) → done_of as_given result ≡ switching_to number }
+{
+    match number {
+        Some(number) => Done::doing(None, RequestEvents::One(PageEvent::Environment(number))),
+        None => Done::no_such_environment(),
+    }
+}

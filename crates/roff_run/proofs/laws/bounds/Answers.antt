@@ -1,5 +1,0 @@
-use Rattle.roff_run.proofs.laws.bounds.Goals as goal
-use Rattle.roff_run.proofs.RunsStayWithin.{no_limit_is_passed}
-
-pub returns : goal.returns
-returns c = no_limit_is_passed
