@@ -3,7 +3,9 @@ use Rattle.std.proofs.Common.{◌≡◌, ◌∙◌, ℕ, Bool, true, false, List
 use Rattle.std.specs.Prelude.{if◌then◌else◌}
 use Rattle.roff_lines.specs.declared.event.Event.{Event}
 use Rattle.roff_lines.specs.declared.event.Event.TheVariants.{Interrupt as IsInterrupted}
-use Rattle.roff_run.specs.Environments.{PageHistory, EnvironmentNumber, Zero, One, Two, InEnvironment, Environments, environments, gone_back, is_same, number_behind, switched_to, turned, turned_to, turned_unless}
+use Rattle.roff_run.specs.Environments.{PageHistory, InEnvironment, Environments, environments, gone_back, is_same, number_behind, switched_to, turned, turned_to, turned_unless}
+use Rattle.roff_run.specs.declared.environment_number.EnvironmentNumber.{EnvironmentNumber}
+use Rattle.roff_run.specs.declared.environment_number.EnvironmentNumber.TheVariants.{Zero, One, Two}
 use Rattle.roff_laws.specs.EnvironmentLaws.{environment_of, text_in}
 use Rattle.roff_run.specs.declared.event.PageEvent.TheVariants.{Text, Space, Interrupt, Environment, Back}
 

@@ -36,7 +36,7 @@ use Rattle.roff_run.specs.Reading.Found.{place_in, read_in}
 use Rattle.roff_run.specs.Reading.Items.{PageInput, Taking}
 use Rattle.roff_run.specs.Reading.TextLines.{name_taking}
 use Rattle.roff_run.specs.Registers.{Known, text_of_register}
-use Rattle.roff_run.specs.Requests.{PageEvent}
+use Rattle.roff_run.specs.declared.event.PageEvent.{PageEvent}
 use Rattle.roff_run.specs.Run.{State, known, taken_as, step, after}
 
 -- what a name asks for is read there, within names and in a condition

@@ -26,7 +26,7 @@ use Rattle.roff_run.specs.Reading.Ends.{due}
 use Rattle.roff_run.specs.Reading.Items.{PageInput, Taking, going_on}
 use Rattle.roff_run.specs.Reading.Found.{place_in, read_in}
 use Rattle.roff_run.specs.Registers.{AllRegisters, Known}
-use Rattle.roff_run.specs.Requests.{PageEvent}
+use Rattle.roff_run.specs.declared.event.PageEvent.{PageEvent}
 use Rattle.roff_run.specs.Run.{State, known, made, byte_taken, taken_as, step, after}
 use Rattle.roff_run.proofs.ItemsTaken.{Origin, ahead_at, tape_at, input_of, going, bytes_ahead_are_taken, bytes_of_the_source_are_taken, not-first, not-second, Fits, made-Fits, taken_as-going_on, FromAhead, FromSource}
 

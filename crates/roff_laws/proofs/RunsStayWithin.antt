@@ -7,10 +7,12 @@ use Rattle.std.proofs.lemmas.Bool.{cases_Bool}
 use Rattle.roff_num.specs.declared.limit.Limit.{Limit}
 use Rattle.roff_num.specs.LimitValues.{value_of}
 use Rattle.roff_num.specs.declared.limits.Limits.{Limits}
-use Rattle.roff_run.specs.Environments.{PageHistory, EnvironmentNumber, Environments, environments, gone_back, is_same, turned, turned_to, turned_unless}
+use Rattle.roff_run.specs.Environments.{PageHistory, Environments, environments, gone_back, is_same, turned, turned_to, turned_unless}
+use Rattle.roff_run.specs.declared.environment_number.EnvironmentNumber.{EnvironmentNumber}
 use Rattle.roff_laws.specs.Laws.{NoLimitIsPassed}
 use Rattle.roff_run.specs.Within.{EnvironmentsWithin, IsWithin}
-use Rattle.roff_run.specs.Requests.{PageEvent, Text, Space, Interrupt, Environment, Back}
+use Rattle.roff_run.specs.declared.event.PageEvent.{PageEvent}
+use Rattle.roff_run.specs.declared.event.PageEvent.TheVariants.{Text, Space, Interrupt, Environment, Back}
 use Rattle.roff_run.specs.Run.{State, known, initial, grown, input_left, moved, step_with, step, after}
 use Rattle.roff_run.specs.Run.Counts.{counts, first_passed, refusal}
 use Rattle.roff_run.proofs.Keeping.{Keeps-end_taking}

@@ -16,7 +16,7 @@ use Rattle.roff_laws.specs.Laws.{OnlyCuts}
 use Rattle.roff_run.specs.Reading.Ends.{due, line_ends_first}
 use Rattle.roff_run.specs.declared.reading.Due.{Due}
 use Rattle.roff_run.specs.declared.reading.Due.TheVariants.{Leaves, Tells as TellsText}
-use Rattle.roff_run.specs.Requests.{PageEvent}
+use Rattle.roff_run.specs.declared.event.PageEvent.{PageEvent}
 use Rattle.roff_run.specs.Run.{waiting, State, performing, unless_refused, grown, made, moved, byte_taken, half_ends, end_met, ahead_taken, taking_ahead, taking_byte, ending_input, answered, in_front_taken, front_seen, awaited_of_source, awaited, item_read, input_ended, message_told, input_left, reading_by, step_with, step}
 use Rattle.roff_run.specs.Run.Counts.{passes_bytes, refusal, first_passed}
 use Rattle.roff_laws.proofs.Beginnings.{IsBeginning-same, IsBeginning-append, IsBeginning-trans}

@@ -22,7 +22,7 @@ use Rattle.roff_laws.specs.Limits.{AreWithin}
 use Rattle.roff_run.specs.Reading.Ends.{due, line_ends_first}
 use Rattle.roff_run.specs.declared.reading.Due.{Due}
 use Rattle.roff_run.specs.declared.reading.Due.TheVariants.{Leaves, Tells as TellsText}
-use Rattle.roff_run.specs.Requests.{PageEvent}
+use Rattle.roff_run.specs.declared.event.PageEvent.{PageEvent}
 use Rattle.roff_run.specs.Run.{waiting, State, ending_with, unless_refused, stopped_by, performing, grown, made, half_ends, taking_ahead, taking_byte, ending_input, answered, in_front_taken, front_seen, awaited_of_source, awaited, item_read, input_ended, reading_by, step_with, step, after}
 use Rattle.roff_run.specs.Run.Counts.{counts, first_passed, passes_bytes}
 use Rattle.roff_run.specs.declared.message.Message.TheVariants.{ReadFailed}

@@ -1,7 +1,8 @@
 //! Facts about environments, as contracts of functions that do nothing.
 
 ghost use Rattle.std.specs.Prelude.{◌≡◌, [], ◌∷◌};
-ghost use Rattle.roff_run.specs.Environments.{EnvironmentNumber, PageHistory, environments};
+ghost use Rattle.roff_run.specs.declared.environment_number.EnvironmentNumber.{EnvironmentNumber};
+ghost use Rattle.roff_run.specs.Environments.{PageHistory, environments};
 ghost use Rattle.roff_laws.specs.EnvironmentLaws.{environment_of, text_in};
 ghost use Rattle.roff_run.specs.declared.event.PageEvent.TheVariants.{Back, Environment};
 

@@ -24,7 +24,7 @@ use Rattle.roff_run.specs.Reading.{taking}
 use Rattle.roff_run.specs.Reading.Items.{PageInput, going_on, meaning_events}
 use Rattle.roff_run.specs.Reading.TextLines.{most_leading}
 use Rattle.roff_run.specs.Registers.{Known}
-use Rattle.roff_run.specs.Requests.{Text}
+use Rattle.roff_run.specs.declared.event.PageEvent.TheVariants.{Text}
 use Rattle.roff_run.specs.Stages.{Here, Onward, Stage, Turned, blanks_counted, counts_blanks, input_at, stage_of, with_stage_of}
 use Rattle.roff_reader.specs.Reader.Stages.{ReadsPast, TurnsFront}
 use Rattle.roff_run.specs.declared.reading.Reading.{Reading}

@@ -32,7 +32,7 @@ use Rattle.roff_run.specs.Reading.TextLines.{character_printed, escape_meant, es
 use Rattle.roff_run.specs.Reading.Units.{no_unit_found}
 use Rattle.roff_run.specs.Registers.{AllRegisters, Known, changed_by_all}
 use Rattle.roff_run.specs.Registers.Capped.{Capped}
-use Rattle.roff_run.specs.Requests.{PageEvent}
+use Rattle.roff_run.specs.declared.event.PageEvent.{PageEvent}
 use Rattle.roff_run.specs.Run.{known_at}
 use Rattle.roff_run.specs.Run.Counts.{counts_in, first_passed}
 use Rattle.roff_reader.specs.declared.reader.Meaning.{Meaning}

@@ -18,7 +18,8 @@ use Rattle.roff_run.specs.Reading.DefinedLines.{behind_definition}
 use Rattle.roff_run.specs.Reading.Found.{read_in}
 use Rattle.roff_run.specs.Reading.Items.{PageInput, Taking}
 use Rattle.roff_run.specs.Registers.{AllRegisters, Change, Known, changed_by_all}
-use Rattle.roff_run.specs.Requests.{Back, Effect, called_by, meant_by, request_effect, row_of}
+use Rattle.roff_run.specs.declared.event.PageEvent.TheVariants.{Back}
+use Rattle.roff_run.specs.Requests.{Effect, called_by, meant_by, request_effect, row_of}
 use Rattle.roff_run.specs.Requests.Effects.{happens, no_such_environment}
 use Rattle.roff_run.specs.declared.reading.Reading.TheVariants.{Arguments as InArguments}
 use Rattle.roff_num.specs.declared.short_name.ShortName.{ShortName}

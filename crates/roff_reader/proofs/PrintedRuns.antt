@@ -24,7 +24,8 @@ use Rattle.roff_run.specs.Output.{PageHistory, finished_bytes, text_of, written}
 use Rattle.roff_run.specs.Reading.Ends.{due}
 use Rattle.roff_run.specs.Reading.Items.{PageInput, Taking, meaning_events}
 use Rattle.roff_run.specs.Registers.{AllRegisters}
-use Rattle.roff_run.specs.Requests.{PageEvent, Text}
+use Rattle.roff_run.specs.declared.event.PageEvent.{PageEvent}
+use Rattle.roff_run.specs.declared.event.PageEvent.TheVariants.{Text}
 use Rattle.roff_run.specs.Run.{State, Leads, byte_taken, known_at, made, step, taken_as, unless_refused}
 use Rattle.roff_run.specs.Run.Counts.{counts_in, first_passed, refusal}
 use Rattle.roff_run.specs.Telling.{Prints, byte_events, byte_told, page_told}

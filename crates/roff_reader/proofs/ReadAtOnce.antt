@@ -43,7 +43,8 @@ use Rattle.roff_run.specs.Reading.Items.{PageInput, Taking, going_on, meaning_ev
 use Rattle.roff_run.specs.Reading.TextLines.{name_taking}
 use Rattle.roff_run.specs.Reading.Units.{holding}
 use Rattle.roff_run.specs.Registers.{AllRegisters, Known}
-use Rattle.roff_run.specs.Requests.{PageEvent, row_of}
+use Rattle.roff_run.specs.declared.event.PageEvent.{PageEvent}
+use Rattle.roff_run.specs.Requests.{row_of}
 use Rattle.roff_run.specs.Run.{known_at}
 use Rattle.roff_num.specs.ShortNames.{name_bytes}
 use Rattle.roff_requests.specs.declared.environments.Environments.{Environments as EnvironmentsOf}

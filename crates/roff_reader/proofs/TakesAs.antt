@@ -44,7 +44,8 @@ use Rattle.roff_run.specs.Reading.Units.{no_unit_found, settling}
 use Rattle.roff_run.specs.Registers.{AllRegisters, Known, changed_by_all, is_page, is_read_only, known_behind, step_changes, step_messages, stepped_page, text_of_register}
 use Rattle.roff_run.specs.Registers.Capped.{Capped}
 use Rattle.roff_requests.specs.Registers.Coded.{known_of}
-use Rattle.roff_run.specs.Requests.{PageEvent, row_of}
+use Rattle.roff_run.specs.declared.event.PageEvent.{PageEvent}
+use Rattle.roff_run.specs.Requests.{row_of}
 use Rattle.roff_run.specs.Run.{known_at}
 use Rattle.roff_run.specs.Run.Counts.{counts_in, first_passed}
 use Rattle.roff_run.specs.declared.message.Message.{Message}

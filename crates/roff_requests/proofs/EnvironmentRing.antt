@@ -3,7 +3,8 @@ use Rattle.std.proofs.Common.{◌≡◌, ◌∙◌, ℕ, Bool, List, ◌∷◌, 
 use Rattle.roff_lines.specs.Env.Stands.{StandsBehind}
 use Rattle.roff_lines.specs.Env.Kept.{Kept as KeptLines}
 use Rattle.roff_lines.specs.declared.event.Event.TheVariants.{Interrupt as IsInterrupted}
-use Rattle.roff_run.specs.Environments.{EnvironmentNumber, Environments, gone_back, is_same, switched_to, turned_to, turned_unless, with_interruption}
+use Rattle.roff_run.specs.declared.environment_number.EnvironmentNumber.{EnvironmentNumber}
+use Rattle.roff_run.specs.Environments.{Environments, gone_back, is_same, switched_to, turned_to, turned_unless, with_interruption}
 use Rattle.roff_requests.specs.Environments.Kept.{KeptNumbers}
 use Rattle.roff_requests.specs.Environments.Standing.{Becomes, StandBy}
 use Rattle.roff_requests.specs.declared.environments.Environments.{Environments as EnvironmentsOf}

@@ -15,7 +15,7 @@ use Rattle.roff_run.specs.Reading.Items.{PageUnread}
 use Rattle.roff_run.specs.Reading.Escapes.{asking}
 use Rattle.roff_run.specs.Reading.Items.{Taking}
 use Rattle.roff_run.specs.Registers.{Known}
-use Rattle.roff_run.specs.Requests.{PageEvent}
+use Rattle.roff_run.specs.declared.event.PageEvent.{PageEvent}
 use Rattle.roff_requests.specs.declared.environments.Environments.{Environments as EnvironmentsOf}
 use Rattle.roff_reader.specs.declared.reader.AtOnce.{AtOnce}
 use Rattle.roff_reader.specs.declared.reader.AtOnce.TheVariants.{Done, Found, Not}
