@@ -4,41 +4,41 @@ use Rattle.std.proofs.lemmas.List.{map-append}
 use Rattle.roff_escape.specs.ConditionFronts.{ByteTaken, HalvesTaken, NothingTaken}
 use Rattle.roff_ahead.specs.Frames.Calls.{GivesByte, GivesFront, GivesOne}
 use Rattle.roff_ahead.specs.Frames.Kept.{Framed}
-use Rattle.roff_escape.specs.Half.{Half, texts_held}
-use Rattle.roff_escape.specs.HalfTexts.{KeptHalves}
+use Rattle.roff_escape.specs.OpenEscape.{OpenEscape, texts_held}
+use Rattle.roff_escape.specs.EscapeTexts.{KeptEscapes}
 use Rattle.roff_ahead.specs.Input.{Ahead, ByteAhead, bytes_ahead}
 use Rattle.roff_escape.proofs.ConditionFronts.{HalvesTaken-last, taken-held}
 use Rattle.roff_ahead.proofs.Counts.{bytes_ahead-bytes}
 
 -- each byte that is taken is held at the most
-pub HalvesTaken-held : (half last : List Half) (bytes : List ℕ) → HalvesTaken half bytes last → texts_held last ≤ texts_held half + length bytes
+pub HalvesTaken-held : (half last : List OpenEscape) (bytes : List ℕ) → HalvesTaken half bytes last → texts_held last ≤ texts_held half + length bytes
 HalvesTaken-held _ last _ (NothingTaken half) = omega arith
 HalvesTaken-held half _ _ (ByteTaken _ next last b bytes takes others) =
     omega (arith, taken-held half next b takes, HalvesTaken-held next last bytes others)
 
 module _ {E : Type 0} where
   -- none was given yet
-  pub GivesFront-none : (f : Framed E) (k : KeptHalves) → GivesFront f f k k 0
+  pub GivesFront-none : (f : Framed E) (k : KeptEscapes) → GivesFront f f k k 0
   GivesFront-none f k = record {
     bytes = [];
     behind = f.ahead;
     in_front = refl;
     length_is = refl;
     taken = refl;
-    takes = NothingTaken k.half;
+    takes = NothingTaken k.escapes;
     room = refl;
   }
 
-  module _ (old now new : Framed E) (before held after : KeptHalves) (count : ℕ) (gives : GivesFront old now before held count) where
+  module _ (old now new : Framed E) (before held after : KeptEscapes) (count : ℕ) (gives : GivesFront old now before held count) where
     -- what stands ahead behind those that were given
     ahead-behind : now.ahead ≡ gives.behind
     ahead-behind = ap (λ (f : Framed E). f.ahead) gives.taken
 
     -- there is room for what is ahead and what is held
-    pub room-behind : bytes_ahead old.ahead + texts_held before.half ≤ before.room → bytes_ahead now.ahead + texts_held held.half ≤ held.room
+    pub room-behind : bytes_ahead old.ahead + texts_held before.escapes ≤ before.room → bytes_ahead now.ahead + texts_held held.escapes ≤ held.room
     room-behind few =
         let fewer = ap bytes_ahead gives.in_front ∙ bytes_ahead-bytes gives.bytes gives.behind in
-        omega (arith, few, fewer, ap bytes_ahead ahead-behind, HalvesTaken-held before.half held.half gives.bytes gives.takes, gives.room)
+        omega (arith, few, fewer, ap bytes_ahead ahead-behind, HalvesTaken-held before.escapes held.escapes gives.bytes gives.takes, gives.room)
 
     -- one more was given
     pub GivesFront-more : (is_given : Bool) → is_given ≡ true → GivesByte now new held after is_given → GivesFront old new before after (count + 1)
@@ -53,6 +53,6 @@ module _ {E : Type 0} where
           in_front = gives.in_front ∙ ap (λ (items : List (Ahead E)). map ByteAhead gives.bytes ++ items) here ∙ sym joined;
           length_is = length-append gives.bytes (one.byte ∷ []) ∙ ap (λ (n : ℕ). n + 1) gives.length_is;
           taken = one.taken ∙ ap (λ (f : Framed E). record f { ahead = one.behind }) gives.taken;
-          takes = HalvesTaken-last before.half held.half after.half gives.bytes one.byte gives.takes one.takes;
+          takes = HalvesTaken-last before.escapes held.escapes after.escapes gives.bytes one.byte gives.takes one.takes;
           room = byte.room ∙ gives.room;
         }

@@ -7,9 +7,9 @@ pub mod Calls
 pub mod Names
 use Rattle.std.specs.Prelude.{ℕ, ◌+◌, ◌*◌, Bool, true, false, List, [], ◌∷◌, ◌++◌, drop, length, map, Option, Some, None, if◌then◌else◌, ◌==◌, nat_le}
 use Rattle.roff_source.specs.Bytes.{newline}
-use Rattle.roff_escape.specs.Half.{Half, Condition, texts_held, text_held}
-use Rattle.roff_escape.specs.declared.half.ConditionPart.TheVariants.{Choice}
-use Rattle.roff_escape.specs.declared.half.CopyUnit.{CopyUnit}
+use Rattle.roff_escape.specs.OpenEscape.{OpenEscape, Condition, texts_held, text_held}
+use Rattle.roff_escape.specs.declared.open_escape.ConditionPart.TheVariants.{Choice}
+use Rattle.roff_escape.specs.declared.open_escape.CopyUnit.{CopyUnit}
 use Rattle.roff_store.specs.Named.{Named}
 use Rattle.roff_store.specs.Texts.{Entry}
 use Rattle.roff_arguments.specs.Arguments.{Arguments, no_arguments, only_kept, held, with_plain, live_bytes}
@@ -36,7 +36,7 @@ pub record Input (E : Type 0) : Type 0 where
   -- the arguments of the bodies that lines called and that haven't ended, the innermost first
   pub calls : List (List (List ℕ))
   -- what is half read, the innermost first
-  pub half : List Half
+  pub escapes : List OpenEscape
   -- the results of conditions that are kept for their other branch, the newest first, each with how many bodies that lines
   -- called hadn't ended then
   pub kept : List (Bool × ℕ)
@@ -59,7 +59,7 @@ initial_input first_names = record {
   ahead = [];
   arguments = no_arguments;
   calls = [];
-  half = [];
+  escapes = [];
   kept = [];
   charge = 0;
   newlines = 0;
@@ -139,7 +139,7 @@ most_frees = 21
 -- what counts in the limit on the stack: unread pushed bytes, the texts that are held while they are read, and the arguments
 -- of the bodies that lines called and that haven't ended
 abbrev pub pushed : {E : Type 0} → Input E → ℕ
-pushed i = bytes_ahead i.ahead + held i.arguments + texts_held i.half + live_bytes i.calls
+pushed i = bytes_ahead i.ahead + held i.arguments + texts_held i.escapes + live_bytes i.calls
 
 -- what counts in the limit on the depth: pushed texts that haven't ended
 abbrev pub depth : {E : Type 0} → Input E → ℕ
@@ -155,7 +155,7 @@ pushing text i = record i { ahead = map ByteAhead text ++ EndAhead ∷ i.ahead }
 
 -- a line is read of which nothing was read
 abbrev pub beginning_line : {E : Type 0} → Input E → Input E
-beginning_line i = record i { arguments = no_arguments; half = [] }
+beginning_line i = record i { arguments = no_arguments; escapes = [] }
 
 -- an event is put back
 abbrev pub putting_back : {E : Type 0} → E → Input E → Input E
@@ -239,8 +239,8 @@ lines_taken [] i = i
 lines_taken (b ∷ bytes) i = lines_taken bytes (counting b i)
 
 -- these are half read
-abbrev pub with_half : {E : Type 0} → List Half → Input E → Input E
-with_half half i = record i { half = half }
+abbrev pub with_escapes : {E : Type 0} → List OpenEscape → Input E → Input E
+with_escapes half i = record i { escapes = half }
 
 -- no argument of the line was read
 abbrev pub without_arguments : {E : Type 0} → Input E → Input E
@@ -256,8 +256,8 @@ holding_plain unit i = record i { arguments = with_plain i.arguments unit }
 
 -- one unit more is held of the text between delimiters that is being read
 abbrev pub holding_text : {E : Type 0} → CopyUnit → Input E → Input E
-holding_text unit i = record i { half = text_held unit i.half }
+holding_text unit i = record i { escapes = text_held unit i.escapes }
 
 -- a condition begins to be read, and nothing else is half read
 abbrev pub choosing : {E : Type 0} → Input E → Input E
-choosing i = record i { half = Condition (Choice false) [] ∷ [] }
+choosing i = record i { escapes = Condition (Choice false) [] ∷ [] }

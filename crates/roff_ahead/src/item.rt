@@ -1,7 +1,7 @@
 //! What calls on the unread input show.
 
-use roff_source::Note;
 use roff_num::Limit;
+use roff_source::Note;
 
 /// What was taken from the front of the unread input.
 #[derive(Drop)]

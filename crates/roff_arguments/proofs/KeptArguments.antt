@@ -8,8 +8,8 @@ use Rattle.roff_arguments.specs.ArgumentTexts.Kept.{KeptArguments, Keeps, is_hel
 use Rattle.roff_source.specs.Bytes.{blank, quote, backslash}
 use Rattle.roff_arguments.specs.declared.arguments.Place.{Place}
 use Rattle.roff_arguments.specs.declared.arguments.Place.TheVariants.{Between, InPlain, InQuotes, BehindQuote}
-use Rattle.roff_escape.specs.declared.half.CopyUnit.{CopyUnit}
-use Rattle.roff_escape.specs.declared.half.CopyUnit.TheVariants.{Byte, Kept}
+use Rattle.roff_escape.specs.declared.open_escape.CopyUnit.{CopyUnit}
+use Rattle.roff_escape.specs.declared.open_escape.CopyUnit.TheVariants.{Byte, Kept}
 use Rattle.roff_arguments.proofs.KeptTexts.{if_kept, kept_behind-append, kept_behind-kept_behind, nat_lt-kept_behind, total_length-kept_behind}
 
 -- the newest is the last

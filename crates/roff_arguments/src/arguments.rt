@@ -10,8 +10,8 @@ ghost use Rattle.roff_arguments.specs.Arguments.{finished, held, kept, in_argume
 ghost use Rattle.roff_arguments.specs.ArgumentTexts.Ends.{is_kept, last_end, EndWithin, EndWithin-prop};
 ghost use Rattle.roff_arguments.specs.ArgumentTexts.Ends.{texts_ending};
 
-use roff_source::is_argument_byte;
 use roff_escape::CopyUnit;
+use roff_source::is_argument_byte;
 use std::alloc::{AllocError, Global};
 use std::marker::Model;
 

@@ -4,7 +4,7 @@ ghost use Rattle.std.specs.Prelude.{◌≡◌};
 ghost use Rattle.roff_arguments.specs.Arguments.{Arguments, FirstArgumentsAreKept, finished, held};
 ghost use Rattle.roff_arguments.specs.Arguments.{only_kept, settled, with_unit};
 ghost use Rattle.roff_arguments.specs.Quoting.{QuotedArgumentsReadBack};
-ghost use Rattle.roff_escape.specs.declared.half.CopyUnit.{CopyUnit};
+ghost use Rattle.roff_escape.specs.declared.open_escape.CopyUnit.{CopyUnit};
 
 /// Arguments written in quotes are read as they were.
 pub fn quoted_arguments()

@@ -5,13 +5,13 @@ use Rattle.std.specs.Prelude.{not, ◌==◌}
 use Rattle.roff_num.specs.declared.limit.Limit.{Limit}
 use Rattle.roff_num.specs.declared.limit.Limit.TheVariants.{Names, Stack, Depth, Store, Diversions, Conditions}
 use Rattle.roff_num.specs.declared.limits.Limits.{Limits}
-use Rattle.roff_escape.specs.Halves.{reading_ended}
+use Rattle.roff_escape.specs.OpenEscapes.{reading_ended}
 use Rattle.roff_ahead.specs.Input.{DoAhead, depth, results}
 use Rattle.roff_ahead.specs.Input.Names.{names_added, stored}
 use Rattle.roff_source.specs.Tape.{Tape, behind_front}
 use Rattle.roff_scan.specs.Unread.{looked_then}
-use Rattle.roff_escape.specs.Half.{Half}
-use Rattle.roff_escape.specs.declared.half.Surroundings.TheVariants.{Arguments as AboveArguments, Copy as AboveCopy}
+use Rattle.roff_escape.specs.OpenEscape.{OpenEscape}
+use Rattle.roff_escape.specs.declared.open_escape.Surroundings.TheVariants.{Arguments as AboveArguments, Copy as AboveCopy}
 use Rattle.roff_engine.specs.declared.formatter.Formatter.{Formatter}
 use Rattle.roff_engine.specs.declared.halt.Halt.{Halt}
 use Rattle.roff_engine.specs.declared.halt.Halt.TheVariants.{Limit as Limited, Refused, Output, Messages}
@@ -26,7 +26,7 @@ use Rattle.roff_run.specs.Output.{PageHistory}
 use Rattle.roff_reader.specs.Reader.State.{ReaderState}
 use Rattle.roff_reader.specs.Reader.Taken.{Became, IsReady}
 use Rattle.roff_run.specs.Reading.Items.{PageUnread}
-use Rattle.roff_run.specs.Reading.{half_ended, interrupted}
+use Rattle.roff_run.specs.Reading.{escape_ended, interrupted}
 use Rattle.roff_run.specs.Reading.Beginnings.{at_start}
 use Rattle.roff_run.specs.Reading.Ends.{line_ends_first}
 use Rattle.roff_run.specs.Reading.Items.{PageInput, Taking, going_on}
@@ -34,15 +34,15 @@ use Rattle.roff_run.specs.Reading.TextLines.{on_line}
 use Rattle.roff_run.specs.Reading.Found.{read_in}
 use Rattle.roff_run.specs.Reading.Units.{settling}
 use Rattle.roff_run.specs.Registers.{AllRegisters, Known}
-use Rattle.roff_run.specs.Run.{State, initial, ahead_taken, ending_as, half_ends, input_ended, known_at, made, step, taken_as, unless_refused, grown}
+use Rattle.roff_run.specs.Run.{State, initial, ahead_taken, ending_as, escape_ends, input_ended, known_at, made, step, taken_as, unless_refused, grown}
 use Rattle.roff_run.specs.Run.Counts.{counts_in, first_passed}
 use Rattle.roff_run.specs.declared.event.PageEvent.{PageEvent}
-use Rattle.roff_run.specs.declared.reading.Reading.{Reading}
-use Rattle.roff_run.specs.declared.reading.Reading.TheVariants.{LineStart, Branch, Braced, Text as InText, Control, Name, Arguments as InArguments, Deciding, StringName, StringText, Skipping, Dropped, Telling, Told, Exiting, Calling, Defining}
+use Rattle.roff_run.specs.declared.line_state.LineState.{LineState}
+use Rattle.roff_run.specs.declared.line_state.LineState.TheVariants.{LineStart, Branch, Braced, Text as InText, Control, Name, Arguments as InArguments, Deciding, StringName, StringText, Skipping, Dropped, Telling, Told, Exiting, Calling, Defining}
 use Rattle.roff_run.specs.declared.status.Status.{Status}
 use Rattle.roff_run.specs.declared.status.Status.TheVariants.{Done}
 use Rattle.roff_run.proofs.InputCounts.{pushed-settling}
-use Rattle.roff_run.proofs.Keeping.{Keeps-half_ended, Keeps-interrupted}
+use Rattle.roff_run.proofs.Keeping.{Keeps-escape_ended, Keeps-interrupted}
 use Rattle.roff_run.proofs.Leads.{Leads-to}
 
 -- a tape is what is left of itself behind a byte that was looked at
@@ -280,40 +280,41 @@ Acts-as does other line old new now behind r same acts = record {
 }
 
 -- the line stays where a half read item ends with nothing half read
-line-nothing_ended : (k : Known) (reading : Reading) (i : PageInput) → i.half ≡ [] → (half_ended k reading i).input.line ≡ i.line
-line-nothing_ended k LineStart i none = subst (λ (half : List Half). (read_in k LineStart i (reading_ended (at_start k) half)).input.line ≡ i.line) (sym none) refl
-line-nothing_ended k Branch i none = subst (λ (half : List Half). (read_in k Branch i (reading_ended (at_start k) half)).input.line ≡ i.line) (sym none) refl
-line-nothing_ended k Braced i none = subst (λ (half : List Half). (read_in k Braced i (reading_ended (at_start k) half)).input.line ≡ i.line) (sym none) refl
-line-nothing_ended k (InText line) i none = subst (λ (half : List Half). (read_in k (InText line) i (reading_ended (on_line k line) half)).input.line ≡ i.line) (sym none) refl
+line-nothing_ended : (k : Known) (reading : LineState) (i : PageInput) → i.escapes ≡ []
+    → (escape_ended k reading i).input.line ≡ i.line
+line-nothing_ended k LineStart i none = subst (λ (half : List OpenEscape). (read_in k LineStart i (reading_ended (at_start k) half)).input.line ≡ i.line) (sym none) refl
+line-nothing_ended k Branch i none = subst (λ (half : List OpenEscape). (read_in k Branch i (reading_ended (at_start k) half)).input.line ≡ i.line) (sym none) refl
+line-nothing_ended k Braced i none = subst (λ (half : List OpenEscape). (read_in k Braced i (reading_ended (at_start k) half)).input.line ≡ i.line) (sym none) refl
+line-nothing_ended k (InText line) i none = subst (λ (half : List OpenEscape). (read_in k (InText line) i (reading_ended (on_line k line) half)).input.line ≡ i.line) (sym none) refl
 line-nothing_ended k (Control breaks) i none = refl
 line-nothing_ended k (Name breaks byte) i none = refl
 line-nothing_ended k (InArguments breaks request) i none =
-    subst (λ (half : List Half). (read_in k (InArguments breaks request) i (reading_ended AboveArguments half)).input.line ≡ i.line) (sym none) refl
+    subst (λ (half : List OpenEscape). (read_in k (InArguments breaks request) i (reading_ended AboveArguments half)).input.line ≡ i.line) (sym none) refl
 line-nothing_ended k (Deciding keeping) i none =
-    subst (λ (half : List Half). (read_in k (Deciding keeping) i (reading_ended AboveArguments half)).input.line ≡ i.line) (sym none) refl
+    subst (λ (half : List OpenEscape). (read_in k (Deciding keeping) i (reading_ended AboveArguments half)).input.line ≡ i.line) (sym none) refl
 line-nothing_ended k (StringName appends) i none =
-    subst (λ (half : List Half). (read_in k (StringName appends) i (reading_ended AboveArguments half)).input.line ≡ i.line) (sym none) refl
+    subst (λ (half : List OpenEscape). (read_in k (StringName appends) i (reading_ended AboveArguments half)).input.line ≡ i.line) (sym none) refl
 line-nothing_ended k (Calling name) i none =
-    subst (λ (half : List Half). (read_in k (Calling name) i (reading_ended AboveArguments half)).input.line ≡ i.line) (sym none) refl
+    subst (λ (half : List OpenEscape). (read_in k (Calling name) i (reading_ended AboveArguments half)).input.line ≡ i.line) (sym none) refl
 line-nothing_ended k (StringText name appends is_front) i none =
-    subst (λ (half : List Half). (read_in k (StringText name appends is_front) i (reading_ended AboveCopy half)).input.line ≡ i.line) (sym none) refl
+    subst (λ (half : List OpenEscape). (read_in k (StringText name appends is_front) i (reading_ended AboveCopy half)).input.line ≡ i.line) (sym none) refl
 line-nothing_ended k (Defining name appends end matched) i none =
-    subst (λ (half : List Half). (read_in k (Defining name appends end matched) i (reading_ended AboveCopy half)).input.line ≡ i.line) (sym none) refl
+    subst (λ (half : List OpenEscape). (read_in k (Defining name appends end matched) i (reading_ended AboveCopy half)).input.line ≡ i.line) (sym none) refl
 line-nothing_ended k (Telling aborts is_front) i none =
-    subst (λ (half : List Half). (read_in k (Telling aborts is_front) i (reading_ended AboveCopy half)).input.line ≡ i.line) (sym none) refl
+    subst (λ (half : List OpenEscape). (read_in k (Telling aborts is_front) i (reading_ended AboveCopy half)).input.line ≡ i.line) (sym none) refl
 line-nothing_ended k (Told aborts) i none = refl
 line-nothing_ended k Exiting i none = refl
 line-nothing_ended k (Skipping opened closed behind) i none = refl
 line-nothing_ended k Dropped i none = refl
 
 -- the line stays where what is half read ends
-pub line-half_ended : (k : Known) (reading : Reading) (i : PageInput) → (half_ended k reading i).input.line ≡ i.line
-line-half_ended k reading i =
-    let by : (half : List Half) → i.half ≡ half → (half_ended k reading i).input.line ≡ i.line = λ half. elim half as (λ h. i.half ≡ h → (half_ended k reading i).input.line ≡ i.line) [
+pub line-escape_ended : (k : Known) (reading : LineState) (i : PageInput) → (escape_ended k reading i).input.line ≡ i.line
+line-escape_ended k reading i =
+    let by : (half : List OpenEscape) → i.escapes ≡ half → (escape_ended k reading i).input.line ≡ i.line = λ half. elim half as (λ h. i.escapes ≡ h → (escape_ended k reading i).input.line ≡ i.line) [
       | [] ↦ λ is. line-nothing_ended k reading i is
-      | first ∷ others ↦ λ is. (Keeps-half_ended k reading i first others is).line
+      | first ∷ others ↦ λ is. (Keeps-escape_ended k reading i first others is).line
     ] in
-    by i.half refl
+    by i.escapes refl
 
 -- nothing that is counted grows where no quote follows the quote before
 counts_in-settling : (rs : AllRegisters) (i : PageInput) → counts_in rs (settling i) ≡ counts_in rs i
@@ -323,7 +324,7 @@ counts_in-settling rs i =
     ap (λ bytes. first ((Stack, bytes) ∷ (Depth, depth i) ∷ (Conditions, results i) ∷ [])) (pushed-settling i)
 
 -- nor where something that isn't a byte of the line has come
-counts_in-interrupted : (rs : AllRegisters) (reading : Reading) (i : PageInput) → counts_in rs (interrupted reading i) ≡ counts_in rs i
+counts_in-interrupted : (rs : AllRegisters) (reading : LineState) (i : PageInput) → counts_in rs (interrupted reading i) ≡ counts_in rs i
 counts_in-interrupted rs LineStart i = refl
 counts_in-interrupted rs Branch i = refl
 counts_in-interrupted rs Braced i = refl
@@ -343,12 +344,12 @@ counts_in-interrupted rs (Skipping opened closed behind) i = refl
 counts_in-interrupted rs Dropped i = refl
 
 -- so no limit refuses what it didn't refuse before
-within-interrupted : (l : Limits) (rs : AllRegisters) (reading : Reading) (i : PageInput)
+within-interrupted : (l : Limits) (rs : AllRegisters) (reading : LineState) (i : PageInput)
     → first_passed l (counts_in rs i) ≡ None → first_passed l (counts_in rs (interrupted reading i)) ≡ None
 within-interrupted l rs reading i within = ap (first_passed l) (counts_in-interrupted rs reading i) ∙ within
 
 -- an event that was put back does as the taking of nothing, with that event to perform
-abbrev pub event_taking : Reading → PageInput → Known → Taking
+abbrev pub event_taking : LineState → PageInput → Known → Taking
 event_taking reading i k = going_on (interrupted reading i) reading
 
 -- what is performed of it, by the answer
@@ -400,27 +401,28 @@ event_meant event old tape h messages =
     ap (λ (told : List ℕ). record (ahead_taken (DoAhead event) (state_at tape old h messages)) { messages = told }) (sym (append-nil messages))
 
 -- the line stays where no quote follows
-pub line-interrupted : (reading : Reading) (i : PageInput) → (interrupted reading i).line ≡ i.line
+pub line-interrupted : (reading : LineState) (i : PageInput) → (interrupted reading i).line ≡ i.line
 line-interrupted reading i = (Keeps-interrupted reading i).line
 
 -- one of two, by whether something is half read
-by_half : {A : Type 0} (half : List Half) (none some : A) → not (length half == 0) ≡ true
+by_half : {A : Type 0} (half : List OpenEscape) (none some : A) → not (length half == 0) ≡ true
     → (elim half as (λ _. A) [ [] ↦ none | first ∷ others ↦ some ]) ≡ some
 by_half [] none some is = cc
 by_half (first ∷ others) none some is = refl
 
 -- and by whether nothing is
-by_no_half : {A : Type 0} (half : List Half) (none some : A) → not (length half == 0) ≡ false
+by_no_half : {A : Type 0} (half : List OpenEscape) (none some : A) → not (length half == 0) ≡ false
     → (elim half as (λ _. A) [ [] ↦ none | first ∷ others ↦ some ]) ≡ none
 by_no_half [] none some is = refl
 by_no_half (first ∷ others) none some is = cc (eqb-suc-zero (length others))
 
 -- at the input's end what is half read ends, if something is
-pub input_ends-half : (s : State) → not (length s.input.half == 0) ≡ true → input_ends s ≡ half_ends s
-input_ends-half s is = by_half s.input.half (input_ended (line_ends_first s.reading) s) (half_ends s) is
+pub input_ends-escapes : (s : State) → not (length s.input.escapes == 0) ≡ true → input_ends s ≡ escape_ends s
+input_ends-escapes s is = by_half s.input.escapes (input_ended (line_ends_first s.reading) s) (escape_ends s) is
 
 -- and else a control line, or the input's end is met
-pub input_ends-no_half : (s : State) (first : Bool) → not (length s.input.half == 0) ≡ false → line_ends_first s.reading ≡ first
+pub input_ends-no_half : (s : State) (first : Bool) → not (length s.input.escapes == 0) ≡ false
+    → line_ends_first s.reading ≡ first
     → input_ends s ≡ input_ended first s
 input_ends-no_half s first is ends =
-    by_no_half s.input.half (input_ended (line_ends_first s.reading) s) (half_ends s) is ∙ ap (λ (b : Bool). input_ended b s) ends
+    by_no_half s.input.escapes (input_ended (line_ends_first s.reading) s) (escape_ends s) is ∙ ap (λ (b : Bool). input_ended b s) ends

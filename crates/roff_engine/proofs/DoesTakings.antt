@@ -25,7 +25,7 @@ use Rattle.roff_run.specs.Run.{State, known_at, taken_as, unless_refused}
 use Rattle.roff_run.specs.Run.Counts.{counts_in, first_passed}
 use Rattle.roff_run.specs.declared.event.PageEvent.{PageEvent}
 use Rattle.roff_run.specs.declared.message.Message.{Message}
-use Rattle.roff_run.specs.declared.reading.Reading.{Reading}
+use Rattle.roff_run.specs.declared.line_state.LineState.{LineState}
 use Rattle.roff_reader.specs.declared.reader.Meaning.{Meaning}
 
 -- what was done of a meaning was done of the taking
@@ -43,7 +43,7 @@ on_ok (Ok x) p = p
 on_ok (Err e) p = tt
 
 -- one step from a state leads to what a taking means, unless a count would be above its limit there
-module _ (l : Limits) (from : State) (tape : Tape) (i : PageInput) (reading : Reading) (rs : AllRegisters) (h : PageHistory) (messages : List ℕ) (is_closing : Bool) (to_do : List PageEvent) (t : Taking)
+module _ (l : Limits) (from : State) (tape : Tape) (i : PageInput) (reading : LineState) (rs : AllRegisters) (h : PageHistory) (messages : List ℕ) (is_closing : Bool) (to_do : List PageEvent) (t : Taking)
     (opens : Opens l from (taken_as t (going tape i reading rs h messages is_closing to_do)) h messages) where
   -- no count is, and the step means what the taking means
   pub means_taken : (line : ℕ) (told : List Message) (events : List PageEvent) → first_passed l (counts_in (changed_by_all t.effect.changes rs) t.input) ≡ None

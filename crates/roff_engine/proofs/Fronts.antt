@@ -16,7 +16,7 @@ use Rattle.roff_engine.proofs.Telling.{first_of_front}
 use Rattle.roff_engine.proofs.Turned.{goes_past_turned}
 
 -- the run goes past them, as the source counts
-pub goes_past_front : (old : Coded) (f : Formatter) (front : List ℕ) (count : ℕ) → old.unread.input.half ≡ [] → TurnsFront front count old.formatter.reader f.reader
+pub goes_past_front : (old : Coded) (f : Formatter) (front : List ℕ) (count : ℕ) → old.unread.input.escapes ≡ [] → TurnsFront front count old.formatter.reader f.reader
     → f ≡ record old.formatter { reader = f.reader }
     → (gave gives : Tape → Type 0) (ready : List ℕ) (noted notes failed failures : ℕ) (out err : Sunk) (after : PageUnread)
     → front ≡ front_bytes (length front) ready old.unread → PassesFront gave gives (front_bytes count ready old.unread) old.unread after → IsWithin after

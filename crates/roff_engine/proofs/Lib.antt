@@ -18,4 +18,4 @@ pub mod PassingOn
 pub mod PassingEnds
 pub mod Telling
 pub mod Fronts
-pub mod Settling
+pub mod DueDone

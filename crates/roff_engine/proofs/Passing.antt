@@ -18,7 +18,7 @@ use Rattle.roff_run.specs.Reading.Ends.{due}
 use Rattle.roff_run.specs.Reading.Items.{PageInput}
 use Rattle.roff_run.specs.Run.{State, Leads, initial}
 use Rattle.roff_run.specs.TurnsToCome.{turns_to_come}
-use Rattle.roff_run.specs.declared.reading.Reading.{Reading}
+use Rattle.roff_run.specs.declared.line_state.LineState.{LineState}
 use Rattle.roff_engine.specs.declared.formatter.Formatter.{Formatter}
 use Rattle.roff_engine.specs.declared.running.Running.{Running as Coded}
 use Rattle.roff_engine.specs.Engine.Outcome.{Seen, seen}
@@ -35,7 +35,7 @@ all_by P Q makes [] are = tt
 all_by P Q makes (b ∷ bytes) are = (makes b are.0, all_by P Q makes bytes are.1)
 
 -- each byte of these changes nothing
-pub all_pass : (reading : Reading) (within_block : Bool) (bytes : List ℕ) → ((b : ℕ) → is_passed within_block b ≡ true → Passes reading b)
+pub all_pass : (reading : LineState) (within_block : Bool) (bytes : List ℕ) → ((b : ℕ) → is_passed within_block b ≡ true → Passes reading b)
     → AllByRecursion (λ b. is_passed within_block b ≡ true) bytes → AllByRecursion (λ b. Passes reading b) bytes
 all_pass reading within_block bytes passes plain = all_by (λ b. is_passed within_block b ≡ true) (λ b. Passes reading b) passes bytes plain
 
@@ -69,7 +69,7 @@ IsAt-passed whole t start now old bytes bare few none_due pass at =
     let tape : Tape = items_then (map OneByte bytes) t in
     let here : Option ℕ → Tape → PageInput → State = λ looked tape input.
     going (looked_then looked tape) input old.formatter.reader.reading old.formatter.reader.registers.all at.history at.messages false [] in
-    let plain : IsPlain u.limits (here None t u.input) u.input = record { none_ahead = bare.ahead; none_half = bare.half; within = at.ready.within } in
+    let plain : IsPlain u.limits (here None t u.input) u.input = record { none_ahead = bare.ahead; none_half = bare.escapes; within = at.ready.within } in
     let leads : Leads u.limits (here None tape u.input) (here None t behind.input) =
     record { steps = length bytes; there = after-passed u.limits (here None t u.input) t bytes u.input (record { going = refl; not_closing = refl; idle = refl; none_due = none_due }) plain few pass } in
     let leads_on : Leads u.limits (here u.looked tape u.input) (here u.looked t behind.input) =

@@ -27,7 +27,7 @@ module _ (old : Coded) (bytes : List ℕ) (items : List (Ahead PageEvent)) (fron
   behind = record old { unread = record old.unread { input = bytes_taken bytes items old.unread.input } }
 
   -- the run is at its place behind them
-  IsAt-behind : (whole t : Tape) (start now : Seen) → old.unread.input.half ≡ [] → old.unread.input.charge + length bytes ≤ old.unread.limits.bytes
+  IsAt-behind : (whole t : Tape) (start now : Seen) → old.unread.input.escapes ≡ [] → old.unread.input.charge + length bytes ≤ old.unread.limits.bytes
       → due old.formatter.reader.reading ≡ None → AllByRecursion (λ b. Passes old.formatter.reader.reading b) bytes
       → IsAt whole t start now old → IsAt whole t start now behind
   IsAt-behind whole t start now none_half allowed none_due pass at =
@@ -60,7 +60,7 @@ has_tape gives old (b ∷ bytes) items front known = elim known [
 
 -- the run goes past bytes
 past-bytes : (gives : Tape → Type 0) (notes : ℕ) (now : Seen) (old : Coded) (bytes : List ℕ) (items : List (Ahead PageEvent))
-    → (front : old.unread.input.ahead ≡ map ByteAhead bytes ++ items) → old.unread.input.half ≡ []
+    → (front : old.unread.input.ahead ≡ map ByteAhead bytes ++ items) → old.unread.input.escapes ≡ []
     → old.unread.input.charge + length bytes ≤ old.unread.limits.bytes → due old.formatter.reader.reading ≡ None
     → AllByRecursion (λ b. Passes old.formatter.reader.reading b) bytes → GoesPast gives gives notes notes old (behind old bytes items front) now now
 past-bytes gives notes now old bytes items front none_half allowed none_due pass =

@@ -5,8 +5,8 @@ use Rattle.std.proofs.lemmas.Bool.{le-ltb}
 use Rattle.roff_num.specs.declared.limit.Limit.{Limit}
 use Rattle.roff_num.specs.declared.limit.Limit.TheVariants.{Bytes}
 use Rattle.roff_num.specs.declared.limits.Limits.{Limits}
-use Rattle.roff_escape.specs.Half.{Half}
-use Rattle.roff_escape.specs.Halves.{newline_stays}
+use Rattle.roff_escape.specs.OpenEscape.{OpenEscape}
+use Rattle.roff_escape.specs.OpenEscapes.{newline_stays}
 use Rattle.roff_ahead.specs.Input.{Ahead, EndAhead, ReturnAhead, is_none_ahead, item_taken}
 use Rattle.roff_source.specs.Tape.{Tape}
 use Rattle.roff_scan.proofs.Asking.{takes_ahead}
@@ -23,9 +23,9 @@ use Rattle.roff_run.specs.Run.Counts.{counts_in, first_passed}
 use Rattle.roff_run.specs.ItemsTaken.{TakesItems}
 use Rattle.roff_run.specs.TurnsToCome.{begun, free_ahead, turns_to_come}
 use Rattle.roff_run.specs.declared.event.PageEvent.{PageEvent}
-use Rattle.roff_run.specs.declared.reading.Reading.{Reading}
-use Rattle.roff_run.specs.declared.reading.Reading.TheVariants.{Arguments as InArguments, Branch, Braced, Calling, Control, Deciding, Defining, Dropped, Exiting}
-use Rattle.roff_run.specs.declared.reading.Reading.TheVariants.{LineStart, Name as NameOf, Skipping, StringName, StringText, Telling, Text as InText, Told}
+use Rattle.roff_run.specs.declared.line_state.LineState.{LineState}
+use Rattle.roff_run.specs.declared.line_state.LineState.TheVariants.{Arguments as InArguments, Branch, Braced, Calling, Control, Deciding, Defining, Dropped, Exiting}
+use Rattle.roff_run.specs.declared.line_state.LineState.TheVariants.{LineStart, Name as NameOf, Skipping, StringName, StringText, Telling, Text as InText, Told}
 use Rattle.roff_run.proofs.InputCounts.{IsWithin-allowed, first_passed-few_names}
 use Rattle.roff_run.proofs.ItemsTaken.{step-TakesItems}
 use Rattle.roff_reader.proofs.TakesAs.{few_names}
@@ -38,7 +38,7 @@ use Rattle.roff_engine.proofs.PassingOn.{goes_further_none, goes_past_none}
 
 -- the end in front is taken in a step, where nothing is due or waits for what follows
 step-end : (l : Limits) (s : State) (behind : List (Ahead PageEvent)) → TakesItems s → s.input.ahead ≡ EndAhead ∷ behind
-    → newline_stays s.input.half ≡ false → s.input.charge < l.bytes
+    → newline_stays s.input.escapes ≡ false → s.input.charge < l.bytes
     → first_passed l (counts_in s.registers (item_taken EndAhead behind s.input)) ≡ None
     → step l s ≡ record s { input = item_taken EndAhead behind s.input }
 step-end l s behind takes front stays within fits =
@@ -50,7 +50,7 @@ step-end l s behind takes front stays within fits =
     ∙ ap (λ (r : Option Limit). unless_refused l r s there) fits
 
 module _ (old : Coded) (after : PageUnread) (behind : List (Ahead PageEvent)) (none_due : due old.formatter.reader.reading ≡ None)
-    (front : old.unread.input.ahead ≡ EndAhead ∷ behind) (stays : newline_stays old.unread.input.half ≡ false)
+    (front : old.unread.input.ahead ≡ EndAhead ∷ behind) (stays : newline_stays old.unread.input.escapes ≡ false)
     (allowed : old.unread.input.charge < old.unread.limits.bytes)
     (is : after ≡ record old.unread { input = item_taken EndAhead behind old.unread.input }) (within : IsWithin after) where
   -- so the run is at its place behind it
@@ -113,7 +113,7 @@ takes_end gave before after passes =
 
 -- past the end of a text, or past nothing
 pub goes_further_passed : (old new : Coded) (is_passed : Bool) → (is_passed ≡ true → due old.formatter.reader.reading ≡ None)
-    → (is_passed ≡ true → newline_stays old.unread.input.half ≡ false) → (is_passed ≡ true → PassesEnd old.unread new.unread)
+    → (is_passed ≡ true → newline_stays old.unread.input.escapes ≡ false) → (is_passed ≡ true → PassesEnd old.unread new.unread)
     → (is_passed ≡ true → IsWithin new.unread) → (is_passed ≡ false → new ≡ old) → new ≡ record old { unread = new.unread }
     → (gave : Tape → Type 0) (notes : ℕ) (now : Seen) → GoesFurther is_passed gave gave notes notes old new now now
 goes_further_passed old new true none_due stays passed within kept others gave notes now =
@@ -125,7 +125,7 @@ goes_further_passed old new false none_due stays passed within kept others gave 
     (goes_further_none gave gave notes notes old old now now (goes_past_none gave notes old now))
 
 -- behind the end of a call no more turns are to come for what is read
-begun-return : (r : Reading) → begun (behind_return r) ≤ begun r
+begun-return : (r : LineState) → begun (behind_return r) ≤ begun r
 begun-return LineStart = omega arith
 begun-return Branch = omega arith
 begun-return Braced = omega arith
@@ -146,7 +146,7 @@ begun-return Exiting = omega arith
 
 -- the end of a call in front is taken in a step, where nothing is due or half read
 step-return : (l : Limits) (s : State) (behind : List (Ahead PageEvent)) → TakesItems s → s.input.ahead ≡ ReturnAhead ∷ behind
-    → newline_stays s.input.half ≡ false → s.input.charge < l.bytes
+    → newline_stays s.input.escapes ≡ false → s.input.charge < l.bytes
     → first_passed l (counts_in s.registers (item_taken ReturnAhead behind s.input)) ≡ None
     → step l s ≡ record s { input = item_taken ReturnAhead behind s.input; reading = behind_return s.reading }
 step-return l s behind takes front stays within fits =
@@ -158,7 +158,7 @@ step-return l s behind takes front stays within fits =
     ∙ ap (λ (r : Option Limit). unless_refused l r s there) fits
 
 module _ (old : Coded) (after : PageUnread) (behind : List (Ahead PageEvent)) (none_due : due old.formatter.reader.reading ≡ None)
-    (front : old.unread.input.ahead ≡ ReturnAhead ∷ behind) (none : old.unread.input.half ≡ [])
+    (front : old.unread.input.ahead ≡ ReturnAhead ∷ behind) (none : old.unread.input.escapes ≡ [])
     (allowed : old.unread.input.charge < old.unread.limits.bytes)
     (is : after ≡ record old.unread { input = item_taken ReturnAhead behind old.unread.input }) (within : IsWithin after) where
   -- what reads on behind it
@@ -174,7 +174,7 @@ module _ (old : Coded) (after : PageUnread) (behind : List (Ahead PageEvent)) (n
       let there : PageUnread = record old.unread { input = i } in
       let s : State = state_at tape old at.history at.messages in
       let t : State = record s { input = i; reading = behind_return s.reading } in
-      let stays : newline_stays s.input.half ≡ false = ap (λ (half : List Half). newline_stays half) none in
+      let stays : newline_stays s.input.escapes ≡ false = ap (λ (half : List OpenEscape). newline_stays half) none in
       let inside : IsWithin there = subst IsWithin is within in
       let fits : first_passed l (counts_in rs i) ≡ None =
       first_passed-few_names l rs i (few_names old.formatter.reader.registers old.unread at.ready) ∙ IsWithin-allowed there inside in
@@ -220,7 +220,7 @@ module _ (old : Coded) (after : PageUnread) (behind : List (Ahead PageEvent)) (n
   }
 
 -- past the end of a call, or past nothing
-pub goes_further_returned : (old new : Coded) (is_passed : Bool) → due old.formatter.reader.reading ≡ None → old.unread.input.half ≡ []
+pub goes_further_returned : (old new : Coded) (is_passed : Bool) → due old.formatter.reader.reading ≡ None → old.unread.input.escapes ≡ []
     → (is_passed ≡ true → PassesReturn old.unread new.unread) → (is_passed ≡ true → IsWithin new.unread)
     → (is_passed ≡ true
     → new ≡ record old {

@@ -10,7 +10,7 @@ use Rattle.roff_run.specs.Reading.Ends.{due}
 use Rattle.roff_run.specs.Stages.{EndsLine}
 use Rattle.roff_reader.specs.Reader.Stages.{ReadsPast}
 use Rattle.roff_run.specs.TurnsToCome.{begun, free_ahead, turns_to_come}
-use Rattle.roff_run.specs.declared.reading.Reading.TheVariants.{LineStart}
+use Rattle.roff_run.specs.declared.line_state.LineState.TheVariants.{LineStart}
 use Rattle.roff_reader.proofs.LineEnds.{reads-ended}
 use Rattle.roff_engine.specs.declared.formatter.Formatter.{Formatter}
 use Rattle.roff_engine.specs.declared.running.Running.{Running as Coded}
@@ -89,7 +89,7 @@ fewer-newline gave gives before after (OfTexts passes) =
 -- past a newline behind which a line begins
 pub goes_further_ended : (gave gives : Tape → Type 0) (noted notes failed failures : ℕ) (out err : Sunk) (old : Coded) (after : PageUnread) (f : Formatter)
     → f ≡ record old.formatter { reader = record old.formatter.reader { reading = LineStart } } → due old.formatter.reader.reading ≡ None
-    → EndsLine old.formatter.reader.reading → old.unread.input.half ≡ [] → PassesFront gave gives (newline ∷ []) old.unread after → IsWithin after
+    → EndsLine old.formatter.reader.reading → old.unread.input.escapes ≡ [] → PassesFront gave gives (newline ∷ []) old.unread after → IsWithin after
     → notes ≡ noted → failures ≡ failed
     → GoesFurther true gave gives noted notes old (record old { unread = after; formatter = f }) (seen failed out err) (seen failures out err)
 goes_further_ended gave gives noted notes failed failures out err old after f is none_due ends none_half passes within same_notes same_failures =

@@ -29,7 +29,7 @@ use Rattle.roff_run.specs.Telling.{Prints, page_told}
 use Rattle.roff_run.specs.TurnsToCome.{turns_to_come}
 use Rattle.roff_requests.specs.declared.environments.Environments.{Environments as EnvironmentsOf}
 use Rattle.roff_run.specs.declared.event.PageEvent.{PageEvent}
-use Rattle.roff_run.specs.declared.reading.Reading.{Reading}
+use Rattle.roff_run.specs.declared.line_state.LineState.{LineState}
 use Rattle.roff_reader.proofs.PassingBodies.{turns_within-bytes_taken, within-bytes_taken}
 use Rattle.roff_reader.proofs.PassingRuns.{IsPlain, IsPlain-lines_taken, turns_within-lines_taken}
 use Rattle.roff_reader.proofs.PrintedRuns.{environments-told, leads-ahead, leads-source, with_text, written-told}
@@ -122,13 +122,13 @@ first_of_front front count ready u is few =
 
 -- bytes that the formatter told where nothing is half read
 module _ (old : Coded) (f : Formatter) (front : List ℕ) (count : ℕ) (told : TellsFront front count old.formatter f)
-    (none_half : old.unread.input.half ≡ []) (none_due : due old.formatter.reader.reading ≡ None)
+    (none_half : old.unread.input.escapes ≡ []) (none_due : due old.formatter.reader.reading ≡ None)
     (prints : (b : ℕ) → is_text_byte b ≡ true → Prints old.formatter.reader.reading b) where
   -- the bytes, what is read, and the registers
   abbrev bytes : List ℕ
   bytes = take count front
 
-  abbrev reading : Reading
+  abbrev reading : LineState
   reading = old.formatter.reader.reading
 
   abbrev rs : AllRegisters

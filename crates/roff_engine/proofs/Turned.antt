@@ -19,7 +19,7 @@ use Rattle.roff_run.specs.Run.Counts.{counts_in, first_passed}
 use Rattle.roff_run.specs.Stages.{Stage, Turned, stage_of, with_stage_of}
 use Rattle.roff_reader.specs.Reader.Stages.{ReadsPast}
 use Rattle.roff_run.specs.TurnsToCome.{begun, turns_within}
-use Rattle.roff_run.specs.declared.reading.Reading.{Reading}
+use Rattle.roff_run.specs.declared.line_state.LineState.{LineState}
 use Rattle.roff_run.proofs.InputCounts.{IsWithin-allowed, first_passed-few_names}
 use Rattle.roff_run.proofs.ItemsTaken.{FromAhead, FromSource, Origin, ahead_at, tape_at}
 use Rattle.roff_run.proofs.PlainRuns.{behind_bytes, counted, counted-source, is-run_at, run_at}
@@ -33,14 +33,14 @@ use Rattle.roff_engine.proofs.Passing.{IsAt-leads}
 use Rattle.roff_engine.proofs.PassingAhead.{not_asked}
 
 -- the code where this is read
-abbrev reads : Coded → Reading → PageInput → Coded
+abbrev reads : Coded → LineState → PageInput → Coded
 reads old reading input = record old {
   unread = record old.unread { input = input };
   formatter = record old.formatter { reader = record old.formatter.reader { reading = reading } };
 }
 
 -- bytes from there lead to it
-pub record ReadFrom (from : Origin) (bytes : List ℕ) (old : Coded) (reading : Reading) (input : PageInput) : Type 0 where
+pub record ReadFrom (from : Origin) (bytes : List ℕ) (old : Coded) (reading : LineState) (input : PageInput) : Type 0 where
   pub turned : Turned old.unread.input.names (stage_of old.formatter.reader.reading old.unread.input) bytes (stage_of reading input)
   pub ahead : old.unread.input.ahead ≡ ahead_at from bytes
   pub leads : stage_input old.unread.input.names (stage_of reading input) from [] (behind_bytes from bytes old.unread.input) ≡ input
@@ -48,7 +48,7 @@ pub record ReadFrom (from : Origin) (bytes : List ℕ) (old : Coded) (reading : 
   pub within : input_refusal old.unread.limits input ≡ None
 
 -- so the run is at its place behind them, over what is left of the tape
-IsAt-turned : (whole t taken : Tape) (start now : Seen) (old : Coded) (reading : Reading) (input : PageInput) (from : Origin) (bytes : List ℕ)
+IsAt-turned : (whole t taken : Tape) (start now : Seen) (old : Coded) (reading : LineState) (input : PageInput) (from : Origin) (bytes : List ℕ)
     → ReadFrom from bytes old reading input → looked_then old.unread.looked taken ≡ tape_at from bytes (looked_then old.unread.looked taken)
     → tape_at from [] (looked_then old.unread.looked taken) ≡ looked_then old.unread.looked t
     → IsAt whole taken start now old → IsAt whole t start now (reads old reading input)
@@ -78,7 +78,7 @@ IsAt-turned whole t taken start now old reading input from bytes read asked left
     (subst (λ (k : Limits). Leads k s there) at.limits leads) refl at.stands (record { cap = ready.cap; within = fits }) at.limits
 
 -- no more turns are to come
-turns-read : (old : Coded) (reading : Reading) (input : PageInput) (from : Origin) (bytes : List ℕ) → ReadFrom from bytes old reading input
+turns-read : (old : Coded) (reading : LineState) (input : PageInput) (from : Origin) (bytes : List ℕ) → ReadFrom from bytes old reading input
     → turns_left (reads old reading input) ≤ turns_left old
 turns-read old reading input from bytes read =
     let i : PageInput = old.unread.input in
@@ -95,7 +95,7 @@ turns-read old reading input from bytes read =
     subst (λ (j : PageInput). turns_within most j + begun reading ≤ turns_left old) read.leads fewer
 
 -- the run goes past bytes of the source
-past-source : (gave gives : Tape → Type 0) (notes : ℕ) (now : Seen) (old : Coded) (reading : Reading) (input : PageInput) (bytes : List ℕ)
+past-source : (gave gives : Tape → Type 0) (notes : ℕ) (now : Seen) (old : Coded) (reading : LineState) (input : PageInput) (bytes : List ℕ)
     → ((tape : Tape) → ReadFrom (FromSource tape) bytes old reading input) → old.unread.looked ≡ None
     → ((t : Tape) → gives t → gave (items_then (map OneByte bytes) t)) → (t : Tape) × gives t
     → GoesPast gave gives notes notes old (reads old reading input) now now
@@ -114,13 +114,13 @@ past-source gave gives notes now old reading input bytes read none in_front some
     }
 
 -- where bytes ahead were read there is a tape, if there was one
-has_tape : (gave gives : Tape → Type 0) (old : Coded) (reading : Reading) (input : PageInput) (rest : List (Ahead PageEvent)) (bytes : List ℕ)
+has_tape : (gave gives : Tape → Type 0) (old : Coded) (reading : LineState) (input : PageInput) (rest : List (Ahead PageEvent)) (bytes : List ℕ)
     → Stays gave gives → old.unread.input.ahead ≡ map ByteAhead bytes ++ rest → input.ahead ≡ rest
     → Turned old.unread.input.names (stage_of old.formatter.reader.reading old.unread.input) bytes (stage_of reading input)
     → HasTape old gave → HasTape (reads old reading input) gives
 has_tape gave gives old reading input rest [] stays front left turned known =
     let same : stage_of old.formatter.reader.reading old.unread.input ≡ stage_of reading input = Turned-none _ _ _ [] refl turned in
-    let half : old.unread.input.half ≡ input.half = ap (λ (p : Stage). p.half) same in
+    let half : old.unread.input.escapes ≡ input.escapes = ap (λ (p : Stage). p.escapes) same in
     let read : old.formatter.reader.reading ≡ reading = ap (λ (p : Stage). p.reading) same in
     elim known [
       | inl asks ↦ inl (
@@ -128,7 +128,7 @@ has_tape gave gives old reading input rest [] stays front left turned known =
           sym half ∙ asks.0.0,
           ap (λ (items : List (Ahead PageEvent)). is_none_ahead items && is_none old.unread.looked) (left ∙ sym front) ∙ asks.0.1,
         ),
-        subst (λ (r : Reading). due r ≡ None) read asks.1,
+        subst (λ (r : LineState). due r ≡ None) read asks.1,
       )
       | inr given ↦ inr (given.0, stays.after given.0 given.1)
     ]
@@ -138,7 +138,7 @@ has_tape gave gives old reading input rest (b ∷ bytes) stays front left turned
 ]
 
 -- the run goes past bytes ahead
-past-texts : (gave gives : Tape → Type 0) (notes : ℕ) (now : Seen) (old : Coded) (reading : Reading) (input : PageInput) (rest : List (Ahead PageEvent)) (bytes : List ℕ)
+past-texts : (gave gives : Tape → Type 0) (notes : ℕ) (now : Seen) (old : Coded) (reading : LineState) (input : PageInput) (rest : List (Ahead PageEvent)) (bytes : List ℕ)
     → ReadFrom (FromAhead rest) bytes old reading input → Stays gave gives
     → GoesPast gave gives notes notes old (reads old reading input) now now
 past-texts gave gives notes now old reading input rest bytes read stays =

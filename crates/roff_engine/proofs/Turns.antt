@@ -9,7 +9,7 @@ use Rattle.roff_num.specs.Faults.{Rises}
 use Rattle.roff_scan.specs.Unread.{asks_to_take, taking}
 use Rattle.roff_ahead.specs.Shown.{Shown, ShowsByte, ShowsEnd, ShowsReturn, ShowsDo, ShowsNote, ShowsEnding, ShowsRefusal}
 use Rattle.roff_scan.specs.Unread.Calls.{Takes}
-use Rattle.roff_escape.specs.Half.{Half}
+use Rattle.roff_escape.specs.OpenEscape.{OpenEscape}
 use Rattle.roff_run.specs.declared.event.PageEvent.{PageEvent}
 use Rattle.roff_run.specs.declared.message.Message.TheVariants.{ReadFailed}
 use Rattle.roff_run.specs.declared.status.Status.{Status}
@@ -20,9 +20,9 @@ use Rattle.roff_run.specs.Reading.Items.{PageUnread}
 use Rattle.roff_run.specs.Reading.{interrupted}
 use Rattle.roff_run.specs.Reading.Ends.{line_ends_first}
 use Rattle.roff_run.specs.Reading.Items.{PageInput}
-use Rattle.roff_run.specs.declared.reading.Reading.{Reading}
-use Rattle.roff_run.specs.declared.reading.Reading.TheVariants.{Arguments as InArguments}
-use Rattle.roff_run.specs.Run.{State, ahead_taken, byte_taken, ending_input, half_ends, in_front_taken, input_ended, known, made}
+use Rattle.roff_run.specs.declared.line_state.LineState.{LineState}
+use Rattle.roff_run.specs.declared.line_state.LineState.TheVariants.{Arguments as InArguments}
+use Rattle.roff_run.specs.Run.{State, ahead_taken, byte_taken, ending_input, escape_ends, in_front_taken, input_ended, known, made}
 use Rattle.roff_run.specs.TurnsToCome.{begun, turns_to_come, turns_within}
 use Rattle.roff_engine.specs.declared.halt.Halt.TheVariants.{Refused}
 use Rattle.roff_engine.specs.declared.running.Running.{Running as Coded}
@@ -33,7 +33,7 @@ use Rattle.roff_engine.proofs.Calls.{EndsThere, EndsThere-takes, Leaves, Leaves-
 use Rattle.roff_engine.proofs.Items.{end_passed, moved, return_passed, returned, note_told, refused, source_failed, source_stopped, took}
 use Rattle.roff_run.proofs.InFront.{Given-asked, IsEnding, in_front, items_asked, over_unread, over_unread-ending, shown_step}
 use Rattle.roff_run.proofs.Readings.{begun-behind_return}
-use Rattle.roff_run.proofs.TurnsToCome.{IsTaken, turns_to_come-taking, turns_within-byte, turns_within-half_ended, turns_within-line_ends}
+use Rattle.roff_run.proofs.TurnsToCome.{IsTaken, turns_to_come-taking, turns_within-byte, turns_within-escape_ended, turns_within-line_ends}
 
 -- fewer turns are to come of the run that goes on
 abbrev pub Falls : ℕ → ℕ → Coded → Coded → Result (Unit {0}) Status → Type 0
@@ -108,25 +108,25 @@ module _ {gave gives : Tape → Type 0} {old : Coded} {left : PageUnread} {taken
       ))
 
 -- as many turns are to come where a quote is settled
-turns-interrupted : (bytes : ℕ) (reading : Reading) (i : PageInput) → turns_within bytes (interrupted reading i) ≡ turns_within bytes i
+turns-interrupted : (bytes : ℕ) (reading : LineState) (i : PageInput) → turns_within bytes (interrupted reading i) ≡ turns_within bytes i
 turns-interrupted bytes (InArguments breaks request) i = refl
 turns-interrupted bytes (_) i = refl
 
 -- what ends at the input's end, by what is half read
-ending_input-made : (l : Limits) (half : List Half) (s : State)
-    → ending_input l half s ≡ made l s (elim half [ [] ↦ input_ended (line_ends_first s.reading) s | first ∷ others ↦ half_ends s ])
+ending_input-made : (l : Limits) (half : List OpenEscape) (s : State)
+    → ending_input l half s ≡ made l s (elim half [ [] ↦ input_ended (line_ends_first s.reading) s | first ∷ others ↦ escape_ends s ])
 ending_input-made l [] s = refl
 ending_input-made l (first ∷ others) s = refl
 
 -- where something is half read, or a control line ends first, a turn fewer is to come
-half-input_ends : (bytes : ℕ) (half : List Half) (s : State) → IsEnded half s.reading → s.input.half ≡ half
-    → let ended : State = elim half [ [] ↦ input_ended (line_ends_first s.reading) s | first ∷ others ↦ half_ends s ] in
+escapes-input_ends : (bytes : ℕ) (half : List OpenEscape) (s : State) → IsEnded half s.reading → s.input.escapes ≡ half
+    → let ended : State = elim half [ [] ↦ input_ended (line_ends_first s.reading) s | first ∷ others ↦ escape_ends s ] in
     turns_within bytes ended.input + begun ended.reading < turns_within bytes s.input + begun s.reading
-half-input_ends bytes [] s (inl some) is = absurd (omega (arith, some))
-half-input_ends bytes [] s (inr first) is =
+escapes-input_ends bytes [] s (inl some) is = absurd (omega (arith, some))
+escapes-input_ends bytes [] s (inr first) is =
     rw first (omega (arith, turns_within-line_ends bytes (known s) s.reading s.input first is))
-half-input_ends bytes (first ∷ others) s some is =
-    let one : 1 ≤ length s.input.half = rw is (omega arith) in omega (arith, turns_within-half_ended bytes (known s) s.reading s.input one)
+escapes-input_ends bytes (first ∷ others) s some is =
+    let one : 1 ≤ length s.input.escapes = rw is (omega arith) in omega (arith, turns_within-escape_ended bytes (known s) s.reading s.input one)
 
 -- the call that takes the item in front
 module _ {gave gives : Tape → Type 0} {left : PageUnread} {item : Shown PageEvent} (old : Coded) (call : Takes gave gives old.unread left item) where
@@ -171,7 +171,7 @@ on_ok (Ok done) holds = holds
 on_ok (Err status) holds = tt
 
 -- where something is half read, a run may go on
-pub some_half : (half : List Half) (reading : Reading) (r : Result (Unit {0}) Status) → not (length half == 0) ≡ true → OnOk r (IsEnded half reading)
+pub some_half : (half : List OpenEscape) (reading : LineState) (r : Result (Unit {0}) Status) → not (length half == 0) ≡ true → OnOk r (IsEnded half reading)
 some_half [] reading r is = cc
 some_half (first ∷ others) reading r is = on_ok r (inl (omega arith))
 
@@ -233,20 +233,20 @@ module _ {gave gives : Tape → Type 0} {left : PageUnread} (old : Coded) (faile
   -- the end of the input
   pub front_ended : (new : Coded) (after : Seen) (r : Result (Unit {0}) Status) → Takes gave gives old.unread left (ShowsEnding Ended)
       → (left.looked ≡ None → Acts left.input.line input_ends (moved old left) new (seen failures out err) after r)
-      → OnOk r (IsEnded left.input.half old.formatter.reader.reading) → FrontTurn gave gives noted notes old new (seen failed out err) after r
+      → OnOk r (IsEnded left.input.escapes old.formatter.reader.reading) → FrontTurn gave gives noted notes old new (seen failed out err) after r
   front_ended new after r call acts half =
       let leaves = leaves_front old call in
       let ends = ends_front old call tt in
-      let fewer : IsEnded left.input.half old.formatter.reader.reading → LeavesFewer input_ends old left = λ some s is same.
+      let fewer : IsEnded left.input.escapes old.formatter.reader.reading → LeavesFewer input_ends old left = λ some s is same.
       let fewer : turns_within old.unread.limits.bytes (input_ends s).input + begun (input_ends s).reading < turns_within old.unread.limits.bytes s.input + begun s.reading =
-      half-input_ends old.unread.limits.bytes s.input.half s
-      (subst (λ (reading : Reading). IsEnded s.input.half reading) (sym same) (subst (λ (i : PageInput). IsEnded i.half old.formatter.reader.reading) (sym is) some)) refl in
+      escapes-input_ends old.unread.limits.bytes s.input.escapes s
+      (subst (λ (reading : LineState). IsEnded s.input.escapes reading) (sym same) (subst (λ (i : PageInput). IsEnded i.escapes old.formatter.reader.reading) (sym is) some)) refl in
       omega (arith, fewer, turns_of left old.unread.limits s.input leaves.limits (sym is), leaves.turns) in
       acted leaves _ noted notes input_ends left.input.line new failed failures out err after r more less (ap (λ (u : PageUnread). u.input.line) ends.same)
       (λ limits tape may h ms.
       let from : State = state_at (items_then (taken old call) tape) old h ms in
       shown_front old call limits tape may h ms
-      ∙ ending_input-made old.limits from.input.half from
+      ∙ ending_input-made old.limits from.input.escapes from
       ∙ ap (λ (s : State). made old.limits from (input_ends s)) (sym (unmoved_front old call tt tape may h ms)))
       (on_ok-then r fewer half) (acts (ap (λ (u : PageUnread). u.looked) ends.same ∙ ends.looked))
 

@@ -1,10 +1,10 @@
 -- A turn in which what is half read waits for a byte: what is seen, and what is done with it.
-use Rattle.roff_escape.specs.Half.{Half}
+use Rattle.roff_escape.specs.OpenEscape.{OpenEscape}
 use Rattle.std.proofs.Common.{◌≡◌, ℕ, ◌+◌, ◌<◌, ◌≤◌, Bool, true, false, List, ◌++◌, length, Option, Some, None, Result, Err, inr, refl, sym, ap, subst, ◌∙◌, arith, append_assoc, ◌∷◌, []}
 use Rattle.std.specs.Prelude.{IsOkUnless, if◌then◌else◌}
 use Rattle.roff_num.specs.declared.limit.Limit.{Limit}
 use Rattle.roff_num.specs.declared.limits.Limits.{Limits}
-use Rattle.roff_escape.specs.Halves.{newline_stays, seen_stays, decides_now}
+use Rattle.roff_escape.specs.OpenEscapes.{newline_stays, is_ended_by, decides_now}
 use Rattle.roff_ahead.specs.Input.{Ahead, ByteAhead, FreeAhead, EndAhead, ReturnAhead, DoAhead}
 use Rattle.roff_source.specs.Tape.{Tape, Item, Answer, Gives, Ends, OneByte, OneNote, Ended, Failed, Stopped, items_then}
 use Rattle.roff_num.specs.Faults.{Rises}
@@ -20,7 +20,7 @@ use Rattle.roff_run.specs.Messages.{message_line}
 use Rattle.roff_run.specs.Output.{PageHistory}
 use Rattle.roff_run.specs.Reading.Items.{PageUnread}
 use Rattle.roff_run.specs.Reading.Items.{PageInput}
-use Rattle.roff_run.specs.Run.{State, awaited, awaited_of_source, byte_taken, front_seen, half_ends, in_front_taken, known, made, step, waiting}
+use Rattle.roff_run.specs.Run.{State, awaited, awaited_of_source, byte_taken, front_seen, escape_ends, in_front_taken, known, made, step, waiting}
 use Rattle.roff_engine.specs.declared.running.Running.{Running as Coded}
 use Rattle.roff_engine.specs.Engine.Outcome.{Seen, seen}
 use Rattle.roff_engine.specs.Running.Turning.{Acts, IsAt, StepDoes, TurnsBy, state_at, turns_left}
@@ -29,7 +29,7 @@ use Rattle.roff_engine.proofs.Calls.{EndsThere, EndsThere-looks, IsEndingSeen, L
 use Rattle.roff_engine.proofs.Items.{looked_at, moved, note_told, source_failed, source_stopped}
 use Rattle.roff_engine.proofs.Turns.{LeavesFewer, acted, asks_or_given, falls_front, leaves_front, on_ok, on_ok-then, shown_front, turned, turns_of}
 use Rattle.roff_run.proofs.InFront.{Given, WasAsked, WasNot, Given-asked, IsNoNote, Looks-looking, items_asked, over_unread, over_unread-looking, front_step, seen as seen_step, sighted_step}
-use Rattle.roff_run.proofs.TurnsToCome.{length-newline_stays, turns_within-byte, turns_within-half_ended}
+use Rattle.roff_run.proofs.TurnsToCome.{length-newline_stays, turns_within-byte, turns_within-escape_ended}
 
 -- a look shows this in front, a byte or nothing that can be read: no message, fault or limit of the source's
 abbrev pub ShowsFront : Option ℕ → Sighted → Type 0
@@ -57,10 +57,11 @@ sighted_step-front l seen (SeesEnding Failed) from behind is = absurd is
 sighted_step-front l seen (SeesEnding (Stopped limit)) from behind is = absurd is
 
 -- what is seen stays, and what is half read ends; or it doesn't, and the item in front is taken
-front_step-by : (l : Limits) (seen : Option ℕ) (from behind : State) (stays : Bool) → seen_stays behind.input.half seen ≡ stays
-    → front_step l seen from behind ≡ (if stays then made l from (half_ends behind) else in_front_taken l behind.input.ahead behind)
+front_step-by : (l : Limits) (seen : Option ℕ) (from behind : State) (stays : Bool)
+    → is_ended_by behind.input.escapes seen ≡ stays
+    → front_step l seen from behind ≡ (if stays then made l from (escape_ends behind) else in_front_taken l behind.input.ahead behind)
 front_step-by l seen from behind stays is =
-    ap (λ (c : Bool). if c then made l from (half_ends behind) else in_front_taken l behind.input.ahead behind) is
+    ap (λ (c : Bool). if c then made l from (escape_ends behind) else in_front_taken l behind.input.ahead behind) is
 
 -- the call that looks ahead
 module _ {gave gives : Tape → Type 0} {left : PageUnread} {sight : Sighted} (old : Coded) (call : Looks gave gives old.unread left sight) where
@@ -107,16 +108,16 @@ WaitingTurn gave gives noted notes old new now after r =
 module _ {gave gives : Tape → Type 0} {left : PageUnread} (old : Coded) (failed failures : ℕ) (out err : Sunk) (noted notes : ℕ) (more : failed ≤ failures) (less : notes ≤ noted) where
   -- what is seen stays: what is half read ends
   pub waiting_ends : (seen_byte : Option ℕ) (sight : Sighted) (new : Coded) (after : Seen) (r : Result (Unit {0}) Status) → ShowsFront seen_byte sight
-      → Looks gave gives old.unread left sight → seen_stays left.input.half seen_byte ≡ true
-      → newline_stays old.unread.input.half ≡ true → Acts left.input.line half_ends (moved old left) new (seen failures out err) after r
+      → Looks gave gives old.unread left sight → is_ended_by left.input.escapes seen_byte ≡ true
+      → newline_stays old.unread.input.escapes ≡ true → Acts left.input.line escape_ends (moved old left) new (seen failures out err) after r
       → WaitingTurn gave gives noted notes old new (seen failed out err) after r
   waiting_ends seen_byte sight new after r is call stays half acts =
       let leaves = leaves_look old call in
       let same : left.input ≡ old.unread.input = input_look old call in
-      let fewer : LeavesFewer half_ends old left = λ s is same_reading.
-      let some : 1 ≤ length s.input.half = rw (is, same) (length-newline_stays old.unread.input.half half) in
-      omega (arith, turns_within-half_ended old.unread.limits.bytes (known s) s.reading s.input some, turns_of left old.unread.limits s.input leaves.limits (sym is), leaves.turns) in
-      acted leaves _ noted notes half_ends left.input.line new failed failures out err after r more less (ap (λ (i : PageInput). i.line) same)
+      let fewer : LeavesFewer escape_ends old left = λ s is same_reading.
+      let some : 1 ≤ length s.input.escapes = rw (is, same) (length-newline_stays old.unread.input.escapes half) in
+      omega (arith, turns_within-escape_ended old.unread.limits.bytes (known s) s.reading s.input some, turns_of left old.unread.limits s.input leaves.limits (sym is), leaves.turns) in
+      acted leaves _ noted notes escape_ends left.input.line new failed failures out err after r more less (ap (λ (i : PageInput). i.line) same)
       (λ limits tape may h ms.
       let from : State = state_at (items_then (taken old call) tape) old h ms in
       let behind : State = state_at tape (moved old left) h ms in
@@ -155,7 +156,7 @@ module _ {gave gives : Tape → Type 0} {left : PageUnread} (old : Coded) (faile
       (source_stopped leaves failed failures out err more t tape start may at limit (ends_look old call tt) (goes ∙ sighted_look old call tape may at.history at.messages), tt))
 
 -- where a condition decides, something is half read
-length-decides_now : (half : List Half) → decides_now half ≡ true → 1 ≤ length half
+length-decides_now : (half : List OpenEscape) → decides_now half ≡ true → 1 ≤ length half
 length-decides_now [] decides = cc
 length-decides_now (first ∷ rest) decides = omega arith
 
@@ -175,16 +176,16 @@ turn_as does other noted notes old new now behind r same turn = record {
 -- a condition that is read decides
 pub waiting_decides :
     (gives : Tape → Type 0) (old new : Coded) (failures : ℕ) (out err : Sunk) (notes : ℕ) (after : Seen) (r : Result (Unit {0}) Status)
-    → decides_now old.unread.input.half ≡ true → Acts old.unread.input.line half_ends old new (seen failures out err) after r
+    → decides_now old.unread.input.escapes ≡ true → Acts old.unread.input.line escape_ends old new (seen failures out err) after r
     → TurnsBy (λ s. waiting old.limits s) gives gives notes notes old new (seen failures out err) after r
 waiting_decides gives old new failures out err notes after r decides acts =
-    let fewer : LeavesFewer half_ends old old.unread = λ s is same_reading.
-    let some : 1 ≤ length s.input.half = rw is (length-decides_now old.unread.input.half decides) in
-    omega (arith, turns_within-half_ended old.unread.limits.bytes (known s) s.reading s.input some, turns_of old.unread old.unread.limits s.input refl (sym is)) in
-    acted (Leaves-deciding gives old.unread decides) _ notes notes half_ends old.unread.input.line new failures failures out err after r (omega arith) (omega arith) refl
+    let fewer : LeavesFewer escape_ends old old.unread = λ s is same_reading.
+    let some : 1 ≤ length s.input.escapes = rw is (length-decides_now old.unread.input.escapes decides) in
+    omega (arith, turns_within-escape_ended old.unread.limits.bytes (known s) s.reading s.input some, turns_of old.unread old.unread.limits s.input refl (sym is)) in
+    acted (Leaves-deciding gives old.unread decides) _ notes notes escape_ends old.unread.input.line new failures failures out err after r (omega arith) (omega arith) refl
     (λ limits tape may h ms.
     let s : State = state_at tape old h ms in
-    ap (λ (c : Bool). if c then made old.limits s (half_ends s) else awaited old.limits (seen_ahead old.unread.input.ahead) s) decides)
+    ap (λ (c : Bool). if c then made old.limits s (escape_ends s) else awaited old.limits (seen_ahead old.unread.input.ahead) s) decides)
     (on_ok r fewer) acts
 
 -- items, and then others, are both in this order
@@ -193,7 +194,7 @@ items_then-append first others tape = ap (λ (items : List Item). record { items
 
 -- what is seen stays, and a turn follows that takes the item in front
 module _ {gave mid gives : Tape → Type 0} {left : PageUnread} {sight : Sighted} (old : Coded) (call : Looks gave mid old.unread left sight)
-    (seen_byte : Option ℕ) (is_front : ShowsFront seen_byte sight) (goes_on : seen_stays left.input.half seen_byte ≡ false)
+    (seen_byte : Option ℕ) (is_front : ShowsFront seen_byte sight) (goes_on : is_ended_by left.input.escapes seen_byte ≡ false)
     (failed failures : ℕ) (out err : Sunk) (noted kept notes : ℕ) (new : Coded) (after : Seen) (r : Result (Unit {0}) Status) (more : failed ≤ failures) (less : kept ≤ noted)
     (turn : TurnsBy (λ s. in_front_taken old.limits s.input.ahead s) mid gives kept notes (moved old left) new (seen failures out err) after r) where
   -- what both took
@@ -250,15 +251,15 @@ shows_byte true limit u left item b is = cc
 shows_byte false limit u left item b is = is
 
 -- what is half read waits for this byte: where it is seen, the item in front is taken
-front_seen-taken : (l : Limits) (b seen_byte : ℕ) (s : State) → seen_stays s.input.half (Some b) ≡ false
+front_seen-taken : (l : Limits) (b seen_byte : ℕ) (s : State) → is_ended_by s.input.escapes (Some b) ≡ false
     → (item : Shown PageEvent) → item ≡ ShowsByte seen_byte → item ≡ ShowsByte b → front_seen l (Some seen_byte) s ≡ in_front_taken l s.input.ahead s
 front_seen-taken l b seen_byte s goes_on item shows is =
     let same : b ≡ seen_byte = cc in
-    ap (λ (stays : Bool). if stays then made l s (half_ends s) else in_front_taken l s.input.ahead s)
-    (subst (λ (n : ℕ). seen_stays s.input.half (Some n) ≡ false) same goes_on)
+    ap (λ (stays : Bool). if stays then made l s (escape_ends s) else in_front_taken l s.input.ahead s)
+    (subst (λ (n : ℕ). is_ended_by s.input.escapes (Some n) ≡ false) same goes_on)
 
 -- the call that takes the item in front shows the byte that is waited for: the step in which it is seen takes the item
-awaited_byte : (l limits : Limits) (i : PageInput) (s : State) (b : ℕ) → seen_stays i.half (Some b) ≡ false
+awaited_byte : (l limits : Limits) (i : PageInput) (s : State) (b : ℕ) → is_ended_by i.escapes (Some b) ≡ false
     → (ahead : List (Ahead PageEvent)) (looked : Option ℕ) (a : Answer) (tape behind : Tape)
     → let u : PageUnread = record { input = record i { ahead = ahead }; looked = looked; limits = limits } in
     Given a (asks_to_take u) tape behind → (taking a u).0 ≡ ShowsByte b
@@ -287,7 +288,7 @@ awaited_byte l limits i s b goes_on (DoAhead event ∷ items) looked a tape behi
 -- a byte was taken that what is half read waits for
 module _ {gave gives : Tape → Type 0} {left : PageUnread} (old : Coded) (failed failures : ℕ) (out err : Sunk) (noted notes : ℕ) (more : failed ≤ failures) (less : notes ≤ noted) where
   pub waiting_byte : (b line : ℕ) (new : Coded) (after : Seen) (r : Result (Unit {0}) Status) → Takes gave gives old.unread left (ShowsByte b)
-      → WaitsFor old.unread.input.half b → line ≡ old.unread.input.line → Acts line (byte_taken b) (moved old left) new (seen failures out err) after r
+      → WaitsFor old.unread.input.escapes b → line ≡ old.unread.input.line → Acts line (byte_taken b) (moved old left) new (seen failures out err) after r
       → TurnsBy (λ s. waiting old.limits s) gave gives noted notes old new (seen failed out err) after r
   waiting_byte b line new after r call waits line_is acts =
       let u : PageUnread = old.unread in
@@ -298,7 +299,7 @@ module _ {gave gives : Tape → Type 0} {left : PageUnread} (old : Coded) (faile
       acted leaves _ noted notes (byte_taken b) line new failed failures out err after r more less line_is
       (λ limits tape may h ms.
       let from : State = state_at (items_then asked tape) old h ms in
-      ap (λ (c : Bool). if c then made old.limits from (half_ends from) else awaited old.limits (seen_ahead u.input.ahead) from) waits.undecided
+      ap (λ (c : Bool). if c then made old.limits from (escape_ends from) else awaited old.limits (seen_ahead u.input.ahead) from) waits.undecided
       ∙ awaited_byte old.limits u.limits u.input from b waits.goes_on u.input.ahead u.looked call.answer (items_then asked tape) tape
       (Given-asked gave gives (asks_to_take u) call.answer call.asked tape may) (ap (λ (c : Shown PageEvent × PageUnread). c.0) (sym call.taken))
       ∙ shown_front old call limits tape may h ms)

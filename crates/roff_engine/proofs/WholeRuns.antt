@@ -3,7 +3,7 @@ use Rattle.std.proofs.Common.{◌≡◌, ℕ, ◌+◌, ◌<◌, Bool, true, fals
 use Rattle.std.specs.Prelude.{nat_lt, if◌then◌else◌}
 use Rattle.std.proofs.lemmas.Bool.{le-ltb}
 use Rattle.roff_num.specs.declared.limits.Limits.{Limits}
-use Rattle.roff_escape.specs.Halves.{newline_stays}
+use Rattle.roff_escape.specs.OpenEscapes.{newline_stays}
 use Rattle.roff_source.specs.Tape.{Tape, items_then}
 use Rattle.roff_scan.specs.Unread.{asks_to_take, looked_then}
 use Rattle.roff_run.specs.declared.status.Status.{Status}
@@ -16,11 +16,11 @@ use Rattle.roff_run.specs.Registers.{no_registers}
 use Rattle.roff_run.specs.Run.{State, Leads, first_input, first_unread, in_front_taken, initial, reading_by, step, waiting}
 use Rattle.roff_run.specs.Run.Counts.{counts_in, first_passed}
 use Rattle.roff_run.specs.Reading.Ends.{due}
-use Rattle.roff_run.specs.declared.reading.Due.{Due}
+use Rattle.roff_run.specs.declared.line_state.Due.{Due}
 use Rattle.roff_engine.specs.declared.running.Running.{Running as Coded}
 use Rattle.roff_engine.specs.Engine.Outcome.{Seen, Outcome, Runs}
 use Rattle.roff_engine.specs.Formatter.Performing.{going}
-use Rattle.roff_engine.specs.Running.Turning.{HasCome, HasTape, IsAt, IsFresh, Settles, TurnsBy, state_at, turns_left}
+use Rattle.roff_engine.specs.Running.Turning.{HasCome, HasTape, IsAt, IsFresh, DoesDue, TurnsBy, state_at, turns_left}
 use Rattle.roff_engine.proofs.Appending.{Appends-nothing}
 use Rattle.roff_engine.proofs.Waiting.{items_then-append}
 use Rattle.roff_run.proofs.Leads.{Leads-refl}
@@ -40,7 +40,7 @@ step_turn does gave gives noted notes old new now behind r is turn = record {
 
 module _ (gave gives : Tape → Type 0) (noted notes : ℕ) (old new : Coded) (now behind : Seen) (r : Result (Unit {0}) Status) where
   -- what is half read waits
-  pub waiting_turn : due old.formatter.reader.reading ≡ None → newline_stays old.unread.input.half ≡ true
+  pub waiting_turn : due old.formatter.reader.reading ≡ None → newline_stays old.unread.input.escapes ≡ true
       → TurnsBy (λ s. waiting old.limits s) gave gives noted notes old new now behind r
       → TurnsBy (step old.limits) gave gives noted notes old new now behind r
   waiting_turn none_due stays turn =
@@ -51,7 +51,7 @@ module _ (gave gives : Tape → Type 0) (noted notes : ℕ) (old new : Coded) (n
       turn
 
   -- it waits for nothing
-  pub front_turn : due old.formatter.reader.reading ≡ None → newline_stays old.unread.input.half ≡ false
+  pub front_turn : due old.formatter.reader.reading ≡ None → newline_stays old.unread.input.escapes ≡ false
       → TurnsBy (λ s. in_front_taken old.limits s.input.ahead s) gave gives noted notes old new now behind r
       → TurnsBy (step old.limits) gave gives noted notes old new now behind r
   front_turn none_due stays turn =
@@ -93,7 +93,7 @@ starts t now run stands fresh =
 -- it asks its source first
 pub HasTape-fresh : (run : Coded) (gives : Tape → Type 0) → IsFresh run.limits run.formatter run.unread → HasTape run gives
 HasTape-fresh run gives fresh = inl (
-  (ap (λ (u : PageUnread). u.input.half) fresh.unread, ap (λ (u : PageUnread). asks_to_take u) fresh.unread),
+  (ap (λ (u : PageUnread). u.input.escapes) fresh.unread, ap (λ (u : PageUnread). asks_to_take u) fresh.unread),
   ap (λ (r : ReaderState). due r.reading) fresh.reader,
 )
 
@@ -144,10 +144,10 @@ tape_where_due run gives what is (inl first) = let wrong : None ≡ Some what = 
 tape_where_due run gives what is (inr given) = given
 
 -- where nothing was due the run stays
-settled_tape : (run run_behind : Coded) (gives : Tape → Type 0) (what : Option Due) → due run.formatter.reader.reading ≡ what
+due_done_tape : (run run_behind : Coded) (gives : Tape → Type 0) (what : Option Due) → due run.formatter.reader.reading ≡ what
     → (due run.formatter.reader.reading ≡ None → run_behind ≡ run) → HasTape run gives → HasTape run_behind gives
-settled_tape run run_behind gives None is idle has = subst (λ (r : Coded). HasTape r gives) (sym (idle is)) has
-settled_tape run run_behind gives (Some what) is idle has = inr (tape_where_due run gives what is has)
+due_done_tape run run_behind gives None is idle has = subst (λ (r : Coded). HasTape r gives) (sym (idle is)) has
+due_done_tape run run_behind gives (Some what) is idle has = inr (tape_where_due run gives what is has)
 
 -- a run that has ended doesn't go on
 ends_or_goes_on : (r : Result (Unit {0}) Status) (status : Status) → r ≡ Err status → r ≡ Ok tt → ⊥
@@ -162,21 +162,21 @@ ended_tape run gives status r (Some what) ends is idle has = tape_where_due run 
 -- behind what is due
 module _ {first gives : Tape → Type 0} (start now behind : Seen) (run run_behind : Coded) (come : HasCome first gives start now run) where
   -- it goes on
-  pub settled : Settles run run_behind now behind (Ok tt) → HasCome first gives start behind run_behind
-  settled settles = record {
+  pub due_done : DoesDue run run_behind now behind (Ok tt) → HasCome first gives start behind run_behind
+  due_done does_due = record {
     taken = come.taken;
     before = come.before;
-    some = settled_tape run run_behind gives (due run.formatter.reader.reading) refl (λ none. (settles.idle none).1) come.some;
-    at = λ t may. settles.settles (items_then come.taken t) t start (come.at t may);
+    some = due_done_tape run run_behind gives (due run.formatter.reader.reading) refl (λ none. (does_due.idle none).1) come.some;
+    at = λ t may. does_due.does_due (items_then come.taken t) t start (come.at t may);
   }
 
   -- or it has ended
-  pub settled_end : (l : Limits) (status : Status) → run.limits ≡ l → Settles run run_behind now behind (Err status) → Runs l status first gives start behind
-  settled_end l status limits settles =
-      let some = ended_tape run gives status (Err status) (due run.formatter.reader.reading) refl refl (λ none. (settles.idle none).0) come.some in record {
+  pub due_done_end : (l : Limits) (status : Status) → run.limits ≡ l → DoesDue run run_behind now behind (Err status) → Runs l status first gives start behind
+  due_done_end l status limits does_due =
+      let some = ended_tape run gives status (Err status) (due run.formatter.reader.reading) refl refl (λ none. (does_due.idle none).0) come.some in record {
         taken = come.taken;
         took = record { before = come.before; some = some.0; some_given = some.1 };
         outcome = λ t may.
             let whole : Tape = items_then come.taken t in
-            subst (λ (k : Limits). Outcome k whole t status start behind) (settles.limits ∙ limits) (settles.settles whole t start (come.at t may));
+            subst (λ (k : Limits). Outcome k whole t status start behind) (does_due.limits ∙ limits) (does_due.does_due whole t start (come.at t may));
       }

@@ -4,11 +4,11 @@ pub use Rattle.roff_engine.specs.Formatter.Performing.{DoesMeaning, DoesTaking, 
 pub use Rattle.roff_run.specs.Messages.{message_line, message_lines, text_told, told_line}
 pub use Rattle.roff_run.specs.Output.{finished_bytes}
 pub use Rattle.roff_reader.specs.Reader.State.{fresh_reader}
-pub use Rattle.roff_run.specs.Reading.{half_ended, interrupted, taking}
+pub use Rattle.roff_run.specs.Reading.{escape_ended, interrupted, taking}
 pub use Rattle.roff_run.specs.Reading.Calls.{behind_return}
 pub use Rattle.roff_run.specs.Reading.Ends.{due, end_taking, line_ends_first}
-pub use Rattle.roff_run.specs.declared.reading.Due.TheVariants.{Tells}
-pub use Rattle.roff_run.specs.declared.reading.Reading.TheVariants.{LineStart}
+pub use Rattle.roff_run.specs.declared.line_state.Due.TheVariants.{Tells}
+pub use Rattle.roff_run.specs.declared.line_state.LineState.TheVariants.{LineStart}
 pub use Rattle.roff_run.specs.declared.event.PageEvent.TheVariants.{Text, Space, Environment}
 pub use Rattle.roff_engine.specs.Running.Turning.{Halts, IsFresh}
 pub use Rattle.roff_engine.specs.Sinks.{Puts, Sunk}

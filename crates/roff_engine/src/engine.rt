@@ -7,8 +7,8 @@ use crate::formatter::Formatter;
 use crate::running::Running;
 use crate::sink::ByteSink;
 use roff_num::Limits;
-use roff_run::{PageEvent, Status};
 use roff_reader::first_unread;
+use roff_run::{PageEvent, Status};
 use roff_scan::{ByteSource, Unread};
 use std::alloc::{AllocError, Global};
 use std::marker::Model;
@@ -77,7 +77,7 @@ impl Engine {
             if running.pass_over(source) {
                 continue;
             }
-            if let Err(status) = running.settle(out, err) {
+            if let Err(status) = running.do_due(out, err) {
                 return status;
             }
             if let Err(status) = running.turn(source, out, err) {

@@ -12,9 +12,9 @@ mod text_events;
 
 use crate::block::Block;
 use roff_num::Limits;
-use roff_run::{Due, PageEvent};
-use roff_requests::Environments;
 use roff_reader::Reader;
+use roff_requests::Environments;
+use roff_run::{Due, PageEvent};
 use roff_scan::Unread;
 use std::alloc::{AllocError, Global};
 

@@ -3,7 +3,7 @@
 ghost use Rattle.std.specs.Prelude.{◌≡◌, ℕ, true, None, IsOkUnless};
 ghost use Rattle.roff_run.specs.Run.{ahead_taken, awaited, byte_taken, in_front_taken, step};
 ghost use Rattle.roff_run.specs.Run.{waiting};
-ghost use Rattle.roff_escape.specs.Halves.{newline_stays};
+ghost use Rattle.roff_escape.specs.OpenEscapes.{newline_stays};
 ghost use Rattle.roff_ahead.specs.Input.{DoAhead};
 ghost use Rattle.roff_ahead.specs.Shown.{seen_ahead};
 ghost use Rattle.roff_engine.specs.Clauses.{Puts, seen, due, Device};
@@ -63,7 +63,7 @@ impl Running {
         out: &mut O,
         err: &mut E,
     ) -> Result<(), Status>
-        requires { newline_stays self.old.unread.input.half ≡ true }
+        requires { newline_stays self.old.unread.input.escapes ≡ true }
         ensures { TurnsBy (λ s. waiting self.old.limits s)
             (S.gives source.old) (S.gives source.new) (S.notes source.old) (S.notes source.new)
             self.old self.new
@@ -71,7 +71,7 @@ impl Running {
             (seen (S.failures source.new) (O.sunk out.new) (E.sunk err.new)) result }
     {
         if self.unread.decides_now() {
-            return self.end_half(out, err);
+            return self.end_escape(out, err);
         }
         let line = self.unread.line();
         match self.unread.take_waiting(source) {
@@ -87,7 +87,7 @@ impl Running {
         out: &mut O,
         err: &mut E,
     ) -> Result<(), Status>
-        requires { newline_stays self.old.unread.input.half ≡ true }
+        requires { newline_stays self.old.unread.input.escapes ≡ true }
         ensures { TurnsBy (λ s. awaited self.old.limits (seen_ahead s.input.ahead) s)
             (S.gives source.old) (S.gives source.new) (S.notes source.old) (S.notes source.new)
             self.old self.new
@@ -98,12 +98,12 @@ impl Running {
             Sight::Byte(byte) => Some(byte),
             Sight::Nothing => None,
             Sight::SourceEnd => None,
-            Sight::Note(note) => return tell_note(&note, err),
+            Sight::Note(note) => return report_note(&note, err),
             Sight::Fault => return Err(self.source_failed(err)),
             Sight::Stop(limit) => return Err(Status::Limit(limit)),
         };
-        if self.unread.seen_stays(seen) {
-            return self.end_half(out, err);
+        if self.unread.is_ended_by(seen) {
+            return self.end_escape(out, err);
         }
         self.turn_above(source, out, err)
     }
@@ -193,7 +193,7 @@ impl Running {
                 Ok(())
             }
             Item::Do(event) => self.perform(event, line, out, err),
-            Item::Note(note) => tell_note(&note, err),
+            Item::Note(note) => report_note(&note, err),
             Item::SourceEnd => self.end_input(out, err),
             Item::Fault => Err(self.source_failed(err)),
             Item::Stop(limit) => Err(Status::Limit(limit)),
@@ -264,7 +264,7 @@ impl Running {
 
 /// Writes a message of the source's.
 #[inline(never)]
-fn tell_note<E: ByteSink>(note: &Note, err: &mut E) -> Result<(), Status>
+fn report_note<E: ByteSink>(note: &Note, err: &mut E) -> Result<(), Status>
     ensures puts { Puts (E.sunk err.old) (E.sunk err.new) note.now.items result }
     ensures status { IsOkUnless result Device }
 {

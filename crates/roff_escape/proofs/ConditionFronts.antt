@@ -6,17 +6,17 @@ use Rattle.std.proofs.lemmas.Bool.{and_parts, leb-true, lt-leb, ne_eqb}
 use Rattle.roff_source.specs.Bytes.{backslash, blank, is_digit, is_dropped, is_silent, newline, tab}
 use Rattle.roff_escape.specs.ConditionFronts.{ByteTaken, HalvesTaken, HoldsOn, IsHeld, IsRead, NothingTaken, TakesByte, TakesFront, TakesOn, is_of_expression}
 use Rattle.roff_escape.specs.Conditions.{begins_expression, expression_over, is_among, to_decide}
-use Rattle.roff_escape.specs.Half.{Half, Backslash, Condition, Reads as ReadsOf, text_held, texts_held}
-use Rattle.roff_escape.specs.HalfTexts.{IsOnTop, KeptHalves}
-use Rattle.roff_escape.specs.declared.half.ConditionPart.{ConditionPart}
-use Rattle.roff_escape.specs.declared.half.ConditionPart.TheVariants.{Choice, Compared, Expression}
-use Rattle.roff_escape.specs.declared.half.CopyUnit.TheVariants.{Byte}
-use Rattle.roff_escape.specs.declared.half.Decision.TheVariants.{Is, OnPages}
-use Rattle.roff_escape.specs.declared.half.HalfRead.TheVariants.{Condition as ConditionRead}
-use Rattle.roff_escape.specs.declared.half.Read.TheVariants.{GoesOn, Holds}
+use Rattle.roff_escape.specs.OpenEscape.{OpenEscape, Backslash, Condition, Reads as ReadsOf, text_held, texts_held}
+use Rattle.roff_escape.specs.EscapeTexts.{IsOnTop, KeptEscapes}
+use Rattle.roff_escape.specs.declared.open_escape.ConditionPart.{ConditionPart}
+use Rattle.roff_escape.specs.declared.open_escape.ConditionPart.TheVariants.{Choice, Compared, Expression}
+use Rattle.roff_escape.specs.declared.open_escape.CopyUnit.TheVariants.{Byte}
+use Rattle.roff_escape.specs.declared.open_escape.Decision.TheVariants.{Is, OnPages}
+use Rattle.roff_escape.specs.declared.open_escape.HeldEscape.TheVariants.{Condition as ConditionRead}
+use Rattle.roff_escape.specs.declared.open_escape.Found.TheVariants.{GoesOn, Holds}
 
 -- one byte more is held of a condition
-held-one : (part later : ConditionPart) (text : List ℕ) (rest : List Half) (b : ℕ)
+held-one : (part later : ConditionPart) (text : List ℕ) (rest : List OpenEscape) (b : ℕ)
     → texts_held (text_held (Byte b) (Condition later text ∷ rest)) ≡ texts_held (Condition part text ∷ rest) + 1
 held-one part later text rest b = omega (arith, length-append text (b ∷ []))
 
@@ -31,11 +31,11 @@ none_of_five false false false false true none = absurd (cc)
 none_of_five false false false false false none = (refl, (refl, (refl, (refl, refl))))
 
 -- a byte of an expression is held
-holds-expression : (negated : Bool) (text : List ℕ) (rest : List Half) (b : ℕ) → is_of_expression b ≡ true
+holds-expression : (negated : Bool) (text : List ℕ) (rest : List OpenEscape) (b : ℕ) → is_of_expression b ≡ true
     → HoldsOn (Condition (Expression negated) text ∷ rest) b (Condition (Expression negated) text ∷ rest)
 holds-expression negated text rest b is =
     let none = none_of_five (b == backslash) (is_dropped b) (b == newline) (b == blank) (b == tab) is in
-    let half : List Half = Condition (Expression negated) text ∷ rest in
+    let half : List OpenEscape = Condition (Expression negated) text ∷ rest in
     record {
       stands = none.1.0;
       no_newline = none.1.1.0;
@@ -57,7 +57,7 @@ above : (b c : ℕ) → c < b → (b == c) ≡ false
 above b c more = ne_eqb b c (λ same. omega (arith, more, same))
 
 -- what a byte of a choice gives, by the tests on it
-abbrev asked : Bool → List ℕ → List Half → ℕ → Bool → Bool → Bool → Bool → Bool → Bool → Bool → Bool → ReadsOf
+abbrev asked : Bool → List ℕ → List OpenEscape → ℕ → Bool → Bool → Bool → Bool → Bool → Bool → Bool → Bool → ReadsOf
 asked negated text rest b escapes blanks bang o e t n number =
     if escapes then (GoesOn, Backslash ∷ Condition (Choice negated) text ∷ rest)
     else if blanks && not negated then (GoesOn, Condition (Choice negated) text ∷ rest)
@@ -70,7 +70,7 @@ asked negated text rest b escapes blanks bang o e t n number =
     else (GoesOn, Condition (Compared negated b None) text ∷ rest)
 
 -- a digit begins an expression
-holds-digit : (negated : Bool) (text : List ℕ) (rest : List Half) (b : ℕ) → is_digit b ≡ true
+holds-digit : (negated : Bool) (text : List ℕ) (rest : List OpenEscape) (b : ℕ) → is_digit b ≡ true
     → HoldsOn (Condition (Choice negated) text ∷ rest) b (Condition (Expression negated) text ∷ rest)
 holds-digit negated text rest b is =
     let bounds = and_parts (nat_le 48 b) (nat_le b 57) is in
@@ -97,73 +97,73 @@ holds-digit negated text rest b is =
     }
 
 -- a byte was taken that is held
-takes-held : (b : ℕ) (old new : KeptHalves) (top : List Half) → HoldsOn old.half b top → new ≡ record old { half = text_held (Byte b) top } → TakesByte b true old new
+takes-held : (b : ℕ) (old new : KeptEscapes) (top : List OpenEscape) → HoldsOn old.escapes b top → new ≡ record old { escapes = text_held (Byte b) top } → TakesByte b true old new
 takes-held b old new top holds is = record {
-  taken = λ is_so. IsHeld top holds (ap (λ (k : KeptHalves). k.half) is);
+  taken = λ is_so. IsHeld top holds (ap (λ (k : KeptEscapes). k.escapes) is);
   kept = λ isnt. absurd (cc);
-  room = ap (λ (k : KeptHalves). k.room) is;
+  room = ap (λ (k : KeptEscapes). k.room) is;
 }
 
 -- a byte was taken that is one more of an expression
-pub takes-more : (negated : Bool) (begin b : ℕ) (old new : KeptHalves) → IsOnTop (ConditionRead (Expression negated) begin) old.half → is_of_expression b ≡ true
-    → new ≡ record old { half = text_held (Byte b) old.half } → TakesByte b true old new
+pub takes-more : (negated : Bool) (begin b : ℕ) (old new : KeptEscapes) → IsOnTop (ConditionRead (Expression negated) begin) old.escapes → is_of_expression b ≡ true
+    → new ≡ record old { escapes = text_held (Byte b) old.escapes } → TakesByte b true old new
 takes-more negated begin b old new top is held =
-    takes-held b old new old.half (subst (λ (half : List Half). HoldsOn half b half) (sym top.same) (holds-expression negated top.text top.rest b is)) held
+    takes-held b old new old.escapes (subst (λ (half : List OpenEscape). HoldsOn half b half) (sym top.same) (holds-expression negated top.text top.rest b is)) held
 
 -- what a choice becomes as a digit begins its expression
-abbrev pub choice_over : (negated : Bool) (begin : ℕ) (old : KeptHalves) → IsOnTop (ConditionRead (Choice negated) begin) old.half → KeptHalves
-choice_over negated begin old top = record old { half = Condition (Expression negated) top.text ∷ top.rest }
+abbrev pub choice_over : (negated : Bool) (begin : ℕ) (old : KeptEscapes) → IsOnTop (ConditionRead (Choice negated) begin) old.escapes → KeptEscapes
+choice_over negated begin old top = record old { escapes = Condition (Expression negated) top.text ∷ top.rest }
 
 -- the digit was taken
-pub takes-digit : (negated : Bool) (begin b : ℕ) (old now new : KeptHalves) (top : IsOnTop (ConditionRead (Choice negated) begin) old.half) → is_digit b ≡ true
-    → now ≡ choice_over negated begin old top → new ≡ record now { half = text_held (Byte b) now.half } → TakesByte b true old new
+pub takes-digit : (negated : Bool) (begin b : ℕ) (old now new : KeptEscapes) (top : IsOnTop (ConditionRead (Choice negated) begin) old.escapes) → is_digit b ≡ true
+    → now ≡ choice_over negated begin old top → new ≡ record now { escapes = text_held (Byte b) now.escapes } → TakesByte b true old new
 takes-digit negated begin b old now new top digit is held =
-    let there : List Half = Condition (Expression negated) top.text ∷ top.rest in
+    let there : List OpenEscape = Condition (Expression negated) top.text ∷ top.rest in
     takes-held b old new there
-    (subst (λ (half : List Half). HoldsOn half b there) (sym top.same) (holds-digit negated top.text top.rest b digit))
-    (held ∙ ap (λ (k : KeptHalves). record k { half = text_held (Byte b) k.half }) is)
+    (subst (λ (half : List OpenEscape). HoldsOn half b there) (sym top.same) (holds-digit negated top.text top.rest b digit))
+    (held ∙ ap (λ (k : KeptEscapes). record k { escapes = text_held (Byte b) k.escapes }) is)
 
 -- one byte more is held at the most
-pub taken-held : (half next : List Half) (b : ℕ) → TakesOn half b next → texts_held next ≤ texts_held half + 1
+pub taken-held : (half next : List OpenEscape) (b : ℕ) → TakesOn half b next → texts_held next ≤ texts_held half + 1
 taken-held half next b (IsRead reads) = omega (arith, reads.held)
 taken-held half next b (IsHeld top holds is) = omega (arith, ap texts_held is, holds.held)
 
 -- the last byte is taken behind the others
-pub HalvesTaken-last : (half there next : List Half) (bytes : List ℕ) (b : ℕ) → HalvesTaken half bytes there → TakesOn there b next → HalvesTaken half (bytes ++ b ∷ []) next
+pub HalvesTaken-last : (half there next : List OpenEscape) (bytes : List ℕ) (b : ℕ) → HalvesTaken half bytes there → TakesOn there b next → HalvesTaken half (bytes ++ b ∷ []) next
 HalvesTaken-last _ there next _ b (NothingTaken half) takes = ByteTaken half next next b [] takes (NothingTaken next)
 HalvesTaken-last half _ next _ b (ByteTaken _ second there c bytes first others) takes =
     ByteTaken half second next c (bytes ++ b ∷ []) first (HalvesTaken-last second there next bytes b others takes)
 
 -- none was taken yet
-pub TakesFront-none : (bytes : List ℕ) (k : KeptHalves) → TakesFront bytes 0 k k
-TakesFront-none bytes k = record { few = omega arith; taken = NothingTaken k.half; held = omega arith; room = refl }
+pub TakesFront-none : (bytes : List ℕ) (k : KeptEscapes) → TakesFront bytes 0 k k
+TakesFront-none bytes k = record { few = omega arith; taken = NothingTaken k.escapes; held = omega arith; room = refl }
 
 -- there is room for one more
-pub front-room : (bytes : List ℕ) (count : ℕ) (old now : KeptHalves) → TakesFront bytes count old now → count < length bytes
-    → texts_held old.half + length bytes ≤ old.room → texts_held now.half < now.room
+pub front-room : (bytes : List ℕ) (count : ℕ) (old now : KeptEscapes) → TakesFront bytes count old now → count < length bytes
+    → texts_held old.escapes + length bytes ≤ old.room → texts_held now.escapes < now.room
 front-room bytes count old now takes inside room = omega (arith, takes.held, takes.room, inside, room)
 
 -- one more was taken
-pub TakesFront-more : (bytes : List ℕ) (count : ℕ) (old now new : KeptHalves) (is_taken : Bool) → TakesFront bytes count old now → count < length bytes
+pub TakesFront-more : (bytes : List ℕ) (count : ℕ) (old now new : KeptEscapes) (is_taken : Bool) → TakesFront bytes count old now → count < length bytes
     → is_taken ≡ true → TakesByte (get_or bytes count 0) is_taken now new → TakesFront bytes (count + 1) old new
 TakesFront-more bytes count old now new is_taken takes inside is byte =
     let b : ℕ = get_or bytes count 0 in
-    let on : TakesOn now.half b new.half = byte.taken is in
+    let on : TakesOn now.escapes b new.escapes = byte.taken is in
     let next : count + 1 ≡ suc count = omega arith in
     let more : take (count + 1) bytes ≡ take count bytes ++ b ∷ [] = ap (λ (n : ℕ). take n bytes) next ∙ take-suc bytes count 0 inside in
     record {
       few = omega (arith, inside);
-      taken = subst (λ (xs : List ℕ). HalvesTaken old.half xs new.half) (sym more) (HalvesTaken-last old.half now.half new.half (take count bytes) b takes.taken on);
-      held = omega (arith, takes.held, taken-held now.half new.half b on);
+      taken = subst (λ (xs : List ℕ). HalvesTaken old.escapes xs new.escapes) (sym more) (HalvesTaken-last old.escapes now.escapes new.escapes (take count bytes) b takes.taken on);
+      held = omega (arith, takes.held, taken-held now.escapes new.escapes b on);
       room = byte.room ∙ takes.room;
     }
 
 -- no more was taken
-pub TakesFront-ended : (bytes : List ℕ) (count b : ℕ) (old now new : KeptHalves) (is_taken : Bool) → TakesFront bytes count old now → is_taken ≡ false
+pub TakesFront-ended : (bytes : List ℕ) (count b : ℕ) (old now new : KeptEscapes) (is_taken : Bool) → TakesFront bytes count old now → is_taken ≡ false
     → TakesByte b is_taken now new → TakesFront bytes count old new
 TakesFront-ended bytes count b old now new is_taken takes isnt byte = subst (TakesFront bytes count old) (sym (byte.kept isnt)) takes
 
 -- no newline is taken so
-pub taken-plain : (half next : List Half) (b : ℕ) → TakesOn half b next → (b == newline) ≡ false
+pub taken-plain : (half next : List OpenEscape) (b : ℕ) → TakesOn half b next → (b == newline) ≡ false
 taken-plain half next b (IsRead reads) = reads.no_newline
 taken-plain half next b (IsHeld top holds is) = holds.no_newline

@@ -6,12 +6,12 @@ use Rattle.std.proofs.lemmas.Bool.{eq-eqb}
 use Rattle.std.proofs.lemmas.List.{append-nil}
 use Rattle.roff_source.specs.Bytes.{newline, blank, backslash}
 use Rattle.roff_escape.specs.Conditions.{begins_expression, byte_or_backslash, delimiter_met, so_unless}
-use Rattle.roff_escape.specs.Half.{Half, Condition}
-use Rattle.roff_escape.specs.HalfLaws.{decided, delimits_texts, is_between, reads_through, two_texts}
-use Rattle.roff_escape.specs.Halves.{Reads}
-use Rattle.roff_escape.specs.declared.half.ConditionPart.TheVariants.{Choice, Compared}
-use Rattle.roff_escape.specs.declared.half.Decision.TheVariants.{Is}
-use Rattle.roff_escape.specs.declared.half.Surroundings.TheVariants.{Arguments as InArguments}
+use Rattle.roff_escape.specs.OpenEscape.{OpenEscape, Condition}
+use Rattle.roff_escape.specs.EscapeLaws.{decided, delimits_texts, is_between, reads_through, two_texts}
+use Rattle.roff_escape.specs.OpenEscapes.{Reads}
+use Rattle.roff_escape.specs.declared.open_escape.ConditionPart.TheVariants.{Choice, Compared}
+use Rattle.roff_escape.specs.declared.open_escape.Decision.TheVariants.{Is}
+use Rattle.roff_escape.specs.declared.open_escape.Surroundings.TheVariants.{Arguments as InArguments}
 use Rattle.roff_escape.proofs.NamesRead.{read_on}
 use Rattle.roff_escape.proofs.TextsRead.{between_parts, inner_byte}
 
@@ -33,7 +33,7 @@ none_asked false false false false false false false false false free a b c d f 
 
 module _ (negated : Bool) (d : ℕ) where
   -- two texts of which so much is read
-  abbrev within : Option ℕ → List ℕ → List Half
+  abbrev within : Option ℕ → List ℕ → List OpenEscape
   within first text = Condition (Compared negated d first) text ∷ []
 
   -- a byte that asks for nothing else delimits them

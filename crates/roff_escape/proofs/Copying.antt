@@ -7,17 +7,17 @@ use Rattle.std.proofs.lemmas.Grind.{flat_map-append}
 use Rattle.std.proofs.lemmas.List.{map-append}
 use Rattle.roff_source.specs.Bytes.{start_of_text, tab, newline, dot, backslash}
 use Rattle.roff_escape.specs.Escapes.{escape_in, escape_of, escapes, is_copied}
-use Rattle.roff_escape.specs.Half.{Half, Backslash, unit_bytes}
-use Rattle.roff_escape.specs.HalfLaws.{FindsBytes, begins_reading, copied, copied_escape, doubled, found_before, half_behind, is_only_copied, reads_through, reads_to_end}
-use Rattle.roff_escape.specs.Halves.{Reads, copied_escape as copies_escape, escape_given, escape_read, escape_taken, name_beginning, reading_ended, reads_text, unit_taken}
+use Rattle.roff_escape.specs.OpenEscape.{OpenEscape, Backslash, unit_bytes}
+use Rattle.roff_escape.specs.EscapeLaws.{FindsBytes, begins_reading, copied, copied_escape, doubled, found_before, escapes_behind, is_only_copied, reads_through, reads_to_end}
+use Rattle.roff_escape.specs.OpenEscapes.{Reads, copied_escape as copies_escape, escape_given, escape_read, escape_taken, name_beginning, reading_ended, reads_text, unit_taken}
 use Rattle.roff_escape.specs.declared.escapes.Escape.{Escape as Kind}
 use Rattle.roff_escape.specs.declared.escapes.Escape.TheVariants.{Prints, Blank, NoWidth, Nothing as GivesNothing, Tab as GivesTab, Interrupts, Brace, LeftOut as IsLeftOut, Comment as BeginsComment, Size as BeginsSize, Name as BeginsName, Text as BeginsText, Width as BeginsWidth}
 use Rattle.roff_escape.specs.declared.escapes.Row.{Row}
-use Rattle.roff_escape.specs.declared.half.CopyUnit.{CopyUnit}
-use Rattle.roff_escape.specs.declared.half.CopyUnit.TheVariants.{Byte, Kept}
-use Rattle.roff_escape.specs.declared.half.Read.{Read}
-use Rattle.roff_escape.specs.declared.half.Read.TheVariants.{GoesOn, Unit as GivesUnit}
-use Rattle.roff_escape.specs.declared.half.Surroundings.{Surroundings}
+use Rattle.roff_escape.specs.declared.open_escape.CopyUnit.{CopyUnit}
+use Rattle.roff_escape.specs.declared.open_escape.CopyUnit.TheVariants.{Byte, Kept}
+use Rattle.roff_escape.specs.declared.open_escape.Found.{Found}
+use Rattle.roff_escape.specs.declared.open_escape.Found.TheVariants.{GoesOn, Unit as GivesUnit}
+use Rattle.roff_escape.specs.declared.open_escape.Surroundings.{Surroundings}
 use Rattle.roff_escape.proofs.NamesRead.{read_on}
 
 -- a byte that is no backslash is copied
@@ -48,7 +48,7 @@ abbrev byte_given : Bool → ℕ → Reads
 byte_given is b = if is then (GoesOn, Backslash ∷ []) else (GivesUnit (Byte b), [])
 
 -- units that are bytes
-abbrev units_of : List ℕ → List Read
+abbrev units_of : List ℕ → List Found
 units_of text = map (λ b. GivesUnit (Byte b)) text
 
 -- what is copied where text isn't read
@@ -61,11 +61,11 @@ read-doubled_byte :
     → reads_through base [] (doubled_byte is b ++ doubled text) ≡ (GivesUnit (Byte b) ∷ units_of text, [])
 read-doubled_byte base true b text copies is same =
     ap (read_on base (doubled text)) (copied_unless base _ backslash copies)
-    ∙ ap (λ (r : List Read × List Half). (GivesUnit (Byte backslash) ∷ r.0, r.1)) same
+    ∙ ap (λ (r : List Found × List OpenEscape). (GivesUnit (Byte backslash) ∷ r.0, r.1)) same
     ∙ ap (λ (c : ℕ). (GivesUnit (Byte c) ∷ units_of text, [])) (sym (eqb-true b backslash is))
 read-doubled_byte base false b text copies plain same =
     ap (λ (is : Bool). read_on base (doubled text) (byte_given is b)) plain
-    ∙ ap (λ (r : List Read × List Half). (GivesUnit (Byte b) ∷ r.0, r.1)) same
+    ∙ ap (λ (r : List Found × List OpenEscape). (GivesUnit (Byte b) ∷ r.0, r.1)) same
 
 -- so it is read
 pub read-doubled : (base : Surroundings) (text : List ℕ) → reads_text base ≡ false → reads_through base [] (doubled text) ≡ (units_of text, [])
@@ -161,8 +161,8 @@ taken-copied base b copies none = taken-plain base b (begins_reading b) copies n
 -- what a byte gives are units with these bytes
 record Copies (r : Reads) (bytes : List ℕ) : Type 0 where
   units : List CopyUnit
-  found : (others : List Read) → found_before r.0 others ≡ map GivesUnit units ++ others
-  none : half_behind r.0 r.1 ≡ []
+  found : (others : List Found) → found_before r.0 others ≡ map GivesUnit units ++ others
+  none : escapes_behind r.0 r.1 ≡ []
   joined : flat_map unit_bytes units ≡ bytes
 
 either : (c : Bool) (x y : Reads) (of_x of_y : List ℕ) → Copies x of_x → Copies y of_y → Copies (if c then x else y) (if c then of_x else of_y)
@@ -183,7 +183,7 @@ Copies-escape b =
     (either (b == 116) _ _ _ _ (Copies-unit (Byte tab)) (Copies-unit (Kept b)))))
 
 -- what was found up to the end
-abbrev ended : Surroundings → List Read × List Half → List Read
+abbrev ended : Surroundings → List Found × List OpenEscape → List Found
 ended base read = read.0 ++ found_before (reading_ended base read.1).0 []
 
 -- units behind units
@@ -192,10 +192,10 @@ FindsBytes-behind : (base : Surroundings) (r : Reads) (bytes text behind : List 
 FindsBytes-behind base r bytes text behind copies rest = record {
   units = copies.units ++ rest.units;
   only =
-      ap (λ (half : List Half). ended base (found_before r.0 (reads_through base half text).0, (reads_through base half text).1)) copies.none
-      ∙ ap (λ (found : List Read). found ++ found_before (reading_ended base (reads_through base [] text).1).0 []) (copies.found (reads_through base [] text).0)
+      ap (λ (half : List OpenEscape). ended base (found_before r.0 (reads_through base half text).0, (reads_through base half text).1)) copies.none
+      ∙ ap (λ (found : List Found). found ++ found_before (reading_ended base (reads_through base [] text).1).0 []) (copies.found (reads_through base [] text).0)
       ∙ append_assoc (map GivesUnit copies.units) (reads_through base [] text).0 _
-      ∙ ap (λ (found : List Read). map GivesUnit copies.units ++ found) rest.only
+      ∙ ap (λ (found : List Found). map GivesUnit copies.units ++ found) rest.only
       ∙ sym (map-append GivesUnit copies.units rest.units);
   joined =
       flat_map-append unit_bytes copies.units rest.units

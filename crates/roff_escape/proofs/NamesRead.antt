@@ -5,24 +5,24 @@ use Rattle.std.proofs.lemmas.Bool.{lt-leb}
 use Rattle.std.proofs.lemmas.List.{length-replicate}
 use Rattle.roff_source.specs.Bytes.{quote, backslash}
 use Rattle.roff_escape.specs.Escapes.{escape_of, is_copied}
-use Rattle.roff_escape.specs.Half.{Half, Backslash, Comment, Name, Size, Delimited, Width, Condition, names_in}
-use Rattle.roff_escape.specs.HalfLaws.{found_before, half_behind, is_special, long_escape, openings, reads_through, short_escape, sign}
-use Rattle.roff_escape.specs.Halves.{Reads, byte_read, escape_read, most_names, name_beginning, name_begun, name_given, name_or_opening, part_at_first, reads_text, surroundings, unit_of_name, unit_taken}
+use Rattle.roff_escape.specs.OpenEscape.{OpenEscape, Backslash, Comment, Name, Size, Delimited, Width, Condition, names_in}
+use Rattle.roff_escape.specs.EscapeLaws.{found_before, escapes_behind, is_special, long_escape, openings, reads_through, short_escape, sign}
+use Rattle.roff_escape.specs.OpenEscapes.{Reads, byte_read, escape_read, most_names, name_beginning, name_begun, name_given, name_or_opening, part_at_first, reads_text, surroundings, unit_of_name, unit_taken}
 use Rattle.roff_escape.specs.Nesting.{AreNames, are_all_names}
 use Rattle.roff_escape.specs.declared.escapes.Escape.TheVariants.{Name as BeginsName}
 use Rattle.roff_escape.specs.declared.escapes.NameUse.{NameUse}
 use Rattle.roff_escape.specs.declared.escapes.NameUse.TheVariants.{Register, Text, Argument, Character, Font, LeftOut}
-use Rattle.roff_escape.specs.declared.half.CopyUnit.TheVariants.{Byte, Kept}
-use Rattle.roff_escape.specs.declared.half.NamePart.{NamePart}
-use Rattle.roff_escape.specs.declared.half.NamePart.TheVariants.{Nothing, Opened, First}
-use Rattle.roff_escape.specs.declared.half.Read.{Read}
-use Rattle.roff_escape.specs.declared.half.Read.TheVariants.{GoesOn, Asks}
-use Rattle.roff_escape.specs.declared.half.Surroundings.{Surroundings}
+use Rattle.roff_escape.specs.declared.open_escape.CopyUnit.TheVariants.{Byte, Kept}
+use Rattle.roff_escape.specs.declared.open_escape.NamePart.{NamePart}
+use Rattle.roff_escape.specs.declared.open_escape.NamePart.TheVariants.{Nothing, Opened, First}
+use Rattle.roff_escape.specs.declared.open_escape.Found.{Found}
+use Rattle.roff_escape.specs.declared.open_escape.Found.TheVariants.{GoesOn, Asks}
+use Rattle.roff_escape.specs.declared.open_escape.Surroundings.{Surroundings}
 use Rattle.roff_num.specs.declared.direction.Direction.{Direction}
 use Rattle.roff_num.specs.declared.direction.Direction.TheVariants.{Up, Down}
 
 -- where all are names each of them counts
-names_in-names : (names : List Half) → are_all_names names ≡ true → names_in names ≡ length names
+names_in-names : (names : List OpenEscape) → are_all_names names ≡ true → names_in names ≡ length names
 names_in-names [] all = refl
 names_in-names (Backslash ∷ rest) all = cc
 names_in-names (Comment ∷ rest) all = cc
@@ -33,7 +33,7 @@ names_in-names (Width d width is_deep ∷ rest) all = cc
 names_in-names (Condition part text ∷ rest) all = cc
 
 -- a name above them asks for what it names
-name_given-names : (names : List Half) (purpose : NameUse) (name : Option (List ℕ)) → AreNames names → name_given names purpose name ≡ (Asks purpose name, names)
+name_given-names : (names : List OpenEscape) (purpose : NameUse) (name : Option (List ℕ)) → AreNames names → name_given names purpose name ≡ (Asks purpose name, names)
 name_given-names [] purpose name are = refl
 name_given-names (Backslash ∷ rest) purpose name are = absurd (search (rules, are.all))
 name_given-names (Comment ∷ rest) purpose name are = absurd (search (rules, are.all))
@@ -44,14 +44,14 @@ name_given-names (Width d width is_deep ∷ rest) purpose name are = absurd (sea
 name_given-names (Condition part text ∷ rest) purpose name are = absurd (search (rules, are.all))
 
 -- what is read on behind a reading
-abbrev pub read_on : Surroundings → List ℕ → Reads → List Read × List Half
+abbrev pub read_on : Surroundings → List ℕ → Reads → List Found × List OpenEscape
 read_on base bytes r =
-    let others = reads_through base (half_behind r.0 r.1) bytes in
+    let others = reads_through base (escapes_behind r.0 r.1) bytes in
     (found_before r.0 others.0, others.1)
 
 -- a byte behind a backslash within names
 behind_backslash :
-    (base : Surroundings) (names : List Half) (b : ℕ) (bytes : List ℕ) → AreNames names
+    (base : Surroundings) (names : List OpenEscape) (b : ℕ) (bytes : List ℕ) → AreNames names
     → reads_through base names (backslash ∷ b ∷ bytes) ≡ reads_through base (Backslash ∷ names) (b ∷ bytes)
 behind_backslash base [] b bytes are = refl
 behind_backslash base (Backslash ∷ rest) b bytes are = absurd (search (rules, are.all))
@@ -63,7 +63,7 @@ behind_backslash base (Width d width is_deep ∷ rest) b bytes are = absurd (sea
 behind_backslash base (Condition part text ∷ rest) b bytes are = absurd (search (rules, are.all))
 
 -- an escape that copy mode reads begins a name, if fewer are half read than may be
-begun : (purpose : NameUse) (is_full : Bool) (around : Surroundings) (names : List Half) (b : ℕ) → is_copied purpose ≡ true → nat_le most_names (names_in names) ≡ is_full
+begun : (purpose : NameUse) (is_full : Bool) (around : Surroundings) (names : List OpenEscape) (b : ℕ) → is_copied purpose ≡ true → nat_le most_names (names_in names) ≡ is_full
     → escape_read around names b (BeginsName purpose) ≡ (GoesOn, (if is_full then names else Name purpose (part_at_first purpose) ∷ names))
 begun purpose is_full around names b copied is =
     ap (λ (c : Bool). if c || reads_text around then name_beginning names purpose else unit_taken names (Kept b)) copied
@@ -80,7 +80,7 @@ part-copied (LeftOut byte) copied = refl
 
 -- so it does where it is read byte by byte
 byte_read-begins :
-    (base : Surroundings) (names : List Half) (b : ℕ) (purpose : NameUse) (is_full : Bool) → AreNames names → escape_of b ≡ BeginsName purpose → is_copied purpose ≡ true
+    (base : Surroundings) (names : List OpenEscape) (b : ℕ) (purpose : NameUse) (is_full : Bool) → AreNames names → escape_of b ≡ BeginsName purpose → is_copied purpose ≡ true
     → nat_le most_names (length names) ≡ is_full
     → byte_read base (Backslash ∷ names) b ≡ (GoesOn, (if is_full then names else Name purpose Nothing ∷ names))
 byte_read-begins base names b purpose is_full are is copied room =
@@ -90,7 +90,7 @@ byte_read-begins base names b purpose is_full are is copied room =
 
 -- an escape that copy mode reads begins a name
 pub begins :
-    (base : Surroundings) (names : List Half) (b : ℕ) (purpose : NameUse) (bytes : List ℕ) → AreNames names → length names < most_names
+    (base : Surroundings) (names : List OpenEscape) (b : ℕ) (purpose : NameUse) (bytes : List ℕ) → AreNames names → length names < most_names
     → escape_of b ≡ BeginsName purpose → is_copied purpose ≡ true
     → reads_through base names (backslash ∷ b ∷ bytes) ≡ reads_through base (Name purpose Nothing ∷ names) bytes
 begins base names b purpose bytes are room is copied =
@@ -99,7 +99,7 @@ begins base names b purpose bytes are room is copied =
 
 -- and gives nothing where it would be one too many
 pub begins_no_more :
-    (base : Surroundings) (names : List Half) (b : ℕ) (purpose : NameUse) (bytes : List ℕ) → AreNames names → length names ≡ most_names
+    (base : Surroundings) (names : List OpenEscape) (b : ℕ) (purpose : NameUse) (bytes : List ℕ) → AreNames names → length names ≡ most_names
     → escape_of b ≡ BeginsName purpose → is_copied purpose ≡ true
     → reads_through base names (backslash ∷ b ∷ bytes) ≡ reads_through base names bytes
 begins_no_more base names b purpose bytes are all is copied =
@@ -107,7 +107,7 @@ begins_no_more base names b purpose bytes are all is copied =
     ∙ ap (read_on base bytes) (byte_read-begins base names b purpose true are is copied (ap (nat_le most_names) all))
 
 -- a register's name behind a parenthesis
-abbrev opened_name : Half
+abbrev opened_name : OpenEscape
 opened_name = Name (Register None) Opened
 
 -- many of them are all names
@@ -134,22 +134,23 @@ opened-names base k few =
     opened-within base k 0 (omega arith) ∙ ap (λ n. ([], replicate n opened_name)) (omega arith)
 
 -- in a comment nothing is found
-comment_within : (base : Surroundings) (names : List Half) (bytes : List ℕ) → reads_through base (Comment ∷ names) bytes ≡ ([], Comment ∷ names)
+comment_within : (base : Surroundings) (names : List OpenEscape) (bytes : List ℕ) → reads_through base (Comment ∷ names) bytes ≡ ([], Comment ∷ names)
 comment_within base names [] = refl
 comment_within base names (b ∷ bytes) = comment_within base names bytes
 
 -- so in one behind its escape
-pub comment_read : (base : Surroundings) (names : List Half) (bytes : List ℕ) → AreNames names
+pub comment_read : (base : Surroundings) (names : List OpenEscape) (bytes : List ℕ) → AreNames names
     → reads_through base names (backslash ∷ quote ∷ bytes) ≡ ([], Comment ∷ names)
 comment_read base names bytes are = behind_backslash base names quote bytes are ∙ comment_within base names bytes
 
 -- a byte that isn't a backslash goes to the name
-byte_of_name : (base : Surroundings) (names : List Half) (purpose : NameUse) (part : NamePart) (x : ℕ) → (x == backslash) ≡ false
+byte_of_name : (base : Surroundings) (names : List OpenEscape) (purpose : NameUse) (part : NamePart) (x : ℕ)
+    → (x == backslash) ≡ false
     → byte_read base (Name purpose part ∷ names) x ≡ unit_of_name names purpose part (Byte x)
 byte_of_name base names purpose part x plain =
     ap (λ (c : Bool). if c then (GoesOn, Backslash ∷ Name purpose part ∷ names) else unit_of_name names purpose part (Byte x)) plain
 
-module _ (base : Surroundings) (names : List Half) (are : AreNames names) where
+module _ (base : Surroundings) (names : List OpenEscape) (are : AreNames names) where
   -- two bytes behind a parenthesis are a name
   pub opened_read : (purpose : NameUse) (x y : ℕ) → (x == backslash) ≡ false → (y == backslash) ≡ false
       → reads_through base (Name purpose Opened ∷ names) (x ∷ y ∷ []) ≡ (Asks purpose (Some (x ∷ y ∷ [])) ∷ [], names)

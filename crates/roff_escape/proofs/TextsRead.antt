@@ -6,18 +6,18 @@ use Rattle.std.proofs.lemmas.List.{append-nil}
 use Rattle.std.proofs.lemmas.List.Sums.{sum_by-cons}
 use Rattle.roff_source.specs.Bytes.{newline, backslash}
 use Rattle.roff_escape.specs.Escapes.{escape_of}
-use Rattle.roff_escape.specs.Half.{Half, Backslash, Delimited, Width}
-use Rattle.roff_escape.specs.HalfLaws.{columns_in, is_between, reads_through, text_escape}
-use Rattle.roff_escape.specs.Halves.{Reads, byte_measured, escape_read, reads_widths, text_given, unit_of_text}
+use Rattle.roff_escape.specs.OpenEscape.{OpenEscape, Backslash, Delimited, Width}
+use Rattle.roff_escape.specs.EscapeLaws.{columns_in, is_between, reads_through, text_escape}
+use Rattle.roff_escape.specs.OpenEscapes.{Reads, byte_measured, escape_read, reads_widths, text_given, unit_of_text}
 use Rattle.roff_escape.specs.Measures.{byte_columns, most_width, motion_of, wider}
 use Rattle.roff_escape.specs.declared.escapes.Escape.{Escape as Kind}
 use Rattle.roff_escape.specs.declared.escapes.Escape.TheVariants.{Text as BeginsText}
 use Rattle.roff_escape.specs.declared.escapes.TextUse.TheVariants.{Motion as OfMotion, LeftOut as LeftOutText}
-use Rattle.roff_escape.specs.declared.half.CopyUnit.TheVariants.{Byte}
-use Rattle.roff_escape.specs.declared.half.Read.{Read}
-use Rattle.roff_escape.specs.declared.half.Read.TheVariants.{GoesOn, Escape, Measures, Motion}
-use Rattle.roff_escape.specs.declared.half.Surroundings.{Surroundings}
-use Rattle.roff_escape.specs.declared.half.Surroundings.TheVariants.{Text as InText, Arguments as InArguments, Copy as InCopy}
+use Rattle.roff_escape.specs.declared.open_escape.CopyUnit.TheVariants.{Byte}
+use Rattle.roff_escape.specs.declared.open_escape.Found.{Found}
+use Rattle.roff_escape.specs.declared.open_escape.Found.TheVariants.{GoesOn, Escape, Measures, Motion}
+use Rattle.roff_escape.specs.declared.open_escape.Surroundings.{Surroundings}
+use Rattle.roff_escape.specs.declared.open_escape.Surroundings.TheVariants.{Text as InText, Arguments as InArguments, Copy as InCopy}
 use Rattle.roff_escape.proofs.NamesRead.{read_on}
 
 -- a byte that may stand between delimiters, and those behind it
@@ -64,7 +64,7 @@ width_read base d text reads between =
     ∙ ap (λ (w : ℕ). (Measures (min w most_width) ∷ [], [])) (omega arith)
 
 -- what a motion's text finds
-abbrev moved : ℤ → List ℕ → List Read × List Half
+abbrev moved : ℤ → List ℕ → List Found × List OpenEscape
 moved place text = (Motion (motion_of place text).columns (motion_of place text).remark ∷ [], [])
 
 -- the text of a motion is held

@@ -3,13 +3,13 @@
 use Rattle.std.specs.Prelude.{◌≡◌, ℕ, ◌+◌, ◌≤◌, Bool, true, false, ◌&&◌, ◌||◌, not, List, [], ◌∷◌, length, take, Some, ◌==◌}
 use Rattle.roff_source.specs.Bytes.{is_argument_byte}
 use Rattle.roff_source.specs.Bytes.{blank, is_dropped, newline, tab}
-use Rattle.roff_escape.specs.Half.{Half, text_held, texts_held}
-use Rattle.roff_escape.specs.HalfFronts.{ReadsOn}
-use Rattle.roff_escape.specs.HalfTexts.{KeptHalves}
-use Rattle.roff_escape.specs.Halves.{byte_read, seen_stays}
-use Rattle.roff_escape.specs.declared.half.CopyUnit.TheVariants.{Byte}
-use Rattle.roff_escape.specs.declared.half.Read.TheVariants.{Holds}
-use Rattle.roff_escape.specs.declared.half.Surroundings.{Surroundings}
+use Rattle.roff_escape.specs.OpenEscape.{OpenEscape, text_held, texts_held}
+use Rattle.roff_escape.specs.EscapeFronts.{ReadsOn}
+use Rattle.roff_escape.specs.EscapeTexts.{KeptEscapes}
+use Rattle.roff_escape.specs.OpenEscapes.{byte_read, is_ended_by}
+use Rattle.roff_escape.specs.declared.open_escape.CopyUnit.TheVariants.{Byte}
+use Rattle.roff_escape.specs.declared.open_escape.Found.TheVariants.{Holds}
+use Rattle.roff_escape.specs.declared.open_escape.Surroundings.{Surroundings}
 
 -- whether a byte is held where an expression is read: neither a backslash nor one that ends it or is dropped
 abbrev pub is_of_expression : ℕ → Bool
@@ -17,32 +17,32 @@ is_of_expression b = is_argument_byte b && not (b == blank || b == tab)
 
 -- A byte is held in the text on top of these, above whatever that stands: it isn't dropped, ends nothing, and is one of the
 -- text. One byte more is held behind it.
-pub record HoldsOn (half : List Half) (b : ℕ) (top : List Half) : Type 0 where
+pub record HoldsOn (half : List OpenEscape) (b : ℕ) (top : List OpenEscape) : Type 0 where
   pub stands : is_dropped b ≡ false
   pub no_newline : (b == newline) ≡ false
-  pub stays : seen_stays half (Some b) ≡ false
+  pub stays : is_ended_by half (Some b) ≡ false
   pub holds : (base : Surroundings) → byte_read base half b ≡ (Holds (Byte b), top)
   pub held : texts_held (text_held (Byte b) top) ≡ texts_held half + 1
 
 -- a byte changes only what is half read: it gives nothing yet, or is held in a text
-pub data TakesOn (half : List Half) (b : ℕ) (next : List Half) : Type 0 where
+pub data TakesOn (half : List OpenEscape) (b : ℕ) (next : List OpenEscape) : Type 0 where
   IsRead : ReadsOn half b next → TakesOn half b next
-  IsHeld : (top : List Half) → HoldsOn half b top → next ≡ text_held (Byte b) top → TakesOn half b next
+  IsHeld : (top : List OpenEscape) → HoldsOn half b top → next ≡ text_held (Byte b) top → TakesOn half b next
 
 -- bytes do so, one after another
-pub data HalvesTaken : List Half → List ℕ → List Half → Type 0 where
-  NothingTaken : (half : List Half) → HalvesTaken half [] half
-  ByteTaken : (half next last : List Half) (b : ℕ) (bytes : List ℕ) → TakesOn half b next → HalvesTaken next bytes last → HalvesTaken half (b ∷ bytes) last
+pub data HalvesTaken : List OpenEscape → List ℕ → List OpenEscape → Type 0 where
+  NothingTaken : (half : List OpenEscape) → HalvesTaken half [] half
+  ByteTaken : (half next last : List OpenEscape) (b : ℕ) (bytes : List ℕ) → TakesOn half b next → HalvesTaken next bytes last → HalvesTaken half (b ∷ bytes) last
 
 -- so many of these bytes were taken so, and no more bytes are held behind them than these
-pub record TakesFront (bytes : List ℕ) (count : ℕ) (old new : KeptHalves) : Type 0 where
+pub record TakesFront (bytes : List ℕ) (count : ℕ) (old new : KeptEscapes) : Type 0 where
   pub few : count ≤ length bytes
-  pub taken : HalvesTaken old.half (take count bytes) new.half
-  pub held : texts_held new.half ≤ texts_held old.half + count
+  pub taken : HalvesTaken old.escapes (take count bytes) new.escapes
+  pub held : texts_held new.escapes ≤ texts_held old.escapes + count
   pub room : new.room ≡ old.room
 
 -- a byte was taken so, or it wasn't taken and nothing changed
-pub record TakesByte (b : ℕ) (is_taken : Bool) (old new : KeptHalves) : Type 0 where
-  pub taken : is_taken ≡ true → TakesOn old.half b new.half
+pub record TakesByte (b : ℕ) (is_taken : Bool) (old new : KeptEscapes) : Type 0 where
+  pub taken : is_taken ≡ true → TakesOn old.escapes b new.escapes
   pub kept : is_taken ≡ false → new ≡ old
   pub room : new.room ≡ old.room

@@ -1,12 +1,12 @@
 pub mod Escapes
 pub mod Characters
-pub mod Half
+pub mod OpenEscape
 pub mod Conditions
 pub mod Measures
-pub mod Halves
+pub mod OpenEscapes
 pub mod Nesting
-pub mod HalfTexts
-pub mod HalfLaws
-pub mod HalfFronts
+pub mod EscapeTexts
+pub mod EscapeLaws
+pub mod EscapeFronts
 pub mod ConditionFronts
 pub mod Waiting

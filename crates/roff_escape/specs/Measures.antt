@@ -14,8 +14,8 @@ use Rattle.roff_escape.specs.declared.escapes.NameUse.{NameUse}
 use Rattle.roff_escape.specs.declared.escapes.NameUse.TheVariants.{Character, LeftOut as LeftOutName}
 use Rattle.roff_escape.specs.declared.escapes.TextUse.TheVariants.{LeftOut as LeftOutText}
 use Rattle.roff_escape.specs.declared.measures.Measured.{Measured}
-use Rattle.roff_escape.specs.declared.half.Remark.{Remark}
-use Rattle.roff_escape.specs.declared.half.Remark.TheVariants.{LeftOut, UnknownCharacter, BadNumber, BackwardMotion}
+use Rattle.roff_escape.specs.declared.open_escape.Remark.{Remark}
+use Rattle.roff_escape.specs.declared.open_escape.Remark.TheVariants.{LeftOut, UnknownCharacter, BadNumber, BackwardMotion}
 
 -- the columns of something, and what is said of it
 abbrev pub columns_of : ℕ → Measured

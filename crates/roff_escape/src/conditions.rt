@@ -4,7 +4,7 @@ ghost use Rattle.std.specs.Prelude.{◌≡◌, ℕ, Option};
 ghost use Rattle.roff_escape.specs.Conditions.{begins_expression, ends_at_backslash, ends_condition};
 ghost use Rattle.roff_escape.specs.Conditions.{is_read_in_arguments, so_unless, text_is_same};
 
-use crate::half::ConditionPart;
+use crate::open_escape::ConditionPart;
 
 /// Whether a byte begins an expression.
 pub(crate) fn begins_expression(byte: u8) -> bool

@@ -3,13 +3,15 @@
 
 mod characters;
 mod conditions;
+pub mod escape_laws;
 mod escapes;
-mod half;
-pub mod half_laws;
-mod halves;
 mod measures;
+mod open_escape;
+mod open_escapes;
 
 pub use characters::character;
 pub use escapes::{Escape, NameUse, TextUse, escape_of};
-pub use half::{ConditionPart, CopyUnit, Decision, NamePart, Read, Remark, SizePart, Surroundings};
-pub use halves::Halves;
+pub use open_escape::{
+    ConditionPart, CopyUnit, Decision, Found, NamePart, Remark, SizePart, Surroundings,
+};
+pub use open_escapes::OpenEscapes;

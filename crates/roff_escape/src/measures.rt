@@ -5,11 +5,11 @@ ghost use Rattle.roff_escape.specs.Escapes.{escape_of as kind_of};
 ghost use Rattle.roff_escape.specs.Measures.{byte_columns, columns_of, escape_measures, motion_of};
 ghost use Rattle.roff_escape.specs.Measures.{motion_over, name_measures, remarked, wider};
 
-use roff_source::is_silent;
 use crate::characters::character;
 use crate::escapes::{Escape, NameUse, TextUse, escape_of};
-use crate::half::Remark;
+use crate::open_escape::Remark;
 use roff_num::{Name, Scale, eval, round_h, width_of_byte};
+use roff_source::is_silent;
 
 /// A width above this, in basic units, reads as this.
 const MOST_WIDTH: u64 = 2_147_483_647;

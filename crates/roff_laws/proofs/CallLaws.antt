@@ -11,17 +11,17 @@ use Rattle.roff_num.specs.declared.limits.Limits.{Limits}
 use Rattle.roff_arguments.proofs.KeptArguments.{reverse-cons}
 use Rattle.roff_arguments.specs.Arguments.{Arguments, finished, held, kept_behind, no_arguments, only_kept, settled, total_length, with_argument_byte}
 use Rattle.roff_source.specs.Bytes.{backslash, blank, is_dropped, newline, quote}
-use Rattle.roff_escape.specs.Half.{Half, Backslash}
-use Rattle.roff_escape.specs.Halves.{byte_read}
+use Rattle.roff_escape.specs.OpenEscape.{OpenEscape, Backslash}
+use Rattle.roff_escape.specs.OpenEscapes.{byte_read}
 use Rattle.roff_ahead.specs.Input.{ByteAhead, ReturnAhead, bytes_ahead, ends_ahead, lines_taken}
 use Rattle.roff_ahead.specs.Input.Calls.{called_text, calling_body}
 use Rattle.roff_ahead.specs.Input.Names.{body_named}
 use Rattle.roff_arguments.specs.Quoting.{quoted_byte, quoted_line}
 use Rattle.roff_arguments.specs.declared.arguments.Place.{Place}
 use Rattle.roff_arguments.specs.declared.arguments.Place.TheVariants.{BehindQuote, Between, InQuotes}
-use Rattle.roff_escape.specs.declared.half.CopyUnit.TheVariants.{Byte}
-use Rattle.roff_escape.specs.declared.half.Read.TheVariants.{GoesOn, Unit as GivesUnit}
-use Rattle.roff_escape.specs.declared.half.Surroundings.TheVariants.{Arguments as AboveArguments}
+use Rattle.roff_escape.specs.declared.open_escape.CopyUnit.TheVariants.{Byte}
+use Rattle.roff_escape.specs.declared.open_escape.Found.TheVariants.{GoesOn, Unit as GivesUnit}
+use Rattle.roff_escape.specs.declared.open_escape.Surroundings.TheVariants.{Arguments as AboveArguments}
 use Rattle.roff_store.specs.Named.{Named, entry_of}
 use Rattle.roff_store.specs.Texts.{Entry, Body, body_if_any}
 use Rattle.roff_laws.proofs.Interpolation.{IsRead, IsRead-itself}
@@ -44,8 +44,8 @@ use Rattle.roff_run.specs.Requests.{called_as, called_by}
 use Rattle.roff_run.specs.Run.{State, after, byte_taken, known, taken_as}
 use Rattle.roff_num.specs.ShortNames.{name_bytes}
 use Rattle.roff_run.specs.Stages.{Stage, Turns, input_at}
-use Rattle.roff_run.specs.declared.reading.Reading.{Reading}
-use Rattle.roff_run.specs.declared.reading.Reading.TheVariants.{Calling, Control, Dropped, LineStart, Name}
+use Rattle.roff_run.specs.declared.line_state.LineState.{LineState}
+use Rattle.roff_run.specs.declared.line_state.LineState.TheVariants.{Calling, Control, Dropped, LineStart, Name}
 use Rattle.roff_num.specs.declared.short_name.ShortName.{ShortName}
 use Rattle.roff_run.specs.declared.request.Called.{Called}
 use Rattle.roff_run.specs.declared.request.Called.TheVariants.{Body as ABody, Nothing as Unknown}
@@ -58,14 +58,14 @@ turns-control names a texts _ IsDot = (true, λ k i. refl)
 turns-control names a texts _ IsApostrophe = (false, λ k i. refl)
 
 -- what a name stands for, and what is read behind it then: so does the second byte of a name, and so each byte behind a name of one byte
-pub record ReadsAs (names : Named Entry) (name : ShortName) (there : Reading) : Type 0 where
+pub record ReadsAs (names : Named Entry) (name : ShortName) (there : LineState) : Type 0 where
   called : Called
   is : called_by name names ≡ called
   none_due : due there ≡ None
   whole : (i : PageInput) (breaks : Bool) → behind_called i breaks called ≡ going_on i there
   ended : (k : Known) (i : PageInput) (breaks : Bool) (b : ℕ) → called_taking k i breaks called b ≡ kept_taking k there i b
 
-turns-second : (names : Named Entry) (a : Arguments) (texts : List (List ℕ)) (breaks : Bool) (first b : ℕ) (there : Reading) → BelongsToName b
+turns-second : (names : Named Entry) (a : Arguments) (texts : List (List ℕ)) (breaks : Bool) (first b : ℕ) (there : LineState) → BelongsToName b
     → ReadsAs names (record { first = first; second = Some b }) there → Turns names (stage (Name breaks first) a texts) b (stage there a texts)
 turns-second names a texts breaks first b there belongs reads k i =
     let here : PageInput = input_at names (stage (Name breaks first) a texts) i in
@@ -77,14 +77,14 @@ turns-second names a texts breaks first b there belongs reads k i =
     ∙ reads.whole here breaks
 
 -- at a blank or a newline one thing that is read does as another does
-pub record DoesAs (names : Named Entry) (reading there : Reading) : Type 0 where
+pub record DoesAs (names : Named Entry) (reading there : LineState) : Type 0 where
   none_due : due reading ≡ None
   at_blank : (k : Known) (p : Stage) (i : PageInput) → taking k reading (input_at names p i) blank ≡ taking k there (input_at names p i) blank
   at_newline : (k : Known) (p : Stage) (i : PageInput) → taking k reading (input_at names p i) newline ≡ taking k there (input_at names p i) newline
 
 -- what is read behind a name, in front of which a line begins
-pub record ReadsName (most : Most) (names : Named Entry) (a : Arguments) (texts : List (List ℕ)) (bytes : List ℕ) (there : Reading) : Type 0 where
-  reading : Reading
+pub record ReadsName (most : Most) (names : Named Entry) (a : Arguments) (texts : List (List ℕ)) (bytes : List ℕ) (there : LineState) : Type 0 where
+  reading : LineState
   path : Path most names (stage LineStart a texts) bytes (stage reading a texts)
   does : DoesAs names reading there
 
@@ -95,7 +95,7 @@ pub record Allows (most : Most) (a : Arguments) (texts : List (List ℕ)) : Type
   texts_few : length texts ≤ most.texts
 
 -- a byte that changes what is read alone
-onward : (most : Most) (names : Named Entry) (a : Arguments) (texts : List (List ℕ)) (from there : Reading) (b : ℕ) (bytes : List ℕ) (r : Stage) → due from ≡ None
+onward : (most : Most) (names : Named Entry) (a : Arguments) (texts : List (List ℕ)) (from there : LineState) (b : ℕ) (bytes : List ℕ) (r : Stage) → due from ≡ None
     → Turns names (stage from a texts) b (stage there a texts) → Allows most a texts → Path most names (stage there a texts) bytes r
     → Path most names (stage from a texts) (b ∷ bytes) r
 onward most names a texts from there b bytes r none_due turns allows path =
@@ -103,7 +103,7 @@ onward most names a texts from there b bytes r none_due turns allows path =
     (record { none_half = refl; held_few = allows.held_few; stored_few = allows.stored_few; texts_few = allows.texts_few }) (omega arith) path
 
 -- the name of a line, of one byte or two
-reads-name_of : (most : Most) (names : Named Entry) (a : Arguments) (texts : List (List ℕ)) (control first : ℕ) (second : Option ℕ) (there : Reading)
+reads-name_of : (most : Most) (names : Named Entry) (a : Arguments) (texts : List (List ℕ)) (control first : ℕ) (second : Option ℕ) (there : LineState)
     → IsControl control → All BelongsToName (name_bytes (record { first = first; second = second })) → Allows most a texts
     → ReadsAs names (record { first = first; second = second }) there
     → ReadsName most names a texts (control ∷ name_bytes (record { first = first; second = second })) there
@@ -138,7 +138,7 @@ reads-name_of most names a texts control first (Some second) there is_control be
       does = record { none_due = reads.none_due; at_blank = λ k p i. refl; at_newline = λ k p i. refl };
     }
 
-reads-name : (most : Most) (names : Named Entry) (a : Arguments) (texts : List (List ℕ)) (control : ℕ) (name : ShortName) (there : Reading)
+reads-name : (most : Most) (names : Named Entry) (a : Arguments) (texts : List (List ℕ)) (control : ℕ) (name : ShortName) (there : LineState)
     → IsControl control → All BelongsToName (name_bytes name) → Allows most a texts → ReadsAs names name there
     → ReadsName most names a texts (control ∷ name_bytes name) there
 reads-name most names a texts control name there = reads-name_of most names a texts control name.first name.second there
@@ -155,7 +155,7 @@ holding-if : (c : Bool) (i : PageInput) (a there : Arguments) → (if c then rec
 holding-if true i a there = refl
 holding-if false i a there = refl
 
-going_on-if : (c : Bool) (i : PageInput) (reading : Reading) (a there : Arguments)
+going_on-if : (c : Bool) (i : PageInput) (reading : LineState) (a there : Arguments)
     → (if c then going_on (record i { arguments = a }) reading else going_on (record i { arguments = there }) reading) ≡ going_on (record i { arguments = if c then a else there }) reading
 going_on-if true i reading a there = refl
 going_on-if false i reading a there = refl
@@ -164,7 +164,7 @@ going_on-if false i reading a there = refl
 turns-call : (names : Named Entry) (name : ShortName) (a : Arguments) (texts : List (List ℕ)) (b : ℕ) → StandsForItself b
     → Turns names (stage (Calling name) a texts) b (stage (Calling name) (call_byte a b) texts)
 turns-call names name a texts b itself k i =
-    let reading : Reading = Calling name in
+    let reading : LineState = Calling name in
     let here : PageInput = input_at names (stage reading a texts) i in
     let read : IsRead b = IsRead-itself b itself in
     let unit : byte_read AboveArguments [] b ≡ (GivesUnit (Byte b), []) =
@@ -392,7 +392,7 @@ reads-body names name body stands_for = record {
 
 -- a call is read up to its newline
 pub record ReadsCall (names : Named Entry) (name : ShortName) (texts : List (List ℕ)) (most : ℕ) (bytes : List ℕ) (as_given : List (List ℕ)) : Type 0 where
-  reading : Reading
+  reading : LineState
   there : Arguments
   path : Path (most_of most texts) names (stage LineStart no_arguments texts) bytes (stage reading there texts)
   given : reverse (only_kept (finished there)).whole ≡ as_given
@@ -432,7 +432,7 @@ abbrev called_from : State → Origin → List ℕ → List ℕ → List (List �
 called_from s from line body arguments = record s { tape = tape_at from [] s.tape; input = with_call body arguments (counted from line s.input) }
 
 -- the newline of the line calls it
-newline-calls : (s : State) (from : Origin) (name : ShortName) (body front : List ℕ) (arguments : List (List ℕ)) (reading : Reading) (there : Arguments)
+newline-calls : (s : State) (from : Origin) (name : ShortName) (body front : List ℕ) (arguments : List (List ℕ)) (reading : LineState) (there : Arguments)
     → BeginsLine s → entry_of (name_bytes name) s.input.names ≡ Some (Body body) → reverse (only_kept (finished there)).whole ≡ take 9 arguments
     → DoesAs s.input.names reading (Calling name)
     → byte_taken newline (run_at s s.input.names (stage reading there s.input.open_texts) from [] (behind_byte from newline (behind_bytes from front s.input)))
@@ -442,9 +442,9 @@ newline-calls s from name body front arguments reading there begins stands_for g
     let i : PageInput = behind_byte from newline (behind_bytes from front s.input) in
     let u : State = run_at s s.input.names q from [] i in
     let line : List ℕ = front ++ newline ∷ [] in
-    let of : PageInput → List (List ℕ) → Arguments → List Half → Reading → State = λ j g a h r. record s {
+    let of : PageInput → List (List ℕ) → Arguments → List OpenEscape → LineState → State = λ j g a h r. record s {
       tape = tape_at from [] s.tape;
-      input = record j { ahead = map ByteAhead (called_text body) ++ ReturnAhead ∷ j.ahead; calls = g ∷ j.calls; arguments = a; half = h; names = s.input.names; open_texts = s.input.open_texts };
+      input = record j { ahead = map ByteAhead (called_text body) ++ ReturnAhead ∷ j.ahead; calls = g ∷ j.calls; arguments = a; escapes = h; names = s.input.names; open_texts = s.input.open_texts };
       reading = r;
     } in
     let here : PageInput = record i { ahead = ahead_at from [] } in
@@ -455,8 +455,8 @@ newline-calls s from name body front arguments reading there begins stands_for g
     ∙ ap (λ (g : List (List ℕ)). of here g no_arguments [] LineStart) given
     ∙ ap (λ (k : PageInput). of k (take 9 arguments) no_arguments [] LineStart) (counted-last from front newline s.input)
     ∙ ap (λ (a : Arguments). of j (take 9 arguments) a [] LineStart) (sym begins.arguments)
-    ∙ ap (λ (h : List Half). of j (take 9 arguments) s.input.arguments h LineStart) (sym begins.half)
-    ∙ ap (λ (r : Reading). of j (take 9 arguments) s.input.arguments s.input.half r) (sym begins.reading)
+    ∙ ap (λ (h : List OpenEscape). of j (take 9 arguments) s.input.arguments h LineStart) (sym begins.escapes)
+    ∙ ap (λ (r : LineState). of j (take 9 arguments) s.input.arguments s.input.escapes r) (sym begins.reading)
 
 -- the whole line
 called-from : (l : Limits) (s : State) (from : Origin) (control : ℕ) (name : ShortName) (body : List ℕ) (arguments : List (List ℕ))
@@ -471,7 +471,7 @@ called-from l s from control name body arguments begins call ahead tape within w
     let line : List ℕ = call_line control name arguments in
     let front : List ℕ = (control ∷ name_bytes name) ++ behind_call arguments in
     let start : Stage = stage LineStart no_arguments texts in
-    let is : run_at s names start from line s.input ≡ s = is-run_at s from line start begins.reading begins.half begins.arguments refl ahead tape in
+    let is : run_at s names start from line s.input ≡ s = is-run_at s from line start begins.reading begins.escapes begins.arguments refl ahead tape in
     let reads : ReadsCall names name texts most front (take 9 arguments) =
     reads-behind names name texts most (control ∷ name_bytes name) arguments
     (reads-name (most_of most texts) names no_arguments texts control name (Calling name) call.begins call.is_name
@@ -513,7 +513,7 @@ reads-unknown names name stands_for = record {
 turns-dropped : (names : Named Entry) (p : Stage) (b : ℕ) → p.reading ≡ Dropped → (b == newline) ≡ false → Turns names p b p
 turns-dropped names p b reading is k i =
     let here : PageInput = input_at names p i in
-    ap (λ (r : Reading). taking k r here b) reading
+    ap (λ (r : LineState). taking k r here b) reading
     ∙ ap (λ (c : Bool). if is_dropped b then going_on here Dropped else going_on here (if c then LineStart else Dropped)) is
     ∙ going_on-if (is_dropped b) here Dropped p.arguments p.arguments
     ∙ ap (λ (a : Arguments). going_on (record here { arguments = a }) Dropped) (same-if (is_dropped b) p.arguments)
@@ -553,16 +553,16 @@ reads-dropped most names a texts front _ allows begins (BlankBehind bytes none) 
 abbrev passed_from : State → Origin → List ℕ → State
 passed_from s from line = record s { tape = tape_at from [] s.tape; input = counted from line s.input }
 
-newline-drops : (s : State) (from : Origin) (front : List ℕ) (reading : Reading) → BeginsLine s → DoesAs s.input.names reading Dropped
+newline-drops : (s : State) (from : Origin) (front : List ℕ) (reading : LineState) → BeginsLine s → DoesAs s.input.names reading Dropped
     → byte_taken newline (run_at s s.input.names (stage reading no_arguments s.input.open_texts) from [] (behind_byte from newline (behind_bytes from front s.input)))
     ≡ passed_from s from (front ++ newline ∷ [])
 newline-drops s from front reading begins does =
     let q : Stage = stage reading no_arguments s.input.open_texts in
     let i : PageInput = behind_byte from newline (behind_bytes from front s.input) in
     let u : State = run_at s s.input.names q from [] i in
-    let of : PageInput → Arguments → List Half → Reading → State = λ j a h r. record s {
+    let of : PageInput → Arguments → List OpenEscape → LineState → State = λ j a h r. record s {
       tape = tape_at from [] s.tape;
-      input = record j { arguments = a; half = h; names = s.input.names; open_texts = s.input.open_texts };
+      input = record j { arguments = a; escapes = h; names = s.input.names; open_texts = s.input.open_texts };
       reading = r;
     } in
     let here : PageInput = record i { ahead = ahead_at from [] } in
@@ -571,8 +571,8 @@ newline-drops s from front reading begins does =
     ∙ taken_as-going_on u.input LineStart u
     ∙ ap (λ (k : PageInput). of k no_arguments [] LineStart) (counted-last from front newline s.input)
     ∙ ap (λ (a : Arguments). of j a [] LineStart) (sym begins.arguments)
-    ∙ ap (λ (h : List Half). of j s.input.arguments h LineStart) (sym begins.half)
-    ∙ ap (λ (r : Reading). of j s.input.arguments s.input.half r) (sym begins.reading)
+    ∙ ap (λ (h : List OpenEscape). of j s.input.arguments h LineStart) (sym begins.escapes)
+    ∙ ap (λ (r : LineState). of j s.input.arguments s.input.escapes r) (sym begins.reading)
 
 -- it stays within the limits
 within-passed : (l : Limits) (s : State) (from : Origin) (line : List ℕ) → s.input.ahead ≡ ahead_at from line → IsWithin l s → s.input.charge + length line ≤ l.bytes
@@ -601,7 +601,7 @@ unknown-from l s from control name behind begins unknown ahead tape within charg
     let line : List ℕ = named_line control name behind in
     let front : List ℕ = (control ∷ name_bytes name) ++ behind in
     let start : Stage = stage LineStart no_arguments texts in
-    let is : run_at s names start from line s.input ≡ s = is-run_at s from line start begins.reading begins.half begins.arguments refl ahead tape in
+    let is : run_at s names start from line s.input ≡ s = is-run_at s from line start begins.reading begins.escapes begins.arguments refl ahead tape in
     let allows : Allows most no_arguments texts = record { held_few = omega arith; stored_few = omega arith; texts_few = omega arith } in
     let reads : ReadsName most names no_arguments texts front Dropped =
     reads-dropped most names no_arguments texts (control ∷ name_bytes name) behind allows

@@ -11,15 +11,15 @@ use Rattle.roff_num.specs.declared.limits.Limits.{Limits}
 use Rattle.roff_arguments.specs.Arguments.{Arguments, held}
 use Rattle.roff_source.specs.Bytes.{backslash, dot, is_dropped, newline, tab}
 use Rattle.roff_escape.proofs.Copying.{taken-copied}
-use Rattle.roff_escape.specs.Half.{Half, Backslash, unit_bytes}
-use Rattle.roff_escape.specs.HalfLaws.{begins_reading, copied, copied_escape, is_only_copied}
-use Rattle.roff_escape.specs.Halves.{byte_read, unit_taken}
+use Rattle.roff_escape.specs.OpenEscape.{OpenEscape, Backslash, unit_bytes}
+use Rattle.roff_escape.specs.EscapeLaws.{begins_reading, copied, copied_escape, is_only_copied}
+use Rattle.roff_escape.specs.OpenEscapes.{byte_read, unit_taken}
 use Rattle.roff_ahead.specs.Input.{lines_taken}
 use Rattle.roff_ahead.specs.Input.Names.{body_named, calling_on, stored}
-use Rattle.roff_escape.specs.declared.half.CopyUnit.{CopyUnit}
-use Rattle.roff_escape.specs.declared.half.CopyUnit.TheVariants.{Byte, Kept}
-use Rattle.roff_escape.specs.declared.half.Read.TheVariants.{GoesOn, Unit as GivesUnit}
-use Rattle.roff_escape.specs.declared.half.Surroundings.TheVariants.{Copy as AboveCopy}
+use Rattle.roff_escape.specs.declared.open_escape.CopyUnit.{CopyUnit}
+use Rattle.roff_escape.specs.declared.open_escape.CopyUnit.TheVariants.{Byte, Kept}
+use Rattle.roff_escape.specs.declared.open_escape.Found.TheVariants.{GoesOn, Unit as GivesUnit}
+use Rattle.roff_escape.specs.declared.open_escape.Surroundings.TheVariants.{Copy as AboveCopy}
 use Rattle.roff_store.specs.Named.{Named, with_entry}
 use Rattle.roff_store.specs.TextCalls.{Enter, PushOpen}
 use Rattle.roff_store.specs.Texts.{Body, Entry, newest}
@@ -43,8 +43,8 @@ use Rattle.roff_run.specs.Run.{State, after, byte_taken, known, known_at, taken_
 use Rattle.roff_num.specs.ShortNames.{name_bytes}
 use Rattle.roff_run.specs.Stages.{Stage, input_at}
 use Rattle.roff_run.specs.declared.definition.DefinitionLine.TheVariants.{IsLast, IsText, MayBeLast}
-use Rattle.roff_run.specs.declared.reading.Reading.{Reading}
-use Rattle.roff_run.specs.declared.reading.Reading.TheVariants.{Defining}
+use Rattle.roff_run.specs.declared.line_state.LineState.{LineState}
+use Rattle.roff_run.specs.declared.line_state.LineState.TheVariants.{Defining}
 use Rattle.roff_num.specs.declared.short_name.ShortName.{ShortName}
 
 -- a definition: what it defines and how, what ends it, and the texts in the making, of which its own is the last
@@ -63,7 +63,7 @@ making (Some name) before others text = before ++ text ∷ []
 -- where so many bytes of its mark stand in front of its line, if that may be the last one
 abbrev defining : Definition → Arguments → List ℕ → Option ℕ → Stage
 defining d a text matched =
-    record { reading = Defining d.name d.appends d.end matched; half = []; arguments = a; texts = making d.name d.before d.others text }
+    record { reading = Defining d.name d.appends d.end matched; escapes = []; arguments = a; texts = making d.name d.before d.others text }
 
 -- the newest of some texts is the last
 newest-last : (before : List (List ℕ)) (text : List ℕ) → newest (before ++ text ∷ []) ≡ Some (length before)
@@ -84,7 +84,7 @@ grown-by (Some name) before others text bytes i =
 
 -- where a backslash was read of it
 abbrev escaping : Definition → Arguments → List ℕ → Option ℕ → Stage
-escaping d a text matched = record (defining d a text matched) { half = Backslash ∷ [] }
+escaping d a text matched = record (defining d a text matched) { escapes = Backslash ∷ [] }
 
 -- a unit of its text is copied
 abbrev Copies : Named Entry → Definition → Arguments → CopyUnit → List ℕ → Option ℕ → List ℕ → Option ℕ → Type 0
@@ -110,13 +110,13 @@ copies-mark names d a unit text matched m may k i =
     ap (definition_unit k (input_at names (defining d a text (Some matched)) i) d.name d.appends d.end (front_of (end_mark d.end) (Some matched)) unit) may
 
 -- a byte that gives a unit, where this is half read
-reads-unit : (names : Named Entry) (d : Definition) (a : Arguments) (text : List ℕ) (matched : Option ℕ) (half : List Half) (unit : CopyUnit) (b : ℕ) (k : Known) (i : PageInput)
+reads-unit : (names : Named Entry) (d : Definition) (a : Arguments) (text : List ℕ) (matched : Option ℕ) (half : List OpenEscape) (unit : CopyUnit) (b : ℕ) (k : Known) (i : PageInput)
     → is_dropped b ≡ false → byte_read AboveCopy half b ≡ (GivesUnit unit, [])
-    → taking k (Defining d.name d.appends d.end matched) (record (input_at names (defining d a text matched) i) { half = half }) b
+    → taking k (Defining d.name d.appends d.end matched) (record (input_at names (defining d a text matched) i) { escapes = half }) b
     ≡ definition_line k (input_at names (defining d a text matched) i) d.name d.appends d.end matched unit
 reads-unit names d a text matched half unit b k i is_kept reads =
-    let reading : Reading = Defining d.name d.appends d.end matched in
-    let here : PageInput = record (input_at names (defining d a text matched) i) { half = half } in
+    let reading : LineState = Defining d.name d.appends d.end matched in
+    let here : PageInput = record (input_at names (defining d a text matched) i) { escapes = half } in
     ap (λ (c : Bool). if c then going_on here reading else kept_taking k reading here b) is_kept
     ∙ ap (read_in k (Defining d.name d.appends d.end matched) here) reads
 
@@ -445,7 +445,7 @@ line_from-newline mark = ap (λ (rest : List ℕ). line_with rest (length mark) 
 ends-line : (names : Named Entry) (d : Definition) (a : Arguments) (text : List ℕ) (k : Known) (i : PageInput)
     → let n : ℕ = length (end_mark d.end) in
     taking k (Defining d.name d.appends d.end (Some n)) (input_at names (defining d a text (Some n)) i) newline
-    ≡ behind_definition k (entered_by d.name d.appends text d.before (record i { half = []; arguments = a; names = names; open_texts = d.others })) d.end newline
+    ≡ behind_definition k (entered_by d.name d.appends text d.before (record i { escapes = []; arguments = a; names = names; open_texts = d.others })) d.end newline
 ends-line names d a text k i =
     let n : ℕ = length (end_mark d.end) in
     let here : PageInput = input_at names (defining d a text (Some n)) i in
@@ -464,7 +464,7 @@ known-entered_by : (h : PageHistory) (registers : AllRegisters) (name : Option S
 known-entered_by h registers None appends text before i = refl
 known-entered_by h registers (Some name) appends text before i = refl
 
-newline-ends : (s : State) (from : Origin) (front : List ℕ) (d : Definition) (text : List ℕ) → s.input.half ≡ [] → d.others ≡ s.input.open_texts
+newline-ends : (s : State) (from : Origin) (front : List ℕ) (d : Definition) (text : List ℕ) → s.input.escapes ≡ [] → d.others ≡ s.input.open_texts
     → byte_taken newline (run_at s s.input.names (defining d s.input.arguments text (Some (length (end_mark d.end)))) from [] (behind_byte from newline (behind_bytes from front s.input)))
     ≡ defined_from s from (front ++ newline ∷ []) d text
 newline-ends s from front d text half others =
@@ -472,16 +472,16 @@ newline-ends s from front d text half others =
     let i : PageInput = behind_byte from newline (behind_bytes from front s.input) in
     let u : State = run_at s s.input.names q from [] i in
     let here : PageInput = record i { ahead = ahead_at from [] } in
-    let at : PageInput → List Half → List (List ℕ) → PageInput = λ j h texts.
-    entered_by d.name d.appends text d.before (record j { half = h; arguments = s.input.arguments; names = s.input.names; open_texts = texts }) in
-    let of : PageInput → List Half → List (List ℕ) → State = λ j h texts. behind_end d.end (record s { tape = tape_at from [] s.tape; input = at j h texts }) in
+    let at : PageInput → List OpenEscape → List (List ℕ) → PageInput = λ j h texts.
+    entered_by d.name d.appends text d.before (record j { escapes = h; arguments = s.input.arguments; names = s.input.names; open_texts = texts }) in
+    let of : PageInput → List OpenEscape → List (List ℕ) → State = λ j h texts. behind_end d.end (record s { tape = tape_at from [] s.tape; input = at j h texts }) in
     let j : PageInput = counted from (front ++ newline ∷ []) s.input in
     ap (λ (t : Taking). taken_as t u) (ends-line s.input.names d s.input.arguments text (known u) here)
     ∙ ap (λ (k : Known). taken_as (behind_definition k (at here [] d.others) d.end newline) u)
-    (sym (known-entered_by s.history s.registers d.name d.appends text d.before (record here { half = []; arguments = s.input.arguments; names = s.input.names; open_texts = d.others })))
+    (sym (known-entered_by s.history s.registers d.name d.appends text d.before (record here { escapes = []; arguments = s.input.arguments; names = s.input.names; open_texts = d.others })))
     ∙ ap (λ (k : PageInput). of k [] d.others) (counted-last from front newline s.input)
-    ∙ ap (λ (h : List Half). of j h d.others) (sym half)
-    ∙ ap (of j s.input.half) others
+    ∙ ap (λ (h : List OpenEscape). of j h d.others) (sym half)
+    ∙ ap (of j s.input.escapes) others
 
 -- what a text may make of all that is stored
 abbrev beside : Option ShortName → ℕ → ℕ
@@ -531,7 +531,7 @@ defined-by l s from name appends end before lines begins own its ahead tape char
       stored_few = λ t few. omega (arith, making-stored name before s.input.open_texts t own, beside-few name (length t) (length text) few);
       texts_few = λ t. omega (arith, making-length name before s.input.open_texts t own);
     } in
-    let is : run_at s names start from bytes s.input ≡ s = is-run_at s from bytes start begins.reading begins.half refl own ahead tape in
+    let is : run_at s names start from bytes s.input ≡ s = is-run_at s from bytes start begins.reading begins.escapes refl own ahead tape in
     let path : Path most names start front last =
     path-lines most names d a (length text) [] lines (end_mark end) last allows its.mark its.texts (omega arith)
     (path-mark most names d a (length text) text [] (end_mark end) allows (omega arith) its.mark refl) in
@@ -539,7 +539,7 @@ defined-by l s from name appends end before lines begins own its ahead tape char
     HasRoom-start l s names from most start bytes s.input (subst (IsWithin l) (sym is) within) charged (omega (arith, within.stack)) (omega (arith, stored_few)) within.making in
     ap (after l (length bytes)) (sym is)
     ∙ after-last l s names from most start last front newline s.input (defined_from s from bytes d text)
-    begins.takes path room refl refl (newline-ends s from front d text begins.half refl) within_behind
+    begins.takes path room refl refl (newline-ends s from front d text begins.escapes refl) within_behind
 
 pub definitions_enter_their_lines : DefinitionsEnterTheirLines
 definitions_enter_their_lines l s name appends end before lines rest begins own its ahead room within within_behind =

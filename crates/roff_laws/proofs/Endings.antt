@@ -10,11 +10,11 @@ use Rattle.roff_run.specs.Run.{State, Leads, initial, moved, performing, step_wi
 use Rattle.roff_ahead.specs.Input.{Ahead, ByteAhead, FreeAhead, EndAhead, ReturnAhead, DoAhead, cost, item_taken, counting}
 use Rattle.roff_source.specs.Tape.{Tape, Item, Gives, OneByte, OneNote, front, behind_front}
 use Rattle.roff_run.specs.TurnsToCome.{begun, endings_of, free_ahead}
-use Rattle.roff_run.proofs.HalfCounts.{some_ending}
+use Rattle.roff_run.proofs.EscapeCounts.{some_ending}
 use Rattle.roff_run.proofs.Leads.{Leads-refl, Leads-trans, Leads-step, after-add}
 use Rattle.roff_laws.proofs.PerformedOrStopped.{PerformedOrStopped, Performed, StoppedAt, performed_or_stopped}
 use Rattle.roff_run.proofs.TurnsToCome.{begun-line_ends_first}
-use Rattle.roff_run.proofs.Readings.{ReadsOn, LimitStops, AheadTaken, ByteTaken, NoteTaken, HalfEnds, InputEnds, InputLeft, LineEnds, MessageTold, RunAborts, SourceFails, SourceStops, ReadsOn-reading_on, Behind-byte_taken, Behind-ahead_taken, Behind-half_ends, Behind-line_ends}
+use Rattle.roff_run.proofs.Readings.{ReadsOn, LimitStops, AheadTaken, ByteTaken, NoteTaken, HalfEnds, InputEnds, InputLeft, LineEnds, MessageTold, RunAborts, SourceFails, SourceStops, ReadsOn-reading_on, Behind-byte_taken, Behind-ahead_taken, Behind-escape_ends, Behind-line_ends}
 
 -- a run has ended, or it hasn't
 pub ended_or_not : (o : Option Status) → IsSome o ⊎ (o ≡ None)
@@ -75,13 +75,13 @@ all_performed l (e ∷ es) s to_do =
 -- for it.
 abbrev turns_needed : Limits → State → ℕ
 turns_needed l s =
-    5 * (l.bytes - s.input.charge) + 5 * free_ahead s.input.ahead + 2 * endings_of s.input.half + begun s.reading
+    5 * (l.bytes - s.input.charge) + 5 * free_ahead s.input.ahead + 2 * endings_of s.input.escapes + begun s.reading
     + length s.tape.items + 2
 
 -- so many turns are enough: one behind the end of the input, and before it as many as it needs
 data HasTurns (l : Limits) (n : ℕ) (s : State) : Type 0 where
   Closing : s.is_closing ≡ true → 1 ≤ n → HasTurns l n s
-  Reading : turns_needed l s ≤ n → HasTurns l n s
+  LineState : turns_needed l s ≤ n → HasTurns l n s
 
 -- a run has ended, or so many turns are enough
 abbrev EndsWithin : Limits → ℕ → State → Type 0
@@ -110,7 +110,7 @@ items-behind_front tape item gives =
 
 -- so many turns are enough behind a state that needs fewer
 fewer_needed : (l : Limits) (n : ℕ) (s t : State) → turns_needed l s ≤ suc n → turns_needed l t + 1 ≤ turns_needed l s → EndsWithin l n t
-fewer_needed l n s t enough fewer = inr (Reading (omega (arith, enough, fewer)))
+fewer_needed l n s t enough fewer = inr (LineState (omega (arith, enough, fewer)))
 
 -- what was read, or how the run ended
 EndsWithin-read : (l : Limits) (n : ℕ) (s t : State) → ReadsOn l s t → turns_needed l s ≤ suc n → EndsWithin l n t
@@ -119,22 +119,22 @@ EndsWithin-read l n s t (AheadTaken item behind ahead charge is_made) enough =
     let read = Behind-ahead_taken item (record s { input = item_taken item behind s.input }) in
     let items : length t.tape.items ≡ length s.tape.items = ap (λ (tape : Tape). length tape.items) read.tape in
     let free : free_ahead s.input.ahead ≡ free_ahead (item ∷ behind) = ap free_ahead ahead in
-    fewer_needed l n s t enough (omega (arith, read.input.charge, read.input.free, read.input.half, items, free, charge, charged_or_free item behind))
+    fewer_needed l n s t enough (omega (arith, read.input.charge, read.input.free, read.input.escapes, items, free, charge, charged_or_free item behind))
 EndsWithin-read l n s t (ByteTaken b none gives charge is_made) enough =
     let read = Behind-byte_taken b (moved (record s { input = counting b s.input })) in
     let items = items-behind_front s.tape (OneByte b) gives in
-    fewer_needed l n s t enough (omega (arith, read.input.charge, read.input.free, read.input.half, items, charge))
+    fewer_needed l n s t enough (omega (arith, read.input.charge, read.input.free, read.input.escapes, items, charge))
 EndsWithin-read l n s t (NoteTaken message gives) enough =
     let items = items-behind_front s.tape (OneNote message) gives in fewer_needed l n s t enough (omega (arith, items))
 EndsWithin-read l n s t (HalfEnds first others half is_made) enough =
-    let read = Behind-half_ends s first others half in
-    let some : 1 ≤ endings_of s.input.half = rw half (omega (arith, some_ending first others)) in
-    fewer_needed l n s t enough (omega (arith, read.input.charge, read.input.free, read.input.half, some))
+    let read = Behind-escape_ends s first others half in
+    let some : 1 ≤ endings_of s.input.escapes = rw half (omega (arith, some_ending first others)) in
+    fewer_needed l n s t enough (omega (arith, read.input.charge, read.input.free, read.input.escapes, some))
 EndsWithin-read l n s t (InputEnds none half ends is_made) enough = inr (Closing refl (omega (arith, enough)))
 EndsWithin-read l n s t (LineEnds first none is_made) enough =
     let read = Behind-line_ends s first none in
     let some = begun-line_ends_first s.reading first in
-    fewer_needed l n s t enough (omega (arith, read.input.charge, read.input.free, read.input.half, some))
+    fewer_needed l n s t enough (omega (arith, read.input.charge, read.input.free, read.input.escapes, some))
 EndsWithin-read l n s t (MessageTold told is_made) enough =
     let one : begun s.reading ≡ 1 = ap begun told in fewer_needed l n s t enough (omega (arith, one))
 EndsWithin-read l n s t (RunAborts told) enough = inl refl
@@ -145,12 +145,12 @@ EndsWithin-read l n s t (SourceStops limit stops) enough = inl refl
 -- a run with nothing to do makes a step
 EndsWithin-step_with : (l : Limits) (n : ℕ) (s : State) → HasTurns l (suc n) s → EndsWithin l n (step_with l [] s)
 EndsWithin-step_with l n s (Closing closing one) = rw closing (inl refl)
-EndsWithin-step_with l n s (Reading enough) = EndsWithin-if l n s.is_closing _ _ (inl refl) (EndsWithin-read l n s _ (ReadsOn-reading_on l s) enough)
+EndsWithin-step_with l n s (LineState enough) = EndsWithin-if l n s.is_closing _ _ (inl refl) (EndsWithin-read l n s _ (ReadsOn-reading_on l s) enough)
 
 -- a run that is idle has as many turns left
 HasTurns-Idle : (l : Limits) (n : ℕ) (s t : State) → Idle s t → HasTurns l n s → HasTurns l n t
 HasTurns-Idle l n s t idle (Closing closing one) = Closing (idle.is_closing ∙ closing) one
-HasTurns-Idle l n s t idle (Reading enough) = Reading (rw (idle.tape, idle.input, idle.reading) enough)
+HasTurns-Idle l n s t idle (LineState enough) = LineState (rw (idle.tape, idle.input, idle.reading) enough)
 
 -- and makes a step
 EndsWithin-step : (l : Limits) (n : ℕ) (s t : State) → Idle s t → HasTurns l (suc n) s → EndsWithin l n (step l t)
@@ -188,7 +188,7 @@ turns-going l n s going = ap (λ (o : Option Status). elim o as (λ _. State) [ 
 ended-turns : (l : Limits) (n : ℕ) (s : State) → EndsWithin l n s → IsSome (turns l n s).ended
 ended-turns l zero s (inl ended) = ended
 ended-turns l zero s (inr (Closing closing one)) = absurd (omega arith)
-ended-turns l zero s (inr (Reading enough)) = absurd (omega arith)
+ended-turns l zero s (inr (LineState enough)) = absurd (omega arith)
 ended-turns l (suc n) s within =
     let Goal : State → Type 0 = λ t. IsSome t.ended in
     elim (ended_or_not s.ended) [
@@ -198,7 +198,7 @@ ended-turns l (suc n) s within =
 
 -- every run ends
 pub every_run_ends : EveryRunEnds
-every_run_ends l tape = ended-turns l (5 * l.bytes + length tape.items + 2) (initial tape) (inr (Reading (omega arith)))
+every_run_ends l tape = ended-turns l (5 * l.bytes + length tape.items + 2) (initial tape) (inr (LineState (omega arith)))
 
 -- turns are steps
 Leads-turns : (l : Limits) (n : ℕ) (s : State) → Leads l s (turns l n s)

@@ -8,22 +8,22 @@ use Rattle.roff_num.specs.declared.limits.Limits.{Limits}
 use Rattle.roff_arguments.specs.Arguments.{Arguments}
 use Rattle.roff_source.specs.Bytes.{newline, backslash, is_dropped}
 use Rattle.roff_escape.specs.Conditions.{delimiter_met, ends_condition}
-use Rattle.roff_escape.specs.HalfLaws.{is_special, sign}
+use Rattle.roff_escape.specs.EscapeLaws.{is_special, sign}
 use Rattle.roff_escape.specs.declared.escapes.NameUse.{NameUse}
 use Rattle.roff_escape.specs.declared.escapes.NameUse.TheVariants.{Register, Text as OfText, Argument}
-use Rattle.roff_escape.specs.Halves.{Reads, byte_read, ends_backslash, most_names, name_given, seen_stays, takes_backslash_alone}
+use Rattle.roff_escape.specs.OpenEscapes.{Reads, byte_read, ends_backslash, most_names, name_given, is_ended_by, takes_backslash_alone}
 use Rattle.roff_ahead.specs.Input.{Ahead, pushing}
-use Rattle.roff_escape.specs.Half.{Half, Backslash, Comment, Name, Size, Delimited, Width, Condition, names_in}
-use Rattle.roff_escape.specs.declared.half.ConditionPart.{ConditionPart}
-use Rattle.roff_escape.specs.declared.half.ConditionPart.TheVariants.{Choice, Expression, Compared, Decided}
-use Rattle.roff_escape.specs.declared.half.NamePart.TheVariants.{Nothing, Opened, First}
-use Rattle.roff_escape.specs.declared.half.Read.TheVariants.{GoesOn, Asks}
-use Rattle.roff_escape.specs.declared.half.Surroundings.{Surroundings}
+use Rattle.roff_escape.specs.OpenEscape.{OpenEscape, Backslash, Comment, Name, Size, Delimited, Width, Condition, names_in}
+use Rattle.roff_escape.specs.declared.open_escape.ConditionPart.{ConditionPart}
+use Rattle.roff_escape.specs.declared.open_escape.ConditionPart.TheVariants.{Choice, Expression, Compared, Decided}
+use Rattle.roff_escape.specs.declared.open_escape.NamePart.TheVariants.{Nothing, Opened, First}
+use Rattle.roff_escape.specs.declared.open_escape.Found.TheVariants.{GoesOn, Asks}
+use Rattle.roff_escape.specs.declared.open_escape.Surroundings.{Surroundings}
 use Rattle.roff_num.specs.declared.direction.Direction.{Direction}
 use Rattle.roff_num.specs.declared.direction.Direction.TheVariants.{Up, Down}
-use Rattle.roff_run.specs.declared.reading.Reading.{Reading}
-use Rattle.roff_run.specs.declared.reading.Reading.TheVariants.{LineStart, Branch, Braced, Text as InText, Control, Name as NameOf, Arguments as InArguments, Deciding, StringName, StringText, Skipping, Dropped, Telling, Told, Exiting, Calling, Defining}
-use Rattle.roff_run.specs.declared.reading.TextLine.{TextLine}
+use Rattle.roff_run.specs.declared.line_state.LineState.{LineState}
+use Rattle.roff_run.specs.declared.line_state.LineState.TheVariants.{LineStart, Branch, Braced, Text as InText, Control, Name as NameOf, Arguments as InArguments, Deciding, StringName, StringText, Skipping, Dropped, Telling, Told, Exiting, Calling, Defining}
+use Rattle.roff_run.specs.declared.line_state.TextLine.{TextLine}
 use Rattle.roff_laws.proofs.Interpolation.{AtLast, Behind, FindsAtLast, IsRead, IsRead-itself, Means, ReadsEscapes, AtBeginning, AtBranch, AtBraced, OnText, OnArguments, OnCondition, OnStringName, OnCall, OnStringText, OnDefinition, OnMessage, ReadsEscapes-reads_escapes, after-escape, interrupted-arguments, is-going, is_no_newline, line_behind, settled_for, settled_for-settled_for, settled_input, source_behind, taking-reads}
 use Rattle.roff_run.proofs.ItemsTaken.{Fits-IsWithin, FromAhead, FromSource, Origin, ahead_at, going, input_of, not-first, tape_at}
 use Rattle.roff_laws.specs.InterpolationLaws.{StandsForItself, IsEscapeOf, Short, Long, ShortString, LongString, OfArgument, reads_text, reads_escapes, reads_in_condition, reads_above, stepped, text_named, with_text_ahead, EscapesReadAsTexts, EscapesOfTheSourceReadAsTexts, EscapesOfTextReadAsTexts}
@@ -40,7 +40,7 @@ use Rattle.roff_run.specs.declared.event.PageEvent.{PageEvent}
 use Rattle.roff_run.specs.Run.{State, known, taken_as, step, after}
 
 -- what a name asks for is read there, within names and in a condition
-name_given-names : (names : List Half) (asks : NameUse) (name : Option (List ℕ)) → reads_above names ≡ true → name_given names asks name ≡ (Asks asks name, names)
+name_given-names : (names : List OpenEscape) (asks : NameUse) (name : Option (List ℕ)) → reads_above names ≡ true → name_given names asks name ≡ (Asks asks name, names)
 name_given-names [] asks name are = refl
 name_given-names (Backslash ∷ rest) asks name are = refl
 name_given-names (Comment ∷ rest) asks name are = refl
@@ -56,7 +56,7 @@ false-not true is = absurd (cc)
 false-not false is = refl
 
 -- a backslash begins an escape in a condition that reads them
-byte_read-condition : (base : Surroundings) (part : ConditionPart) (text : List ℕ) (rest : List Half) → reads_in_condition part ≡ true
+byte_read-condition : (base : Surroundings) (part : ConditionPart) (text : List ℕ) (rest : List OpenEscape) → reads_in_condition part ≡ true
     → byte_read base (Condition part text ∷ rest) backslash ≡ (GoesOn, Backslash ∷ Condition part text ∷ rest)
 byte_read-condition base (Choice negated) text rest reads = refl
 byte_read-condition base (Expression negated) text rest reads = refl
@@ -66,7 +66,7 @@ byte_read-condition base (Compared negated d first) text rest reads =
 byte_read-condition base (Decided decision freed) text rest reads = absurd (cc)
 
 -- and within names
-byte_read-backslash : (base : Surroundings) (names : List Half) → reads_above names ≡ true → byte_read base names backslash ≡ (GoesOn, Backslash ∷ names)
+byte_read-backslash : (base : Surroundings) (names : List OpenEscape) → reads_above names ≡ true → byte_read base names backslash ≡ (GoesOn, Backslash ∷ names)
 byte_read-backslash base [] are = refl
 byte_read-backslash base (Backslash ∷ rest) are = absurd (cc)
 byte_read-backslash base (Comment ∷ rest) are = absurd (cc)
@@ -83,7 +83,7 @@ goes_on-condition (Expression negated) reads = refl
 goes_on-condition (Compared negated d first) reads = refl
 goes_on-condition (Decided decision freed) reads = absurd (cc)
 
-goes_on-names : (names : List Half) → reads_above names ≡ true → seen_stays names (Some backslash) ≡ false
+goes_on-names : (names : List OpenEscape) → reads_above names ≡ true → is_ended_by names (Some backslash) ≡ false
 goes_on-names [] are = refl
 goes_on-names (Backslash ∷ rest) are = absurd (cc)
 goes_on-names (Comment ∷ rest) are = absurd (cc)
@@ -99,7 +99,7 @@ goes_on-escape true b read = read
 goes_on-escape false b read = refl
 
 -- bytes of which the last asks for a text, and the others for nothing
-abbrev AsksAtLast : Surroundings → NameUse → List ℕ → List Half → List Half → List ℕ → Type 0
+abbrev AsksAtLast : Surroundings → NameUse → List ℕ → List OpenEscape → List OpenEscape → List ℕ → Type 0
 AsksAtLast base asks name behind half bytes = FindsAtLast base (Asks asks (Some name)) behind half bytes
 
 -- the first unit of a name, where it is none of the special bytes
@@ -118,7 +118,7 @@ name_begun-stepped false true others a b c none = absurd (cc)
 name_begun-stepped false false others a b c none = refl
 
 -- a name of one byte
-byte_read-short : (base : Surroundings) (asks : Option Direction) (x : ℕ) (names : List Half) → reads_above names ≡ true → is_special x ≡ false
+byte_read-short : (base : Surroundings) (asks : Option Direction) (x : ℕ) (names : List OpenEscape) → reads_above names ≡ true → is_special x ≡ false
     → byte_read base (Name (Register asks) Nothing ∷ names) x ≡ (Asks (Register asks) (Some (x ∷ [])), names)
 byte_read-short base None x names are plain =
     name_begun-plain (x == backslash) (x == 40) (x == 43) (x == 45) _ _ _ _ _ plain ∙ name_given-names names (Register None) (Some (x ∷ [])) are
@@ -127,7 +127,7 @@ byte_read-short base (Some direction) x names are plain =
     ∙ name_given-names names (Register (Some direction)) (Some (x ∷ [])) are
 
 -- a string's
-byte_read-string : (base : Surroundings) (x : ℕ) (names : List Half) → reads_above names ≡ true → (x == backslash) ≡ false → (x == 40) ≡ false
+byte_read-string : (base : Surroundings) (x : ℕ) (names : List OpenEscape) → reads_above names ≡ true → (x == backslash) ≡ false → (x == 40) ≡ false
     → byte_read base (Name OfText Nothing ∷ names) x ≡ (Asks OfText (Some (x ∷ [])), names)
 byte_read-string base x names are plain no_opening =
     let whole : Reads = name_given names OfText (Some (x ∷ [])) in
@@ -136,25 +136,25 @@ byte_read-string base x names are plain no_opening =
     ∙ name_given-names names OfText (Some (x ∷ [])) are
 
 -- and an argument's
-byte_read-argument : (base : Surroundings) (x : ℕ) (names : List Half) → reads_above names ≡ true → (x == backslash) ≡ false
+byte_read-argument : (base : Surroundings) (x : ℕ) (names : List OpenEscape) → reads_above names ≡ true → (x == backslash) ≡ false
     → byte_read base (Name Argument Nothing ∷ names) x ≡ (Asks Argument (Some (x ∷ [])), names)
 byte_read-argument base x names are plain =
     ap (λ (c : Bool). if c then (GoesOn, Backslash ∷ Name Argument Nothing ∷ names) else name_given names Argument (Some (x ∷ []))) plain
     ∙ name_given-names names Argument (Some (x ∷ [])) are
 
 -- the byte behind a backslash begins a name
-begun-names : (names : List Half) (asks : NameUse) → names_in names < most_names
+begun-names : (names : List OpenEscape) (asks : NameUse) → names_in names < most_names
     → ◌≡◌ {A = Reads} (GoesOn, (if nat_le most_names (names_in names) then names else Name asks Nothing ∷ names)) (GoesOn, Name asks Nothing ∷ names)
 begun-names names asks few =
     ap (λ (full : Bool). (GoesOn, (if full then names else Name asks Nothing ∷ names))) (lt-leb most_names (names_in names) few)
 
 -- `n`
-byte_read-n : (base : Surroundings) (names : List Half) → names_in names < most_names
+byte_read-n : (base : Surroundings) (names : List OpenEscape) → names_in names < most_names
     → byte_read base (Backslash ∷ names) 110 ≡ (GoesOn, Name (Register None) Nothing ∷ names)
 byte_read-n base names few = begun-names names (Register None) few
 
 -- the bytes behind the backslash: `n`, the sign of the step, and the name
-asks-signed : (base : Surroundings) (asks : Option Direction) (name bytes : List ℕ) (names : List Half) → names_in names < most_names
+asks-signed : (base : Surroundings) (asks : Option Direction) (name bytes : List ℕ) (names : List OpenEscape) → names_in names < most_names
     → AsksAtLast base (Register asks) name names (Name (Register asks) Nothing ∷ names) bytes
     → AsksAtLast base (Register asks) name names (Backslash ∷ names) (110 ∷ sign asks ++ bytes)
 asks-signed base None name bytes names few last =
@@ -167,24 +167,24 @@ asks-signed base (Some Down) name bytes names few last =
     (Behind _ _ 45 bytes refl refl refl refl last)
 
 -- a string's: `*`, and the name
-asks-string : (base : Surroundings) (name bytes : List ℕ) (names : List Half) → names_in names < most_names
+asks-string : (base : Surroundings) (name bytes : List ℕ) (names : List OpenEscape) → names_in names < most_names
     → AsksAtLast base OfText name names (Name OfText Nothing ∷ names) bytes
     → AsksAtLast base OfText name names (Backslash ∷ names) (42 ∷ bytes)
 asks-string base name bytes names few last =
     Behind _ _ 42 bytes refl (goes_on-escape (takes_backslash_alone names) 42 refl) (begun-names names OfText few) refl last
 
 -- an argument's: `$`, and the name
-asks-argument : (base : Surroundings) (name bytes : List ℕ) (names : List Half) → names_in names < most_names
+asks-argument : (base : Surroundings) (name bytes : List ℕ) (names : List OpenEscape) → names_in names < most_names
     → AsksAtLast base Argument name names (Name Argument Nothing ∷ names) bytes
     → AsksAtLast base Argument name names (Backslash ∷ names) (36 ∷ bytes)
 asks-argument base name bytes names few last =
     Behind _ _ 36 bytes refl (goes_on-escape (takes_backslash_alone names) 36 refl) (begun-names names Argument few) refl last
 
 -- two bytes behind a parenthesis
-asks-opened : (base : Surroundings) (asks : NameUse) (x y : ℕ) (names : List Half) → reads_above names ≡ true → StandsForItself x → StandsForItself y
+asks-opened : (base : Surroundings) (asks : NameUse) (x y : ℕ) (names : List OpenEscape) → reads_above names ≡ true → StandsForItself x → StandsForItself y
     → AsksAtLast base asks (x ∷ y ∷ []) names (Name asks Opened ∷ names) (x ∷ y ∷ [])
 asks-opened base asks x y names are first second =
-    let begun : List Half = Name asks (First x) ∷ names in
+    let begun : List OpenEscape = Name asks (First x) ∷ names in
     let of_first : byte_read base (Name asks Opened ∷ names) x ≡ (GoesOn, begun) =
     ap (λ (c : Bool). if c then (GoesOn, Backslash ∷ Name asks Opened ∷ names) else (GoesOn, begun)) (not-first (x == backslash) (is_dropped x || x == newline) first) in
     let of_second : byte_read base begun y ≡ (Asks asks (Some (x ∷ y ∷ [])), names) =
@@ -195,7 +195,7 @@ asks-opened base asks x y names are first second =
     (AtLast _ y (IsRead-itself y second) (is_no_newline y second) of_second)
 
 -- a register's parenthesis
-byte_read-opening : (base : Surroundings) (asks : Option Direction) (names : List Half)
+byte_read-opening : (base : Surroundings) (asks : Option Direction) (names : List OpenEscape)
     → byte_read base (Name (Register asks) Nothing ∷ names) 40 ≡ (GoesOn, Name (Register asks) Opened ∷ names)
 byte_read-opening base None names = refl
 byte_read-opening base (Some direction) names = refl
@@ -207,27 +207,27 @@ data Interpolates : NameUse → Type 0 where
   AnArgument : Interpolates Argument
 
 -- in text too
-name_taking-Interpolates : (k : Known) (i : PageInput) (reading : Reading) (line : TextLine) (purpose : NameUse) (name : Option (List ℕ)) → Interpolates purpose
+name_taking-Interpolates : (k : Known) (i : PageInput) (reading : LineState) (line : TextLine) (purpose : NameUse) (name : Option (List ℕ)) → Interpolates purpose
     → name_taking k i reading line purpose name ≡ asking k i reading purpose name
 name_taking-Interpolates k i reading line _ name (ARegister step) = refl
 name_taking-Interpolates k i reading line _ name AString = refl
 name_taking-Interpolates k i reading line _ name AnArgument = refl
 
 -- and where a line begins
-first_name-Interpolates : (k : Known) (i : PageInput) (reading : Reading) (purpose : NameUse) (name : Option (List ℕ)) → Interpolates purpose
+first_name-Interpolates : (k : Known) (i : PageInput) (reading : LineState) (purpose : NameUse) (name : Option (List ℕ)) → Interpolates purpose
     → first_name k i reading purpose name ≡ asking k i reading purpose name
 first_name-Interpolates k i reading _ name (ARegister step) = refl
 first_name-Interpolates k i reading _ name AString = refl
 first_name-Interpolates k i reading _ name AnArgument = refl
 
 -- such a text is asked for
-read_in-asks : (k : Known) (reading : Reading) (i : PageInput) (half : List Half) (asks : NameUse) (name : Option (List ℕ))
+read_in-asks : (k : Known) (reading : LineState) (i : PageInput) (half : List OpenEscape) (asks : NameUse) (name : Option (List ℕ))
     → Interpolates asks → ReadsEscapes reading
     → read_in k reading i (Asks asks name, half) ≡ asking k (settled_input reading half i) reading asks name
-read_in-asks k _ i half asks name of AtBeginning = first_name-Interpolates k (record i { half = half }) LineStart asks name of
-read_in-asks k _ i half asks name of AtBranch = first_name-Interpolates k (record i { half = half }) Branch asks name of
-read_in-asks k _ i half asks name of AtBraced = first_name-Interpolates k (record i { half = half }) Braced asks name of
-read_in-asks k _ i half asks name of (OnText line) = name_taking-Interpolates k (record i { half = half }) (InText line) line asks name of
+read_in-asks k _ i half asks name of AtBeginning = first_name-Interpolates k (record i { escapes = half }) LineStart asks name of
+read_in-asks k _ i half asks name of AtBranch = first_name-Interpolates k (record i { escapes = half }) Branch asks name of
+read_in-asks k _ i half asks name of AtBraced = first_name-Interpolates k (record i { escapes = half }) Braced asks name of
+read_in-asks k _ i half asks name of (OnText line) = name_taking-Interpolates k (record i { escapes = half }) (InText line) line asks name of
 read_in-asks k _ i half asks name of (OnArguments breaks request) = refl
 read_in-asks k _ i half asks name of (OnCondition keeps) = refl
 read_in-asks k _ i half asks name of (OnStringName appends) = refl
@@ -237,20 +237,20 @@ read_in-asks k _ i half asks name of (OnDefinition string appends end matched) =
 read_in-asks k _ i half asks name of (OnMessage aborts is_front) = refl
 
 -- a byte that asks for it
-taking-asks : (k : Known) (reading : Reading) (i : PageInput) (b : ℕ) (half : List Half) (asks : NameUse) (name : Option (List ℕ))
-    → Interpolates asks → ReadsEscapes reading → IsRead b → byte_read (place_in k reading) i.half b ≡ (Asks asks name, half)
+taking-asks : (k : Known) (reading : LineState) (i : PageInput) (b : ℕ) (half : List OpenEscape) (asks : NameUse) (name : Option (List ℕ))
+    → Interpolates asks → ReadsEscapes reading → IsRead b → byte_read (place_in k reading) i.escapes b ≡ (Asks asks name, half)
     → taking k reading i b ≡ asking k (settled_input reading half i) reading asks name
 taking-asks k reading i b half asks name of on read reads =
     taking-reads k reading i b on read ∙ ap (read_in k reading i) reads ∙ read_in-asks k reading i half asks name of on
 
 -- a text was asked for in a run
-abbrev asked : State → Reading → Origin → Arguments → List Half → ℕ → ℕ → NameUse → List ℕ → State
+abbrev asked : State → LineState → Origin → Arguments → List OpenEscape → ℕ → ℕ → NameUse → List ℕ → State
 asked s reading from a half charge line asks name =
     let t : State = stepped asks name (going s reading from [] a half charge line) in
     record t { input = pushing (text_named (known t) t.input asks name) t.input }
 
 -- what it means is done
-taken_as-asking : (s : State) (reading : Reading) (from : Origin) (a : Arguments) (before half : List Half) (charge line : ℕ) (asks : NameUse) (name : List ℕ)
+taken_as-asking : (s : State) (reading : LineState) (from : Origin) (a : Arguments) (before half : List OpenEscape) (charge line : ℕ) (asks : NameUse) (name : List ℕ)
     → Interpolates asks
     → taken_as (asking (known s) (input_of s from [] a half charge line) reading asks (Some name)) (going s reading from [] a before charge line)
     ≡ asked s reading from a half charge line asks name
@@ -263,8 +263,8 @@ taken_as-asking s reading from a before half charge line _ name AnArgument =
     ap (λ (m : List ℕ). record (asked s reading from a half charge line Argument name) { messages = m }) (append-nil s.messages)
 
 -- a byte that asks for a text
-means-asks : (s : State) (reading : Reading) (from : Origin) (a : Arguments) (charge line : ℕ) (asks : NameUse) (name : List ℕ)
-    (behind : List Half) → Interpolates asks → ReadsEscapes reading → settled_for reading a ≡ a
+means-asks : (s : State) (reading : LineState) (from : Origin) (a : Arguments) (charge line : ℕ) (asks : NameUse) (name : List ℕ)
+    (behind : List OpenEscape) → Interpolates asks → ReadsEscapes reading → settled_for reading a ≡ a
     → Means s reading from a charge line (Asks asks (Some name)) behind (asked s reading from a behind charge line asks name)
 means-asks s reading from a charge line asks name behind of on same half b read reads =
     let before : State = going s reading from [] a half charge line in
@@ -286,7 +286,7 @@ with_text_ahead-arguments asks name taken rest s on =
     (interrupted-arguments s.reading s.input on)
 
 -- so it is the text that was asked for
-read_from-asked : (s : State) (reading : Reading) (from : Origin) (bytes : List ℕ) (a : Arguments) (half : List Half) (charge taken line : ℕ)
+read_from-asked : (s : State) (reading : LineState) (from : Origin) (bytes : List ℕ) (a : Arguments) (half : List OpenEscape) (charge taken line : ℕ)
     (asks : NameUse) (name : List ℕ) → Interpolates asks → ReadsEscapes reading
     → read_from from asks name taken (going s reading from bytes a half charge line)
     ≡ asked s reading from (settled_for reading a) half (charge + taken) (line_behind from s line) asks name
@@ -308,7 +308,7 @@ read_from-asked s reading (FromSource tape) bytes a half charge taken line _ nam
     with_text_ahead-arguments Argument name taken [] (going s reading (FromSource tape) [] a half charge (s.input.newlines + 1)) on
 
 -- its charge
-charge-asked : (s : State) (reading : Reading) (from : Origin) (a : Arguments) (half : List Half) (charge line : ℕ) (asks : NameUse) (name : List ℕ)
+charge-asked : (s : State) (reading : LineState) (from : Origin) (a : Arguments) (half : List OpenEscape) (charge line : ℕ) (asks : NameUse) (name : List ℕ)
     → Interpolates asks → (asked s reading from a half charge line asks name).input.charge ≡ charge
 charge-asked s reading from a half charge line _ name (ARegister None) = refl
 charge-asked s reading from a half charge line _ name (ARegister (Some direction)) = refl
@@ -316,8 +316,8 @@ charge-asked s reading from a half charge line _ name AString = refl
 charge-asked s reading from a half charge line _ name AnArgument = refl
 
 -- an escape is read as its text, where a run takes items
-escape-going : (l : Limits) (s : State) (reading : Reading) (from : Origin) (a : Arguments)
-    (asks : NameUse) (name : List ℕ) (names : List Half) (bytes : List ℕ) (charge line : ℕ)
+escape-going : (l : Limits) (s : State) (reading : LineState) (from : Origin) (a : Arguments)
+    (asks : NameUse) (name : List ℕ) (names : List OpenEscape) (bytes : List ℕ) (charge line : ℕ)
     → Interpolates asks → ReadsEscapes reading → reads_above names ≡ true → AsksAtLast (place_in (known s) reading) asks name names (Backslash ∷ names) bytes
     → let first : State = going s reading from (backslash ∷ bytes) a names charge line in
     let read : State = read_from from asks name (length (backslash ∷ bytes)) first in
@@ -338,7 +338,7 @@ escape-going l s reading from a asks name names bytes charge line of on are last
 
 -- and in any state of such a run
 escape-reads : (l : Limits) (s : State) (from : Origin) (asks : NameUse) (name bytes : List ℕ)
-    → Interpolates asks → TakesItems s → ReadsEscapes s.reading → reads_above s.input.half ≡ true → AsksAtLast (place_in (known s) s.reading) asks name s.input.half (Backslash ∷ s.input.half) bytes
+    → Interpolates asks → TakesItems s → ReadsEscapes s.reading → reads_above s.input.escapes ≡ true → AsksAtLast (place_in (known s) s.reading) asks name s.input.escapes (Backslash ∷ s.input.escapes) bytes
     → s.input.ahead ≡ ahead_at from (backslash ∷ bytes) → s.tape ≡ tape_at from (backslash ∷ bytes) s.tape
     → let read : State = read_from from asks name (length (backslash ∷ bytes)) s in
     IsWithin l s → IsWithin l read → after l (length (backslash ∷ bytes)) s ≡ read
@@ -347,11 +347,11 @@ escape-reads l s from asks name bytes of takes on are last ahead tape =
     IsWithin l t → IsWithin l (read_from from asks name (length (backslash ∷ bytes)) t)
     → after l (length (backslash ∷ bytes)) t ≡ read_from from asks name (length (backslash ∷ bytes)) t in
     subst Goal (is-going s from (backslash ∷ bytes) takes ahead tape)
-    (escape-going l s s.reading from s.input.arguments asks name s.input.half bytes s.input.charge s.input.line of on are last)
+    (escape-going l s s.reading from s.input.arguments asks name s.input.escapes bytes s.input.charge s.input.line of on are last)
 
 -- each escape
 escapes_read_from : (l : Limits) (s : State) (from : Origin) (asks : NameUse) (name escape : List ℕ)
-    → IsEscapeOf asks name escape → TakesItems s → reads_above s.input.half ≡ true → names_in s.input.half < most_names
+    → IsEscapeOf asks name escape → TakesItems s → reads_above s.input.escapes ≡ true → names_in s.input.escapes < most_names
     → reads_escapes s.reading ≡ true → s.input.ahead ≡ ahead_at from escape → s.tape ≡ tape_at from escape s.tape
     → let read : State = read_from from asks name (length escape) s in
     IsWithin l s → IsWithin l read → after l (length escape) s ≡ read
@@ -359,34 +359,34 @@ escapes_read_from l s from _ _ _ (Short step x may plain) takes are few reads ah
     let on : ReadsEscapes s.reading = ReadsEscapes-reads_escapes s.reading reads in
     let base : Surroundings = place_in (known s) s.reading in
     escape-reads l s from (Register step) (x ∷ []) (110 ∷ sign step ++ x ∷ []) (ARegister step) takes on are
-    (asks-signed base step (x ∷ []) (x ∷ []) s.input.half few
-    (AtLast (Name (Register step) Nothing ∷ s.input.half) x (IsRead-itself x may) (is_no_newline x may) (byte_read-short base step x s.input.half are plain))) ahead tape
+    (asks-signed base step (x ∷ []) (x ∷ []) s.input.escapes few
+    (AtLast (Name (Register step) Nothing ∷ s.input.escapes) x (IsRead-itself x may) (is_no_newline x may) (byte_read-short base step x s.input.escapes are plain))) ahead tape
 escapes_read_from l s from _ _ _ (Long step x y first second) takes are few reads ahead tape =
     let on : ReadsEscapes s.reading = ReadsEscapes-reads_escapes s.reading reads in
     let base : Surroundings = place_in (known s) s.reading in
     escape-reads l s from (Register step) (x ∷ y ∷ []) (110 ∷ sign step ++ 40 ∷ x ∷ y ∷ []) (ARegister step) takes on are
-    (asks-signed base step (x ∷ y ∷ []) (40 ∷ x ∷ y ∷ []) s.input.half few
-    (Behind _ _ 40 (x ∷ y ∷ []) refl refl (byte_read-opening base step s.input.half) refl (asks-opened base (Register step) x y s.input.half are first second))) ahead tape
+    (asks-signed base step (x ∷ y ∷ []) (40 ∷ x ∷ y ∷ []) s.input.escapes few
+    (Behind _ _ 40 (x ∷ y ∷ []) refl refl (byte_read-opening base step s.input.escapes) refl (asks-opened base (Register step) x y s.input.escapes are first second))) ahead tape
 escapes_read_from l s from _ _ _ (ShortString x may no_opening) takes are few reads ahead tape =
     let on : ReadsEscapes s.reading = ReadsEscapes-reads_escapes s.reading reads in
     let base : Surroundings = place_in (known s) s.reading in
     escape-reads l s from OfText (x ∷ []) (42 ∷ x ∷ []) AString takes on are
-    (asks-string base (x ∷ []) (x ∷ []) s.input.half few
-    (AtLast (Name OfText Nothing ∷ s.input.half) x (IsRead-itself x may) (is_no_newline x may)
-    (byte_read-string base x s.input.half are (not-first (x == backslash) (is_dropped x || x == newline) may) no_opening))) ahead tape
+    (asks-string base (x ∷ []) (x ∷ []) s.input.escapes few
+    (AtLast (Name OfText Nothing ∷ s.input.escapes) x (IsRead-itself x may) (is_no_newline x may)
+    (byte_read-string base x s.input.escapes are (not-first (x == backslash) (is_dropped x || x == newline) may) no_opening))) ahead tape
 escapes_read_from l s from _ _ _ (LongString x y first second) takes are few reads ahead tape =
     let on : ReadsEscapes s.reading = ReadsEscapes-reads_escapes s.reading reads in
     let base : Surroundings = place_in (known s) s.reading in
     escape-reads l s from OfText (x ∷ y ∷ []) (42 ∷ 40 ∷ x ∷ y ∷ []) AString takes on are
-    (asks-string base (x ∷ y ∷ []) (40 ∷ x ∷ y ∷ []) s.input.half few
-    (Behind _ _ 40 (x ∷ y ∷ []) refl refl refl refl (asks-opened base OfText x y s.input.half are first second))) ahead tape
+    (asks-string base (x ∷ y ∷ []) (40 ∷ x ∷ y ∷ []) s.input.escapes few
+    (Behind _ _ 40 (x ∷ y ∷ []) refl refl refl refl (asks-opened base OfText x y s.input.escapes are first second))) ahead tape
 escapes_read_from l s from _ _ _ (OfArgument x may) takes are few reads ahead tape =
     let on : ReadsEscapes s.reading = ReadsEscapes-reads_escapes s.reading reads in
     let base : Surroundings = place_in (known s) s.reading in
     escape-reads l s from Argument (x ∷ []) (36 ∷ x ∷ []) AnArgument takes on are
-    (asks-argument base (x ∷ []) (x ∷ []) s.input.half few
-    (AtLast (Name Argument Nothing ∷ s.input.half) x (IsRead-itself x may) (is_no_newline x may)
-    (byte_read-argument base x s.input.half are (not-first (x == backslash) (is_dropped x || x == newline) may)))) ahead tape
+    (asks-argument base (x ∷ []) (x ∷ []) s.input.escapes few
+    (AtLast (Name Argument Nothing ∷ s.input.escapes) x (IsRead-itself x may) (is_no_newline x may)
+    (byte_read-argument base x s.input.escapes are (not-first (x == backslash) (is_dropped x || x == newline) may)))) ahead tape
 
 pub escapes_read_as_texts : EscapesReadAsTexts
 escapes_read_as_texts l s asks name escape rest is_escape takes are few reads ahead =
@@ -397,7 +397,7 @@ escapes_of_the_source_read_as_texts l s asks name escape tape is_escape takes ar
     escapes_read_from l s (FromSource tape) asks name escape is_escape takes are few reads none stands
 
 -- where text is read, nothing that isn't a byte of the line changes the input
-interrupted-reads_text : (reading : Reading) (i : PageInput) → reads_text reading ≡ true → interrupted reading i ≡ i
+interrupted-reads_text : (reading : LineState) (i : PageInput) → reads_text reading ≡ true → interrupted reading i ≡ i
 interrupted-reads_text LineStart i is = refl
 interrupted-reads_text Branch i is = refl
 interrupted-reads_text Braced i is = refl
@@ -417,7 +417,7 @@ interrupted-reads_text (Told aborts) i is = absurd (cc)
 interrupted-reads_text Exiting i is = absurd (cc)
 
 -- and escapes are read
-reads_escapes-reads_text : (reading : Reading) → reads_text reading ≡ true → reads_escapes reading ≡ true
+reads_escapes-reads_text : (reading : LineState) → reads_text reading ≡ true → reads_escapes reading ≡ true
 reads_escapes-reads_text LineStart is = refl
 reads_escapes-reads_text Branch is = refl
 reads_escapes-reads_text Braced is = refl
@@ -442,7 +442,7 @@ escapes_of_text_read_as_texts l s name escape rest is_escape takes reads half ah
       input = pushing (text_of_register (known s) name) (record i { ahead = rest; charge = s.input.charge + length escape });
     } in
     let is : with_text_ahead (Register None) name (length escape) rest s ≡ of s.input = ap of (interrupted-reads_text s.reading s.input reads) in
-    let few : names_in s.input.half < most_names = rw half (omega arith) in
+    let few : names_in s.input.escapes < most_names = rw half (omega arith) in
     escapes_read_as_texts l s (Register None) name escape rest is_escape takes (rw half refl) few (reads_escapes-reads_text s.reading reads) ahead
     within (subst (IsWithin l) (sym is) within_read)
     ∙ is

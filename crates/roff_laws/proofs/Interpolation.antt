@@ -6,17 +6,17 @@ use Rattle.roff_num.specs.declared.limits.Limits.{Limits}
 use Rattle.roff_arguments.proofs.Settling.{settled-only_kept, held-only_kept-settled}
 use Rattle.roff_arguments.specs.Arguments.{Arguments, settled, only_kept, held}
 use Rattle.roff_source.specs.Bytes.{newline, backslash, is_dropped}
-use Rattle.roff_escape.specs.Halves.{byte_read, seen_stays}
+use Rattle.roff_escape.specs.OpenEscapes.{byte_read, is_ended_by}
 use Rattle.roff_ahead.specs.Input.{Ahead, ByteAhead, EndAhead, cost, depth}
 use Rattle.roff_source.specs.Tape.{Tape}
-use Rattle.roff_escape.specs.Half.{Half, Backslash, texts_held}
-use Rattle.roff_escape.specs.declared.half.Read.{Read}
-use Rattle.roff_escape.specs.declared.half.Read.TheVariants.{GoesOn}
-use Rattle.roff_escape.specs.declared.half.Surroundings.{Surroundings}
-use Rattle.roff_run.specs.declared.reading.Reading.{Reading}
-use Rattle.roff_run.specs.declared.reading.Reading.TheVariants.{LineStart, Branch, Braced, Text as InText, Control, Name as NameOf, Arguments as InArguments, Deciding, StringName, StringText, Skipping, Dropped, Telling, Told, Exiting, Calling, Defining}
+use Rattle.roff_escape.specs.OpenEscape.{OpenEscape, Backslash, texts_held}
+use Rattle.roff_escape.specs.declared.open_escape.Found.{Found}
+use Rattle.roff_escape.specs.declared.open_escape.Found.TheVariants.{GoesOn}
+use Rattle.roff_escape.specs.declared.open_escape.Surroundings.{Surroundings}
+use Rattle.roff_run.specs.declared.line_state.LineState.{LineState}
+use Rattle.roff_run.specs.declared.line_state.LineState.TheVariants.{LineStart, Branch, Braced, Text as InText, Control, Name as NameOf, Arguments as InArguments, Deciding, StringName, StringText, Skipping, Dropped, Telling, Told, Exiting, Calling, Defining}
 use Rattle.roff_num.specs.declared.short_name.ShortName.{ShortName}
-use Rattle.roff_run.specs.declared.reading.TextLine.{TextLine}
+use Rattle.roff_run.specs.declared.line_state.TextLine.{TextLine}
 use Rattle.roff_run.specs.declared.request.Request.{Request}
 use Rattle.roff_run.specs.declared.status.Status.{Status}
 use Rattle.roff_laws.specs.InterpolationLaws.{StandsForItself, reads_escapes, with_source_behind, cost_of_all, TextsCostTheirBytesAndOne}
@@ -41,7 +41,7 @@ line_behind-again (FromSource tape) s line = refl
 
 -- a state of a run that takes items is one of these
 pub is-going : (s : State) (from : Origin) (bytes : List ℕ) → TakesItems s → s.input.ahead ≡ ahead_at from bytes → s.tape ≡ tape_at from bytes s.tape
-    → going s s.reading from bytes s.input.arguments s.input.half s.input.charge s.input.line ≡ s
+    → going s s.reading from bytes s.input.arguments s.input.escapes s.input.charge s.input.line ≡ s
 is-going s from bytes on ahead tape =
     let of : Tape → List (Ahead PageEvent) → List PageEvent → Bool → Option Status → State = λ t items es c e.
     record s { tape = t; input = record s.input { ahead = items }; to_do = es; is_closing = c; ended = e } in
@@ -60,7 +60,7 @@ not-or true second neither = absurd (cc)
 not-or false second neither = neither
 
 -- a reading that reads escapes
-pub data ReadsEscapes : Reading → Type 0 where
+pub data ReadsEscapes : LineState → Type 0 where
   AtBeginning : ReadsEscapes LineStart
   AtBranch : ReadsEscapes Branch
   AtBraced : ReadsEscapes Braced
@@ -75,7 +75,7 @@ pub data ReadsEscapes : Reading → Type 0 where
   OnMessage : (aborts is_front : Bool) → ReadsEscapes (Telling aborts is_front)
 
 -- there nothing is due
-pub none_due-reads : (reading : Reading) → ReadsEscapes reading → due reading ≡ None
+pub none_due-reads : (reading : LineState) → ReadsEscapes reading → due reading ≡ None
 none_due-reads _ AtBeginning = refl
 none_due-reads _ AtBranch = refl
 none_due-reads _ AtBraced = refl
@@ -89,8 +89,8 @@ none_due-reads _ (OnDefinition string appends end matched) = refl
 none_due-reads _ (OnMessage aborts is_front) = refl
 
 -- a byte that isn't dropped
-kept_taking-reads : (k : Known) (reading : Reading) (i : PageInput) (b : ℕ) → ReadsEscapes reading
-    → kept_taking k reading i b ≡ read_in k reading i (byte_read (place_in k reading) i.half b)
+kept_taking-reads : (k : Known) (reading : LineState) (i : PageInput) (b : ℕ) → ReadsEscapes reading
+    → kept_taking k reading i b ≡ read_in k reading i (byte_read (place_in k reading) i.escapes b)
 kept_taking-reads k _ i b AtBeginning = refl
 kept_taking-reads k _ i b AtBranch = refl
 kept_taking-reads k _ i b AtBraced = refl
@@ -104,25 +104,25 @@ kept_taking-reads k _ i b (OnDefinition string appends end matched) = refl
 kept_taking-reads k _ i b (OnMessage aborts is_front) = refl
 
 -- a byte that is read
-pub taking-reads : (k : Known) (reading : Reading) (i : PageInput) (b : ℕ) → ReadsEscapes reading → IsRead b
-    → taking k reading i b ≡ read_in k reading i (byte_read (place_in k reading) i.half b)
+pub taking-reads : (k : Known) (reading : LineState) (i : PageInput) (b : ℕ) → ReadsEscapes reading → IsRead b
+    → taking k reading i b ≡ read_in k reading i (byte_read (place_in k reading) i.escapes b)
 taking-reads k reading i b on read =
     ap (λ (d : Bool). if d then going_on (interrupted reading i) reading else kept_taking k reading i b) (not-first (is_dropped b) (b == newline) read)
     ∙ kept_taking-reads k reading i b on
 
 -- the arguments of a line where no quote follows the quote before
-abbrev pub settled_for : Reading → Arguments → Arguments
+abbrev pub settled_for : LineState → Arguments → Arguments
 settled_for (InArguments breaks request) a = only_kept (settled a)
 settled_for (StringName appends) a = only_kept (settled a)
 settled_for (Calling name) a = only_kept (settled a)
 settled_for (_) a = a
 
 -- the input where this is half read, and no quote follows
-abbrev pub settled_input : Reading → List Half → PageInput → PageInput
-settled_input reading half i = record i { half = half; arguments = settled_for reading i.arguments }
+abbrev pub settled_input : LineState → List OpenEscape → PageInput → PageInput
+settled_input reading half i = record i { escapes = half; arguments = settled_for reading i.arguments }
 
 -- nothing is found
-read_in-nothing : (k : Known) (reading : Reading) (i : PageInput) (half : List Half) → ReadsEscapes reading
+read_in-nothing : (k : Known) (reading : LineState) (i : PageInput) (half : List OpenEscape) → ReadsEscapes reading
     → read_in k reading i (GoesOn, half) ≡ going_on (settled_input reading half i) reading
 read_in-nothing k _ i half AtBeginning = refl
 read_in-nothing k _ i half AtBranch = refl
@@ -137,14 +137,14 @@ read_in-nothing k _ i half (OnDefinition string appends end matched) = refl
 read_in-nothing k _ i half (OnMessage aborts is_front) = refl
 
 -- a byte that finds nothing
-taking-nothing : (k : Known) (reading : Reading) (i : PageInput) (b : ℕ) (half : List Half) → ReadsEscapes reading
-    → IsRead b → byte_read (place_in k reading) i.half b ≡ (GoesOn, half) → taking k reading i b ≡ going_on (settled_input reading half i) reading
+taking-nothing : (k : Known) (reading : LineState) (i : PageInput) (b : ℕ) (half : List OpenEscape) → ReadsEscapes reading
+    → IsRead b → byte_read (place_in k reading) i.escapes b ≡ (GoesOn, half) → taking k reading i b ≡ going_on (settled_input reading half i) reading
 taking-nothing k reading i b half on read reads =
     taking-reads k reading i b on read ∙ ap (read_in k reading i) reads ∙ read_in-nothing k reading i half on
 
 -- a step at a byte
-pub step-byte : (l : Limits) (s : State) (reading : Reading) (from : Origin) (b : ℕ) (bytes : List ℕ) (a : Arguments) (half : List Half) (charge line : ℕ) (t : State)
-    → due reading ≡ None → IsRead b → seen_stays half (Some b) ≡ false → charge + 1 ≤ l.bytes → byte_taken b (going s reading from bytes a half (charge + 1) (line_behind from s line)) ≡ t
+pub step-byte : (l : Limits) (s : State) (reading : LineState) (from : Origin) (b : ℕ) (bytes : List ℕ) (a : Arguments) (half : List OpenEscape) (charge line : ℕ) (t : State)
+    → due reading ≡ None → IsRead b → is_ended_by half (Some b) ≡ false → charge + 1 ≤ l.bytes → byte_taken b (going s reading from bytes a half (charge + 1) (line_behind from s line)) ≡ t
     → Fits l t.registers t.input → step l (going s reading from (b ∷ bytes) a half charge line) ≡ t
 step-byte l s reading (FromAhead rest) b bytes a half charge line t none_due read goes within is fits =
     let before : State = going s reading (FromAhead rest) (b ∷ bytes) a half charge line in
@@ -160,19 +160,20 @@ step-byte l s reading (FromSource tape) b bytes a half charge line t none_due re
     ∙ ap (made l before) is ∙ made-Fits l before t fits
 
 -- bytes of which the last finds this and the others find nothing; none of them ends what is half read
-pub data FindsAtLast (base : Surroundings) (found : Read) (behind : List Half) : List Half → List ℕ → Type 0 where
-  AtLast : (half : List Half) (b : ℕ) → IsRead b → seen_stays half (Some b) ≡ false → byte_read base half b ≡ (found, behind)
+pub data FindsAtLast (base : Surroundings) (found : Found) (behind : List OpenEscape) : List OpenEscape → List ℕ → Type 0 where
+  AtLast : (half : List OpenEscape) (b : ℕ) → IsRead b → is_ended_by half (Some b) ≡ false
+      → byte_read base half b ≡ (found, behind)
       → FindsAtLast base found behind half (b ∷ [])
-  Behind : (half other : List Half) (b : ℕ) (bytes : List ℕ) → IsRead b → seen_stays half (Some b) ≡ false → byte_read base half b ≡ (GoesOn, other)
+  Behind : (half other : List OpenEscape) (b : ℕ) (bytes : List ℕ) → IsRead b → is_ended_by half (Some b) ≡ false → byte_read base half b ≡ (GoesOn, other)
       → texts_held other ≡ texts_held half → FindsAtLast base found behind other bytes → FindsAtLast base found behind half (b ∷ bytes)
 
 -- a byte that finds this leads to that state
-abbrev pub Means : State → Reading → Origin → Arguments → ℕ → ℕ → Read → List Half → State → Type 0
+abbrev pub Means : State → LineState → Origin → Arguments → ℕ → ℕ → Found → List OpenEscape → State → Type 0
 Means s reading from a charge line found behind t =
-    (half : List Half) (b : ℕ) → IsRead b → byte_read (place_in (known s) reading) half b ≡ (found, behind) → byte_taken b (going s reading from [] a half charge line) ≡ t
+    (half : List OpenEscape) (b : ℕ) → IsRead b → byte_read (place_in (known s) reading) half b ≡ (found, behind) → byte_taken b (going s reading from [] a half charge line) ≡ t
 
 -- behind a byte
-Fits-behind : (l : Limits) (registers : AllRegisters) (s : State) (from : Origin) (b : ℕ) (bytes : List ℕ) (a there : Arguments) (half other : List Half) (charge more line next : ℕ)
+Fits-behind : (l : Limits) (registers : AllRegisters) (s : State) (from : Origin) (b : ℕ) (bytes : List ℕ) (a there : Arguments) (half other : List OpenEscape) (charge more line next : ℕ)
     → held there ≡ held a → texts_held other ≡ texts_held half → Fits l registers (input_of s from (b ∷ bytes) a half charge line) → Fits l registers (input_of s from bytes there other more next)
 Fits-behind l registers s (FromAhead rest) b bytes a there half other charge more line next same held_same fits =
     record { names = fits.names; stack = omega (arith, fits.stack); depth = fits.depth; store = fits.store; texts = fits.texts; making = fits.making; conditions = fits.conditions }
@@ -180,8 +181,8 @@ Fits-behind l registers s (FromSource tape) b bytes a there half other charge mo
     record { names = fits.names; stack = omega (arith, fits.stack); depth = fits.depth; store = fits.store; texts = fits.texts; making = fits.making; conditions = fits.conditions }
 
 -- the steps at them
-after-finds : (l : Limits) (s : State) (reading : Reading) (from : Origin) (a : Arguments) (line : ℕ)
-    (found : Read) (behind half : List Half) (bytes : List ℕ) (charge total : ℕ) (t : State)
+after-finds : (l : Limits) (s : State) (reading : LineState) (from : Origin) (a : Arguments) (line : ℕ)
+    (found : Found) (behind half : List OpenEscape) (bytes : List ℕ) (charge total : ℕ) (t : State)
     → ReadsEscapes reading → settled_for reading a ≡ a → line_behind from s line ≡ line → FindsAtLast (place_in (known s) reading) found behind half bytes
     → charge + length bytes ≡ total → total ≤ l.bytes → Fits l s.registers (input_of s from bytes a half charge line)
     → Means s reading from a total line found behind t → Fits l t.registers t.input
@@ -205,7 +206,7 @@ after-finds l s reading from a line found behind _ _ charge total t on same stay
     ∙ after-finds l s reading from a line found behind other others (charge + 1) total t on same stays last (omega arith) within fits_there means fits_behind
 
 -- arguments where no quote follows the quote before stay so
-pub settled_for-settled_for : (reading : Reading) (a : Arguments) → ReadsEscapes reading
+pub settled_for-settled_for : (reading : LineState) (a : Arguments) → ReadsEscapes reading
     → settled_for reading (settled_for reading a) ≡ settled_for reading a
 settled_for-settled_for _ a AtBeginning = refl
 settled_for-settled_for _ a AtBranch = refl
@@ -220,7 +221,7 @@ settled_for-settled_for _ a (OnDefinition string appends end matched) = refl
 settled_for-settled_for _ a (OnMessage aborts is_front) = refl
 
 -- and hold as many bytes
-held-settled_for : (reading : Reading) (a : Arguments) → ReadsEscapes reading → held (settled_for reading a) ≡ held a
+held-settled_for : (reading : LineState) (a : Arguments) → ReadsEscapes reading → held (settled_for reading a) ≡ held a
 held-settled_for _ a AtBeginning = refl
 held-settled_for _ a AtBranch = refl
 held-settled_for _ a AtBraced = refl
@@ -234,9 +235,9 @@ held-settled_for _ a (OnDefinition string appends end matched) = refl
 held-settled_for _ a (OnMessage aborts is_front) = refl
 
 -- the steps at an escape, where a backslash begins one
-pub after-escape : (l : Limits) (s : State) (reading : Reading) (from : Origin) (a : Arguments)
-    (found : Read) (half behind : List Half) (bytes : List ℕ) (charge line : ℕ) (t : State)
-    → ReadsEscapes reading → seen_stays half (Some backslash) ≡ false → byte_read (place_in (known s) reading) half backslash ≡ (GoesOn, Backslash ∷ half)
+pub after-escape : (l : Limits) (s : State) (reading : LineState) (from : Origin) (a : Arguments)
+    (found : Found) (half behind : List OpenEscape) (bytes : List ℕ) (charge line : ℕ) (t : State)
+    → ReadsEscapes reading → is_ended_by half (Some backslash) ≡ false → byte_read (place_in (known s) reading) half backslash ≡ (GoesOn, Backslash ∷ half)
     → FindsAtLast (place_in (known s) reading) found behind (Backslash ∷ half) bytes
     → charge + length (backslash ∷ bytes) ≤ l.bytes → Fits l s.registers (input_of s from (backslash ∷ bytes) a half charge line)
     → Means s reading from (settled_for reading a) (charge + length (backslash ∷ bytes)) (line_behind from s line) found behind t
@@ -271,7 +272,7 @@ source_behind (FromAhead rest) s = s
 source_behind (FromSource tape) s = with_source_behind tape s
 
 -- what isn't a byte of the line changes the arguments alone
-pub interrupted-arguments : (reading : Reading) (i : PageInput) → ReadsEscapes reading
+pub interrupted-arguments : (reading : LineState) (i : PageInput) → ReadsEscapes reading
     → interrupted reading i ≡ record i { arguments = settled_for reading i.arguments }
 interrupted-arguments _ i AtBeginning = refl
 interrupted-arguments _ i AtBranch = refl
@@ -286,7 +287,7 @@ interrupted-arguments _ i (OnDefinition string appends end matched) = refl
 interrupted-arguments _ i (OnMessage aborts is_front) = refl
 
 -- where escapes are read, text is or arguments or conditions are
-pub ReadsEscapes-reads_escapes : (reading : Reading) → reads_escapes reading ≡ true → ReadsEscapes reading
+pub ReadsEscapes-reads_escapes : (reading : LineState) → reads_escapes reading ≡ true → ReadsEscapes reading
 ReadsEscapes-reads_escapes LineStart is = AtBeginning
 ReadsEscapes-reads_escapes Branch is = AtBranch
 ReadsEscapes-reads_escapes Braced is = AtBraced

@@ -6,13 +6,13 @@ use Rattle.std.proofs.lemmas.List.Elements.{All-head, All-tail}
 use Rattle.roff_arguments.proofs.KeptArguments.{reverse-cons}
 use Rattle.roff_arguments.specs.Arguments.{Arguments, no_arguments, with_byte}
 use Rattle.roff_source.specs.Bytes.{newline, blank, backslash, is_dropped}
-use Rattle.roff_escape.specs.Halves.{byte_read}
+use Rattle.roff_escape.specs.OpenEscapes.{byte_read}
 use Rattle.roff_ahead.specs.Input.{holding_plain}
 use Rattle.roff_arguments.specs.declared.arguments.Place.TheVariants.{InPlain}
-use Rattle.roff_escape.specs.declared.half.CopyUnit.TheVariants.{Byte}
-use Rattle.roff_escape.specs.Half.{Half, Backslash}
-use Rattle.roff_escape.specs.declared.half.Read.TheVariants.{GoesOn, Unit as GivesUnit}
-use Rattle.roff_escape.specs.declared.half.Surroundings.TheVariants.{Copy as AboveCopy}
+use Rattle.roff_escape.specs.declared.open_escape.CopyUnit.TheVariants.{Byte}
+use Rattle.roff_escape.specs.OpenEscape.{OpenEscape, Backslash}
+use Rattle.roff_escape.specs.declared.open_escape.Found.TheVariants.{GoesOn, Unit as GivesUnit}
+use Rattle.roff_escape.specs.declared.open_escape.Surroundings.TheVariants.{Copy as AboveCopy}
 use Rattle.roff_laws.proofs.Interpolation.{IsRead, IsRead-itself}
 use Rattle.roff_run.proofs.ItemsTaken.{not-first, not-second}
 use Rattle.roff_laws.specs.InterpolationLaws.{StandsForItself}
@@ -22,19 +22,19 @@ use Rattle.roff_run.specs.Reading.{kept_taking, taking}
 use Rattle.roff_run.specs.Reading.Items.{PageInput, Taking, going_on}
 use Rattle.roff_run.specs.Reading.Found.{read_in}
 use Rattle.roff_run.specs.Registers.{Known}
-use Rattle.roff_run.specs.declared.reading.Reading.{Reading}
-use Rattle.roff_run.specs.declared.reading.Reading.TheVariants.{Telling, Told}
+use Rattle.roff_run.specs.declared.line_state.LineState.{LineState}
+use Rattle.roff_run.specs.declared.line_state.LineState.TheVariants.{Telling, Told}
 
 -- an input that holds these arguments
 abbrev with_text : PageInput → Arguments → PageInput
-with_text i a = record i { half = []; arguments = a }
+with_text i a = record i { escapes = []; arguments = a }
 
 -- a byte of the text, by whether it is a blank in front
 taking-message : (k : Known) (aborts is_front : Bool) (i : PageInput) (a : Arguments) (b : ℕ) → StandsForItself b
     → taking k (Telling aborts is_front) (with_text i a) b
     ≡ (if is_front && b == blank then going_on (with_text i a) (Telling aborts true) else going_on (with_text i (with_byte a InPlain b)) (Telling aborts false))
 taking-message k aborts is_front i a b itself =
-    let reading : Reading = Telling aborts is_front in
+    let reading : LineState = Telling aborts is_front in
     let held : PageInput = with_text i a in
     let read : IsRead b = IsRead-itself b itself in
     let others : Taking = if is_front && b == blank then going_on held (Telling aborts true) else going_on (holding_plain (Byte b) held) (Telling aborts false) in
@@ -90,6 +90,6 @@ tells-line k aborts i (b ∷ text) themselves =
 pub messages_are_their_texts : MessagesAreTheirTexts
 messages_are_their_texts k aborts i text half none themselves =
     let input : with_text i no_arguments ≡ i =
-    ap (λ (h : List Half). record i { half = h; arguments = no_arguments }) (sym half) ∙ ap (λ (a : Arguments). record i { arguments = a }) (sym none) in
+    ap (λ (h : List OpenEscape). record i { escapes = h; arguments = no_arguments }) (sym half) ∙ ap (λ (a : Arguments). record i { arguments = a }) (sym none) in
     subst (λ (j : PageInput). TellsText aborts (without_front text) (taking_all k (Telling aborts true) j (text ++ newline ∷ []))) input
     (tells-line k aborts i text themselves)

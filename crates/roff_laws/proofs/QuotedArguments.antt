@@ -10,14 +10,14 @@ use Rattle.roff_arguments.specs.Arguments.{Arguments, no_arguments, with_argumen
 use Rattle.roff_ahead.specs.Input.Calls.{arguments_given}
 use Rattle.roff_source.specs.Bytes.{newline, blank, quote, backslash, is_dropped}
 use Rattle.roff_arguments.specs.Quoting.{quoted_byte, quoted, quoted_line}
-use Rattle.roff_escape.specs.Halves.{byte_read}
-use Rattle.roff_escape.specs.declared.half.CopyUnit.TheVariants.{Byte}
-use Rattle.roff_escape.specs.Half.{Half, Backslash}
-use Rattle.roff_escape.specs.declared.half.Read.TheVariants.{GoesOn, Unit as GivesUnit}
-use Rattle.roff_escape.specs.declared.half.Surroundings.TheVariants.{Arguments as AboveArguments}
+use Rattle.roff_escape.specs.OpenEscapes.{byte_read}
+use Rattle.roff_escape.specs.declared.open_escape.CopyUnit.TheVariants.{Byte}
+use Rattle.roff_escape.specs.OpenEscape.{OpenEscape, Backslash}
+use Rattle.roff_escape.specs.declared.open_escape.Found.TheVariants.{GoesOn, Unit as GivesUnit}
+use Rattle.roff_escape.specs.declared.open_escape.Surroundings.TheVariants.{Arguments as AboveArguments}
 use Rattle.roff_laws.proofs.Interpolation.{IsRead, IsRead-itself}
 use Rattle.roff_run.proofs.ItemsTaken.{not-first, not-second}
-use Rattle.roff_run.specs.declared.reading.Reading.{Reading}
+use Rattle.roff_run.specs.declared.line_state.LineState.{LineState}
 use Rattle.roff_laws.specs.InterpolationLaws.{StandsForItself}
 use Rattle.roff_laws.specs.Quoting.{both, given_taking, taking_all, RequestsGetQuotedArguments}
 use Rattle.roff_run.specs.Reading.{taking, kept_taking}
@@ -34,18 +34,18 @@ use Rattle.roff_run.specs.declared.request.LineReading.{LineReading}
 use Rattle.roff_run.specs.declared.request.LineReading.TheVariants.{ByArguments, ByCondition, ByElse, ByLastLine, ByLines, ByMessage, ByString}
 use Rattle.roff_run.specs.declared.request.LinesFor.{LinesFor}
 use Rattle.roff_run.specs.declared.request.LinesFor.TheVariants.{Macro, Nobody}
-use Rattle.roff_run.specs.declared.reading.Reading.TheVariants.{Arguments as InArguments}
+use Rattle.roff_run.specs.declared.line_state.LineState.TheVariants.{Arguments as InArguments}
 use Rattle.roff_run.specs.declared.request.Request.{Request}
 
 -- an input that holds what is kept of some arguments
 abbrev with_kept : PageInput → Arguments → PageInput
-with_kept i a = record i { half = []; arguments = only_kept a }
+with_kept i a = record i { escapes = []; arguments = only_kept a }
 
 -- a byte of the arguments goes to them
 taking-argument : (k : Known) (breaks : Bool) (request : Request) (i : PageInput) (a : Arguments) (b : ℕ) → StandsForItself b
     → taking k (InArguments breaks request) (with_kept i a) b ≡ going_on (with_kept i (with_argument_byte a b)) (InArguments breaks request)
 taking-argument k breaks request i a b itself =
-    let reading : Reading = InArguments breaks request in
+    let reading : LineState = InArguments breaks request in
     let held : PageInput = with_kept i a in
     let read : IsRead b = IsRead-itself b itself in
     let unit : byte_read AboveArguments [] b ≡ (GivesUnit (Byte b), []) =
@@ -53,7 +53,7 @@ taking-argument k breaks request i a b itself =
     ap (λ (c : Bool). if c then going_on (settling held) reading else kept_taking k reading held b) (not-first (is_dropped b) (b == newline) read)
     ∙ ap (read_in k (InArguments breaks request) held) unit
     ∙ ap (λ (c : Bool). if c then arguments_ended k held breaks request (row_of request).line else going_on (holding (Byte b) held) reading) (not-second (is_dropped b) (b == newline) read)
-    ∙ ap (λ (arguments : Arguments). going_on (record i { half = []; arguments = arguments }) reading) (only_kept-with_unit a (Byte b))
+    ∙ ap (λ (arguments : Arguments). going_on (record i { escapes = []; arguments = arguments }) reading) (only_kept-with_unit a (Byte b))
 
 -- what is done by a byte's taking and by those of others
 abbrev joined : Taking → Taking → Taking
@@ -66,7 +66,7 @@ arguments_given-with_kept i a =
 
 -- what the end of the line does
 abbrev line_taken : Known → Bool → Request → PageInput → List (List ℕ) → Taking
-line_taken k breaks request i as_given = given_taking k breaks request (record i { half = [] }) (row_of request).line as_given
+line_taken k breaks request i as_given = given_taking k breaks request (record i { escapes = [] }) (row_of request).line as_given
 
 -- lines are defined alike whatever was held
 definition_named-arguments : (i : PageInput) (a : Arguments) (appends : Bool) (named : Option (Option ShortName)) (end : Option ShortName)
@@ -83,7 +83,7 @@ lines_begun-arguments i a Nobody as_given = refl
 
 arguments_ended-given : (k : Known) (breaks : Bool) (request : Request) (i : PageInput) (a : Arguments) (line : LineReading)
     → arguments_ended k (with_kept i a) breaks request line
-    ≡ given_taking k breaks request (record i { half = [] }) line (arguments_given (with_kept i a))
+    ≡ given_taking k breaks request (record i { escapes = [] }) line (arguments_given (with_kept i a))
 arguments_ended-given k breaks request i a ByArguments = refl
 arguments_ended-given k breaks request i a (ByCondition keeps) = refl
 arguments_ended-given k breaks request i a (ByString appends) = refl
@@ -91,7 +91,7 @@ arguments_ended-given k breaks request i a ByLastLine = refl
 arguments_ended-given k breaks request i a (ByMessage aborts) = refl
 arguments_ended-given k breaks request i a ByElse = refl
 arguments_ended-given k breaks request i a (ByLines lines) =
-    lines_begun-arguments (record i { half = [] }) (only_kept a) lines (arguments_given (with_kept i a))
+    lines_begun-arguments (record i { escapes = [] }) (only_kept a) lines (arguments_given (with_kept i a))
 
 -- nothing is meant behind an effect
 both-none : (t : Taking) → joined t (going_on t.input t.reading) ≡ t
@@ -147,9 +147,9 @@ itself-quoted_line (argument ∷ next ∷ arguments) themselves =
 -- a request gets those that are kept
 pub requests_get_quoted_arguments : RequestsGetQuotedArguments
 requests_get_quoted_arguments k breaks request i arguments half none themselves =
-    let input : record i { half = []; arguments = no_arguments } ≡ i =
-    ap (λ (h : List Half). record i { half = h; arguments = no_arguments }) (sym half) ∙ ap (λ (a : Arguments). record i { arguments = a }) (sym none) in
+    let input : record i { escapes = []; arguments = no_arguments } ≡ i =
+    ap (λ (h : List OpenEscape). record i { escapes = h; arguments = no_arguments }) (sym half) ∙ ap (λ (a : Arguments). record i { arguments = a }) (sym none) in
     ap (λ (j : PageInput). taking_all k (InArguments breaks request) j (quoted_line arguments ++ newline ∷ [])) (sym input)
     ∙ taking_all-arguments k breaks request i no_arguments (quoted_line arguments) (itself-quoted_line arguments themselves)
     ∙ ap (λ (texts : List (List ℕ)). line_taken k breaks request i (kept texts)) (quoted_arguments_read_back arguments)
-    ∙ ap (λ (h : List Half). given_taking k breaks request (record i { half = h }) (row_of request).line (kept arguments)) (sym half)
+    ∙ ap (λ (h : List OpenEscape). given_taking k breaks request (record i { escapes = h }) (row_of request).line (kept arguments)) (sym half)

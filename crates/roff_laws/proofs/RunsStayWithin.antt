@@ -17,7 +17,7 @@ use Rattle.roff_run.specs.Run.{State, known, initial, grown, input_left, moved, 
 use Rattle.roff_run.specs.Run.Counts.{counts, first_passed, refusal}
 use Rattle.roff_run.proofs.Keeping.{Keeps-end_taking}
 use Rattle.roff_laws.proofs.PerformedOrStopped.{PerformedOrStopped, Performed, StoppedAt, performed_or_stopped}
-use Rattle.roff_run.proofs.Readings.{IsMade, ReadsOn, LimitStops, AheadTaken, ByteTaken, NoteTaken, HalfEnds, InputEnds, InputLeft, LineEnds, MessageTold, RunAborts, SourceFails, SourceStops, ReadsOn-reading_on, Behind-byte_taken, Behind-ahead_taken, Behind-half_ends, Behind-line_ends, within}
+use Rattle.roff_run.proofs.Readings.{IsMade, ReadsOn, LimitStops, AheadTaken, ByteTaken, NoteTaken, HalfEnds, InputEnds, InputLeft, LineEnds, MessageTold, RunAborts, SourceFails, SourceStops, ReadsOn-reading_on, Behind-byte_taken, Behind-ahead_taken, Behind-escape_ends, Behind-line_ends, within}
 use Rattle.roff_ahead.specs.Input.{counting, item_taken}
 
 -- a state of the same input, registers and history
@@ -123,7 +123,7 @@ IsWithin-read l s t (ByteTaken b none gives charge is_made) is =
     IsWithin-made l s t (rw read.input.charge charge) refl is_made is
 IsWithin-read l s t (NoteTaken message gives) is = IsWithin-same l s t refl refl refl is
 IsWithin-read l s t (HalfEnds first others half is_made) is =
-    IsWithin-made l s t (rw (Behind-half_ends s first others half).input.charge is.bytes) refl is_made is
+    IsWithin-made l s t (rw (Behind-escape_ends s first others half).input.charge is.bytes) refl is_made is
 IsWithin-read l s t (InputEnds none half ends is_made) is =
     IsWithin-made l s t (rw (Keeps-end_taking (known s) s.reading s.input).charge is.bytes) refl is_made is
 IsWithin-read l s t (LineEnds first none is_made) is =

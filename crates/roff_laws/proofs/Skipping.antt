@@ -11,11 +11,11 @@ use Rattle.roff_run.specs.Reading.{kept_taking, taking}
 use Rattle.roff_run.specs.Reading.Branches.{counted_if, most_braces, skipping_taking}
 use Rattle.roff_run.specs.Reading.Items.{PageInput, Taking, going_on}
 use Rattle.roff_run.specs.Registers.{Known}
-use Rattle.roff_run.specs.declared.reading.Reading.{Reading}
-use Rattle.roff_run.specs.declared.reading.Reading.TheVariants.{LineStart, Skipping}
+use Rattle.roff_run.specs.declared.line_state.LineState.{LineState}
+use Rattle.roff_run.specs.declared.line_state.LineState.TheVariants.{LineStart, Skipping}
 
 -- what is being read behind bytes of a skipped branch
-abbrev pub skipped_behind : List ℕ → Reading
+abbrev pub skipped_behind : List ℕ → LineState
 skipped_behind bytes = Skipping (escapes_among 123 bytes) (escapes_among 125 bytes) (not (is_whole bytes))
 
 -- whether the last of them belongs to a backslash is told by the others

@@ -5,8 +5,8 @@ use Rattle.std.proofs.lemmas.List.{append-nil, length-append}
 use Rattle.std.proofs.lemmas.List.Elements.{All-head, All-tail}
 use Rattle.roff_num.specs.declared.limits.Limits.{Limits}
 use Rattle.roff_source.specs.Bytes.{newline, is_dropped}
-use Rattle.roff_escape.specs.Half.{Half}
-use Rattle.roff_escape.specs.Halves.{seen_stays}
+use Rattle.roff_escape.specs.OpenEscape.{OpenEscape}
+use Rattle.roff_escape.specs.OpenEscapes.{is_ended_by}
 use Rattle.roff_ahead.specs.Input.{counting, lines_taken}
 use Rattle.roff_source.specs.Tape.{Tape, OneByte, items_then}
 use Rattle.roff_run.proofs.ItemsTaken.{Fits-IsWithin, made-Fits, taken_as-going_on, bytes_of_the_source_are_taken}
@@ -19,17 +19,17 @@ use Rattle.roff_run.specs.Reading.Branches.{most_braces}
 use Rattle.roff_run.specs.Reading.Ends.{due}
 use Rattle.roff_run.specs.Reading.Items.{PageInput, Taking, going_on}
 use Rattle.roff_run.specs.Run.{State, known_at, made, taken_as, step, after}
-use Rattle.roff_run.specs.declared.reading.Reading.{Reading}
-use Rattle.roff_run.specs.declared.reading.Reading.TheVariants.{LineStart, Skipping}
+use Rattle.roff_run.specs.declared.line_state.LineState.{LineState}
+use Rattle.roff_run.specs.declared.line_state.LineState.TheVariants.{LineStart, Skipping}
 
 -- a run that has come to these bytes of the source
-abbrev run_at : State → Tape → List ℕ → PageInput → Reading → State
+abbrev run_at : State → Tape → List ℕ → PageInput → LineState → State
 run_at s tape bytes input reading = record s { tape = items_then (map OneByte bytes) tape; input = input; reading = reading }
 
 -- nothing is ahead of them, nothing is half read, and no count is above its limit
 record IsPlain (l : Limits) (s : State) (input : PageInput) : Type 0 where
   none_ahead : input.ahead ≡ []
-  none_half : input.half ≡ []
+  none_half : input.escapes ≡ []
   within : IsWithin l (record s { input = input })
 
 -- so it stays behind a byte within the limit
@@ -43,7 +43,7 @@ IsPlain-counting l s input b plain few =
     record { none_ahead = plain.none_ahead; none_half = plain.none_half; within = within-counting l s input b plain.within few }
 
 -- a step at a byte that means nothing
-step-counting : (l : Limits) (s : State) (tape : Tape) (b : ℕ) (bytes : List ℕ) (input : PageInput) (reading there : Reading)
+step-counting : (l : Limits) (s : State) (tape : Tape) (b : ℕ) (bytes : List ℕ) (input : PageInput) (reading there : LineState)
     → TakesItems s → due reading ≡ None → IsPlain l s input → input.charge + 1 ≤ l.bytes
     → taking (known_at s.history s.registers (counting b input)) reading (counting b input) b ≡ going_on (counting b input) there
     → step l (run_at s tape (b ∷ bytes) input reading) ≡ run_at s tape bytes (counting b input) there
@@ -52,7 +52,7 @@ step-counting l s tape b bytes input reading there on none_due plain within is =
     let taken : State = run_at s tape bytes (counting b input) reading in
     let done : State = run_at s tape bytes (counting b input) there in
     bytes_of_the_source_are_taken l before b (record { going = on.going; not_closing = on.not_closing; idle = on.idle; none_due = none_due }) plain.none_ahead refl
-    (ap (λ (half : List Half). seen_stays half (Some b)) plain.none_half) (omega (arith, within))
+    (ap (λ (half : List OpenEscape). is_ended_by half (Some b)) plain.none_half) (omega (arith, within))
     ∙ ap (λ (t : Taking). made l before (taken_as t taken)) is
     ∙ ap (made l before) (taken_as-going_on (counting b input) there taken)
     ∙ made-Fits l before done (Fits-IsWithin l (record s { input = counting b input }) (within-counting l s input b plain.within within))
@@ -91,7 +91,7 @@ runs_pass_over_skipped_branches l s front tape on reading none_half none_ahead i
     let before : List ℕ = skipped.ends.before in
     let last : front ≡ before ++ newline ∷ [] = skipped.ends.last in
     ap (λ (t : Tape). after l (length front) (record s { tape = t })) is
-    ∙ ap (λ (r : Reading). after l (length front) (run_at s tape front s.input r)) reading
+    ∙ ap (λ (r : LineState). after l (length front) (run_at s tape front s.input r)) reading
     ∙ ap (λ (all : List ℕ). after l (length all) (run_at s tape all s.input (Skipping 0 0 false))) last
     ∙ after-skips l s tape [] before s.input on
     (record { none_ahead = none_ahead; none_half = none_half; within = is_within })

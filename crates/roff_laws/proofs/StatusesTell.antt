@@ -6,8 +6,8 @@ use Rattle.std.specs.Prelude.{if◌then◌else◌}
 use Rattle.roff_num.specs.declared.limits.Limits.{Limits}
 use Rattle.roff_run.specs.declared.event.PageEvent.{PageEvent}
 use Rattle.roff_run.specs.Reading.Ends.{end_taking}
-use Rattle.roff_run.specs.declared.reading.Reading.{Reading}
-use Rattle.roff_run.specs.declared.reading.Reading.TheVariants.{Exiting}
+use Rattle.roff_run.specs.declared.line_state.LineState.{LineState}
+use Rattle.roff_run.specs.declared.line_state.LineState.TheVariants.{Exiting}
 use Rattle.roff_run.specs.Run.{State, initial, input_left, known, step_with, step, after}
 use Rattle.roff_run.specs.Results.{last_state}
 use Rattle.roff_laws.specs.Statuses.{HasMet, Tells, EachStatusTells}
@@ -80,7 +80,7 @@ IsTold-read l s t (LineEnds first none is_made) going quiet is_open = IsTold-goi
 IsTold-read l s t (MessageTold told is_made) going quiet is_open = IsTold-going l t going (GoesOn-open t quiet is_open)
 IsTold-read l s t (RunAborts told) going quiet is_open = (told, refl)
 IsTold-read l s t (InputLeft leaves is_made) going quiet is_open =
-    IsTold-going l t going (record { quiet = quiet; closing = λ closing. inr (ap (λ (r : Reading). (end_taking (known (input_left s)) r (input_left s).input).reading) leaves) })
+    IsTold-going l t going (record { quiet = quiet; closing = λ closing. inr (ap (λ (r : LineState). (end_taking (known (input_left s)) r (input_left s).input).reading) leaves) })
 IsTold-read l s t (SourceFails fails) going quiet is_open = (HasMet-front s.tape.items s.tape.ending Failed fails, refl)
 IsTold-read l s t (SourceStops limit stops) going quiet is_open = inl (HasMet-front s.tape.items s.tape.ending (Stopped limit) stops, quiet)
 

@@ -7,17 +7,17 @@ use Rattle.std.proofs.Common.{◌≡◌, ℕ, ◌+◌, Bool, true, false, List, 
 use Rattle.std.specs.Prelude.{nat_lt, if◌then◌else◌}
 use Rattle.roff_num.specs.declared.limit.Limit.{Limit}
 use Rattle.roff_num.specs.declared.limits.Limits.{Limits}
-use Rattle.roff_escape.specs.Halves.{decides_now, seen_stays, newline_stays}
+use Rattle.roff_escape.specs.OpenEscapes.{decides_now, is_ended_by, newline_stays}
 use Rattle.roff_ahead.specs.Input.{Ahead, ByteAhead, FreeAhead, EndAhead, ReturnAhead, DoAhead, cost, item_taken, counting}
 use Rattle.roff_source.specs.Tape.{Answer, Gives, Ends, OneByte, OneNote, Ended, Failed, Stopped, front}
 use Rattle.roff_ahead.specs.Shown.{Sighted, SeesByte, SeesNothing, SeesNote, SeesEnding, seen_ahead}
-use Rattle.roff_escape.specs.Half.{Half}
+use Rattle.roff_escape.specs.OpenEscape.{OpenEscape}
 use Rattle.roff_laws.specs.Laws.{OnlyCuts}
 use Rattle.roff_run.specs.Reading.Ends.{due, line_ends_first}
-use Rattle.roff_run.specs.declared.reading.Due.{Due}
-use Rattle.roff_run.specs.declared.reading.Due.TheVariants.{Leaves, Tells as TellsText}
+use Rattle.roff_run.specs.declared.line_state.Due.{Due}
+use Rattle.roff_run.specs.declared.line_state.Due.TheVariants.{Leaves, Tells as TellsText}
 use Rattle.roff_run.specs.declared.event.PageEvent.{PageEvent}
-use Rattle.roff_run.specs.Run.{waiting, State, performing, unless_refused, grown, made, moved, byte_taken, half_ends, end_met, ahead_taken, taking_ahead, taking_byte, ending_input, answered, in_front_taken, front_seen, awaited_of_source, awaited, item_read, input_ended, message_told, input_left, reading_by, step_with, step}
+use Rattle.roff_run.specs.Run.{waiting, State, performing, unless_refused, grown, made, moved, byte_taken, escape_ends, end_met, ahead_taken, taking_ahead, taking_byte, ending_input, answered, in_front_taken, front_seen, awaited_of_source, awaited, item_read, input_ended, message_told, input_left, reading_by, step_with, step}
 use Rattle.roff_run.specs.Run.Counts.{passes_bytes, refusal, first_passed}
 use Rattle.roff_laws.proofs.Beginnings.{IsBeginning-same, IsBeginning-append, IsBeginning-trans}
 
@@ -62,8 +62,8 @@ pub OnlyCuts-made : (l : Limits) (s done : State) → OnlyCuts s done → OnlyCu
 OnlyCuts-made l s done cuts = OnlyCuts-unless_refused l (first_passed l (grown done)) s cuts
 
 -- what is half read ends
-pub OnlyCuts-half_ends : (s : State) → OnlyCuts s (half_ends s)
-OnlyCuts-half_ends s = OnlyCuts-message s _ _ refl refl
+pub OnlyCuts-escape_ends : (s : State) → OnlyCuts s (escape_ends s)
+OnlyCuts-escape_ends s = OnlyCuts-message s _ _ refl refl
 
 -- the end of the input is met
 pub OnlyCuts-end_met : (s : State) → OnlyCuts s (end_met s)
@@ -116,15 +116,15 @@ OnlyCuts-taking_byte l b s =
     OnlyCuts-if (passes_bytes l s.input) (OnlyCuts-same s _ refl refl) (OnlyCuts-made l s _ (OnlyCuts-byte_done b s))
 
 -- the end of the input
-pub OnlyCuts-ending_input : (l : Limits) (half : List Half) (s : State) → OnlyCuts s (ending_input l half s)
+pub OnlyCuts-ending_input : (l : Limits) (half : List OpenEscape) (s : State) → OnlyCuts s (ending_input l half s)
 OnlyCuts-ending_input l [] s = OnlyCuts-made l s _ (OnlyCuts-input_ended (line_ends_first s.reading) s)
-OnlyCuts-ending_input l (first ∷ others) s = OnlyCuts-made l s _ (OnlyCuts-half_ends s)
+OnlyCuts-ending_input l (first ∷ others) s = OnlyCuts-made l s _ (OnlyCuts-escape_ends s)
 
 -- the source answered
 pub OnlyCuts-answered : (l : Limits) (a : Answer) (s : State) → OnlyCuts s (answered l a s)
 OnlyCuts-answered l (Gives (OneByte b)) s = OnlyCuts-taking_byte l b s
 OnlyCuts-answered l (Gives (OneNote message)) s = OnlyCuts-message s _ _ refl refl
-OnlyCuts-answered l (Ends Ended) s = OnlyCuts-ending_input l s.input.half s
+OnlyCuts-answered l (Ends Ended) s = OnlyCuts-ending_input l s.input.escapes s
 OnlyCuts-answered l (Ends Failed) s = OnlyCuts-same s _ refl refl
 OnlyCuts-answered l (Ends (Stopped limit)) s = OnlyCuts-same s _ refl refl
 
@@ -136,7 +136,7 @@ OnlyCuts-in_front_taken l (item ∷ behind) s = OnlyCuts-taking_ahead l item beh
 -- something is seen in front, or nothing
 pub OnlyCuts-front_seen : (l : Limits) (seen : Option ℕ) (s : State) → OnlyCuts s (front_seen l seen s)
 OnlyCuts-front_seen l seen s =
-    OnlyCuts-if (seen_stays s.input.half seen) (OnlyCuts-made l s _ (OnlyCuts-half_ends s)) (OnlyCuts-in_front_taken l s.input.ahead s)
+    OnlyCuts-if (is_ended_by s.input.escapes seen) (OnlyCuts-made l s _ (OnlyCuts-escape_ends s)) (OnlyCuts-in_front_taken l s.input.ahead s)
 
 -- what is half read waits, and the source answers this
 pub OnlyCuts-awaited_of_source : (l : Limits) (a : Answer) (s : State) → OnlyCuts s (awaited_of_source l a s)
@@ -157,12 +157,12 @@ OnlyCuts-awaited l None s = OnlyCuts-awaited_of_source l (front s.tape) s
 -- what is half read waits
 pub OnlyCuts-waiting : (l : Limits) (s : State) → OnlyCuts s (waiting l s)
 OnlyCuts-waiting l s =
-    OnlyCuts-if (decides_now s.input.half) (OnlyCuts-made l s _ (OnlyCuts-half_ends s)) (OnlyCuts-awaited l (seen_ahead s.input.ahead) s)
+    OnlyCuts-if (decides_now s.input.escapes) (OnlyCuts-made l s _ (OnlyCuts-escape_ends s)) (OnlyCuts-awaited l (seen_ahead s.input.ahead) s)
 
 -- one item of the input
 pub OnlyCuts-item_read : (l : Limits) (s : State) → OnlyCuts s (item_read l s)
 OnlyCuts-item_read l s =
-    OnlyCuts-if (newline_stays s.input.half) (OnlyCuts-waiting l s) (OnlyCuts-in_front_taken l s.input.ahead s)
+    OnlyCuts-if (newline_stays s.input.escapes) (OnlyCuts-waiting l s) (OnlyCuts-in_front_taken l s.input.ahead s)
 
 -- what is due
 pub OnlyCuts-reading_by : (l : Limits) (what : Option Due) (s : State) → OnlyCuts s (reading_by l what s)

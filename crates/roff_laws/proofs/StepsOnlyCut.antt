@@ -12,23 +12,23 @@ use Rattle.roff_num.specs.LimitValues.{value_of}
 use Rattle.roff_num.specs.declared.limit.Limit.{Limit}
 use Rattle.roff_num.specs.declared.limit.Limit.TheVariants.{Bytes}
 use Rattle.roff_num.specs.declared.limits.Limits.{Limits}
-use Rattle.roff_escape.specs.Halves.{decides_now, seen_stays, newline_stays}
+use Rattle.roff_escape.specs.OpenEscapes.{decides_now, is_ended_by, newline_stays}
 use Rattle.roff_ahead.specs.Input.{Ahead, ByteAhead, FreeAhead, EndAhead, ReturnAhead, DoAhead, cost}
 use Rattle.roff_source.specs.Tape.{Tape, Answer, Gives, Ends, OneByte, OneNote, Ended, Failed, Stopped, front, behind_front}
 use Rattle.roff_ahead.specs.Shown.{Sighted, SeesByte, SeesNothing, SeesNote, SeesEnding, seen_ahead}
-use Rattle.roff_escape.specs.Half.{Half}
+use Rattle.roff_escape.specs.OpenEscape.{OpenEscape}
 use Rattle.roff_laws.specs.Laws.{OnlyCuts, over}
 use Rattle.roff_laws.specs.Limits.{AreWithin}
 use Rattle.roff_run.specs.Reading.Ends.{due, line_ends_first}
-use Rattle.roff_run.specs.declared.reading.Due.{Due}
-use Rattle.roff_run.specs.declared.reading.Due.TheVariants.{Leaves, Tells as TellsText}
+use Rattle.roff_run.specs.declared.line_state.Due.{Due}
+use Rattle.roff_run.specs.declared.line_state.Due.TheVariants.{Leaves, Tells as TellsText}
 use Rattle.roff_run.specs.declared.event.PageEvent.{PageEvent}
-use Rattle.roff_run.specs.Run.{waiting, State, ending_with, unless_refused, stopped_by, performing, grown, made, half_ends, taking_ahead, taking_byte, ending_input, answered, in_front_taken, front_seen, awaited_of_source, awaited, item_read, input_ended, reading_by, step_with, step, after}
+use Rattle.roff_run.specs.Run.{waiting, State, ending_with, unless_refused, stopped_by, performing, grown, made, escape_ends, taking_ahead, taking_byte, ending_input, answered, in_front_taken, front_seen, awaited_of_source, awaited, item_read, input_ended, reading_by, step_with, step, after}
 use Rattle.roff_run.specs.Run.Counts.{counts, first_passed, passes_bytes}
 use Rattle.roff_run.specs.declared.message.Message.TheVariants.{ReadFailed}
 use Rattle.roff_run.specs.declared.status.Status.{Status}
 use Rattle.roff_run.specs.declared.status.Status.TheVariants.{Device, Limit as Limited}
-use Rattle.roff_laws.proofs.StepsAppend.{OnlyCuts-same, OnlyCuts-event, OnlyCuts-trans, OnlyCuts-if, OnlyCuts-unless_refused, OnlyCuts-made, OnlyCuts-half_ends, OnlyCuts-end_met, OnlyCuts-input_ended, OnlyCuts-message_told, OnlyCuts-input_left, ahead_done, OnlyCuts-ahead_done, byte_done, OnlyCuts-byte_done, OnlyCuts-answered, OnlyCuts-awaited_of_source, OnlyCuts-step}
+use Rattle.roff_laws.proofs.StepsAppend.{OnlyCuts-same, OnlyCuts-event, OnlyCuts-trans, OnlyCuts-if, OnlyCuts-unless_refused, OnlyCuts-made, OnlyCuts-escape_ends, OnlyCuts-end_met, OnlyCuts-input_ended, OnlyCuts-message_told, OnlyCuts-input_left, ahead_done, OnlyCuts-ahead_done, byte_done, OnlyCuts-byte_done, OnlyCuts-answered, OnlyCuts-awaited_of_source, OnlyCuts-step}
 
 -- what passes a larger limit passes a smaller one
 abbrev pub IsMonotone : (Limits → Bool) → Type 0
@@ -129,8 +129,8 @@ module _ (Beside : Tape → Tape → Type 0) (IsCause : Status → Type 0) where
         subst Goal (sym same) (Cut-unless_refused (grown done) s done (over left done) tape beside appends_over (Same left beside_next refl))
 
     -- what is half read ends in both
-    pub Cut-half_ends : (s : State) (tape : Tape) → Beside s.tape tape → Cut (made small s (half_ends s)) (made large (over tape s) (half_ends (over tape s)))
-    Cut-half_ends s tape beside = Cut-made s _ _ tape tape beside beside refl (OnlyCuts-half_ends (over tape s))
+    pub Cut-escape_ends : (s : State) (tape : Tape) → Beside s.tape tape → Cut (made small s (escape_ends s)) (made large (over tape s) (escape_ends (over tape s)))
+    Cut-escape_ends s tape beside = Cut-made s _ _ tape tape beside beside refl (OnlyCuts-escape_ends (over tape s))
 
     -- both take an item ahead
     pub Cut-taking_ahead : (item : Ahead PageEvent) (behind : List (Ahead PageEvent)) (s : State) (tape : Tape) → Beside s.tape tape → Cut (taking_ahead small item behind s) (taking_ahead large item behind (over tape s))
@@ -156,15 +156,15 @@ module _ (Beside : Tape → Tape → Type 0) (IsCause : Status → Type 0) where
     Cut-input_ended true s tape beside = Cut-made s _ _ tape tape beside beside refl (OnlyCuts-input_ended true (over tape s))
 
     -- both meet the end of the input
-    pub Cut-ending_input : (half : List Half) (s : State) (tape : Tape) → Beside s.tape tape → Cut (ending_input small half s) (ending_input large half (over tape s))
+    pub Cut-ending_input : (half : List OpenEscape) (s : State) (tape : Tape) → Beside s.tape tape → Cut (ending_input small half s) (ending_input large half (over tape s))
     Cut-ending_input [] s tape beside = Cut-input_ended (line_ends_first s.reading) s tape beside
-    Cut-ending_input (first ∷ others) s tape beside = Cut-half_ends s tape beside
+    Cut-ending_input (first ∷ others) s tape beside = Cut-escape_ends s tape beside
 
     -- both sources give the same answer
     pub Cut-answered : (a : Answer) (s : State) (tape : Tape) → Beside s.tape tape → Beside (behind_front s.tape) (behind_front tape) → Cut (answered small a s) (answered large a (over tape s))
     Cut-answered (Gives (OneByte b)) s tape beside beside_next = Cut-taking_byte b s tape beside beside_next
     Cut-answered (Gives (OneNote message)) s tape beside beside_next = Same (behind_front tape) beside_next refl
-    Cut-answered (Ends Ended) s tape beside beside_next = Cut-ending_input s.input.half s tape beside
+    Cut-answered (Ends Ended) s tape beside beside_next = Cut-ending_input s.input.escapes s tape beside
     Cut-answered (Ends Failed) s tape beside beside_next = Same tape beside refl
     Cut-answered (Ends (Stopped limit)) s tape beside beside_next = Same tape beside refl
 
@@ -195,7 +195,7 @@ module _ (Beside : Tape → Tape → Type 0) (IsCause : Status → Type 0) where
     -- both see the same in front, or nothing
     pub Cut-front_seen : (seen : Option ℕ) (s : State) (tape : Tape) → Beside s.tape tape → Cut (front_seen small seen s) (front_seen large seen (over tape s))
     Cut-front_seen seen s tape beside =
-        Cut-if (seen_stays s.input.half seen) (Cut-half_ends s tape beside) (Cut-in_front_taken s.input.ahead s tape beside)
+        Cut-if (is_ended_by s.input.escapes seen) (Cut-escape_ends s tape beside) (Cut-in_front_taken s.input.ahead s tape beside)
 
     -- what is half read waits in both, and both sources give the same answer
     pub Cut-awaited_of_source : (a : Answer) (s : State) (tape : Tape) → Beside s.tape tape → Beside (behind_front s.tape) (behind_front tape) → Cut (awaited_of_source small a s) (awaited_of_source large a (over tape s))
@@ -217,12 +217,12 @@ module _ (Beside : Tape → Tape → Type 0) (IsCause : Status → Type 0) where
     -- what is half read waits in both
     pub Cut-waiting : (s : State) (tape : Tape) → Beside s.tape tape → Cut (waiting small s) (waiting large (over tape s))
     Cut-waiting s tape beside =
-        Cut-if (decides_now s.input.half) (Cut-half_ends s tape beside) (Cut-awaited (seen_ahead s.input.ahead) s tape beside)
+        Cut-if (decides_now s.input.escapes) (Cut-escape_ends s tape beside) (Cut-awaited (seen_ahead s.input.ahead) s tape beside)
 
     -- both go on reading
     pub Cut-item_read : (s : State) (tape : Tape) → Beside s.tape tape → Cut (item_read small s) (item_read large (over tape s))
     Cut-item_read s tape beside =
-        Cut-if (newline_stays s.input.half) (Cut-waiting s tape beside) (Cut-in_front_taken s.input.ahead s tape beside)
+        Cut-if (newline_stays s.input.escapes) (Cut-waiting s tape beside) (Cut-in_front_taken s.input.ahead s tape beside)
 
     -- both do what is due first
     pub Cut-reading_by : (what : Option Due) (s : State) (tape : Tape) → Beside s.tape tape → Cut (reading_by small what s) (reading_by large what (over tape s))

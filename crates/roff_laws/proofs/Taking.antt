@@ -19,7 +19,7 @@ use Rattle.roff_source.specs.Tape.{Tape, Item, Ending, OneByte, OneNote, Gives, 
 use Rattle.roff_laws.proofs.Endings.{at_last_state}
 use Rattle.roff_run.proofs.Keeping.{Keeps-end_taking}
 use Rattle.roff_laws.proofs.PerformedOrStopped.{PerformedOrStopped, Performed, StoppedAt, performed_or_stopped}
-use Rattle.roff_run.proofs.Readings.{ReadsOn, LimitStops, AheadTaken, ByteTaken, NoteTaken, HalfEnds, InputEnds, InputLeft, LineEnds, MessageTold, RunAborts, SourceFails, SourceStops, ReadsOn-reading_on, Behind, Behind-byte_taken, Behind-ahead_taken, Behind-half_ends, Behind-line_ends, behind_note}
+use Rattle.roff_run.proofs.Readings.{ReadsOn, LimitStops, AheadTaken, ByteTaken, NoteTaken, HalfEnds, InputEnds, InputLeft, LineEnds, MessageTold, RunAborts, SourceFails, SourceStops, ReadsOn-reading_on, Behind, Behind-byte_taken, Behind-ahead_taken, Behind-escape_ends, Behind-line_ends, behind_note}
 use Rattle.roff_laws.proofs.RunsStayWithin.{no_limit_is_passed}
 
 -- the bytes of two lists of items
@@ -132,7 +132,7 @@ Takes-read tape l s t (AheadTaken item behind ahead charge is_made) takes =
 Takes-read tape l s t (ByteTaken b none gives charge is_made) takes =
     Takes-behind tape _ _ t (Behind-byte_taken b (moved (record s { input = counting b s.input }))) (Takes-byte tape b s gives takes)
 Takes-read tape l s t (NoteTaken message gives) takes = Takes-note tape message s gives takes
-Takes-read tape l s t (HalfEnds first others half is_made) takes = Takes-behind tape _ s t (Behind-half_ends s first others half) takes
+Takes-read tape l s t (HalfEnds first others half is_made) takes = Takes-behind tape _ s t (Behind-escape_ends s first others half) takes
 Takes-read tape l s t (InputEnds none half ends is_made) takes =
     let read = Keeps-end_taking (known s) s.reading s.input in
     Takes-same tape s t refl (rw read.charge (omega arith)) read.newlines read.line takes

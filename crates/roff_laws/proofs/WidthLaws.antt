@@ -16,35 +16,35 @@ use Rattle.roff_num.specs.declared.limit.Limit.TheVariants.{Line}
 use Rattle.roff_num.specs.declared.limits.Limits.{Limits}
 use Rattle.roff_arguments.specs.Arguments.{Arguments}
 use Rattle.roff_source.specs.Bytes.{newline, backslash, is_dropped}
-use Rattle.roff_escape.specs.Half.{Half, Backslash, Width}
-use Rattle.roff_escape.specs.Halves.{Reads, byte_read, decides_now, newline_stays, reading_ended, reads_widths, seen_stays}
+use Rattle.roff_escape.specs.OpenEscape.{OpenEscape, Backslash, Width}
+use Rattle.roff_escape.specs.OpenEscapes.{Reads, byte_read, decides_now, newline_stays, reading_ended, reads_widths, is_ended_by}
 use Rattle.roff_ahead.specs.Input.{pushing, Ahead}
 use Rattle.roff_escape.specs.Measures.{byte_columns, most_width, wider}
 use Rattle.roff_source.specs.Tape.{Answer}
 use Rattle.roff_ahead.specs.Shown.{seen_ahead}
-use Rattle.roff_escape.specs.declared.half.Read.TheVariants.{GoesOn, Measures}
-use Rattle.roff_escape.specs.declared.half.Surroundings.{Surroundings}
-use Rattle.roff_escape.specs.declared.half.Surroundings.TheVariants.{Text as AboveText, Arguments as AboveArguments, Copy as AboveCopy}
+use Rattle.roff_escape.specs.declared.open_escape.Found.TheVariants.{GoesOn, Measures}
+use Rattle.roff_escape.specs.declared.open_escape.Surroundings.{Surroundings}
+use Rattle.roff_escape.specs.declared.open_escape.Surroundings.TheVariants.{Text as AboveText, Arguments as AboveArguments, Copy as AboveCopy}
 use Rattle.roff_laws.proofs.Interpolation.{FindsAtLast, AtLast, Behind, IsRead, IsRead-itself, Means, ReadsEscapes, AtBeginning, AtBranch, AtBraced, OnText, OnArguments, OnCondition, OnStringName, OnCall, OnStringText, OnDefinition, OnMessage, ReadsEscapes-reads_escapes, after-escape, interrupted-arguments, is-going, is_no_newline, line_behind, settled_for, settled_for-settled_for, settled_input, source_behind, step-byte, taking-reads, none_due-reads}
 use Rattle.roff_run.proofs.ItemsTaken.{Fits-IsWithin, FromAhead, FromSource, Origin, ahead_at, going, input_of, not-first, not-second, tape_at, taken_as-going_on, made-Fits, step-TakesItems}
 use Rattle.roff_laws.specs.InterpolationLaws.{StandsForItself, reads_escapes}
 use Rattle.roff_run.specs.ItemsTaken.{TakesItems}
 use Rattle.roff_run.specs.Within.{IsWithin}
 use Rattle.roff_run.specs.Output.{text_of}
-use Rattle.roff_run.specs.Reading.{taking, half_ended}
+use Rattle.roff_run.specs.Reading.{taking, escape_ended}
 use Rattle.roff_run.specs.Reading.Escapes.{measuring}
 use Rattle.roff_run.specs.Reading.Found.{place_in, read_in}
 use Rattle.roff_run.specs.Reading.Items.{PageInput, Taking}
 use Rattle.roff_run.specs.Registers.{Known}
 use Rattle.roff_run.specs.declared.event.PageEvent.{PageEvent}
-use Rattle.roff_run.specs.Run.{State, after, known, step, taken_as, answered, awaited, awaited_of_source, ending_input, half_ends, in_front_taken, made, item_read}
+use Rattle.roff_run.specs.Run.{State, after, known, step, taken_as, answered, awaited, awaited_of_source, ending_input, escape_ends, in_front_taken, made, item_read}
 use Rattle.roff_run.specs.Run.Counts.{first_passed}
 use Rattle.roff_laws.specs.WidthLaws.{MayDelimit, IsPlain, text_units, width_escape, measures_texts, with_width_ahead, WidthsReadAsDigits, WidthsOfTheSourceReadAsDigits, MeasuredTextsReadAsDigits, MeasuredTextsOfTheSourceReadAsDigits, MotionsAreAsLongAsTheirColumns, MotionsCountInTheLine, TabsAreAsLongAsTheirColumns, TabsCountInTheLine, EndsText, NewlineAhead, NewlineOfTheSource, EndOfTheSource, WidthsEndWithTheirLine}
-use Rattle.roff_run.specs.declared.reading.Reading.{Reading}
-use Rattle.roff_run.specs.declared.reading.Reading.TheVariants.{LineStart, Branch, Braced, Text as InText, Control, Name as NameOf, Arguments as InArguments, Deciding, StringName, StringText, Skipping, Dropped, Telling, Told, Exiting, Calling, Defining}
+use Rattle.roff_run.specs.declared.line_state.LineState.{LineState}
+use Rattle.roff_run.specs.declared.line_state.LineState.TheVariants.{LineStart, Branch, Braced, Text as InText, Control, Name as NameOf, Arguments as InArguments, Deciding, StringName, StringText, Skipping, Dropped, Telling, Told, Exiting, Calling, Defining}
 
 -- a width was measured where escapes are read
-read_in-measures : (k : Known) (reading : Reading) (i : PageInput) (half : List Half) (width : ℕ) → ReadsEscapes reading
+read_in-measures : (k : Known) (reading : LineState) (i : PageInput) (half : List OpenEscape) (width : ℕ) → ReadsEscapes reading
     → read_in k reading i (Measures width, half) ≡ measuring (settled_input reading half i) reading width
 read_in-measures k _ i half width AtBeginning = refl
 read_in-measures k _ i half width AtBranch = refl
@@ -59,19 +59,19 @@ read_in-measures k _ i half width (OnDefinition string appends end matched) = re
 read_in-measures k _ i half width (OnMessage aborts is_front) = refl
 
 -- a byte that ends a text that is measured
-taking-measures : (k : Known) (reading : Reading) (i : PageInput) (b width : ℕ) (half : List Half) → ReadsEscapes reading
-    → IsRead b → byte_read (place_in k reading) i.half b ≡ (Measures width, half) → taking k reading i b ≡ measuring (settled_input reading half i) reading width
+taking-measures : (k : Known) (reading : LineState) (i : PageInput) (b width : ℕ) (half : List OpenEscape) → ReadsEscapes reading
+    → IsRead b → byte_read (place_in k reading) i.escapes b ≡ (Measures width, half) → taking k reading i b ≡ measuring (settled_input reading half i) reading width
 taking-measures k reading i b width half on read reads =
     taking-reads k reading i b on read ∙ ap (read_in k reading i) reads ∙ read_in-measures k reading i half width on
 
 -- a width was measured in such a run
-abbrev measured : State → Reading → Origin → Arguments → List Half → ℕ → ℕ → ℕ → State
+abbrev measured : State → LineState → Origin → Arguments → List OpenEscape → ℕ → ℕ → ℕ → State
 measured s reading from a half charge line width =
     let t : State = going s reading from [] a half charge line in
     record t { input = pushing (decimal width) t.input }
 
 -- a byte that finds it
-means-measures : (s : State) (reading : Reading) (from : Origin) (a : Arguments) (charge line width : ℕ) (behind : List Half)
+means-measures : (s : State) (reading : LineState) (from : Origin) (a : Arguments) (charge line width : ℕ) (behind : List OpenEscape)
     → ReadsEscapes reading
     → Means s reading from a charge line (Measures width) behind (measured s reading from (settled_for reading a) behind charge line width)
 means-measures s reading from a charge line width behind on half b read reads =
@@ -81,19 +81,19 @@ means-measures s reading from a charge line width behind on half b read reads =
     ∙ taken_as-going_on (pushing (decimal width) i) reading before
 
 -- its digits ahead of what is behind the bytes
-abbrev width_from : Origin → ℕ → List Half → ℕ → State → State
+abbrev width_from : Origin → ℕ → List OpenEscape → ℕ → State → State
 width_from from width half taken s = with_width_ahead width half taken (ahead_at from []) (source_behind from s)
 
 -- before them no quote follows the quote before
-with_width_ahead-arguments : (width : ℕ) (half : List Half) (taken : ℕ) (rest : List (Ahead PageEvent)) (s : State) → ReadsEscapes s.reading
+with_width_ahead-arguments : (width : ℕ) (half : List OpenEscape) (taken : ℕ) (rest : List (Ahead PageEvent)) (s : State) → ReadsEscapes s.reading
     → with_width_ahead width half taken rest s
     ≡ record s { input = pushing (decimal width) (record (settled_input s.reading half s.input) { ahead = rest; charge = s.input.charge + taken }) }
 with_width_ahead-arguments width half taken rest s on =
-    ap (λ (i : PageInput). record s { input = pushing (decimal width) (record i { ahead = rest; half = half; charge = s.input.charge + taken }) })
+    ap (λ (i : PageInput). record s { input = pushing (decimal width) (record i { ahead = rest; escapes = half; charge = s.input.charge + taken }) })
     (interrupted-arguments s.reading s.input on)
 
 -- so it is the width that was measured
-width_from-measured : (s : State) (reading : Reading) (from : Origin) (bytes : List ℕ) (a : Arguments) (half behind : List Half)
+width_from-measured : (s : State) (reading : LineState) (from : Origin) (bytes : List ℕ) (a : Arguments) (half behind : List OpenEscape)
     (charge taken line width : ℕ) → ReadsEscapes reading
     → width_from from width behind taken (going s reading from bytes a half charge line)
     ≡ measured s reading from (settled_for reading a) behind (charge + taken) (line_behind from s line) width
@@ -107,18 +107,18 @@ itself : (b : ℕ) → (b == b) ≡ true
 itself b = grind (arith, nat_tests)
 
 -- the delimiter ends the text
-byte_read-delimiter : (base : Surroundings) (d width : ℕ) (is_deep : Bool) (half : List Half)
+byte_read-delimiter : (base : Surroundings) (d width : ℕ) (is_deep : Bool) (half : List OpenEscape)
     → byte_read base (Width (Some d) width is_deep ∷ half) d ≡ (Measures width, half)
 byte_read-delimiter base d width is_deep half = rw (itself d) refl
 
 -- the step at it
-step-delimiter : (l : Limits) (s : State) (reading : Reading) (from : Origin) (a : Arguments) (d width : ℕ) (is_deep : Bool)
-    (half : List Half) (charge line : ℕ) → ReadsEscapes reading → MayDelimit d
+step-delimiter : (l : Limits) (s : State) (reading : LineState) (from : Origin) (a : Arguments) (d width : ℕ) (is_deep : Bool)
+    (half : List OpenEscape) (charge line : ℕ) → ReadsEscapes reading → MayDelimit d
     → let first : State = going s reading from (d ∷ []) a (Width (Some d) width is_deep ∷ half) charge line in
     let read : State = width_from from width half 1 first in
     IsWithin l first → IsWithin l read → step l first ≡ read
 step-delimiter l s reading from a d width is_deep half charge line on may within within_read =
-    let text : List Half = Width (Some d) width is_deep ∷ half in
+    let text : List OpenEscape = Width (Some d) width is_deep ∷ half in
     let next : ℕ = line_behind from s line in
     let t : State = measured s reading from (settled_for reading a) half (charge + 1) next width in
     let is : width_from from width half 1 (going s reading from (d ∷ []) a text charge line) ≡ t =
@@ -130,8 +130,8 @@ step-delimiter l s reading from a d width is_deep half charge line on may within
     ∙ sym is
 
 -- and in any state of such a run
-delimiter-reads : (l : Limits) (s : State) (from : Origin) (d width : ℕ) (is_deep : Bool) (half : List Half)
-    → MayDelimit d → TakesItems s → reads_escapes s.reading ≡ true → s.input.half ≡ Width (Some d) width is_deep ∷ half
+delimiter-reads : (l : Limits) (s : State) (from : Origin) (d width : ℕ) (is_deep : Bool) (half : List OpenEscape)
+    → MayDelimit d → TakesItems s → reads_escapes s.reading ≡ true → s.input.escapes ≡ Width (Some d) width is_deep ∷ half
     → s.input.ahead ≡ ahead_at from (d ∷ []) → s.tape ≡ tape_at from (d ∷ []) s.tape
     → let read : State = width_from from width half 1 s in
     IsWithin l s → IsWithin l read → step l s ≡ read
@@ -139,7 +139,7 @@ delimiter-reads l s from d width is_deep half may takes reads measures ahead tap
     let on : ReadsEscapes s.reading = ReadsEscapes-reads_escapes s.reading reads in
     let Goal : State → Type 0 = λ t. IsWithin l t → IsWithin l (width_from from width half 1 t) → step l t ≡ width_from from width half 1 t in
     let is : going s s.reading from (d ∷ []) s.input.arguments (Width (Some d) width is_deep ∷ half) s.input.charge s.input.line ≡ s =
-    ap (λ (h : List Half). going s s.reading from (d ∷ []) s.input.arguments h s.input.charge s.input.line) (sym measures)
+    ap (λ (h : List OpenEscape). going s s.reading from (d ∷ []) s.input.arguments h s.input.charge s.input.line) (sym measures)
     ∙ is-going s from (d ∷ []) takes ahead tape in
     subst Goal is (step-delimiter l s s.reading from s.input.arguments d width is_deep half s.input.charge s.input.line on may)
 
@@ -152,40 +152,41 @@ widths_of_the_source_read_as_digits l s d width is_deep half tape may takes read
     delimiter-reads l s (FromSource tape) d width is_deep half may takes reads measures none stands
 
 -- the end of a text that is measured
-half_ended-measures : (k : Known) (reading : Reading) (i : PageInput) (delimiter : Option ℕ) (width : ℕ) (is_deep : Bool) (half : List Half)
-    → ReadsEscapes reading → i.half ≡ Width delimiter width is_deep ∷ half
-    → half_ended k reading i ≡ measuring (settled_input reading half i) reading width
-half_ended-measures k reading i delimiter width is_deep half on measures =
-    ap (λ (h : List Half). read_in k reading i (reading_ended (place_in k reading) h)) measures
+escape_ended-measures : (k : Known) (reading : LineState) (i : PageInput) (delimiter : Option ℕ) (width : ℕ) (is_deep : Bool) (half : List OpenEscape)
+    → ReadsEscapes reading → i.escapes ≡ Width delimiter width is_deep ∷ half
+    → escape_ended k reading i ≡ measuring (settled_input reading half i) reading width
+escape_ended-measures k reading i delimiter width is_deep half on measures =
+    ap (λ (h : List OpenEscape). read_in k reading i (reading_ended (place_in k reading) h)) measures
     ∙ read_in-measures k reading i half width on
 
 -- where it ends so, its end is the step
-item_read-ends : (l : Limits) (s : State) (delimiter : Option ℕ) (width : ℕ) (is_deep : Bool) (half : List Half) → EndsText s
-    → s.input.half ≡ Width delimiter width is_deep ∷ half → item_read l s ≡ made l s (half_ends s)
+item_read-ends : (l : Limits) (s : State) (delimiter : Option ℕ) (width : ℕ) (is_deep : Bool) (half : List OpenEscape)
+    → EndsText s
+    → s.input.escapes ≡ Width delimiter width is_deep ∷ half → item_read l s ≡ made l s (escape_ends s)
 item_read-ends l s delimiter width is_deep half (NewlineAhead rest ahead) measures =
-    ap (λ (h : List Half). if newline_stays h then (if decides_now h then made l s (half_ends s) else awaited l (seen_ahead s.input.ahead) s) else in_front_taken l s.input.ahead s) measures
+    ap (λ (h : List OpenEscape). if newline_stays h then (if decides_now h then made l s (escape_ends s) else awaited l (seen_ahead s.input.ahead) s) else in_front_taken l s.input.ahead s) measures
     ∙ ap (λ (items : List (Ahead PageEvent)). awaited l (seen_ahead items) s) ahead
-    ∙ ap (λ (h : List Half). if seen_stays h (Some newline) then made l s (half_ends s) else in_front_taken l s.input.ahead s) measures
+    ∙ ap (λ (h : List OpenEscape). if is_ended_by h (Some newline) then made l s (escape_ends s) else in_front_taken l s.input.ahead s) measures
 item_read-ends l s delimiter width is_deep half (NewlineOfTheSource ahead gives) measures =
-    ap (λ (h : List Half). if newline_stays h then (if decides_now h then made l s (half_ends s) else awaited l (seen_ahead s.input.ahead) s) else in_front_taken l s.input.ahead s) measures
+    ap (λ (h : List OpenEscape). if newline_stays h then (if decides_now h then made l s (escape_ends s) else awaited l (seen_ahead s.input.ahead) s) else in_front_taken l s.input.ahead s) measures
     ∙ ap (λ (items : List (Ahead PageEvent)). awaited l (seen_ahead items) s) ahead
     ∙ ap (λ (a : Answer). awaited_of_source l a s) gives
-    ∙ ap (λ (h : List Half). if seen_stays h (Some newline) then made l s (half_ends s) else in_front_taken l s.input.ahead s) measures
+    ∙ ap (λ (h : List OpenEscape). if is_ended_by h (Some newline) then made l s (escape_ends s) else in_front_taken l s.input.ahead s) measures
 item_read-ends l s delimiter width is_deep half (EndOfTheSource ahead ends) measures =
-    ap (λ (h : List Half). if newline_stays h then (if decides_now h then made l s (half_ends s) else awaited l (seen_ahead s.input.ahead) s) else in_front_taken l s.input.ahead s) measures
+    ap (λ (h : List OpenEscape). if newline_stays h then (if decides_now h then made l s (escape_ends s) else awaited l (seen_ahead s.input.ahead) s) else in_front_taken l s.input.ahead s) measures
     ∙ ap (λ (items : List (Ahead PageEvent)). awaited l (seen_ahead items) s) ahead
     ∙ ap (λ (a : Answer). awaited_of_source l a s) ends
-    ∙ ap (λ (h : List Half). if seen_stays h None then made l s (half_ends s) else in_front_taken l s.input.ahead s) measures
+    ∙ ap (λ (h : List OpenEscape). if is_ended_by h None then made l s (escape_ends s) else in_front_taken l s.input.ahead s) measures
     ∙ ap (λ (items : List (Ahead PageEvent)). in_front_taken l items s) ahead
     ∙ ap (λ (a : Answer). answered l a s) ends
-    ∙ ap (λ (h : List Half). ending_input l h s) measures
+    ∙ ap (λ (h : List OpenEscape). ending_input l h s) measures
 
 pub widths_end_with_their_line : WidthsEndWithTheirLine
 widths_end_with_their_line l s delimiter width is_deep half ends takes reads measures within within_read =
     let on : ReadsEscapes s.reading = ReadsEscapes-reads_escapes s.reading reads in
     let read : State = with_width_ahead width half 0 s.input.ahead s in
-    let is : half_ends s ≡ read =
-    ap (λ (taking : Taking). taken_as taking s) (half_ended-measures (known s) s.reading s.input delimiter width is_deep half on measures)
+    let is : escape_ends s ≡ read =
+    ap (λ (taking : Taking). taken_as taking s) (escape_ended-measures (known s) s.reading s.input delimiter width is_deep half on measures)
     ∙ taken_as-going_on (pushing (decimal width) (settled_input s.reading half s.input)) s.reading s
     ∙ ap (λ (c : ℕ). let t : State = record s { input = pushing (decimal width) (record (settled_input s.reading half s.input) { charge = c }) } in t) (omega arith)
     ∙ sym (with_width_ahead-arguments width half 0 s.input.ahead s on) in
@@ -230,7 +231,7 @@ finds-text base d width (b ∷ text) may plain =
     (finds-text base d (wider width (byte_columns b)) text may (All-tail (λ b. ((b == d) ≡ false) × StandsForItself b) b text plain))
 
 -- where texts are measured escapes are read
-reads_escapes-measures_texts : (reading : Reading) → measures_texts reading ≡ true → reads_escapes reading ≡ true
+reads_escapes-measures_texts : (reading : LineState) → measures_texts reading ≡ true → reads_escapes reading ≡ true
 reads_escapes-measures_texts LineStart is = refl
 reads_escapes-measures_texts Branch is = refl
 reads_escapes-measures_texts Braced is = refl
@@ -250,7 +251,7 @@ reads_escapes-measures_texts (Told aborts) is = absurd (cc)
 reads_escapes-measures_texts Exiting is = absurd (cc)
 
 -- above a text line and above arguments widths are read, but not where a string's text is copied
-reads_widths-above : (k : Known) (reading : Reading) → ReadsEscapes reading → measures_texts reading ≡ true → reads_widths (place_in k reading) ≡ true
+reads_widths-above : (k : Known) (reading : LineState) → ReadsEscapes reading → measures_texts reading ≡ true → reads_widths (place_in k reading) ≡ true
 reads_widths-above k _ AtBeginning reads = refl
 reads_widths-above k _ AtBranch reads = refl
 reads_widths-above k _ AtBraced reads = refl
@@ -278,7 +279,7 @@ finds-escape base d text reads may plain =
     (Behind (Width None 0 false ∷ []) (Width (Some d) 0 false ∷ []) d (text ++ d ∷ []) may (not-second (is_dropped d) (d == newline) may) refl refl (finds-text base d 0 text may plain)))
 
 -- the steps at the escape
-after-width : (l : Limits) (s : State) (reading : Reading) (from : Origin) (a : Arguments) (d : ℕ) (text : List ℕ) (charge line : ℕ)
+after-width : (l : Limits) (s : State) (reading : LineState) (from : Origin) (a : Arguments) (d : ℕ) (text : List ℕ) (charge line : ℕ)
     → ReadsEscapes reading → measures_texts reading ≡ true → MayDelimit d → IsPlain d text
     → let first : State = going s reading from (width_escape d text) a [] charge line in
     let read : State = width_from from (text_units text) [] (length (width_escape d text)) first in
@@ -302,7 +303,7 @@ after-width l s reading from a d text charge line on reads may plain within with
 
 -- and in any state of such a run
 width-reads : (l : Limits) (s : State) (from : Origin) (d : ℕ) (text : List ℕ) → MayDelimit d → IsPlain d text → TakesItems s
-    → measures_texts s.reading ≡ true → s.input.half ≡ [] → s.input.ahead ≡ ahead_at from (width_escape d text) → s.tape ≡ tape_at from (width_escape d text) s.tape
+    → measures_texts s.reading ≡ true → s.input.escapes ≡ [] → s.input.ahead ≡ ahead_at from (width_escape d text) → s.tape ≡ tape_at from (width_escape d text) s.tape
     → let read : State = width_from from (text_units text) [] (length (width_escape d text)) s in
     IsWithin l s → IsWithin l read → after l (length (width_escape d text)) s ≡ read
 width-reads l s from d text may plain takes reads none ahead tape =
@@ -312,7 +313,7 @@ width-reads l s from d text may plain takes reads none ahead tape =
     IsWithin l t → IsWithin l (width_from from (text_units text) [] (length escape) t)
     → after l (length escape) t ≡ width_from from (text_units text) [] (length escape) t in
     let is : going s s.reading from escape s.input.arguments [] s.input.charge s.input.line ≡ s =
-    ap (λ (h : List Half). going s s.reading from escape s.input.arguments h s.input.charge s.input.line) (sym none)
+    ap (λ (h : List OpenEscape). going s s.reading from escape s.input.arguments h s.input.charge s.input.line) (sym none)
     ∙ is-going s from escape takes ahead tape in
     subst Goal is (after-width l s s.reading from s.input.arguments d text s.input.charge s.input.line on reads may plain)
 

@@ -16,7 +16,7 @@ use Rattle.roff_run.specs.Reading.Items.{PageInput}
 use Rattle.roff_run.specs.declared.event.PageEvent.{PageEvent}
 use Rattle.roff_run.specs.Run.{State, after}
 use Rattle.roff_num.specs.ShortNames.{name_bytes}
-use Rattle.roff_run.specs.declared.reading.Reading.TheVariants.{LineStart}
+use Rattle.roff_run.specs.declared.line_state.LineState.TheVariants.{LineStart}
 use Rattle.roff_num.specs.declared.short_name.ShortName.{ShortName}
 use Rattle.roff_run.specs.Reading.ControlLines.{BelongsToName}
 
@@ -24,7 +24,7 @@ use Rattle.roff_run.specs.Reading.ControlLines.{BelongsToName}
 pub record BeginsLine (s : State) : Type 0 where
   pub takes : TakesItems s
   pub reading : s.reading ≡ LineStart
-  pub half : s.input.half ≡ []
+  pub escapes : s.input.escapes ≡ []
   pub arguments : s.input.arguments ≡ no_arguments
 
 -- what a control line begins with

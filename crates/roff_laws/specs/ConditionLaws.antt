@@ -14,7 +14,7 @@ use Rattle.roff_run.specs.Reading.Branches.{branch_of, most_braces}
 use Rattle.roff_run.specs.Reading.Items.{PageInput, going_on}
 use Rattle.roff_run.specs.Registers.{Known}
 use Rattle.roff_run.specs.Run.{State, after}
-use Rattle.roff_run.specs.declared.reading.Reading.TheVariants.{LineStart, Skipping}
+use Rattle.roff_run.specs.declared.line_state.LineState.TheVariants.{LineStart, Skipping}
 
 -- whether bytes are whole: the last isn't a backslash that belongs to a byte behind it
 abbrev pub is_whole : List ℕ → Bool
@@ -69,7 +69,7 @@ BranchesAreSkippedToTheirEnd =
 -- what is counted nothing changes, and behind it a line begins.
 abbrev pub RunsPassOverSkippedBranches : Type 0
 RunsPassOverSkippedBranches =
-    (l : Limits) (s : State) (front : List ℕ) (tape : Tape) → TakesItems s → s.reading ≡ branch_of false → s.input.half ≡ [] →
+    (l : Limits) (s : State) (front : List ℕ) (tape : Tape) → TakesItems s → s.reading ≡ branch_of false → s.input.escapes ≡ [] →
     s.input.ahead ≡ [] → s.tape ≡ items_then (map OneByte front) tape → IsSkippedBranch front → AreKept front →
     length front ≤ most_braces → s.input.charge + length front ≤ l.bytes → IsWithin l s →
     after l (length front) s ≡ record s { tape = tape; reading = LineStart; input = lines_taken front s.input }

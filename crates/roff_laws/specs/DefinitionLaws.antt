@@ -3,7 +3,7 @@ use Rattle.std.specs.Prelude.{◌≡◌, ℕ, ◌+◌, ◌≤◌, Bool, true, fa
 use Rattle.std.specs.List.{flat_map}
 use Rattle.roff_num.specs.declared.limits.Limits.{Limits}
 use Rattle.roff_source.specs.Bytes.{is_dropped, newline}
-use Rattle.roff_escape.specs.HalfLaws.{copied, is_only_copied}
+use Rattle.roff_escape.specs.EscapeLaws.{copied, is_only_copied}
 use Rattle.roff_ahead.specs.Input.{Ahead, ByteAhead, lines_taken}
 use Rattle.roff_ahead.specs.Input.Names.{body_named, stored}
 use Rattle.roff_source.specs.Tape.{Tape, OneByte, items_then}
@@ -20,7 +20,7 @@ use Rattle.roff_run.specs.Registers.{Known}
 use Rattle.roff_run.specs.declared.event.PageEvent.{PageEvent}
 use Rattle.roff_run.specs.Run.{State, known, taken_as, after}
 use Rattle.roff_num.specs.ShortNames.{name_bytes}
-use Rattle.roff_run.specs.declared.reading.Reading.TheVariants.{LineStart, Defining}
+use Rattle.roff_run.specs.declared.line_state.LineState.TheVariants.{LineStart, Defining}
 use Rattle.roff_num.specs.declared.short_name.ShortName.{ShortName}
 
 -- whether a line ends a definition with this mark: the mark stands in front of it, and behind that the line ends, or a blank or
@@ -58,7 +58,7 @@ definition_bytes end lines = bytes_of_lines lines ++ end_mark end ++ newline ∷
 pub record BeginsDefinition (s : State) (name : Option ShortName) (appends : Bool) (end : Option ShortName) : Type 0 where
   pub takes : TakesItems s
   pub reading : s.reading ≡ Defining name appends end (Some 0)
-  pub half : s.input.half ≡ []
+  pub escapes : s.input.escapes ≡ []
 
 -- these are the lines of its text, and the bytes of the mark that ends it stand for themselves
 pub record AreItsLines (end : Option ShortName) (lines : List (List ℕ)) : Type 0 where

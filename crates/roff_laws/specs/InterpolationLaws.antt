@@ -3,16 +3,16 @@
 use Rattle.std.specs.Prelude.{◌≡◌, ℕ, ◌+◌, ◌<◌, Bool, true, false, not, ◌||◌, List, [], ◌∷◌, ◌++◌, length, map, sum_by, IsTrue, Option, Some, None, ◌==◌}
 use Rattle.roff_num.specs.declared.limits.Limits.{Limits}
 use Rattle.roff_source.specs.Bytes.{newline, backslash, is_dropped}
-use Rattle.roff_escape.specs.HalfLaws.{is_special, short_escape, long_escape, string_escape, argument_escape}
-use Rattle.roff_escape.specs.Half.{Half, Backslash, Comment, Name as NameHalf, Size, Delimited, Width, Condition, names_in}
-use Rattle.roff_escape.specs.Halves.{most_names}
+use Rattle.roff_escape.specs.EscapeLaws.{is_special, short_escape, long_escape, string_escape, argument_escape}
+use Rattle.roff_escape.specs.OpenEscape.{OpenEscape, Backslash, Comment, Name as OpenName, Size, Delimited, Width, Condition, names_in}
+use Rattle.roff_escape.specs.OpenEscapes.{most_names}
 use Rattle.roff_ahead.specs.Input.{Ahead, ByteAhead, pushing, item_taken, cost, counting}
 use Rattle.roff_ahead.specs.Input.Calls.{arguments_live}
 use Rattle.roff_ahead.specs.Input.Names.{body_named}
 use Rattle.roff_escape.specs.declared.escapes.NameUse.{NameUse}
 use Rattle.roff_escape.specs.declared.escapes.NameUse.TheVariants.{Register, Text as OfText, Argument}
-use Rattle.roff_escape.specs.declared.half.ConditionPart.{ConditionPart}
-use Rattle.roff_escape.specs.declared.half.ConditionPart.TheVariants.{Choice, Expression, Compared, Decided}
+use Rattle.roff_escape.specs.declared.open_escape.ConditionPart.{ConditionPart}
+use Rattle.roff_escape.specs.declared.open_escape.ConditionPart.TheVariants.{Choice, Expression, Compared, Decided}
 use Rattle.roff_source.specs.Tape.{Tape, OneByte, front, items_then}
 use Rattle.roff_num.specs.declared.direction.Direction.{Direction}
 use Rattle.roff_run.specs.Within.{IsWithin}
@@ -23,19 +23,19 @@ use Rattle.roff_run.specs.Reading.Items.{PageInput}
 use Rattle.roff_run.specs.Registers.{Known, StepBy, changed_by, step_messages, text_of_register}
 use Rattle.roff_run.specs.declared.event.PageEvent.{PageEvent}
 use Rattle.roff_run.specs.Run.{State, known, answered, item_read, step, after}
-use Rattle.roff_run.specs.declared.reading.Reading.{Reading}
-use Rattle.roff_run.specs.declared.reading.Reading.TheVariants.{LineStart, Branch, Braced, Text as InText, Control, Name, Arguments as InArguments, Deciding, StringName, StringText, Skipping, Dropped, Telling, Told, Exiting, Calling, Defining}
+use Rattle.roff_run.specs.declared.line_state.LineState.{LineState}
+use Rattle.roff_run.specs.declared.line_state.LineState.TheVariants.{LineStart, Branch, Braced, Text as InText, Control, Name, Arguments as InArguments, Deciding, StringName, StringText, Skipping, Dropped, Telling, Told, Exiting, Calling, Defining}
 use Rattle.roff_run.specs.ItemsTaken.{TakesItems}
 
 -- where nothing is ahead and nothing is half read, the unread input is the source's tape
 abbrev pub UnreadInputIsTheTape : Type 0
 UnreadInputIsTheTape =
-    (l : Limits) (s : State) → s.input.ahead ≡ [] → s.input.half ≡ [] → item_read l s ≡ answered l (front s.tape) s
+    (l : Limits) (s : State) → s.input.ahead ≡ [] → s.input.escapes ≡ [] → item_read l s ≡ answered l (front s.tape) s
 
 -- and a step of a run that takes items is what the tape's front says
 abbrev pub StepsFollowTheTape : Type 0
 StepsFollowTheTape =
-    (l : Limits) (s : State) → TakesItems s → s.input.ahead ≡ [] → s.input.half ≡ [] → step l s ≡ answered l (front s.tape) s
+    (l : Limits) (s : State) → TakesItems s → s.input.ahead ≡ [] → s.input.escapes ≡ [] → step l s ≡ answered l (front s.tape) s
 
 -- a byte that stands for itself wherever bytes are read: it isn't dropped, doesn't end the line, and begins no escape
 abbrev pub StandsForItself : ℕ → Type 0
@@ -54,7 +54,7 @@ pub data IsEscapeOf : NameUse → List ℕ → List ℕ → Type 0 where
   OfArgument : (x : ℕ) → StandsForItself x → IsEscapeOf Argument (x ∷ []) (argument_escape x)
 
 -- whether text is read: where a line or a branch begins, and behind it
-abbrev pub reads_text : Reading → Bool
+abbrev pub reads_text : LineState → Bool
 reads_text LineStart = true
 reads_text Branch = true
 reads_text Braced = true
@@ -75,7 +75,7 @@ reads_text Exiting = false
 
 -- whether escapes are read: those of text, those among the arguments of a request or a call, those of conditions, those of a
 -- string's name and text, and those of the text of a message or a definition
-abbrev pub reads_escapes : Reading → Bool
+abbrev pub reads_escapes : LineState → Bool
 reads_escapes LineStart = true
 reads_escapes Branch = true
 reads_escapes Braced = true
@@ -102,11 +102,11 @@ reads_in_condition (Compared negated d first) = not (backslash == d)
 reads_in_condition (Decided decision freed) = false
 
 -- whether an escape is read as a text above these: names within each other, alone or above a condition that reads escapes
-abbrev pub reads_above : List Half → Bool
+abbrev pub reads_above : List OpenEscape → Bool
 reads_above [] = true
 reads_above (Backslash ∷ rest) = false
 reads_above (Comment ∷ rest) = false
-reads_above (NameHalf purpose part ∷ rest) = reads_above rest
+reads_above (OpenName purpose part ∷ rest) = reads_above rest
 reads_above (Size part ∷ rest) = false
 reads_above (Delimited purpose delimiter text ∷ rest) = false
 reads_above (Width delimiter width is_deep ∷ rest) = false
@@ -143,7 +143,7 @@ with_text_ahead purpose name taken rest s = record s {
 abbrev pub EscapesReadAsTexts : Type 0
 EscapesReadAsTexts =
     (l : Limits) (s : State) (purpose : NameUse) (name escape : List ℕ) (rest : List (Ahead PageEvent)) →
-    IsEscapeOf purpose name escape → TakesItems s → reads_above s.input.half ≡ true → names_in s.input.half < most_names →
+    IsEscapeOf purpose name escape → TakesItems s → reads_above s.input.escapes ≡ true → names_in s.input.escapes < most_names →
     reads_escapes s.reading ≡ true → s.input.ahead ≡ map ByteAhead escape ++ rest →
     let read : State = with_text_ahead purpose name (length escape) rest (stepped purpose name s) in
     IsWithin l s → IsWithin l read → after l (length escape) s ≡ read
@@ -156,7 +156,7 @@ with_source_behind tape s = record s { tape = tape; input = record s.input { lin
 abbrev pub EscapesOfTheSourceReadAsTexts : Type 0
 EscapesOfTheSourceReadAsTexts =
     (l : Limits) (s : State) (purpose : NameUse) (name escape : List ℕ) (tape : Tape) →
-    IsEscapeOf purpose name escape → TakesItems s → reads_above s.input.half ≡ true → names_in s.input.half < most_names →
+    IsEscapeOf purpose name escape → TakesItems s → reads_above s.input.escapes ≡ true → names_in s.input.escapes < most_names →
     reads_escapes s.reading ≡ true → s.input.ahead ≡ [] → s.tape ≡ items_then (map OneByte escape) tape →
     let read : State = with_text_ahead purpose name (length escape) [] (stepped purpose name (with_source_behind tape s)) in
     IsWithin l s → IsWithin l read → after l (length escape) s ≡ read
@@ -166,11 +166,11 @@ EscapesOfTheSourceReadAsTexts =
 abbrev pub EscapesOfTextReadAsTexts : Type 0
 EscapesOfTextReadAsTexts =
     (l : Limits) (s : State) (name escape : List ℕ) (rest : List (Ahead PageEvent)) →
-    IsEscapeOf (Register None) name escape → TakesItems s → reads_text s.reading ≡ true → s.input.half ≡ [] →
+    IsEscapeOf (Register None) name escape → TakesItems s → reads_text s.reading ≡ true → s.input.escapes ≡ [] →
     s.input.ahead ≡ map ByteAhead escape ++ rest →
     let text : List ℕ = text_of_register (known s) name in
     let read : State =
-      record s { input = pushing text (record s.input { ahead = rest; charge = s.input.charge + length escape }) } in
+    record s { input = pushing text (record s.input { ahead = rest; charge = s.input.charge + length escape }) } in
     IsWithin l s → IsWithin l read → after l (length escape) s ≡ read
 
 -- a byte of a pushed text costs what a byte of the source does

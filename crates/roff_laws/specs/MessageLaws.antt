@@ -7,7 +7,7 @@ use Rattle.roff_laws.specs.Quoting.{taking_all}
 use Rattle.roff_run.specs.Reading.Items.{PageInput, Taking}
 use Rattle.roff_run.specs.Reading.Messages.{message_text_read}
 use Rattle.roff_run.specs.Registers.{Known}
-use Rattle.roff_run.specs.declared.reading.Reading.TheVariants.{Telling, Told}
+use Rattle.roff_run.specs.declared.line_state.LineState.TheVariants.{Telling, Told}
 
 -- a text without the blanks in front
 abbrev pub without_front : List ℕ → List ℕ
@@ -22,6 +22,6 @@ pub record TellsText (aborts : Bool) (text : List ℕ) (t : Taking) : Type 0 whe
 -- a line of bytes that stand for themselves tells them, without the blanks in front: quotes stay
 abbrev pub MessagesAreTheirTexts : Type 0
 MessagesAreTheirTexts =
-    (k : Known) (aborts : Bool) (i : PageInput) (text : List ℕ) → i.half ≡ [] → i.arguments ≡ no_arguments →
+    (k : Known) (aborts : Bool) (i : PageInput) (text : List ℕ) → i.escapes ≡ [] → i.arguments ≡ no_arguments →
     All StandsForItself text →
     TellsText aborts (without_front text) (taking_all k (Telling aborts true) i (text ++ newline ∷ []))

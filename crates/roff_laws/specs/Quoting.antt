@@ -12,8 +12,8 @@ use Rattle.roff_run.specs.Registers.{Known}
 use Rattle.roff_run.specs.Requests.{Effect, request_effect, row_of}
 use Rattle.roff_run.specs.declared.request.LineReading.{LineReading}
 use Rattle.roff_run.specs.declared.request.LineReading.TheVariants.{ByLines}
-use Rattle.roff_run.specs.declared.reading.Reading.{Reading}
-use Rattle.roff_run.specs.declared.reading.Reading.TheVariants.{Arguments as InArguments}
+use Rattle.roff_run.specs.declared.line_state.LineState.{LineState}
+use Rattle.roff_run.specs.declared.line_state.LineState.TheVariants.{Arguments as InArguments}
 use Rattle.roff_run.specs.declared.request.Request.{Request}
 
 -- what two effects mean together, one after the other
@@ -26,7 +26,7 @@ both first second = record {
 }
 
 -- what several bytes do, one after another: the input and what is read behind them, and what they mean together
-abbrev pub taking_all : Known → Reading → PageInput → List ℕ → Taking
+abbrev pub taking_all : Known → LineState → PageInput → List ℕ → Taking
 taking_all k reading i [] = going_on i reading
 taking_all k reading i (b ∷ bytes) =
     let t : Taking = taking k reading i b in
@@ -47,6 +47,6 @@ given_taking k breaks request i (_) as_given = ended_by i request (request_effec
 abbrev pub RequestsGetQuotedArguments : Type 0
 RequestsGetQuotedArguments =
     (k : Known) (breaks : Bool) (request : Request) (i : PageInput) (arguments : List (List ℕ)) →
-    i.half ≡ [] → i.arguments ≡ no_arguments → All (All StandsForItself) arguments →
+    i.escapes ≡ [] → i.arguments ≡ no_arguments → All (All StandsForItself) arguments →
     taking_all k (InArguments breaks request) i (quoted_line arguments ++ newline ∷ [])
     ≡ given_taking k breaks request i (row_of request).line (kept arguments)

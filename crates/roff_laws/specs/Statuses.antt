@@ -9,7 +9,7 @@ use Rattle.roff_run.specs.Run.{State}
 use Rattle.roff_run.specs.declared.message.Message.TheVariants.{LimitReached, ReadFailed}
 use Rattle.roff_run.specs.declared.status.Status.{Status}
 use Rattle.roff_run.specs.declared.status.Status.TheVariants.{Aborted, Done, Device, Limit as Limited}
-use Rattle.roff_run.specs.declared.reading.Reading.TheVariants.{Exiting, Told}
+use Rattle.roff_run.specs.declared.line_state.LineState.TheVariants.{Exiting, Told}
 use Rattle.roff_source.specs.Tape.{Tape, Ending, Ended, Failed, Stopped}
 
 -- no item of a tape is left, and its items end so

@@ -10,7 +10,7 @@ use Rattle.roff_lines.specs.declared.glyph.Glyph.TheVariants.{Blanks}
 use Rattle.roff_num.specs.declared.limit.Limit.TheVariants.{Line}
 use Rattle.roff_num.specs.declared.limits.Limits.{Limits}
 use Rattle.roff_source.specs.Bytes.{newline, backslash, is_dropped}
-use Rattle.roff_escape.specs.Half.{Half, Width}
+use Rattle.roff_escape.specs.OpenEscape.{OpenEscape, Width}
 use Rattle.roff_ahead.specs.Input.{Ahead, ByteAhead, pushing}
 use Rattle.roff_escape.specs.Measures.{byte_columns, most_width}
 use Rattle.roff_source.specs.Tape.{Tape, Gives, OneByte, Ends, Ended, front, items_then}
@@ -23,16 +23,16 @@ use Rattle.roff_run.specs.declared.event.PageEvent.{PageEvent}
 use Rattle.roff_run.specs.declared.event.PageEvent.TheVariants.{Text}
 use Rattle.roff_run.specs.Run.{State, step, after}
 use Rattle.roff_run.specs.Run.Counts.{refusal}
-use Rattle.roff_run.specs.declared.reading.Reading.{Reading}
-use Rattle.roff_run.specs.declared.reading.Reading.TheVariants.{StringText, Telling, Defining}
+use Rattle.roff_run.specs.declared.line_state.LineState.{LineState}
+use Rattle.roff_run.specs.declared.line_state.LineState.TheVariants.{StringText, Telling, Defining}
 
 -- The digits of a width and their end stand in front of the rest, this is half read, and so many bytes more were
 -- taken. What isn't a byte of the line has come: among arguments, and in a string's name, no quote follows the quote before
 -- it.
-abbrev pub with_width_ahead : ℕ → List Half → ℕ → List (Ahead PageEvent) → State → State
+abbrev pub with_width_ahead : ℕ → List OpenEscape → ℕ → List (Ahead PageEvent) → State → State
 with_width_ahead width half taken rest s = record s {
   input = pushing (decimal width)
-    (record (interrupted s.reading s.input) { ahead = rest; half = half; charge = s.input.charge + taken });
+      (record (interrupted s.reading s.input) { ahead = rest; escapes = half; charge = s.input.charge + taken });
 }
 
 -- a byte that may delimit a text: it isn't dropped, and doesn't end the line
@@ -43,18 +43,18 @@ MayDelimit d = IsTrue (not (is_dropped d || d == newline))
 -- the cost of one. What stood below it is half read again, and what is read stays: a line still begins there.
 abbrev pub WidthsReadAsDigits : Type 0
 WidthsReadAsDigits =
-    (l : Limits) (s : State) (d width : ℕ) (is_deep : Bool) (half : List Half) (rest : List (Ahead PageEvent)) →
+    (l : Limits) (s : State) (d width : ℕ) (is_deep : Bool) (half : List OpenEscape) (rest : List (Ahead PageEvent)) →
     MayDelimit d → TakesItems s → reads_escapes s.reading ≡ true →
-    s.input.half ≡ Width (Some d) width is_deep ∷ half → s.input.ahead ≡ ByteAhead d ∷ rest →
+    s.input.escapes ≡ Width (Some d) width is_deep ∷ half → s.input.ahead ≡ ByteAhead d ∷ rest →
     let read : State = with_width_ahead width half 1 rest s in
     IsWithin l s → IsWithin l read → step l s ≡ read
 
 -- and so it is where the delimiter stands in the source itself, with nothing ahead of it
 abbrev pub WidthsOfTheSourceReadAsDigits : Type 0
 WidthsOfTheSourceReadAsDigits =
-    (l : Limits) (s : State) (d width : ℕ) (is_deep : Bool) (half : List Half) (tape : Tape) →
+    (l : Limits) (s : State) (d width : ℕ) (is_deep : Bool) (half : List OpenEscape) (tape : Tape) →
     MayDelimit d → TakesItems s → reads_escapes s.reading ≡ true →
-    s.input.half ≡ Width (Some d) width is_deep ∷ half → s.input.ahead ≡ [] → s.tape ≡ items_then (OneByte d ∷ []) tape →
+    s.input.escapes ≡ Width (Some d) width is_deep ∷ half → s.input.ahead ≡ [] → s.tape ≡ items_then (OneByte d ∷ []) tape →
     let read : State = with_width_ahead width half 1 [] (with_source_behind tape s) in
     IsWithin l s → IsWithin l read → step l s ≡ read
 
@@ -67,13 +67,13 @@ pub data EndsText (s : State) : Type 0 where
 -- there too the digits of the width so far are read, and what ended the text is still to come
 abbrev pub WidthsEndWithTheirLine : Type 0
 WidthsEndWithTheirLine =
-    (l : Limits) (s : State) (delimiter : Option ℕ) (width : ℕ) (is_deep : Bool) (half : List Half) →
-    EndsText s → TakesItems s → reads_escapes s.reading ≡ true → s.input.half ≡ Width delimiter width is_deep ∷ half →
+    (l : Limits) (s : State) (delimiter : Option ℕ) (width : ℕ) (is_deep : Bool) (half : List OpenEscape) →
+    EndsText s → TakesItems s → reads_escapes s.reading ≡ true → s.input.escapes ≡ Width delimiter width is_deep ∷ half →
     let read : State = with_width_ahead width half 0 s.input.ahead s in
     IsWithin l s → IsWithin l read → step l s ≡ read
 
 -- whether texts are measured: where escapes are read, but for a string's text and a message's, into which they are copied
-abbrev pub measures_texts : Reading → Bool
+abbrev pub measures_texts : LineState → Bool
 measures_texts (StringText name appends is_front) = false
 measures_texts (Defining name appends end matched) = false
 measures_texts (Telling aborts is_front) = false
@@ -96,7 +96,7 @@ text_units text = min (24 * sum_by byte_columns text) most_width
 abbrev pub MeasuredTextsReadAsDigits : Type 0
 MeasuredTextsReadAsDigits =
     (l : Limits) (s : State) (d : ℕ) (text : List ℕ) (rest : List (Ahead PageEvent)) →
-    MayDelimit d → IsPlain d text → TakesItems s → measures_texts s.reading ≡ true → s.input.half ≡ [] →
+    MayDelimit d → IsPlain d text → TakesItems s → measures_texts s.reading ≡ true → s.input.escapes ≡ [] →
     s.input.ahead ≡ map ByteAhead (width_escape d text) ++ rest →
     let read : State = with_width_ahead (text_units text) [] (length (width_escape d text)) rest s in
     IsWithin l s → IsWithin l read → after l (length (width_escape d text)) s ≡ read
@@ -105,7 +105,7 @@ MeasuredTextsReadAsDigits =
 abbrev pub MeasuredTextsOfTheSourceReadAsDigits : Type 0
 MeasuredTextsOfTheSourceReadAsDigits =
     (l : Limits) (s : State) (d : ℕ) (text : List ℕ) (tape : Tape) →
-    MayDelimit d → IsPlain d text → TakesItems s → measures_texts s.reading ≡ true → s.input.half ≡ [] →
+    MayDelimit d → IsPlain d text → TakesItems s → measures_texts s.reading ≡ true → s.input.escapes ≡ [] →
     s.input.ahead ≡ [] → s.tape ≡ items_then (map OneByte (width_escape d text)) tape →
     let read : State = with_width_ahead (text_units text) [] (length (width_escape d text)) [] (with_source_behind tape s) in
     IsWithin l s → IsWithin l read → after l (length (width_escape d text)) s ≡ read

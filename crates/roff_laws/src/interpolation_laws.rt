@@ -1,7 +1,6 @@
 //! Facts about what is read in the place of escapes, as contracts of functions that do nothing.
 
 ghost use Rattle.roff_laws.specs.InterpolationLaws.{UnreadInputIsTheTape, StepsFollowTheTape, EscapesReadAsTexts, EscapesOfTheSourceReadAsTexts, EscapesOfTextReadAsTexts, PushedBytesCostAsOthers, TextsCostTheirBytesAndOne};
-
 ghost use Rattle.roff_run.specs.ItemsTaken.{BytesAheadAreTaken, BytesOfTheSourceAreTaken};
 ghost use Rattle.roff_laws.specs.Quoting.{RequestsGetQuotedArguments};
 ghost use Rattle.roff_laws.specs.WidthLaws.{WidthsReadAsDigits, WidthsOfTheSourceReadAsDigits, MeasuredTextsReadAsDigits, MeasuredTextsOfTheSourceReadAsDigits, WidthsEndWithTheirLine};

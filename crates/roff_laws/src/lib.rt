@@ -8,4 +8,3 @@ pub mod environment_laws;
 pub mod interpolation_laws;
 pub mod laws;
 pub mod register_laws;
-

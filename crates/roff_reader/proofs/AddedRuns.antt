@@ -8,14 +8,14 @@ use Rattle.std.proofs.lemmas.List.Sums.{prefix_len-le-length}
 use Rattle.roff_scan.proofs.AddedFronts.{adding-texts, length-texts_added, newest-added, plain_in_front, stored-texts_added, text_no_newline, texts_added, texts_added-again, texts_added-none}
 use Rattle.roff_arguments.specs.Arguments.{Arguments}
 use Rattle.roff_source.specs.Bytes.{backslash, is_silent, is_text_byte, newline, tab}
-use Rattle.roff_escape.specs.Half.{Half, Backslash}
-use Rattle.roff_escape.specs.Halves.{byte_read}
+use Rattle.roff_escape.specs.OpenEscape.{OpenEscape, Backslash}
+use Rattle.roff_escape.specs.OpenEscapes.{byte_read}
 use Rattle.roff_source.specs.Tape.{Tape}
 use Rattle.roff_scan.specs.Unread.{IsWithin}
 use Rattle.roff_scan.specs.Unread.Calls.{AddsFront, PassesFront}
-use Rattle.roff_escape.specs.declared.half.CopyUnit.TheVariants.{Byte}
-use Rattle.roff_escape.specs.declared.half.Read.TheVariants.{GoesOn, Unit as GivesUnit}
-use Rattle.roff_escape.specs.declared.half.Surroundings.TheVariants.{Copy as AboveCopy}
+use Rattle.roff_escape.specs.declared.open_escape.CopyUnit.TheVariants.{Byte}
+use Rattle.roff_escape.specs.declared.open_escape.Found.TheVariants.{GoesOn, Unit as GivesUnit}
+use Rattle.roff_escape.specs.declared.open_escape.Surroundings.TheVariants.{Copy as AboveCopy}
 use Rattle.roff_store.specs.Named.{Named}
 use Rattle.roff_store.specs.Texts.{Entry, newest}
 use Rattle.roff_reader.proofs.HeldRuns.{passed-counted}
@@ -30,45 +30,45 @@ use Rattle.roff_run.specs.Reading.Items.{PageInput, going_on}
 use Rattle.roff_run.specs.Registers.{Known}
 use Rattle.roff_run.specs.Stages.{Adds, Growing, Here, Ignores, Onward, Stage, TextsGrow, Turned, input_at, stage_of, with_stage_of}
 use Rattle.roff_reader.specs.Reader.Stages.{ReadsPast, TurnsFront}
-use Rattle.roff_run.specs.declared.reading.Reading.{Reading}
-use Rattle.roff_run.specs.declared.reading.Reading.TheVariants.{Defining}
+use Rattle.roff_run.specs.declared.line_state.LineState.{LineState}
+use Rattle.roff_run.specs.declared.line_state.LineState.TheVariants.{Defining}
 use Rattle.roff_num.specs.declared.short_name.ShortName.{ShortName}
 
 -- a byte of text where the line isn't the last one and nothing is half read
-grows-text : (name : Option ShortName) (appends : Bool) (end : Option ShortName) (b : ℕ) (k : Known) (i : PageInput) → is_text_byte b ≡ true → i.half ≡ []
+grows-text : (name : Option ShortName) (appends : Bool) (end : Option ShortName) (b : ℕ) (k : Known) (i : PageInput) → is_text_byte b ≡ true → i.escapes ≡ []
     → taking k (Defining name appends end None) i b ≡ going_on (definition_grown name (b ∷ []) i) (Defining name appends end None)
 grows-text name appends end b k i text none_half =
-    let reading : Reading = Defining name appends end None in
-    let bare : PageInput = record i { half = [] } in
+    let reading : LineState = Defining name appends end None in
+    let bare : PageInput = record i { escapes = [] } in
     ap (λ (c : Bool). if c then going_on (interrupted reading i) reading else kept_taking k reading i b)
     (kept-text (nat_lt b 32) (b == 127) (b == backslash) (not (b == newline || b == tab || is_silent b)) text)
-    ∙ ap (λ (half : List Half). read_in k (Defining name appends end None) i (byte_read AboveCopy half b)) none_half
+    ∙ ap (λ (half : List OpenEscape). read_in k (Defining name appends end None) i (byte_read AboveCopy half b)) none_half
     ∙ ap (λ (c : Bool). read_in k (Defining name appends end None) i (if c then (GoesOn, Backslash ∷ []) else (GivesUnit (Byte b), [])))
     (is_other b backslash text refl)
     ∙ ap (λ (c : Bool). going_on (definition_grown name (b ∷ []) bare) (Defining name appends end (if c then Some 0 else None)))
     (is_other b newline text refl)
-    ∙ ap (λ (half : List Half). going_on (definition_grown name (b ∷ []) (record i { half = half })) reading) (sym none_half)
+    ∙ ap (λ (half : List OpenEscape). going_on (definition_grown name (b ∷ []) (record i { escapes = half })) reading) (sym none_half)
 
 -- where a name gets the text, the byte is put behind it
-pub adds_where : (reading : Reading) (name : ShortName) (appends : Bool) (end : Option ShortName) → reading ≡ Defining (Some name) appends end None
+pub adds_where : (reading : LineState) (name : ShortName) (appends : Bool) (end : Option ShortName) → reading ≡ Defining (Some name) appends end None
     → (b : ℕ) → is_text_byte b ≡ true → Adds reading b
-adds_where reading name appends end is b text = subst (λ (r : Reading). Adds r b) (sym is) (λ k i none_half. grows-text (Some name) appends end b k i text none_half)
+adds_where reading name appends end is b text = subst (λ (r : LineState). Adds r b) (sym is) (λ k i none_half. grows-text (Some name) appends end b k i text none_half)
 
 -- and ignored lines change nothing
-pub ignores_where : (reading : Reading) (appends : Bool) (end : Option ShortName) → reading ≡ Defining None appends end None
+pub ignores_where : (reading : LineState) (appends : Bool) (end : Option ShortName) → reading ≡ Defining None appends end None
     → (b : ℕ) → is_text_byte b ≡ true → Ignores reading b
-ignores_where reading appends end is b text = subst (λ (r : Reading). Ignores r b) (sym is) (λ k i none_half. grows-text None appends end b k i text none_half)
+ignores_where reading appends end is b text = subst (λ (r : LineState). Ignores r b) (sym is) (λ k i none_half. grows-text None appends end b k i text none_half)
 
 -- where this is read and nothing is half read
-abbrev stage_with : Reading → Arguments → List (List ℕ) → Stage
-stage_with reading a texts = record { reading = reading; half = []; arguments = a; texts = texts }
+abbrev stage_with : LineState → Arguments → List (List ℕ) → Stage
+stage_with reading a texts = record { reading = reading; escapes = []; arguments = a; texts = texts }
 
 -- texts in the making grow by what is put behind the newest
 grows-added : (bytes : List ℕ) (texts : List (List ℕ)) → TextsGrow texts (texts_added bytes (newest texts) texts)
 grows-added bytes texts = record { count = length-texts_added bytes (newest texts) texts; bytes = stored-texts_added bytes texts }
 
 -- bytes that are added lead from stage to stage
-turned-added : (names : Named Entry) (reading : Reading) (a : Arguments) (texts : List (List ℕ)) (bytes : List ℕ) → due reading ≡ None
+turned-added : (names : Named Entry) (reading : LineState) (a : Arguments) (texts : List (List ℕ)) (bytes : List ℕ) → due reading ≡ None
     → ((b : ℕ) → is_text_byte b ≡ true → Adds reading b) → AllByRecursion (λ b. is_text_byte b ≡ true) bytes
     → Turned names (stage_with reading a texts) bytes (stage_with reading a (texts_added bytes (newest texts) texts))
 turned-added names reading a texts [] none_due adds plain =
@@ -87,22 +87,22 @@ turned-added names reading a texts (b ∷ bytes) none_due adds plain =
     (turned-added names reading a one bytes none_due adds plain.1))
 
 -- bytes that were added were read past
-pub reads-added : (gave gives : Tape → Type 0) (r : ReaderState) (before after : PageUnread) → before.input.half ≡ [] → due r.reading ≡ None
+pub reads-added : (gave gives : Tape → Type 0) (r : ReaderState) (before after : PageUnread) → before.input.escapes ≡ [] → due r.reading ≡ None
     → ((b : ℕ) → is_text_byte b ≡ true → Adds r.reading b) → AddsFront gave gives before after → IsWithin after → ReadsPast gave gives r r before after
 reads-added gave gives r before after none_half none_due adds added within =
     let i : PageInput = before.input in
     let j : PageInput = after.input in
     let passed = passed-counted gave gives added.bytes before (record after { input = record j { open_texts = i.open_texts } }) added.passes in
-    let half : j.half ≡ i.half = ap (λ (there : PageInput). there.half) passed.1 in
+    let half : j.escapes ≡ i.escapes = ap (λ (there : PageInput). there.escapes) passed.1 in
     let arguments : j.arguments ≡ i.arguments = ap (λ (there : PageInput). there.arguments) passed.1 in
     let grown : List (List ℕ) = texts_added added.bytes (newest i.open_texts) i.open_texts in
     let texts : j.open_texts ≡ grown = added.texts ∙ ap (λ (there : PageInput). there.open_texts) (adding-texts added.bytes i) in
     let same : record j { open_texts = i.open_texts } ≡ with_stage_of i j =
-    ap (λ (h : List Half). record j { open_texts = i.open_texts; half = h }) half
-    ∙ ap (λ (a : Arguments). record j { open_texts = i.open_texts; half = i.half; arguments = a }) arguments in
-    let stage : List Half → Arguments → List (List ℕ) → Stage = λ h a making. record { reading = r.reading; half = h; arguments = a; texts = making } in
+    ap (λ (h : List OpenEscape). record j { open_texts = i.open_texts; escapes = h }) half
+    ∙ ap (λ (a : Arguments). record j { open_texts = i.open_texts; escapes = i.escapes; arguments = a }) arguments in
+    let stage : List OpenEscape → Arguments → List (List ℕ) → Stage = λ h a making. record { reading = r.reading; escapes = h; arguments = a; texts = making } in
     let behind : stage_of r.reading j ≡ stage_with r.reading i.arguments grown =
-    ap (λ (h : List Half). stage h j.arguments j.open_texts) (half ∙ none_half)
+    ap (λ (h : List OpenEscape). stage h j.arguments j.open_texts) (half ∙ none_half)
     ∙ ap (λ (a : Arguments). stage [] a j.open_texts) arguments
     ∙ ap (stage [] i.arguments) texts in
     let turned : Turned i.names (stage_with r.reading i.arguments i.open_texts) added.bytes (stage_with r.reading i.arguments grown) =
@@ -110,7 +110,7 @@ reads-added gave gives r before after none_half none_due adds added within =
     record {
       bytes = added.bytes;
       turned =
-          subst (λ (p : Stage). Turned i.names p added.bytes (stage_of r.reading j)) (sym (ap (λ (h : List Half). stage h i.arguments i.open_texts) none_half))
+          subst (λ (p : Stage). Turned i.names p added.bytes (stage_of r.reading j)) (sym (ap (λ (h : List OpenEscape). stage h i.arguments i.open_texts) none_half))
           (subst (λ (q : Stage). Turned i.names (stage_with r.reading i.arguments i.open_texts) added.bytes q) (sym behind) turned);
       passes = subst (λ (there : PageInput). PassesFront gave gives added.bytes before (record after { input = there })) same added.passes;
       registers = refl;
@@ -119,7 +119,7 @@ reads-added gave gives r before after none_half none_due adds added within =
     }
 
 -- bytes that change nothing lead to the stage that they come from
-turned-ignored : (names : Named Entry) (reading : Reading) (a : Arguments) (texts : List (List ℕ)) (bytes : List ℕ) → due reading ≡ None
+turned-ignored : (names : Named Entry) (reading : LineState) (a : Arguments) (texts : List (List ℕ)) (bytes : List ℕ) → due reading ≡ None
     → ((b : ℕ) → is_text_byte b ≡ true → Ignores reading b) → AllByRecursion (λ b. is_text_byte b ≡ true) bytes
     → Turned names (stage_with reading a texts) bytes (stage_with reading a texts)
 turned-ignored names reading a texts [] none_due ignores plain = Here (stage_with reading a texts)
@@ -138,7 +138,7 @@ turns-ignored front count r none_due ignores counted =
       few = omega (arith, counted, length-prefix_len is_text_byte front, prefix_len-le-length is_text_byte front);
       no_newline = text_no_newline bytes plain;
       turned = λ names i none_half.
-          subst (λ (half : List Half). Turned names (record (stage_of r.reading i) { half = half }) bytes (record (stage_of r.reading i) { half = half })) (sym none_half)
+          subst (λ (half : List OpenEscape). Turned names (record (stage_of r.reading i) { escapes = half }) bytes (record (stage_of r.reading i) { escapes = half })) (sym none_half)
           (turned-ignored names r.reading i.arguments i.open_texts bytes none_due ignores plain);
       registers = refl;
       requested = refl;

@@ -10,7 +10,7 @@ use Rattle.roff_lines.specs.declared.event.Event.TheVariants.{Break, Gap, WordEn
 use Rattle.roff_source.proofs.PlainBytes.{take_while-plain}
 use Rattle.roff_arguments.specs.Arguments.{Arguments}
 use Rattle.roff_source.specs.Bytes.{blank, newline}
-use Rattle.roff_escape.specs.Half.{Half}
+use Rattle.roff_escape.specs.OpenEscape.{OpenEscape}
 use Rattle.roff_source.specs.Tape.{Tape}
 use Rattle.roff_scan.specs.Unread.{IsWithin}
 use Rattle.roff_scan.specs.Unread.Calls.{NoNewline, PassesFront}
@@ -27,19 +27,19 @@ use Rattle.roff_run.specs.Registers.{Known}
 use Rattle.roff_run.specs.declared.event.PageEvent.TheVariants.{Text}
 use Rattle.roff_run.specs.Stages.{Here, Onward, Stage, Turned, blanks_counted, counts_blanks, input_at, stage_of, with_stage_of}
 use Rattle.roff_reader.specs.Reader.Stages.{ReadsPast, TurnsFront}
-use Rattle.roff_run.specs.declared.reading.Reading.{Reading}
-use Rattle.roff_run.specs.declared.reading.Reading.TheVariants.{Text as InText}
-use Rattle.roff_run.specs.declared.reading.TextLine.{TextLine}
+use Rattle.roff_run.specs.declared.line_state.LineState.{LineState}
+use Rattle.roff_run.specs.declared.line_state.LineState.TheVariants.{Text as InText}
+use Rattle.roff_run.specs.declared.line_state.TextLine.{TextLine}
 
 -- a line with so many leading blanks
 abbrev led : TextLine → ℕ → TextLine
 led line n = record line { leading = n }
 
 -- where there is a leading blank, another one only counts
-counts-blank : (k : Known) (i : PageInput) (line : TextLine) (n b : ℕ) → i.half ≡ [] → line.has_glyph ≡ false → 1 ≤ n → (b == blank) ≡ true
+counts-blank : (k : Known) (i : PageInput) (line : TextLine) (n b : ℕ) → i.escapes ≡ [] → line.has_glyph ≡ false → 1 ≤ n → (b == blank) ≡ true
     → taking k (InText (led line n)) i b ≡ going_on i (InText (led line (min (n + 1) most_leading)))
 counts-blank k i line n b none_half no_glyph some is =
-    let next : Reading = InText (led line (min (n + 1) most_leading)) in
+    let next : LineState = InText (led line (min (n + 1) most_leading)) in
     let more : (n == 0) ≡ false = ne_eqb n 0 (λ none. absurd (omega (arith, none, some))) in
     subst (λ (c : ℕ). taking k (InText (led line n)) i c ≡ going_on i next) (sym (eqb-true b blank is))
     (text_line-reads k i (led line n) blank none_half refl refl
@@ -64,7 +64,7 @@ counted-again count n = elim (cases_Bool (count == 0)) [
 
 -- where such a line is read and nothing is half read
 abbrev stage_with : TextLine → Arguments → List (List ℕ) → ℕ → Stage
-stage_with line a texts n = record { reading = InText (led line n); half = []; arguments = a; texts = texts }
+stage_with line a texts n = record { reading = InText (led line n); escapes = []; arguments = a; texts = texts }
 
 -- blanks lead from stage to stage
 turned-blanks : (names : Named Entry) (line : TextLine) (a : Arguments) (texts : List (List ℕ)) (n last : ℕ) (bytes : List ℕ) → line.has_glyph ≡ false → 1 ≤ n
@@ -98,7 +98,7 @@ pub turns-blanks : (front : List ℕ) (line behind : TextLine) (count : ℕ) (ol
     → count ≡ length (take_while (λ b. b == blank) front) → behind ≡ record line { leading = blanks_counted count line.leading }
     → new ≡ record old { reading = InText behind } → TurnsFront front count old new
 turns-blanks front line behind count old new is so counted led_on came =
-    let here : not line.has_glyph && nat_lt 0 line.leading ≡ true = subst (λ (r : Reading). counts_blanks r ≡ true) is so in
+    let here : not line.has_glyph && nat_lt 0 line.leading ≡ true = subst (λ (r : LineState). counts_blanks r ≡ true) is so in
     let bare : (line.has_glyph ≡ false) × (nat_lt 0 line.leading ≡ true) = counts_none line.has_glyph (nat_lt 0 line.leading) here in
     let some : 1 ≤ line.leading = omega (arith, ltb-true 0 line.leading bare.1) in
     let are : count ≡ prefix_len (λ b. b == blank) front = counted ∙ length-prefix_len (λ b. b == blank) front in
@@ -112,10 +112,10 @@ turns-blanks front line behind count old new is so counted led_on came =
       few = few;
       no_newline = no_newline (take count front) blanks;
       turned = λ names i none_half.
-          subst (λ (r : Reading). Turned names (stage_of r i) (take count front) (stage_of new.reading i)) (sym is)
-          (subst (λ (r : Reading). Turned names (stage_of (InText line) i) (take count front) (stage_of r i)) reading
+          subst (λ (r : LineState). Turned names (stage_of r i) (take count front) (stage_of new.reading i)) (sym is)
+          (subst (λ (r : LineState). Turned names (stage_of (InText line) i) (take count front) (stage_of r i)) reading
           (subst
-          (λ (half : List Half). Turned names (record (stage_of (InText line) i) { half = half }) (take count front) (record (stage_of (InText (led line last)) i) { half = half }))
+          (λ (half : List OpenEscape). Turned names (record (stage_of (InText line) i) { escapes = half }) (take count front) (record (stage_of (InText (led line last)) i) { escapes = half }))
           (sym none_half)
           (turned-blanks names line i.arguments i.open_texts line.leading last (take count front) bare.0 some taken blanks)));
       registers = ap (λ (r : ReaderState). r.registers) came;
@@ -123,24 +123,24 @@ turns-blanks front line behind count old new is so counted led_on came =
     }
 
 -- bytes that change only what is read were read past
-pub reads-turned : (gave gives : Tape → Type 0) (front : List ℕ) (count : ℕ) (old new : ReaderState) (before after : PageUnread) → before.input.half ≡ []
+pub reads-turned : (gave gives : Tape → Type 0) (front : List ℕ) (count : ℕ) (old new : ReaderState) (before after : PageUnread) → before.input.escapes ≡ []
     → TurnsFront front count old new → PassesFront gave gives (take count front) before after → IsWithin after → ReadsPast gave gives old new before after
 reads-turned gave gives front count old new before after none_half turns passes within =
     let i : PageInput = before.input in
     let j : PageInput = after.input in
     let passed = passed-counted gave gives (take count front) before after passes in
-    let half : j.half ≡ i.half = ap (λ (there : PageInput). there.half) passed.1 in
+    let half : j.escapes ≡ i.escapes = ap (λ (there : PageInput). there.escapes) passed.1 in
     let arguments : j.arguments ≡ i.arguments = ap (λ (there : PageInput). there.arguments) passed.1 in
     let texts : j.open_texts ≡ i.open_texts = ap (λ (there : PageInput). there.open_texts) passed.1 in
     let same : j ≡ with_stage_of i j =
-    ap (λ (h : List Half). record j { half = h }) half
-    ∙ ap (λ (a : Arguments). record j { half = i.half; arguments = a }) arguments
-    ∙ ap (λ (making : List (List ℕ)). record j { half = i.half; arguments = i.arguments; open_texts = making }) texts in
-    let stage : List Half → Arguments → List (List ℕ) → Stage = λ h a making. record { reading = new.reading; half = h; arguments = a; texts = making } in
+    ap (λ (h : List OpenEscape). record j { escapes = h }) half
+    ∙ ap (λ (a : Arguments). record j { escapes = i.escapes; arguments = a }) arguments
+    ∙ ap (λ (making : List (List ℕ)). record j { escapes = i.escapes; arguments = i.arguments; open_texts = making }) texts in
+    let stage : List OpenEscape → Arguments → List (List ℕ) → Stage = λ h a making. record { reading = new.reading; escapes = h; arguments = a; texts = making } in
     let behind : stage_of new.reading j ≡ stage_of new.reading i =
-    ap (λ (h : List Half). stage h j.arguments j.open_texts) half
-    ∙ ap (λ (a : Arguments). stage i.half a j.open_texts) arguments
-    ∙ ap (stage i.half i.arguments) texts in
+    ap (λ (h : List OpenEscape). stage h j.arguments j.open_texts) half
+    ∙ ap (λ (a : Arguments). stage i.escapes a j.open_texts) arguments
+    ∙ ap (stage i.escapes i.arguments) texts in
     record {
       bytes = take count front;
       turned = subst (λ (q : Stage). Turned i.names (stage_of old.reading i) (take count front) q) (sym behind) (turns.turned i.names i none_half);

@@ -7,20 +7,20 @@ use Rattle.std.proofs.lemmas.List.Sums.{count_by-le-length, length-filter}
 use Rattle.roff_arguments.proofs.KeptArguments.{only_kept-with_unit}
 use Rattle.roff_arguments.specs.Arguments.{Arguments, has_byte, kept, only_kept, settled, settled_at, with_argument_byte}
 use Rattle.roff_source.specs.Bytes.{backslash, newline, quote}
-use Rattle.roff_escape.specs.Half.{Half, Backslash}
-use Rattle.roff_escape.specs.Halves.{byte_read}
+use Rattle.roff_escape.specs.OpenEscape.{OpenEscape, Backslash}
+use Rattle.roff_escape.specs.OpenEscapes.{byte_read}
 use Rattle.roff_arguments.specs.declared.arguments.Place.{Place}
 use Rattle.roff_arguments.specs.declared.arguments.Place.TheVariants.{Between, InPlain, InQuotes, BehindQuote}
-use Rattle.roff_escape.specs.declared.half.CopyUnit.TheVariants.{Byte}
-use Rattle.roff_escape.specs.declared.half.Read.TheVariants.{GoesOn, Unit as GivesUnit}
-use Rattle.roff_escape.specs.declared.half.Surroundings.TheVariants.{Arguments as AboveArguments}
+use Rattle.roff_escape.specs.declared.open_escape.CopyUnit.TheVariants.{Byte}
+use Rattle.roff_escape.specs.declared.open_escape.Found.TheVariants.{GoesOn, Unit as GivesUnit}
+use Rattle.roff_escape.specs.declared.open_escape.Surroundings.TheVariants.{Arguments as AboveArguments}
 use Rattle.roff_run.specs.Reading.{kept_taking}
 use Rattle.roff_run.specs.Reading.Calls.{call_unit, holding_call}
 use Rattle.roff_run.specs.Reading.Found.{read_in}
 use Rattle.roff_run.specs.Reading.Items.{PageInput, going_on}
 use Rattle.roff_run.specs.Reading.Units.{holding, settling}
 use Rattle.roff_run.specs.Registers.{Known}
-use Rattle.roff_run.specs.declared.reading.Reading.TheVariants.{Calling}
+use Rattle.roff_run.specs.declared.line_state.LineState.TheVariants.{Calling}
 use Rattle.roff_num.specs.declared.short_name.ShortName.{ShortName}
 
 -- no more arguments are kept than there are
@@ -89,14 +89,14 @@ module _ (i : PageInput) (b : ℕ) (few : length i.arguments.whole < 8) where
       ]
 
 -- a byte there that is neither a newline nor a backslash is held
-pub call-byte : (k : Known) (name : ShortName) (i : PageInput) (b : ℕ) → i.half ≡ [] → length i.arguments.whole < 8
+pub call-byte : (k : Known) (name : ShortName) (i : PageInput) (b : ℕ) → i.escapes ≡ [] → length i.arguments.whole < 8
     → (b == backslash) ≡ false → (b == newline) ≡ false → going_on (holding (Byte b) i) (Calling name) ≡ kept_taking k (Calling name) i b
 call-byte k name i b none few no_escape no_newline =
-    let bare : PageInput = record i { half = [] } in
+    let bare : PageInput = record i { escapes = [] } in
     let unit : byte_read AboveArguments [] b ≡ (GivesUnit (Byte b), []) =
     ap (λ (c : Bool). if c then (GoesOn, Backslash ∷ []) else (GivesUnit (Byte b), [])) no_escape in
     sym
-    (ap (λ (half : List Half). read_in k (Calling name) i (byte_read AboveArguments half b)) none
+    (ap (λ (half : List OpenEscape). read_in k (Calling name) i (byte_read AboveArguments half b)) none
     ∙ ap (read_in k (Calling name) i) unit
     ∙ held-unit bare b few name no_newline
-    ∙ ap (λ (half : List Half). going_on (holding (Byte b) (record i { half = half })) (Calling name)) (sym none))
+    ∙ ap (λ (half : List OpenEscape). going_on (holding (Byte b) (record i { escapes = half })) (Calling name)) (sym none))

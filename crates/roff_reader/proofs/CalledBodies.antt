@@ -5,10 +5,10 @@ use Rattle.std.proofs.lemmas.Bool.{le-leb, leb-true, lt-leb}
 use Rattle.roff_requests.specs.declared.environments.Environments.{Environments as EnvironmentsOf}
 use Rattle.roff_num.specs.declared.limit.Limit.{Limit}
 use Rattle.roff_scan.specs.Unread.{changing}
-use Rattle.roff_escape.specs.declared.half.CopyUnit.{CopyUnit}
-use Rattle.roff_escape.specs.declared.half.CopyUnit.TheVariants.{Byte, Kept}
-use Rattle.roff_escape.specs.declared.half.Read.{Read}
-use Rattle.roff_escape.specs.declared.half.Read.TheVariants.{GoesOn, Unit as OneUnit, Holds, Escape, Asks, Motion, Measures, Tells, Decides}
+use Rattle.roff_escape.specs.declared.open_escape.CopyUnit.{CopyUnit}
+use Rattle.roff_escape.specs.declared.open_escape.CopyUnit.TheVariants.{Byte, Kept}
+use Rattle.roff_escape.specs.declared.open_escape.Found.{Found}
+use Rattle.roff_escape.specs.declared.open_escape.Found.TheVariants.{GoesOn, Unit as OneUnit, Holds, Escape, Asks, Motion, Measures, Tells, Decides}
 use Rattle.roff_requests.specs.Events.Meant.{none_meant}
 use Rattle.roff_reader.specs.Reader.State.{ReaderState}
 use Rattle.roff_reader.specs.Reader.Taken.{TakesAs}
@@ -19,13 +19,13 @@ use Rattle.roff_run.specs.Reading.Items.{PageInput, going_on}
 use Rattle.roff_run.specs.Reading.Units.{holding, no_unit_found, settling}
 use Rattle.roff_run.specs.Registers.{Known}
 use Rattle.roff_reader.specs.declared.reader.Meaning.{Meaning}
-use Rattle.roff_run.specs.declared.reading.Reading.TheVariants.{Calling}
+use Rattle.roff_run.specs.declared.line_state.LineState.TheVariants.{Calling}
 use Rattle.roff_num.specs.declared.short_name.ShortName.{ShortName}
 use Rattle.roff_reader.proofs.Strings.{other}
 use Rattle.roff_reader.proofs.TakesAs.{TakesAs-as, TakesAs-changed, TakesAs-meant, TakesAs-not_changed, TakesAs-settled}
 
 -- behind the name of a body anything but a unit is no byte of an argument
-pub call_found-no_unit : (k : Known) (i : PageInput) (name : ShortName) (found : Read) → ((unit : CopyUnit) → found ≡ OneUnit unit → ⊥)
+pub call_found-no_unit : (k : Known) (i : PageInput) (name : ShortName) (found : Found) → ((unit : CopyUnit) → found ≡ OneUnit unit → ⊥)
     → ((b : ℕ) → found ≡ Escape b → ⊥) → no_unit_found k (settling i) (Calling name) found ≡ call_found k i name found
 call_found-no_unit k i name (OneUnit unit) no_unit no_escape = absurd (no_unit unit refl)
 call_found-no_unit k i name (Escape b) no_unit no_escape = absurd (no_escape b refl)

@@ -5,8 +5,8 @@ use Rattle.std.proofs.Math.Seq.{take-append_seam}
 use Rattle.std.proofs.lemmas.List.{length-append, take-take}
 use Rattle.roff_arguments.specs.Arguments.{Arguments}
 use Rattle.roff_source.specs.Bytes.{backslash, is_dropped}
-use Rattle.roff_escape.specs.Half.{Half, texts_held}
-use Rattle.roff_escape.specs.Halves.{byte_read}
+use Rattle.roff_escape.specs.OpenEscape.{OpenEscape, texts_held}
+use Rattle.roff_escape.specs.OpenEscapes.{byte_read}
 use Rattle.roff_source.specs.Tape.{Tape}
 use Rattle.roff_scan.specs.Unread.{IsWithin}
 use Rattle.roff_scan.specs.Unread.Calls.{PassesFront, front_bytes, next_bytes}
@@ -28,43 +28,43 @@ use Rattle.roff_run.specs.Reading.Items.{PageInput, going_on}
 use Rattle.roff_run.specs.Requests.{called_by}
 use Rattle.roff_run.specs.Stages.{Here, Onward, Stage, Turned, Turns, input_at, stage_of, with_stage_of}
 use Rattle.roff_reader.specs.Reader.Stages.{ReadsPast}
-use Rattle.roff_run.specs.declared.reading.Reading.{Reading}
-use Rattle.roff_run.specs.declared.reading.Reading.TheVariants.{LineStart, Branch, Braced, Control, Dropped, Name}
+use Rattle.roff_run.specs.declared.line_state.LineState.{LineState}
+use Rattle.roff_run.specs.declared.line_state.LineState.TheVariants.{LineStart, Branch, Braced, Control, Dropped, Name}
 use Rattle.roff_num.specs.declared.short_name.ShortName.{ShortName}
 
 -- where a line begins, or a branch, or its rest behind its brace, a control line may begin
 begins-line_start : BeginsControl LineStart
 begins-line_start k i true none_half =
-    ap (λ (half : List Half). read_in k LineStart i (byte_read (at_start k) half 46)) none_half
-    ∙ ap (λ (half : List Half). going_on (record i { half = half }) (Control true)) (sym none_half)
+    ap (λ (half : List OpenEscape). read_in k LineStart i (byte_read (at_start k) half 46)) none_half
+    ∙ ap (λ (half : List OpenEscape). going_on (record i { escapes = half }) (Control true)) (sym none_half)
 begins-line_start k i false none_half =
-    ap (λ (half : List Half). read_in k LineStart i (byte_read (at_start k) half 39)) none_half
-    ∙ ap (λ (half : List Half). going_on (record i { half = half }) (Control false)) (sym none_half)
+    ap (λ (half : List OpenEscape). read_in k LineStart i (byte_read (at_start k) half 39)) none_half
+    ∙ ap (λ (half : List OpenEscape). going_on (record i { escapes = half }) (Control false)) (sym none_half)
 
 begins-branch : BeginsControl Branch
 begins-branch k i true none_half =
-    ap (λ (half : List Half). read_in k Branch i (byte_read (at_start k) half 46)) none_half
-    ∙ ap (λ (half : List Half). going_on (record i { half = half }) (Control true)) (sym none_half)
+    ap (λ (half : List OpenEscape). read_in k Branch i (byte_read (at_start k) half 46)) none_half
+    ∙ ap (λ (half : List OpenEscape). going_on (record i { escapes = half }) (Control true)) (sym none_half)
 begins-branch k i false none_half =
-    ap (λ (half : List Half). read_in k Branch i (byte_read (at_start k) half 39)) none_half
-    ∙ ap (λ (half : List Half). going_on (record i { half = half }) (Control false)) (sym none_half)
+    ap (λ (half : List OpenEscape). read_in k Branch i (byte_read (at_start k) half 39)) none_half
+    ∙ ap (λ (half : List OpenEscape). going_on (record i { escapes = half }) (Control false)) (sym none_half)
 
 begins-braced : BeginsControl Braced
 begins-braced k i true none_half =
-    ap (λ (half : List Half). read_in k Braced i (byte_read (at_start k) half 46)) none_half
-    ∙ ap (λ (half : List Half). going_on (record i { half = half }) (Control true)) (sym none_half)
+    ap (λ (half : List OpenEscape). read_in k Braced i (byte_read (at_start k) half 46)) none_half
+    ∙ ap (λ (half : List OpenEscape). going_on (record i { escapes = half }) (Control true)) (sym none_half)
 begins-braced k i false none_half =
-    ap (λ (half : List Half). read_in k Braced i (byte_read (at_start k) half 39)) none_half
-    ∙ ap (λ (half : List Half). going_on (record i { half = half }) (Control false)) (sym none_half)
+    ap (λ (half : List OpenEscape). read_in k Braced i (byte_read (at_start k) half 39)) none_half
+    ∙ ap (λ (half : List OpenEscape). going_on (record i { escapes = half }) (Control false)) (sym none_half)
 
-pub begins_at_start : (reading : Reading) → reading ≡ LineStart → BeginsControl reading
-begins_at_start reading is = subst (λ (r : Reading). BeginsControl r) (sym is) begins-line_start
+pub begins_at_start : (reading : LineState) → reading ≡ LineStart → BeginsControl reading
+begins_at_start reading is = subst (λ (r : LineState). BeginsControl r) (sym is) begins-line_start
 
-pub begins_at_branch : (reading : Reading) → reading ≡ Branch → BeginsControl reading
-begins_at_branch reading is = subst (λ (r : Reading). BeginsControl r) (sym is) begins-branch
+pub begins_at_branch : (reading : LineState) → reading ≡ Branch → BeginsControl reading
+begins_at_branch reading is = subst (λ (r : LineState). BeginsControl r) (sym is) begins-branch
 
-pub begins_at_brace : (reading : Reading) → reading ≡ Braced → BeginsControl reading
-begins_at_brace reading is = subst (λ (r : Reading). BeginsControl r) (sym is) begins-braced
+pub begins_at_brace : (reading : LineState) → reading ≡ Braced → BeginsControl reading
+begins_at_brace reading is = subst (λ (r : LineState). BeginsControl r) (sym is) begins-braced
 
 -- some of the bytes that stand in front, from the first on, stand there
 pub ready-some : (some rest ready : List ℕ) (u : PageUnread) → StandsReady (some ++ rest) ready u → StandsReady some ready u
@@ -84,8 +84,8 @@ ready-two breaks first second ready u is stands =
     (ready-some (control_byte breaks ∷ first ∷ []) (second ∷ []) ready u stands)
 
 -- a stage
-abbrev pub stage_with : Reading → List Half → Arguments → List (List ℕ) → Stage
-stage_with reading half a texts = record { reading = reading; half = half; arguments = a; texts = texts }
+abbrev pub stage_with : LineState → List OpenEscape → Arguments → List (List ℕ) → Stage
+stage_with reading half a texts = record { reading = reading; escapes = half; arguments = a; texts = texts }
 
 -- behind a name no text is held
 none_held : (deciding : Bool) → texts_held (half_begun deciding []) ≡ 0
@@ -93,7 +93,7 @@ none_held true = refl
 none_held false = refl
 
 -- the last byte of a name
-turns-called : (names : Named Entry) (a : Arguments) (texts : List (List ℕ)) (breaks : Bool) (first second : ℕ) (there : Reading) → BelongsToName second
+turns-called : (names : Named Entry) (a : Arguments) (texts : List (List ℕ)) (breaks : Bool) (first second : ℕ) (there : LineState) → BelongsToName second
     → LeadsTo (λ i. behind_called i breaks (called_by (record { first = first; second = Some second }) names)) there
     → Turns names (stage_with (Name breaks first) [] a texts) second (stage_with there (half_begun (is_deciding there) []) a texts)
 turns-called names a texts breaks first second there belongs leads k i =
@@ -105,7 +105,7 @@ turns-called names a texts breaks first second there belongs leads k i =
     ∙ leads here
 
 -- a name of two bytes behind a dot or apostrophe
-turned-named : (names : Named Entry) (reading there : Reading) (breaks : Bool) (first second : ℕ) (a : Arguments) (texts : List (List ℕ)) → due reading ≡ None
+turned-named : (names : Named Entry) (reading there : LineState) (breaks : Bool) (first second : ℕ) (a : Arguments) (texts : List (List ℕ)) → due reading ≡ None
     → BeginsControl reading → BelongsToName first → BelongsToName second
     → LeadsTo (λ i. behind_called i breaks (called_by (record { first = first; second = Some second }) names)) there
     → Turned names (stage_with reading [] a texts) (control_byte breaks ∷ first ∷ second ∷ []) (stage_with there (half_begun (is_deciding there) []) a texts)
@@ -114,14 +114,14 @@ turned-named names reading there breaks first second a texts none_due begins nam
     let control : Stage = stage_with (Control breaks) [] a texts in
     let name : Stage = stage_with (Name breaks first) [] a texts in
     let q : Stage = stage_with there (half_begun (is_deciding there) []) a texts in
-    let none : texts_held q.half ≡ 0 = none_held (is_deciding there) in
+    let none : texts_held q.escapes ≡ 0 = none_held (is_deciding there) in
     Onward p control q (control_byte breaks) (first ∷ second ∷ []) none_due refl (λ k i. begins k (input_at names p i) breaks refl) refl (omega arith) (omega arith)
     (Onward control name q first (second ∷ []) refl refl (turns-first names a texts breaks first named_first) refl (omega arith) (omega arith)
     (Onward name q q second [] refl refl (turns-called names a texts breaks first second there named_second leads) refl (omega (arith, none)) (omega (arith, none))
     (Here q)))
 
 -- a backslash there
-turned-dropped : (names : Named Entry) (reading : Reading) (breaks : Bool) (a : Arguments) (texts : List (List ℕ)) → due reading ≡ None → BeginsControl reading
+turned-dropped : (names : Named Entry) (reading : LineState) (breaks : Bool) (a : Arguments) (texts : List (List ℕ)) → due reading ≡ None → BeginsControl reading
     → Turned names (stage_with reading [] a texts) (control_byte breaks ∷ backslash ∷ []) (stage_with Dropped [] a texts)
 turned-dropped names reading breaks a texts none_due begins =
     let p : Stage = stage_with reading [] a texts in
@@ -131,7 +131,7 @@ turned-dropped names reading breaks a texts none_due begins =
     (Onward control q q backslash [] refl refl (λ k i. refl) refl (omega arith) (omega arith) (Here q))
 
 -- bytes that were taken at once, and then what is half read changed, and this is read: they were read past
-pub reads-front : (gave gives : Tape → Type 0) (r : ReaderState) (there : Reading) (bytes : List ℕ) (before passed : PageUnread) → before.input.half ≡ []
+pub reads-front : (gave gives : Tape → Type 0) (r : ReaderState) (there : LineState) (bytes : List ℕ) (before passed : PageUnread) → before.input.escapes ≡ []
     → Turned before.input.names (stage_with r.reading [] before.input.arguments before.input.open_texts) bytes
     (stage_with there (half_begun (is_deciding there) []) before.input.arguments before.input.open_texts)
     → PassesFront gave gives bytes before passed → IsWithin (record passed { input = input_begun there passed.input })
@@ -144,7 +144,7 @@ reads-front gave gives r there bytes before passed none_half turned passes withi
     let behind : stage_of there (input_begun there passed.input) ≡ stage_of there (input_begun there i) =
     ap (λ (j : PageInput). stage_of there (input_begun there j)) counted.1 in
     let led : Turned i.names (stage_of r.reading i) bytes (stage_of there (input_begun there i)) =
-    subst (λ (half : List Half). Turned i.names (stage_with r.reading half i.arguments i.open_texts) bytes (stage_with there (half_begun (is_deciding there) half) i.arguments i.open_texts))
+    subst (λ (half : List OpenEscape). Turned i.names (stage_with r.reading half i.arguments i.open_texts) bytes (stage_with there (half_begun (is_deciding there) half) i.arguments i.open_texts))
     (sym none_half) turned in
     record {
       bytes = bytes;
@@ -156,8 +156,8 @@ reads-front gave gives r there bytes before passed none_half turned passes withi
     }
 
 -- so was a name of two bytes behind a dot or apostrophe
-pub reads-named : (gave gives : Tape → Type 0) (r new : ReaderState) (there : Reading) (breaks : Bool) (first second : ℕ) (ready : List ℕ) (before passed after : PageUnread)
-    → due r.reading ≡ None → BeginsControl r.reading → before.input.half ≡ [] → BelongsToName first → BelongsToName second
+pub reads-named : (gave gives : Tape → Type 0) (r new : ReaderState) (there : LineState) (breaks : Bool) (first second : ℕ) (ready : List ℕ) (before passed after : PageUnread)
+    → due r.reading ≡ None → BeginsControl r.reading → before.input.escapes ≡ [] → BelongsToName first → BelongsToName second
     → LeadsTo (λ i. behind_called i breaks (called_by (record { first = first; second = Some second }) before.input.names)) there
     → StandsReady (control_byte breaks ∷ first ∷ second ∷ []) ready before → PassesFront gave gives (front_bytes 3 ready before) before passed
     → after ≡ record passed { input = input_begun there passed.input } → IsWithin after → new ≡ record r { reading = there } → ReadsPast gave gives r new before after
@@ -174,7 +174,7 @@ reads-named gave gives r new there breaks first second ready before passed after
 
 -- and a backslash
 pub reads-dropped : (gave gives : Tape → Type 0) (r new : ReaderState) (breaks : Bool) (ready : List ℕ) (before after : PageUnread)
-    → due r.reading ≡ None → BeginsControl r.reading → before.input.half ≡ [] → StandsReady (control_byte breaks ∷ backslash ∷ []) ready before
+    → due r.reading ≡ None → BeginsControl r.reading → before.input.escapes ≡ [] → StandsReady (control_byte breaks ∷ backslash ∷ []) ready before
     → PassesFront gave gives (front_bytes 2 ready before) before after → IsWithin after → new ≡ record r { reading = Dropped } → ReadsPast gave gives r new before after
 reads-dropped gave gives r new breaks ready before after none_due begins none_half stands passes within same =
     let i : PageInput = before.input in

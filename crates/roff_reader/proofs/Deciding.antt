@@ -9,7 +9,7 @@ use Rattle.roff_num.specs.declared.limits.Limits.{Limits}
 use Rattle.roff_source.specs.Bytes.{tab, newline, blank, apostrophe, dot, backslash, is_silent}
 use Rattle.roff_escape.specs.Characters.{character}
 use Rattle.roff_escape.specs.Escapes.{escape_of}
-use Rattle.roff_escape.specs.Halves.{byte_read}
+use Rattle.roff_escape.specs.OpenEscapes.{byte_read}
 use Rattle.roff_ahead.specs.Input.{pushed, depth, results}
 use Rattle.roff_ahead.specs.Input.Calls.{keeping}
 use Rattle.roff_ahead.specs.Input.Names.{names_added, stored}
@@ -18,10 +18,10 @@ use Rattle.roff_escape.specs.declared.escapes.Escape.{Escape as Kind}
 use Rattle.roff_escape.specs.declared.escapes.Escape.TheVariants.{Prints, Blank, NoWidth, Tab as GivesTab, Interrupts, Brace, Nothing, Comment as BeginsComment, Size as BeginsSize, Name as BeginsName, Text as BeginsText, Width as BeginsWidth, LeftOut as IsLeftOut}
 use Rattle.roff_escape.specs.declared.escapes.NameUse.TheVariants.{Register, Text, Argument, Character, Font, LeftOut as NameLeftOut}
 use Rattle.roff_escape.specs.declared.escapes.TextUse.TheVariants.{Motion as OfMotion, LeftOut as LeftOutText}
-use Rattle.roff_escape.specs.declared.half.CopyUnit.TheVariants.{Byte, Kept}
-use Rattle.roff_escape.specs.declared.half.Decision.{Decision}
-use Rattle.roff_escape.specs.declared.half.Read.{Read}
-use Rattle.roff_escape.specs.declared.half.Read.TheVariants.{GoesOn, Unit as OneUnit, Holds, Escape, Asks, Motion, Measures, Tells, Decides}
+use Rattle.roff_escape.specs.declared.open_escape.CopyUnit.TheVariants.{Byte, Kept}
+use Rattle.roff_escape.specs.declared.open_escape.Decision.{Decision}
+use Rattle.roff_escape.specs.declared.open_escape.Found.{Found}
+use Rattle.roff_escape.specs.declared.open_escape.Found.TheVariants.{GoesOn, Unit as OneUnit, Holds, Escape, Asks, Motion, Measures, Tells, Decides}
 use Rattle.roff_reader.specs.Reader.State.{ReaderState}
 use Rattle.roff_reader.specs.Reader.Taken.{Takes, TakesAs, Took}
 use Rattle.roff_run.specs.Reading.Items.{PageUnread}
@@ -36,8 +36,8 @@ use Rattle.roff_run.specs.declared.event.PageEvent.{PageEvent}
 use Rattle.roff_run.specs.Run.{known_at}
 use Rattle.roff_run.specs.Run.Counts.{counts_in, first_passed}
 use Rattle.roff_reader.specs.declared.reader.Meaning.{Meaning}
-use Rattle.roff_run.specs.declared.reading.Reading.TheVariants.{Branch, Deciding}
-use Rattle.roff_run.specs.declared.reading.TextLine.{TextLine}
+use Rattle.roff_run.specs.declared.line_state.LineState.TheVariants.{Branch, Deciding}
+use Rattle.roff_run.specs.declared.line_state.TextLine.{TextLine}
 use Rattle.roff_run.proofs.InputCounts.{first_passed-few_names}
 use Rattle.roff_reader.proofs.TakesAs.{few_names-of, passed_none, passed_one}
 
@@ -103,7 +103,7 @@ Keeps-character_printed : (so : Bool) (line : TextLine) (name text : Option (Lis
 Keeps-character_printed so line name (Some text) i = refl
 Keeps-character_printed so line name None i = refl
 
-Keeps-beginning_found : (so : Bool) (k : Known) (found : Read) → Keeps so (λ i. beginning_found k i Branch found)
+Keeps-beginning_found : (so : Bool) (k : Known) (found : Found) → Keeps so (λ i. beginning_found k i Branch found)
 Keeps-beginning_found so k GoesOn i = refl
 Keeps-beginning_found so k (OneUnit (Byte b)) i = Keeps-first_taking so k b i
 Keeps-beginning_found so k (OneUnit (Kept b)) i = Keeps-first_escape so k b i
@@ -135,7 +135,7 @@ Keeps-skipping_taking so b =
 Keeps-decided : (so : Bool) (k : Known) (freed : Option ℕ) → Keeps so (λ i. decided k i so freed)
 Keeps-decided so k None i = refl
 Keeps-decided true k (Some b) i =
-    let read = byte_read (at_start k) i.half b in Keeps-beginning_found true k read.0 (record i { half = read.1 })
+    let read = byte_read (at_start k) i.escapes b in Keeps-beginning_found true k read.0 (record i { escapes = read.1 })
 Keeps-decided false k (Some b) i = Keeps-skipping_taking false b i
 
 -- one result more is above the limit on results where fewer are, and no other count grows by it
@@ -247,7 +247,7 @@ TakesAs-decides keeps so decision freed es old new before behind result asked de
 }
 
 -- anything of a condition but its decision is read as behind a request's name
-pub condition_found-undecided : (k : Known) (i : PageInput) (keeps : Bool) (found : Read) → ((decision : Decision) (freed : Option ℕ) → found ≡ Decides decision freed → ⊥)
+pub condition_found-undecided : (k : Known) (i : PageInput) (keeps : Bool) (found : Found) → ((decision : Decision) (freed : Option ℕ) → found ≡ Decides decision freed → ⊥)
     → no_unit_found k i (Deciding keeps) found ≡ condition_found k i keeps found
 condition_found-undecided k i keeps GoesOn goes_on = refl
 condition_found-undecided k i keeps (OneUnit unit) goes_on = refl

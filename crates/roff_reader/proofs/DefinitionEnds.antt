@@ -3,10 +3,10 @@ use Rattle.std.proofs.Common.{◌≡◌, ℕ, Bool, true, false, List, [], ◌�
 use Rattle.std.specs.Prelude.{◌||◌, ◌&&◌, if◌then◌else◌}
 use Rattle.std.proofs.lemmas.Bool.{cases_Bool, eqb-true}
 use Rattle.roff_source.specs.Bytes.{blank, newline, tab}
-use Rattle.roff_escape.specs.Halves.{byte_read}
+use Rattle.roff_escape.specs.OpenEscapes.{byte_read}
 use Rattle.roff_ahead.specs.Input.{beginning_line}
 use Rattle.roff_ahead.specs.Input.Calls.{kept_last, without_last}
-use Rattle.roff_escape.specs.declared.half.Surroundings.TheVariants.{Arguments as AboveArguments}
+use Rattle.roff_escape.specs.declared.open_escape.Surroundings.TheVariants.{Arguments as AboveArguments}
 use Rattle.roff_store.specs.Named.{Named}
 use Rattle.roff_store.specs.TextCalls.{Call}
 use Rattle.roff_store.specs.Texts.{Entry}
@@ -21,7 +21,7 @@ use Rattle.roff_run.specs.Registers.{AllRegisters, Change, Known, changed_by_all
 use Rattle.roff_run.specs.declared.event.PageEvent.TheVariants.{Back}
 use Rattle.roff_run.specs.Requests.{Effect, called_by, meant_by, request_effect, row_of}
 use Rattle.roff_run.specs.Requests.Effects.{happens, no_such_environment}
-use Rattle.roff_run.specs.declared.reading.Reading.TheVariants.{Arguments as InArguments}
+use Rattle.roff_run.specs.declared.line_state.LineState.TheVariants.{Arguments as InArguments}
 use Rattle.roff_num.specs.declared.short_name.ShortName.{ShortName}
 use Rattle.roff_run.specs.declared.request.Called.{Called}
 use Rattle.roff_run.specs.declared.request.Called.TheVariants.{Request as ARequest, Body as ABody, Nothing as Unknown}

@@ -5,13 +5,13 @@ use Rattle.roff_requests.specs.declared.environments.Environments.{Environments 
 use Rattle.roff_num.specs.declared.limit.Limit.{Limit}
 use Rattle.roff_num.specs.declared.limit.Limit.TheVariants.{Conditions, Depth, Diversions, Names, Stack, Store}
 use Rattle.roff_num.specs.declared.limits.Limits.{Limits}
-use Rattle.roff_escape.specs.Half.{unit_bytes}
+use Rattle.roff_escape.specs.OpenEscape.{unit_bytes}
 use Rattle.roff_ahead.specs.Input.{beginning_line, depth, pushed, results}
 use Rattle.roff_ahead.specs.Input.Names.{calling_on}
 use Rattle.roff_scan.specs.Unread.{input_refusal}
-use Rattle.roff_escape.specs.declared.half.CopyUnit.{CopyUnit}
-use Rattle.roff_escape.specs.declared.half.Read.{Read}
-use Rattle.roff_escape.specs.declared.half.Read.TheVariants.{GoesOn, Unit as OneUnit, Holds, Escape, Asks, Motion, Measures, Tells, Decides}
+use Rattle.roff_escape.specs.declared.open_escape.CopyUnit.{CopyUnit}
+use Rattle.roff_escape.specs.declared.open_escape.Found.{Found}
+use Rattle.roff_escape.specs.declared.open_escape.Found.TheVariants.{GoesOn, Unit as OneUnit, Holds, Escape, Asks, Motion, Measures, Tells, Decides}
 use Rattle.roff_store.specs.TextCalls.{Call, Enter}
 use Rattle.roff_store.specs.Texts.{bytes_in, newest}
 use Rattle.roff_run.specs.Definitions.{end_mark, ends_mark, front_of, line_from, matched_behind}
@@ -30,7 +30,7 @@ use Rattle.roff_run.specs.Run.{known_at}
 use Rattle.roff_run.specs.declared.definition.DefinitionLine.{DefinitionLine}
 use Rattle.roff_run.specs.declared.definition.DefinitionLine.TheVariants.{IsText}
 use Rattle.roff_reader.specs.declared.reader.Meaning.{Meaning}
-use Rattle.roff_run.specs.declared.reading.Reading.TheVariants.{Defining}
+use Rattle.roff_run.specs.declared.line_state.LineState.TheVariants.{Defining}
 use Rattle.roff_num.specs.declared.short_name.ShortName.{ShortName}
 use Rattle.roff_reader.proofs.DefinitionEnds.{LeavesTexts, LeavesTexts-behind_definition, NamesAndTexts, names_and_texts}
 use Rattle.roff_run.proofs.InputCounts.{NoMore, first_passed-few_names, first_passed-no_more}
@@ -38,7 +38,7 @@ use Rattle.roff_reader.proofs.Strings.{refused_none}
 use Rattle.roff_reader.proofs.TakesAs.{Takes-elsewhere, few_names}
 
 -- what is no unit of a definition's text
-pub definition_found-no_unit : (k : Known) (i : PageInput) (name : Option ShortName) (appends : Bool) (end : Option ShortName) (matched : Option ℕ) (found : Read)
+pub definition_found-no_unit : (k : Known) (i : PageInput) (name : Option ShortName) (appends : Bool) (end : Option ShortName) (matched : Option ℕ) (found : Found)
     → ((unit : CopyUnit) → found ≡ OneUnit unit → ⊥) → ((b : ℕ) → found ≡ Escape b → ⊥)
     → no_unit_found k i (Defining name appends end matched) found ≡ definition_found k i name appends end matched found
 definition_found-no_unit k i name appends end matched (OneUnit unit) no_unit no_escape = absurd (no_unit unit refl)

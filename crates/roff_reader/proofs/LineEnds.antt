@@ -16,12 +16,12 @@ use Rattle.roff_run.specs.Reading.Ends.{due}
 use Rattle.roff_run.specs.Reading.Items.{going_on}
 use Rattle.roff_run.specs.Stages.{EndsLine, Here, Onward, Stage, Turned, input_at}
 use Rattle.roff_reader.specs.Reader.Stages.{ReadsPast}
-use Rattle.roff_run.specs.declared.reading.Reading.{Reading}
-use Rattle.roff_run.specs.declared.reading.Reading.TheVariants.{Dropped, LineStart, Skipping}
+use Rattle.roff_run.specs.declared.line_state.LineState.{LineState}
+use Rattle.roff_run.specs.declared.line_state.LineState.TheVariants.{Dropped, LineStart, Skipping}
 
 -- it ends a line that is dropped
-pub ends_dropped : (reading : Reading) → reading ≡ Dropped → EndsLine reading
-ends_dropped reading is = subst (λ (r : Reading). EndsLine r) (sym is) (λ k i. refl)
+pub ends_dropped : (reading : LineState) → reading ≡ Dropped → EndsLine reading
+ends_dropped reading is = subst (λ (r : LineState). EndsLine r) (sym is) (λ k i. refl)
 
 -- a newline ends a branch that is skipped, unless more braces were opened in it
 ends-closed : (opened closed : ℕ) → nat_lt closed opened ≡ false → EndsLine (Skipping opened closed false)
@@ -29,11 +29,11 @@ ends-closed opened closed none_open = λ k i.
     let ends : nat_le opened closed ≡ true = grind (arith, nat_tests, none_open) in
     ap (λ (c : Bool). if c then going_on i LineStart else going_on i (Skipping opened closed false)) ends
 
-pub ends_skipped : (reading : Reading) (opened closed : ℕ) → reading ≡ Skipping opened closed false → nat_lt closed opened ≡ false → EndsLine reading
-ends_skipped reading opened closed is none_open = subst (λ (r : Reading). EndsLine r) (sym is) (ends-closed opened closed none_open)
+pub ends_skipped : (reading : LineState) (opened closed : ℕ) → reading ≡ Skipping opened closed false → nat_lt closed opened ≡ false → EndsLine reading
+ends_skipped reading opened closed is none_open = subst (λ (r : LineState). EndsLine r) (sym is) (ends-closed opened closed none_open)
 
 -- a line begins behind it
-turned-ended : (names : Named Entry) (reading : Reading) (a : Arguments) (texts : List (List ℕ)) → due reading ≡ None → EndsLine reading
+turned-ended : (names : Named Entry) (reading : LineState) (a : Arguments) (texts : List (List ℕ)) → due reading ≡ None → EndsLine reading
     → Turned names (stage_with reading [] a texts) (newline ∷ []) (stage_with LineStart [] a texts)
 turned-ended names reading a texts none_due ends =
     let p : Stage = stage_with reading [] a texts in
@@ -42,7 +42,7 @@ turned-ended names reading a texts none_due ends =
 
 -- and it was read past
 pub reads-ended : (gave gives : Tape → Type 0) (r new : ReaderState) (before after : PageUnread) → due r.reading ≡ None → EndsLine r.reading
-    → before.input.half ≡ [] → PassesFront gave gives (newline ∷ []) before after → IsWithin after → new ≡ record r { reading = LineStart }
+    → before.input.escapes ≡ [] → PassesFront gave gives (newline ∷ []) before after → IsWithin after → new ≡ record r { reading = LineStart }
     → ReadsPast gave gives r new before after
 reads-ended gave gives r new before after none_due ends none_half passes within same =
     subst (λ (n : ReaderState). ReadsPast gave gives r n before after) (sym same)

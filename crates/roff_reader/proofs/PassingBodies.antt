@@ -4,8 +4,8 @@ use Rattle.std.specs.Prelude.{map}
 use Rattle.std.specs.List.{AllByRecursion}
 use Rattle.roff_num.specs.declared.limit.Limit.{Limit}
 use Rattle.roff_num.specs.declared.limits.Limits.{Limits}
-use Rattle.roff_escape.specs.Half.{Half}
-use Rattle.roff_escape.specs.Halves.{seen_stays}
+use Rattle.roff_escape.specs.OpenEscape.{OpenEscape}
+use Rattle.roff_escape.specs.OpenEscapes.{is_ended_by}
 use Rattle.roff_ahead.specs.Input.{Ahead, ByteAhead, bytes_taken, item_taken}
 use Rattle.roff_run.proofs.InputCounts.{NoMore-item_taken, first_passed-no_more}
 use Rattle.roff_run.proofs.ItemsTaken.{taken_as-going_on, bytes_ahead_are_taken}
@@ -45,21 +45,21 @@ turns_within-bytes_taken most (b ∷ bytes) items input front =
 
 -- a step at such a byte
 step-byte : (l : Limits) (s : State) (b : ℕ) (items : List (Ahead PageEvent)) (input : PageInput)
-    → TakesItems s → input.ahead ≡ ByteAhead b ∷ items → input.half ≡ [] → first_passed l (counts_in s.registers input) ≡ None
+    → TakesItems s → input.ahead ≡ ByteAhead b ∷ items → input.escapes ≡ [] → first_passed l (counts_in s.registers input) ≡ None
     → input.charge + 1 ≤ l.bytes → Passes s.reading b → step l (record s { input = input }) ≡ record s { input = behind_byte b items input }
 step-byte l s b items input on front none_half within allowed passes =
     let before : State = record s { input = input } in
     let taken : PageInput = behind_byte b items input in
     let done : State = record s { input = taken } in
     bytes_ahead_are_taken l before b items (record { going = on.going; not_closing = on.not_closing; idle = on.idle; none_due = on.none_due }) front
-    (ap (λ (half : List Half). seen_stays half (Some b)) none_half) (omega (arith, allowed))
+    (ap (λ (half : List OpenEscape). is_ended_by half (Some b)) none_half) (omega (arith, allowed))
     ∙ ap (λ (t : Taking). made l before (taken_as t done)) (passes (known_at s.history s.registers taken) taken)
     ∙ ap (made l before) (taken_as-going_on taken s.reading done)
     ∙ ap (λ (r : Option Limit). unless_refused l r before done) (within-byte l s.registers b items input front within)
 
 -- the steps at such bytes
 pub after-bytes_taken : (l : Limits) (s : State) (bytes : List ℕ) (items : List (Ahead PageEvent)) (input : PageInput)
-    → TakesItems s → input.ahead ≡ map ByteAhead bytes ++ items → input.half ≡ [] → first_passed l (counts_in s.registers input) ≡ None
+    → TakesItems s → input.ahead ≡ map ByteAhead bytes ++ items → input.escapes ≡ [] → first_passed l (counts_in s.registers input) ≡ None
     → input.charge + length bytes ≤ l.bytes → AllByRecursion (λ b. Passes s.reading b) bytes
     → after l (length bytes) (record s { input = input }) ≡ record s { input = bytes_taken bytes items input }
 after-bytes_taken l s [] items input on front none_half within allowed pass = refl

@@ -4,8 +4,8 @@ use Rattle.std.specs.Prelude.{map}
 use Rattle.std.specs.List.{AllByRecursion}
 use Rattle.roff_num.specs.declared.limit.Limit.{Limit}
 use Rattle.roff_num.specs.declared.limits.Limits.{Limits}
-use Rattle.roff_escape.specs.Half.{Half}
-use Rattle.roff_escape.specs.Halves.{seen_stays}
+use Rattle.roff_escape.specs.OpenEscape.{OpenEscape}
+use Rattle.roff_escape.specs.OpenEscapes.{is_ended_by}
 use Rattle.roff_ahead.specs.Input.{counting, lines_taken}
 use Rattle.roff_source.specs.Tape.{Tape, OneByte, items_then}
 use Rattle.roff_run.proofs.ItemsTaken.{taken_as-going_on, bytes_of_the_source_are_taken}
@@ -23,7 +23,7 @@ run_at s tape bytes input = record s { tape = items_then (map OneByte bytes) tap
 -- nothing is ahead of the source, nothing is half read, and no count is above its limit
 pub record IsPlain (l : Limits) (s : State) (input : PageInput) : Type 0 where
   pub none_ahead : input.ahead ≡ []
-  pub none_half : input.half ≡ []
+  pub none_half : input.escapes ≡ []
   pub within : first_passed l (counts_in s.registers input) ≡ None
 
 IsPlain-counting : (l : Limits) (s : State) (input : PageInput) (b : ℕ) → IsPlain l s input → IsPlain l s (counting b input)
@@ -37,7 +37,7 @@ step-passed l s tape b bytes input on plain within passes =
     let before : State = run_at s tape (b ∷ bytes) input in
     let done : State = run_at s tape bytes (counting b input) in
     bytes_of_the_source_are_taken l before b (record { going = on.going; not_closing = on.not_closing; idle = on.idle; none_due = on.none_due }) plain.none_ahead refl
-    (ap (λ (half : List Half). seen_stays half (Some b)) plain.none_half) (omega (arith, within))
+    (ap (λ (half : List OpenEscape). is_ended_by half (Some b)) plain.none_half) (omega (arith, within))
     ∙ ap (λ (t : Taking). made l before (taken_as t done)) (passes (known_at s.history s.registers (counting b input)) (counting b input))
     ∙ ap (made l before) (taken_as-going_on (counting b input) s.reading done)
     ∙ ap (λ (r : Option Limit). unless_refused l r before done) plain.within

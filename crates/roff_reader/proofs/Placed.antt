@@ -1,21 +1,21 @@
 -- What is read where something may be half read above it, and where nothing is.
 use Rattle.std.proofs.Common.{◌≡◌, ℕ, Bool, true, Option, refl}
-use Rattle.roff_escape.specs.Halves.{byte_read}
-use Rattle.roff_escape.specs.declared.half.Read.{Read}
+use Rattle.roff_escape.specs.OpenEscapes.{byte_read}
+use Rattle.roff_escape.specs.declared.open_escape.Found.{Found}
 use Rattle.roff_run.specs.Reading.Items.{reads_above}
 use Rattle.roff_run.specs.Reading.{kept_taking}
 use Rattle.roff_run.specs.Reading.Found.{found_in, has_place, place_in, read_in}
 use Rattle.roff_run.specs.Reading.Items.{PageInput, going_on}
 use Rattle.roff_run.specs.Registers.{Known}
-use Rattle.roff_run.specs.declared.reading.Reading.{Reading}
-use Rattle.roff_run.specs.declared.reading.Reading.TheVariants.{StringName, StringText, LineStart, Branch, Braced, Text as InText, Control, Name, Arguments as InArguments, Deciding, Skipping, Dropped, Telling, Told, Exiting, Calling, Defining}
+use Rattle.roff_run.specs.declared.line_state.LineState.{LineState}
+use Rattle.roff_run.specs.declared.line_state.LineState.TheVariants.{StringName, StringText, LineStart, Branch, Braced, Text as InText, Control, Name, Arguments as InArguments, Deciding, Skipping, Dropped, Telling, Told, Exiting, Calling, Defining}
 use Rattle.roff_num.specs.declared.short_name.ShortName.{ShortName}
-use Rattle.roff_run.specs.declared.reading.TextLine.{TextLine}
+use Rattle.roff_run.specs.declared.line_state.TextLine.{TextLine}
 use Rattle.roff_run.specs.declared.request.Request.{Request}
 
 -- a byte is read by what is half read, and does what was found
-pub kept-placed : (k : Known) (i : PageInput) (r : Reading) (b : ℕ) → has_place r ≡ true
-    → read_in k r i (byte_read (place_in k r) i.half b) ≡ kept_taking k r i b
+pub kept-placed : (k : Known) (i : PageInput) (r : LineState) (b : ℕ) → has_place r ≡ true
+    → read_in k r i (byte_read (place_in k r) i.escapes b) ≡ kept_taking k r i b
 kept-placed k i LineStart b is = refl
 kept-placed k i Branch b is = refl
 kept-placed k i Braced b is = refl
@@ -35,7 +35,7 @@ kept-placed k i (Told aborts) b is = cc
 kept-placed k i Exiting b is = cc
 
 -- elsewhere whatever was found changes nothing
-pub found-elsewhere : (k : Known) (i : PageInput) (r : Reading) (found : Read)
+pub found-elsewhere : (k : Known) (i : PageInput) (r : LineState) (found : Found)
     → (r ≡ LineStart → ⊥)
     → (r ≡ Branch → ⊥)
     → (r ≡ Braced → ⊥)
@@ -67,7 +67,7 @@ found-elsewhere k i (Told aborts) found begun branch braced text arguments decid
 found-elsewhere k i Exiting found begun branch braced text arguments decides names strings calls defines tells = refl
 
 -- all else that is read may have something half read above it
-pub placed : (r : Reading)
+pub placed : (r : LineState)
     → ((breaks : Bool) → r ≡ Control breaks → ⊥)
     → ((breaks : Bool) (first : ℕ) → r ≡ Name breaks first → ⊥)
     → ((opened : ℕ) (closed : ℕ) (behind : Bool) → r ≡ Skipping opened closed behind → ⊥)
@@ -94,7 +94,7 @@ placed (Told aborts) control named skips dropped told left = absurd (told aborts
 placed Exiting control named skips dropped told left = absurd (left refl)
 
 -- what is read where most that is found means nothing may
-pub above-placed : (r : Reading) → reads_above r ≡ true → has_place r ≡ true
+pub above-placed : (r : LineState) → reads_above r ≡ true → has_place r ≡ true
 above-placed LineStart is = refl
 above-placed Branch is = cc
 above-placed Braced is = cc

@@ -12,8 +12,8 @@ use Rattle.roff_lines.specs.declared.event.Event.TheVariants.{Print, WordEnd, Ga
 use Rattle.roff_lines.specs.Lines.{Finished, finished, pending_length}
 use Rattle.roff_lines.specs.Telling.{QuietlyTold, bytes_told}
 use Rattle.roff_lines.specs.declared.glyph.Glyph.TheVariants.{Printed}
-use Rattle.roff_escape.specs.Half.{Half}
-use Rattle.roff_escape.specs.Halves.{seen_stays}
+use Rattle.roff_escape.specs.OpenEscape.{OpenEscape}
+use Rattle.roff_escape.specs.OpenEscapes.{is_ended_by}
 use Rattle.roff_ahead.specs.Input.{Ahead, ByteAhead, bytes_taken, counting, lines_taken}
 use Rattle.roff_source.specs.Tape.{Tape, OneByte, items_then}
 use Rattle.roff_run.proofs.ItemsTaken.{bytes_ahead_are_taken, bytes_of_the_source_are_taken}
@@ -29,7 +29,7 @@ use Rattle.roff_run.specs.declared.event.PageEvent.TheVariants.{Text}
 use Rattle.roff_run.specs.Run.{State, Leads, byte_taken, known_at, made, step, taken_as, unless_refused}
 use Rattle.roff_run.specs.Run.Counts.{counts_in, first_passed, refusal}
 use Rattle.roff_run.specs.Telling.{Prints, byte_events, byte_told, page_told}
-use Rattle.roff_run.specs.declared.reading.Reading.{Reading}
+use Rattle.roff_run.specs.declared.line_state.LineState.{LineState}
 
 -- what happened in the environment in force became this
 abbrev pub with_text : History → Environments → Environments
@@ -76,7 +76,7 @@ allowed : (l : Limits) (h : PageHistory) (e : Event) → pending_length (e ∷ t
 allowed l h e within = rw (le-ltb l.line (pending_length (e ∷ text_of h)) within) refl
 
 -- a run that reads this on, with these registers and messages
-module _ (l : Limits) (reading : Reading) (rs : AllRegisters) (messages : List ℕ) where
+module _ (l : Limits) (reading : LineState) (rs : AllRegisters) (messages : List ℕ) where
   -- where it has come to: the tape, the input, the history and the events to do
   abbrev pub told_at : Tape → PageInput → PageHistory → List PageEvent → State
   told_at tape input h to_do = record {
@@ -122,7 +122,7 @@ module _ (l : Limits) (reading : Reading) (rs : AllRegisters) (messages : List �
 
   -- a byte that was taken, and is told
   leads-byte : (b : ℕ) (before : State) (tape : Tape) (input : PageInput) (h : PageHistory)
-      → step l before ≡ made l before (byte_taken b (told_at tape input h [])) → input.half ≡ [] → first_passed l (counts_in rs input) ≡ None
+      → step l before ≡ made l before (byte_taken b (told_at tape input h [])) → input.escapes ≡ [] → first_passed l (counts_in rs input) ≡ None
       → Prints reading b → pending_length (bytes_told (b ∷ []) (text_of h)) ≤ l.line
       → Leads l before (told_at tape input (byte_told b h) [])
   leads-byte b before tape input h taken none_half within prints short =
@@ -137,7 +137,7 @@ module _ (l : Limits) (reading : Reading) (rs : AllRegisters) (messages : List �
 
   -- the steps at such bytes of the source
   pub leads-source : (tape : Tape) (bytes : List ℕ) (input : PageInput) (h : PageHistory) → due reading ≡ None
-      → input.ahead ≡ [] → input.half ≡ [] → first_passed l (counts_in rs input) ≡ None → input.charge + length bytes ≤ l.bytes
+      → input.ahead ≡ [] → input.escapes ≡ [] → first_passed l (counts_in rs input) ≡ None → input.charge + length bytes ≤ l.bytes
       → AllByRecursion (λ b. Prints reading b) bytes → QuietlyTold l.line bytes (text_of h)
       → Leads l (told_at (items_then (map OneByte bytes) tape) input h []) (told_at tape (lines_taken bytes input) (page_told bytes h) [])
   leads-source tape [] input h none_due none_ahead none_half within few prints quiet = Leads-refl l (told_at tape input h [])
@@ -147,14 +147,14 @@ module _ (l : Limits) (reading : Reading) (rs : AllRegisters) (messages : List �
       Leads-trans l before (told_at rest (counting b input) (byte_told b h) []) _
       (leads-byte b before rest (counting b input) h
       (bytes_of_the_source_are_taken l before b (record { going = refl; not_closing = refl; idle = refl; none_due = none_due }) none_ahead refl
-      (ap (λ (half : List Half). seen_stays half (Some b)) none_half) (omega (arith, few)))
+      (ap (λ (half : List OpenEscape). is_ended_by half (Some b)) none_half) (omega (arith, few)))
       none_half within prints.0 quiet.1)
       (leads-source tape bytes (counting b input) (byte_told b h) none_due none_ahead none_half within (omega (arith, few)) prints.1
       (quiet-byte l.line b bytes h quiet.2))
 
   -- and at those that stand ahead
   pub leads-ahead : (tape : Tape) (items : List (Ahead PageEvent)) (bytes : List ℕ) (input : PageInput) (h : PageHistory) → due reading ≡ None
-      → input.ahead ≡ map ByteAhead bytes ++ items → input.half ≡ [] → first_passed l (counts_in rs input) ≡ None → input.charge + length bytes ≤ l.bytes
+      → input.ahead ≡ map ByteAhead bytes ++ items → input.escapes ≡ [] → first_passed l (counts_in rs input) ≡ None → input.charge + length bytes ≤ l.bytes
       → AllByRecursion (λ b. Prints reading b) bytes → QuietlyTold l.line bytes (text_of h)
       → Leads l (told_at tape input h []) (told_at tape (bytes_taken bytes items input) (page_told bytes h) [])
   leads-ahead tape items [] input h none_due front none_half within few prints quiet = Leads-refl l (told_at tape input h [])
@@ -166,7 +166,7 @@ module _ (l : Limits) (reading : Reading) (rs : AllRegisters) (messages : List �
       Leads-trans l before (told_at tape there (byte_told b h) []) _
       (leads-byte b before tape there h
       (bytes_ahead_are_taken l before b behind (record { going = refl; not_closing = refl; idle = refl; none_due = none_due }) front
-      (ap (λ (half : List Half). seen_stays half (Some b)) none_half) (omega (arith, few)))
+      (ap (λ (half : List OpenEscape). is_ended_by half (Some b)) none_half) (omega (arith, few)))
       none_half still prints.0 quiet.1)
       (leads-ahead tape items bytes there (byte_told b h) none_due refl none_half still (omega (arith, few)) prints.1
       (quiet-byte l.line b bytes h quiet.2))

@@ -13,10 +13,10 @@ use Rattle.roff_run.specs.Registers.{AllRegisters, Remove}
 use Rattle.roff_run.specs.Registers.Capped.{Capped, with_change}
 use Rattle.roff_run.specs.Requests.Numbering.{name_given, names_given}
 use Rattle.roff_run.specs.declared.event.PageEvent.{PageEvent}
-use Rattle.roff_run.specs.declared.reading.Reading.{Reading}
+use Rattle.roff_run.specs.declared.line_state.LineState.{LineState}
 
 -- the registers that the first so many arguments name are gone
-pub record Removed (n : ℕ) (texts : List (List ℕ)) (old : ReaderState) (reading : Reading) (requested : List PageEvent) (now : Capped) : Type 0 where
+pub record Removed (n : ℕ) (texts : List (List ℕ)) (old : ReaderState) (reading : LineState) (requested : List PageEvent) (now : Capped) : Type 0 where
   pub reading_is : reading ≡ old.reading
   pub requested_is : requested ≡ old.requested
   pub registers_are : now ≡ with_change (Remove (names_given (take n texts))) old.registers
@@ -65,7 +65,7 @@ removed-append names others r =
     (sym (fold-append without r.all.named names others))
 
 -- behind an argument that names one
-pub Removed-named : (n : ℕ) (texts : List (List ℕ)) (old : ReaderState) (reading : Reading) (requested : List PageEvent) (now behind : Capped) (text name : List ℕ)
+pub Removed-named : (n : ℕ) (texts : List (List ℕ)) (old : ReaderState) (reading : LineState) (requested : List PageEvent) (now behind : Capped) (text name : List ℕ)
     → Removed n texts old reading requested now → slice_get texts n ≡ Some text → name_of (name_given text) ≡ Some name
     → behind ≡ with_change (Remove (name ∷ [])) now → Removed (n + 1) texts old reading requested behind
 Removed-named n texts old reading requested now behind text name removed is named goes = record {
@@ -82,7 +82,7 @@ Removed-named n texts old reading requested now behind text name removed is name
 }
 
 -- behind another
-pub Removed-unnamed : (n : ℕ) (texts : List (List ℕ)) (old : ReaderState) (reading : Reading) (requested : List PageEvent) (now : Capped) (text : List ℕ)
+pub Removed-unnamed : (n : ℕ) (texts : List (List ℕ)) (old : ReaderState) (reading : LineState) (requested : List PageEvent) (now : Capped) (text : List ℕ)
     → Removed n texts old reading requested now → slice_get texts n ≡ Some text → name_of (name_given text) ≡ None
     → Removed (n + 1) texts old reading requested now
 Removed-unnamed n texts old reading requested now text removed is unnamed = record {
@@ -98,7 +98,7 @@ Removed-unnamed n texts old reading requested now text removed is unnamed = reco
 }
 
 -- where there is none
-pub Removed-past : (n : ℕ) (texts : List (List ℕ)) (old : ReaderState) (reading : Reading) (requested : List PageEvent) (now : Capped)
+pub Removed-past : (n : ℕ) (texts : List (List ℕ)) (old : ReaderState) (reading : LineState) (requested : List PageEvent) (now : Capped)
     → Removed n texts old reading requested now → slice_get texts n ≡ None → Removed (n + 1) texts old reading requested now
 Removed-past n texts old reading requested now removed past = record {
   reading_is = removed.reading_is;

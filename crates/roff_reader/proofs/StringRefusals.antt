@@ -9,15 +9,15 @@ use Rattle.roff_num.specs.declared.limit.Limit.{Limit}
 use Rattle.roff_num.specs.declared.limit.Limit.TheVariants.{Stack, Depth, Diversions, Store, Names, Conditions}
 use Rattle.roff_num.specs.declared.limits.Limits.{Limits}
 use Rattle.roff_arguments.specs.Arguments.{Arguments, held, no_arguments, settled_at, with_byte_at, with_unit, with_whole}
-use Rattle.roff_escape.specs.Half.{texts_held, unit_bytes}
+use Rattle.roff_escape.specs.OpenEscape.{texts_held, unit_bytes}
 use Rattle.roff_ahead.specs.Input.{bytes_ahead, depth, pushed, results}
 use Rattle.roff_arguments.specs.Arguments.{live_bytes}
 use Rattle.roff_ahead.specs.Input.Names.{adding, calling, calling_on, names_added, stored}
 use Rattle.roff_scan.specs.Unread.{input_refusal}
 use Rattle.roff_arguments.specs.declared.arguments.Place.{Place}
 use Rattle.roff_arguments.specs.declared.arguments.Place.TheVariants.{Between, InPlain, InQuotes, BehindQuote}
-use Rattle.roff_escape.specs.declared.half.CopyUnit.{CopyUnit}
-use Rattle.roff_escape.specs.declared.half.CopyUnit.TheVariants.{Byte, Kept}
+use Rattle.roff_escape.specs.declared.open_escape.CopyUnit.{CopyUnit}
+use Rattle.roff_escape.specs.declared.open_escape.CopyUnit.TheVariants.{Byte, Kept}
 use Rattle.roff_arguments.proofs.KeptArguments.{held-only_kept}
 use Rattle.roff_store.specs.TextCalls.{Open, PushOpen}
 use Rattle.roff_store.specs.Texts.{newest}
@@ -28,7 +28,7 @@ use Rattle.roff_num.specs.ShortNames.{name_at}
 use Rattle.roff_run.specs.Reading.Items.{PageInput, Taking, going_on}
 use Rattle.roff_run.specs.Reading.Strings.{name_read, string_begun, string_grown, string_name_behind, string_unit}
 use Rattle.roff_run.specs.Reading.Units.{holding}
-use Rattle.roff_run.specs.declared.reading.Reading.TheVariants.{StringName, StringText}
+use Rattle.roff_run.specs.declared.line_state.LineState.TheVariants.{StringName, StringText}
 use Rattle.roff_num.specs.declared.short_name.ShortName.{ShortName}
 use Rattle.roff_run.proofs.InputCounts.{NoMore, NoMore-released, input_refusal-no_more, not_above, one_of}
 use Rattle.roff_reader.proofs.Strings.{TakesAs-not_became, other, refused_none}
@@ -186,7 +186,7 @@ none_whole i none = empty i.arguments.whole (sym (length-reverse i.arguments.who
 NoMore-held : (i : PageInput) (unit : CopyUnit) → held (with_unit i.arguments unit) ≡ held i.arguments → NoMore (holding unit i) i
 NoMore-held i unit same =
     let bytes : pushed (holding unit i) ≡ pushed i =
-    ap (λ n. bytes_ahead i.ahead + n + texts_held i.half + live_bytes i.calls) (held-only_kept (with_unit i.arguments unit) ∙ same) in
+    ap (λ n. bytes_ahead i.ahead + n + texts_held i.escapes + live_bytes i.calls) (held-only_kept (with_unit i.arguments unit) ∙ same) in
     record { bytes = omega (arith, bytes); texts = omega arith; results = omega arith; stored = omega arith; names = omega arith; open_texts = omega arith }
 
 -- no name is whole behind a unit that a limit refuses

@@ -5,7 +5,7 @@ use Rattle.std.specs.Prelude.{is_some, option_map, ◌&&◌}
 use Rattle.std.proofs.lemmas.Bool.{cases_Bool, eqb-true}
 use Rattle.roff_requests.specs.declared.environments.Environments.{Environments as EnvironmentsOf}
 use Rattle.roff_num.specs.declared.limit.Limit.{Limit}
-use Rattle.roff_escape.specs.Half.{unit_bytes}
+use Rattle.roff_escape.specs.OpenEscape.{unit_bytes}
 use Rattle.roff_ahead.specs.Input.{holding_plain}
 use Rattle.roff_ahead.specs.Input.Names.{adding, calling, texts_of}
 use Rattle.roff_store.specs.Named.{entry_of}
@@ -14,10 +14,10 @@ use Rattle.roff_store.specs.Texts.{Entry, Body as BodyOfName, Request as Request
 use Rattle.roff_store.specs.declared.text.Kind.{Kind}
 use Rattle.roff_store.specs.declared.text.Kind.TheVariants.{Body as BodyGiven, Request as RequestGiven}
 use Rattle.roff_scan.specs.Unread.{changing, input_refusal}
-use Rattle.roff_escape.specs.declared.half.CopyUnit.{CopyUnit}
-use Rattle.roff_escape.specs.declared.half.CopyUnit.TheVariants.{Byte, Kept}
-use Rattle.roff_escape.specs.declared.half.Read.{Read}
-use Rattle.roff_escape.specs.declared.half.Read.TheVariants.{GoesOn, Unit as OneUnit, Holds, Escape, Asks, Motion, Measures, Tells, Decides}
+use Rattle.roff_escape.specs.declared.open_escape.CopyUnit.{CopyUnit}
+use Rattle.roff_escape.specs.declared.open_escape.CopyUnit.TheVariants.{Byte, Kept}
+use Rattle.roff_escape.specs.declared.open_escape.Found.{Found}
+use Rattle.roff_escape.specs.declared.open_escape.Found.TheVariants.{GoesOn, Unit as OneUnit, Holds, Escape, Asks, Motion, Measures, Tells, Decides}
 use Rattle.roff_requests.specs.Events.Meant.{events_meant, none_meant}
 use Rattle.roff_reader.specs.Reader.State.{ReaderState}
 use Rattle.roff_reader.specs.Reader.Taken.{InputBecame, IsInputNow, IsReady, TakesAs}
@@ -31,14 +31,14 @@ use Rattle.roff_run.specs.Registers.{Known}
 use Rattle.roff_run.specs.Registers.Capped.{Capped}
 use Rattle.roff_run.specs.declared.message.Message.{Message}
 use Rattle.roff_reader.specs.declared.reader.Meaning.{Meaning}
-use Rattle.roff_run.specs.declared.reading.Reading.{Reading}
-use Rattle.roff_run.specs.declared.reading.Reading.TheVariants.{StringName, StringText, Telling}
+use Rattle.roff_run.specs.declared.line_state.LineState.{LineState}
+use Rattle.roff_run.specs.declared.line_state.LineState.TheVariants.{StringName, StringText, Telling}
 use Rattle.roff_num.specs.declared.short_name.ShortName.{ShortName}
 use Rattle.roff_run.proofs.InputCounts.{first_passed-few_names}
 use Rattle.roff_reader.proofs.TakesAs.{Takes-elsewhere, few_names, passed_none, passed_one}
 
 -- what is no unit there
-pub string_name_found-no_unit : (k : Known) (i : PageInput) (appends : Bool) (found : Read) → ((unit : CopyUnit) → found ≡ OneUnit unit → ⊥) → ((b : ℕ) → found ≡ Escape b → ⊥)
+pub string_name_found-no_unit : (k : Known) (i : PageInput) (appends : Bool) (found : Found) → ((unit : CopyUnit) → found ≡ OneUnit unit → ⊥) → ((b : ℕ) → found ≡ Escape b → ⊥)
     → no_unit_found k (settling i) (StringName appends) found ≡ string_name_found k i appends found
 string_name_found-no_unit k i appends (OneUnit unit) no_unit no_escape = absurd (no_unit unit refl)
 string_name_found-no_unit k i appends (Escape b) no_unit no_escape = absurd (no_escape b refl)
@@ -51,7 +51,7 @@ string_name_found-no_unit k i appends (Tells remark) no_unit no_escape = refl
 string_name_found-no_unit k i appends (Decides decision freed) no_unit no_escape = refl
 
 -- what is no unit there
-pub string_text_found-no_unit : (k : Known) (i : PageInput) (name : Option ShortName) (appends is_front : Bool) (found : Read) → ((unit : CopyUnit) → found ≡ OneUnit unit → ⊥) → ((b : ℕ) → found ≡ Escape b → ⊥)
+pub string_text_found-no_unit : (k : Known) (i : PageInput) (name : Option ShortName) (appends is_front : Bool) (found : Found) → ((unit : CopyUnit) → found ≡ OneUnit unit → ⊥) → ((b : ℕ) → found ≡ Escape b → ⊥)
     → no_unit_found k i (StringText name appends is_front) found ≡ string_text_found k i name appends is_front found
 string_text_found-no_unit k i name appends is_front (OneUnit unit) no_unit no_escape = absurd (no_unit unit refl)
 string_text_found-no_unit k i name appends is_front (Escape b) no_unit no_escape = absurd (no_escape b refl)
@@ -84,7 +84,7 @@ pub refused_none : (r : Capped) (u : PageUnread) → IsReady r u → input_refus
 refused_none r u ready = sym (first_passed-few_names u.limits r.all u.input (few_names r u ready)) ∙ ready.within
 
 -- the input became this, and this is read on
-pub TakesAs-became : (i : PageInput) (place : Reading) (es : EnvironmentsOf) (old new : ReaderState) (before behind : PageUnread) (m : Meaning) (done : Unit {0})
+pub TakesAs-became : (i : PageInput) (place : LineState) (es : EnvironmentsOf) (old new : ReaderState) (before behind : PageUnread) (m : Meaning) (done : Unit {0})
     → InputBecame i before behind (Ok done) → new ≡ record old { reading = place } → m.message ≡ None → m.events ≡ none_meant
     → TakesAs (λ k. going_on i place) es old new before behind (Ok m)
 TakesAs-became i place es old new before behind m done became came silent none = record {
@@ -103,7 +103,7 @@ TakesAs-became i place es old new before behind m done became came silent none =
 }
 
 -- or a limit refuses it
-pub TakesAs-not_became : (i : PageInput) (place : Reading) (es : EnvironmentsOf) (old new : ReaderState) (before behind : PageUnread) (limit : Limit)
+pub TakesAs-not_became : (i : PageInput) (place : LineState) (es : EnvironmentsOf) (old new : ReaderState) (before behind : PageUnread) (limit : Limit)
     → InputBecame i before behind (Err limit) → TakesAs (λ k. going_on i place) es old new before behind (Err limit)
 TakesAs-not_became i place es old new before behind limit became = record {
   takes = λ l h stands ready.

@@ -12,15 +12,15 @@ use Rattle.roff_num.specs.declared.limit.Limit.{Limit}
 use Rattle.roff_num.specs.declared.limit.Limit.TheVariants.{Names}
 use Rattle.roff_num.specs.Ranges.{is_in_range}
 use Rattle.roff_source.specs.Bytes.{blank, is_dropped, newline}
-use Rattle.roff_escape.specs.Half.{Half, texts_held}
-use Rattle.roff_escape.specs.Halves.{Reads, byte_read, reading_ended}
-use Rattle.roff_ahead.specs.Input.{choosing, pushing, with_half}
+use Rattle.roff_escape.specs.OpenEscape.{OpenEscape, texts_held}
+use Rattle.roff_escape.specs.OpenEscapes.{Reads, byte_read, reading_ended}
+use Rattle.roff_ahead.specs.Input.{choosing, pushing, with_escapes}
 use Rattle.roff_ahead.specs.Input.Calls.{without_last}
 use Rattle.roff_scan.specs.Unread.{changing, input_refusal, reading, unless_passed}
-use Rattle.roff_escape.specs.declared.half.CopyUnit.{CopyUnit}
-use Rattle.roff_escape.specs.declared.half.Read.{Read}
-use Rattle.roff_escape.specs.declared.half.Read.TheVariants.{GoesOn, Unit as OneUnit, Holds, Escape, Asks, Motion, Measures, Tells, Decides}
-use Rattle.roff_escape.specs.declared.half.Surroundings.{Surroundings}
+use Rattle.roff_escape.specs.declared.open_escape.CopyUnit.{CopyUnit}
+use Rattle.roff_escape.specs.declared.open_escape.Found.{Found}
+use Rattle.roff_escape.specs.declared.open_escape.Found.TheVariants.{GoesOn, Unit as OneUnit, Holds, Escape, Asks, Motion, Measures, Tells, Decides}
+use Rattle.roff_escape.specs.declared.open_escape.Surroundings.{Surroundings}
 use Rattle.roff_escape.proofs.TextsHeld.{texts_held-byte_read, texts_held-reading_ended}
 use Rattle.roff_store.proofs.Entries.{length-with_entry}
 use Rattle.roff_store.specs.Named.{with_entry, entry_of}
@@ -50,11 +50,11 @@ use Rattle.roff_run.specs.Run.{known_at}
 use Rattle.roff_run.specs.Run.Counts.{counts_in, first_passed}
 use Rattle.roff_run.specs.declared.message.Message.{Message}
 use Rattle.roff_reader.specs.declared.reader.Meaning.{Meaning}
-use Rattle.roff_run.specs.declared.reading.Reading.{Reading}
-use Rattle.roff_run.specs.declared.reading.Reading.TheVariants.{StringName, StringText, LineStart, Branch, Braced, Text as InText, Control, Name, Arguments as InArguments, Deciding, Skipping, Dropped, Telling, Told, Exiting, Calling, Defining}
+use Rattle.roff_run.specs.declared.line_state.LineState.{LineState}
+use Rattle.roff_run.specs.declared.line_state.LineState.TheVariants.{StringName, StringText, LineStart, Branch, Braced, Text as InText, Control, Name, Arguments as InArguments, Deciding, Skipping, Dropped, Telling, Told, Exiting, Calling, Defining}
 use Rattle.roff_num.specs.declared.short_name.ShortName.{ShortName}
-use Rattle.roff_run.specs.declared.reading.TextLine.{TextLine}
-use Rattle.roff_run.specs.declared.reading.TextStep.{TextStep}
+use Rattle.roff_run.specs.declared.line_state.TextLine.{TextLine}
+use Rattle.roff_run.specs.declared.line_state.TextStep.{TextStep}
 use Rattle.roff_requests.specs.declared.registers.Facts.{Facts}
 use Rattle.roff_run.specs.declared.request.LineReading.{LineReading}
 use Rattle.roff_run.specs.declared.request.Request.{Request}
@@ -77,12 +77,13 @@ Takes-elsewhere t old new before behind i (Ok m) took = record {
 Takes-elsewhere t old new before behind i (Err limit) passed = passed
 
 -- where no more is held of texts that are half read
-NoMore-with_half : (half : List Half) (i : PageInput) → texts_held half ≤ texts_held i.half → NoMore (with_half half i) i
-NoMore-with_half half i fewer = record { bytes = omega (arith, fewer); texts = omega arith; results = omega arith; stored = omega arith; names = omega arith; open_texts = omega arith }
+NoMore-with_escapes : (half : List OpenEscape) (i : PageInput) → texts_held half ≤ texts_held i.escapes
+    → NoMore (with_escapes half i) i
+NoMore-with_escapes half i fewer = record { bytes = omega (arith, fewer); texts = omega arith; results = omega arith; stored = omega arith; names = omega arith; open_texts = omega arith }
 
 -- where a condition begins
 pub NoMore-choosing : (i : PageInput) → NoMore (choosing i) i
-NoMore-choosing i = NoMore-with_half (choosing i).half i (omega arith)
+NoMore-choosing i = NoMore-with_escapes (choosing i).escapes i (omega arith)
 
 -- where the newest result is taken
 fewer_kept : (kept : List (Bool × ℕ)) → length (drop 1 kept) ≤ length kept
@@ -95,18 +96,18 @@ NoMore-without_last i =
     record { bytes = omega arith; texts = omega arith; results = omega arith; stored = omega arith; names = omega arith; open_texts = omega arith }
 
 -- what something reads, with what is half read then
-pub TakesAs-read : (t : Known → PageInput → Read → Taking) (r : Reads) (es : EnvironmentsOf) (old new : ReaderState) (before mid behind : PageUnread)
-    (found : Read) (result : Result Meaning Limit) → (found, mid) ≡ reading r before → texts_held r.1 ≤ texts_held before.input.half
+pub TakesAs-read : (t : Known → PageInput → Found → Taking) (r : Reads) (es : EnvironmentsOf) (old new : ReaderState) (before mid behind : PageUnread)
+    (found : Found) (result : Result Meaning Limit) → (found, mid) ≡ reading r before → texts_held r.1 ≤ texts_held before.input.escapes
     → TakesAs (λ k. t k mid.input found) es old new mid behind result
-    → TakesAs (λ k. t k (with_half r.1 before.input) r.0) es old new before behind result
+    → TakesAs (λ k. t k (with_escapes r.1 before.input) r.0) es old new before behind result
 TakesAs-read t r es old new before mid behind found result reads fewer takes =
-    let half : PageInput = with_half r.1 before.input in
+    let half : PageInput = with_escapes r.1 before.input in
     let behind_it : PageUnread = record before { input = half } in
     let moved : TakesAs (λ k. t k half r.0) es old new behind_it behind result =
-    subst (λ (p : Read × PageUnread). TakesAs (λ k. t k p.1.input p.0) es old new p.1 behind result) reads takes in
+    subst (λ (p : Found × PageUnread). TakesAs (λ k. t k p.1.input p.0) es old new p.1 behind result) reads takes in
     record {
       takes = λ l h stands ready.
-          let within = first_passed-no_more before.limits old.registers.all half before.input (NoMore-with_half r.1 before.input fewer) ready.within in
+          let within = first_passed-no_more before.limits old.registers.all half before.input (NoMore-with_escapes r.1 before.input fewer) ready.within in
           Takes-elsewhere (t (known_at h old.registers.all before.input) half r.0) old.registers new before behind half result
           (moved.takes l h stands (record { cap = ready.cap; within = within }));
     }
@@ -121,10 +122,10 @@ TakesAs-set t es old set new before behind result same takes = record {
 }
 
 -- what is taken where this is being read
-pub TakesAs-where : (t : Known → Reading → Taking) (place : Reading) (es : EnvironmentsOf) (old new : ReaderState) (before behind : PageUnread) (result : Result Meaning Limit)
+pub TakesAs-where : (t : Known → LineState → Taking) (place : LineState) (es : EnvironmentsOf) (old new : ReaderState) (before behind : PageUnread) (result : Result Meaning Limit)
     → old.reading ≡ place → TakesAs (λ k. t k place) es old new before behind result → TakesAs (λ k. t k old.reading) es old new before behind result
 TakesAs-where t place es old new before behind result is takes =
-    subst (λ (r : Reading). TakesAs (λ k. t k r) es old new before behind result) (sym is) takes
+    subst (λ (r : LineState). TakesAs (λ k. t k r) es old new before behind result) (sym is) takes
 
 -- what is taken as one of two that are equal is taken as the other
 pub TakesAs-as : (s t : Known → Taking) (es : EnvironmentsOf) (old new : ReaderState) (before behind : PageUnread) (result : Result Meaning Limit)
@@ -299,7 +300,7 @@ TakesAs-interrupted es old u behind m came silent none = record {
 }
 
 -- this is read on, and some events are meant
-pub TakesAs-meant : (t : Known → Taking) (behind : Reading) (events : List PageEvent) (es : EnvironmentsOf) (old new : ReaderState) (u : PageUnread) (m : Meaning)
+pub TakesAs-meant : (t : Known → Taking) (behind : LineState) (events : List PageEvent) (es : EnvironmentsOf) (old new : ReaderState) (u : PageUnread) (m : Meaning)
     → ((k : Known) → t k ≡ meaning_events u.input behind events) → new ≡ record old { reading = behind } → m.message ≡ None → m.events ≡ few_meant events
     → TakesAs t es old new u u (Ok m)
 TakesAs-meant t behind events es old new u m as_defined came silent means = record {
@@ -337,7 +338,7 @@ TakesAs-stepped t step es old new u m as_defined came says means = record {
 }
 
 -- the input changes, and this is read on
-pub TakesAs-changed : (i : PageInput) (place : Reading) (es : EnvironmentsOf) (old new : ReaderState) (before behind : PageUnread) (m : Meaning) (done : Unit {0})
+pub TakesAs-changed : (i : PageInput) (place : LineState) (es : EnvironmentsOf) (old new : ReaderState) (before behind : PageUnread) (m : Meaning) (done : Unit {0})
     → (Ok done, behind) ≡ changing i before → new ≡ record old { reading = place } → m.message ≡ None → m.events ≡ none_meant
     → TakesAs (λ k. going_on i place) es old new before behind (Ok m)
 TakesAs-changed i place es old new before behind m done changes came silent none = record {
@@ -356,7 +357,7 @@ TakesAs-changed i place es old new before behind m done changes came silent none
 }
 
 -- or a limit refuses the change
-pub TakesAs-not_changed : (i : PageInput) (place : Reading) (es : EnvironmentsOf) (old new : ReaderState) (before behind : PageUnread) (limit : Limit)
+pub TakesAs-not_changed : (i : PageInput) (place : LineState) (es : EnvironmentsOf) (old new : ReaderState) (before behind : PageUnread) (limit : Limit)
     → (Err limit, behind) ≡ changing i before → TakesAs (λ k. going_on i place) es old new before behind (Err limit)
 TakesAs-not_changed i place es old new before behind limit changes = record {
   takes = λ l h stands ready.
@@ -377,31 +378,31 @@ TakesAs-asked t asked answer es old new before behind result answers takes = rec
 }
 
 -- how a byte is read, by the place on the line
-module _ (found_at : Known → PageInput → Read → Taking) (place : Known → Surroundings) (answer : Surroundings) (es : EnvironmentsOf)
+module _ (found_at : Known → PageInput → Found → Taking) (place : Known → Surroundings) (answer : Surroundings) (es : EnvironmentsOf)
     (answers : (l : Limits) (h : PageHistory) (rs : AllRegisters) (i : PageInput) → StandFor l h es → answer ≡ place (known_at h rs i))
-    (old new : ReaderState) (before mid behind : PageUnread) (found : Read) (result : Result Meaning Limit) where
+    (old new : ReaderState) (before mid behind : PageUnread) (found : Found) (result : Result Meaning Limit) where
   -- a byte of the line
-  pub TakesAs-read_at : (b : ℕ) → (found, mid) ≡ reading (byte_read answer before.input.half b) before
+  pub TakesAs-read_at : (b : ℕ) → (found, mid) ≡ reading (byte_read answer before.input.escapes b) before
       → TakesAs (λ k. found_at k mid.input found) es old new mid behind result
       → TakesAs (λ k.
-      found_at k (with_half (byte_read (place k) before.input.half b).1 before.input) (byte_read (place k) before.input.half b).0)
+      found_at k (with_escapes (byte_read (place k) before.input.escapes b).1 before.input) (byte_read (place k) before.input.escapes b).0)
       es old new before behind result
   TakesAs-read_at b reads takes =
-      let half : List Half = before.input.half in
-      TakesAs-asked (λ k s. found_at k (with_half (byte_read s half b).1 before.input) (byte_read s half b).0) place answer es old new
+      let half : List OpenEscape = before.input.escapes in
+      TakesAs-asked (λ k s. found_at k (with_escapes (byte_read s half b).1 before.input) (byte_read s half b).0) place answer es old new
       before behind result answers
       (TakesAs-read found_at (byte_read answer half b) es old new before mid behind found result reads
       (texts_held-byte_read answer b half) takes)
 
   -- or the end of what is half read
-  pub TakesAs-ended_at : (found, mid) ≡ reading (reading_ended answer before.input.half) before
+  pub TakesAs-ended_at : (found, mid) ≡ reading (reading_ended answer before.input.escapes) before
       → TakesAs (λ k. found_at k mid.input found) es old new mid behind result
       → TakesAs (λ k.
-      found_at k (with_half (reading_ended (place k) before.input.half).1 before.input) (reading_ended (place k) before.input.half).0)
+      found_at k (with_escapes (reading_ended (place k) before.input.escapes).1 before.input) (reading_ended (place k) before.input.escapes).0)
       es old new before behind result
   TakesAs-ended_at reads takes =
-      let half : List Half = before.input.half in
-      TakesAs-asked (λ k s. found_at k (with_half (reading_ended s half).1 before.input) (reading_ended s half).0) place answer es old new
+      let half : List OpenEscape = before.input.escapes in
+      TakesAs-asked (λ k s. found_at k (with_escapes (reading_ended s half).1 before.input) (reading_ended s half).0) place answer es old new
       before behind result answers
       (TakesAs-read found_at (reading_ended answer half) es old new before mid behind found result reads
       (texts_held-reading_ended answer half) takes)
@@ -433,7 +434,7 @@ TakesAs-begun t step interrupted line es old new u m asked begun steps came says
     })
 
 -- where a branch begins, or its rest behind its brace, a byte without a meaning of its own there begins a line
-pub first_taking-any : (k : Known) (i : PageInput) (at : Reading) (b : ℕ) → (at ≡ Branch → (b == blank) ≡ false)
+pub first_taking-any : (k : Known) (i : PageInput) (at : LineState) (b : ℕ) → (at ≡ Branch → (b == blank) ≡ false)
     → (at ≡ Braced → ((b == blank) ≡ false) × ((b == newline) ≡ false)) → line_begun k i b ≡ first_taking k i at b
 first_taking-any k i LineStart b in_branch in_brace = refl
 first_taking-any k i Branch b in_branch in_brace =
@@ -457,7 +458,7 @@ first_taking-any k i Exiting b in_branch in_brace = refl
 first_taking-any k i Dropped b in_branch in_brace = refl
 
 -- and so it is with an escape
-pub first_escape-any : (k : Known) (i : PageInput) (at : Reading) (b : ℕ) → (at ≡ Branch → (b == 123) ≡ false) → (at ≡ Braced → (b == newline) ≡ false)
+pub first_escape-any : (k : Known) (i : PageInput) (at : LineState) (b : ℕ) → (at ≡ Branch → (b == 123) ≡ false) → (at ≡ Braced → (b == newline) ≡ false)
     → escape_begun k i b ≡ first_escape k i at b
 first_escape-any k i LineStart b in_branch in_brace = refl
 first_escape-any k i Branch b in_branch in_brace =
@@ -480,12 +481,12 @@ first_escape-any k i Exiting b in_branch in_brace = refl
 first_escape-any k i Dropped b in_branch in_brace = refl
 
 -- by whether a byte is dropped
-pub taking-of : (k : Known) (r : Reading) (i : PageInput) (b : ℕ) (c : Bool) → c ≡ is_dropped b
+pub taking-of : (k : Known) (r : LineState) (i : PageInput) (b : ℕ) (c : Bool) → c ≡ is_dropped b
     → (if c then going_on (interrupted r i) r else kept_taking k r i b) ≡ taking k r i b
 taking-of k r i b c is = ap (λ (dropped : Bool). if dropped then going_on (interrupted r i) r else kept_taking k r i b) is
 
 -- within a line the end of the input is a newline, where no interrupted line ends with it, but of a definition
-pub end_taking-newline : (k : Known) (r : Reading) (i : PageInput) → (r ≡ LineStart → ⊥) → (r ≡ Dropped → ⊥) → (r ≡ Exiting → ⊥)
+pub end_taking-newline : (k : Known) (r : LineState) (i : PageInput) → (r ≡ LineStart → ⊥) → (r ≡ Dropped → ⊥) → (r ≡ Exiting → ⊥)
     → (r ≡ Braced → ⊥) → ((breaks : Bool) → r ≡ Control breaks → ⊥) → ((appends : Bool) → r ≡ StringName appends → ⊥)
     → ((name : Option ShortName) (appends is_front : Bool) → r ≡ StringText name appends is_front → ⊥)
     → ((opened closed : ℕ) (behind : Bool) → r ≡ Skipping opened closed behind → ⊥)
@@ -562,7 +563,7 @@ TakesAs-no_last_line t es old new before behind limit goes_on refused =
     record { takes = λ l h stands ready. first.takes l h stands ready }
 
 -- behind a request's name anything but a unit is no byte of an argument
-pub arguments_found-no_unit : (k : Known) (i : PageInput) (breaks : Bool) (request : Request) (found : Read) → ((unit : CopyUnit) → found ≡ OneUnit unit → ⊥)
+pub arguments_found-no_unit : (k : Known) (i : PageInput) (breaks : Bool) (request : Request) (found : Found) → ((unit : CopyUnit) → found ≡ OneUnit unit → ⊥)
     → ((b : ℕ) → found ≡ Escape b → ⊥) → no_unit_found k (settling i) (InArguments breaks request) found ≡ arguments_found k i breaks request found
 arguments_found-no_unit k i breaks request (OneUnit unit) no_unit no_escape = absurd (no_unit unit refl)
 arguments_found-no_unit k i breaks request (Escape b) no_unit no_escape = absurd (no_escape b refl)
@@ -575,7 +576,7 @@ arguments_found-no_unit k i breaks request (Tells remark) no_unit no_escape = re
 arguments_found-no_unit k i breaks request (Decides decision freed) no_unit no_escape = refl
 
 -- of a message's text anything but a unit is none
-pub message_found-no_unit : (k : Known) (i : PageInput) (aborts is_front : Bool) (found : Read) → ((unit : CopyUnit) → found ≡ OneUnit unit → ⊥)
+pub message_found-no_unit : (k : Known) (i : PageInput) (aborts is_front : Bool) (found : Found) → ((unit : CopyUnit) → found ≡ OneUnit unit → ⊥)
     → ((b : ℕ) → found ≡ Escape b → ⊥) → no_unit_found k i (Telling aborts is_front) found ≡ message_found k i aborts is_front found
 message_found-no_unit k i aborts is_front (OneUnit unit) no_unit no_escape = absurd (no_unit unit refl)
 message_found-no_unit k i aborts is_front (Escape b) no_unit no_escape = absurd (no_escape b refl)

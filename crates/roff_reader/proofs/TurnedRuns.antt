@@ -5,7 +5,7 @@ use Rattle.std.specs.Prelude.{map, sum_by}
 use Rattle.roff_num.specs.declared.limit.Limit.{Limit}
 use Rattle.roff_num.specs.declared.limits.Limits.{Limits}
 use Rattle.roff_scan.proofs.PassingAhead.{bytes_taken-is}
-use Rattle.roff_escape.specs.Halves.{seen_stays}
+use Rattle.roff_escape.specs.OpenEscapes.{is_ended_by}
 use Rattle.roff_ahead.specs.Input.{Ahead, ByteAhead, bytes_taken}
 use Rattle.roff_source.specs.Tape.{Tape}
 use Rattle.roff_store.specs.Named.{Named}
@@ -23,7 +23,7 @@ use Rattle.roff_run.specs.Run.{State, after, known, made, step, taken_as, unless
 use Rattle.roff_run.specs.Run.Counts.{counts_in, first_passed}
 use Rattle.roff_run.specs.Stages.{Growing, Here, Onward, Stage, TextsGrow, Turned, Turns, held_at, input_at, stage_of, with_stage_of}
 use Rattle.roff_run.specs.TurnsToCome.{begun, free_ahead, turns_within}
-use Rattle.roff_run.specs.declared.reading.Reading.{Reading}
+use Rattle.roff_run.specs.declared.line_state.LineState.{LineState}
 
 -- the input at a stage, where these bytes come next
 abbrev pub stage_input : Named Entry → Stage → Origin → List ℕ → PageInput → PageInput
@@ -112,7 +112,7 @@ fits-next l rs names (FromSource tape) p next q b bytes i grow grows others befo
 
 -- a step at a byte, where no count is above its limit behind it
 step-turned : (l : Limits) (s : State) (names : Named Entry) (from : Origin) (p q : Stage) (b : ℕ) (bytes : List ℕ) (i : PageInput)
-    → IsGoing s → due p.reading ≡ None → seen_stays p.half (Some b) ≡ false → i.charge + 1 ≤ l.bytes → Turns names p b q
+    → IsGoing s → due p.reading ≡ None → is_ended_by p.escapes (Some b) ≡ false → i.charge + 1 ≤ l.bytes → Turns names p b q
     → FitsAt l s.registers names q from bytes (behind_byte from b i)
     → step l (run_at s names p from (b ∷ bytes) i) ≡ run_at s names q from bytes (behind_byte from b i)
 step-turned l s names (FromAhead rest) p q b bytes i on none_due stays few turns fits =
@@ -205,7 +205,7 @@ pub counted-bytes_taken : (rest : List (Ahead PageEvent)) (bytes : List ℕ) (i 
 counted-bytes_taken rest bytes i front = counted-ahead rest bytes i ∙ sym (bytes_taken-is bytes rest i front)
 
 -- the input behind bytes that changed only what is read, and were taken as bytes that change nothing
-pub input-passed : (reading : Reading) (before after : PageInput) (from : Origin) (bytes : List ℕ) → with_stage_of before after ≡ counted from bytes before
+pub input-passed : (reading : LineState) (before after : PageInput) (from : Origin) (bytes : List ℕ) → with_stage_of before after ≡ counted from bytes before
     → after ≡ input_at before.names (stage_of reading after) (counted from bytes before)
 input-passed reading before after from bytes is =
     ap (λ (names : Named Entry). record after { names = names }) (ap (λ (i : PageInput). i.names) is)

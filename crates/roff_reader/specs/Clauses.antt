@@ -6,7 +6,7 @@ pub use Rattle.roff_reader.specs.Reader.State.{fresh_reader}
 pub use Rattle.roff_reader.specs.Reader.Taken.{Changed, InputBecame, TakesAs}
 pub use Rattle.roff_run.specs.Reading.Items.{PageUnread}
 pub use Rattle.roff_source.specs.Bytes.{is_passed}
-pub use Rattle.roff_run.specs.Reading.{Passes, half_ended, interrupted, kept_taking, taking}
+pub use Rattle.roff_run.specs.Reading.{Passes, escape_ended, interrupted, kept_taking, taking}
 pub use Rattle.roff_run.specs.Reading.Arguments.{arguments_found, calling_all, line_ended, unit_found, arguments_ended}
 pub use Rattle.roff_run.specs.Reading.Beginnings.{beginning_found, first_escape, first_taking, going_on_told, line_begun, first_name, at_start}
 pub use Rattle.roff_run.specs.Reading.Branches.{condition_found, decided, is_so, condition_begun}
@@ -25,7 +25,7 @@ pub use Rattle.roff_num.specs.ShortNames.{name_at}
 pub use Rattle.roff_ahead.specs.Input.{holding_plain, holding_text}
 pub use Rattle.roff_ahead.specs.Input.Calls.{arguments_given}
 pub use Rattle.roff_run.specs.Definitions.{ends_mark}
-pub use Rattle.roff_escape.specs.Half.{unit_bytes}
+pub use Rattle.roff_escape.specs.OpenEscape.{unit_bytes}
 pub use Rattle.roff_run.specs.Registers.{AllRegisters, Remove, changed_by, value_in_force}
 pub use Rattle.roff_requests.specs.Registers.Coded.{known_of}
 pub use Rattle.roff_requests.specs.Request.Coded.{calls_of, changes_of, effect_of, name_in, register_named}
@@ -33,5 +33,5 @@ pub use Rattle.roff_run.specs.Requests.{request_effect, called_by, row_of}
 pub use Rattle.roff_run.specs.Requests.Naming.{removals}
 pub use Rattle.roff_run.specs.Requests.Numbering.{names_given}
 pub use Rattle.roff_run.specs.Run.{first_unread, known_at}
-pub use Rattle.roff_run.specs.declared.reading.Reading.TheVariants.{LineStart, Name as NameOf, Telling}
+pub use Rattle.roff_run.specs.declared.line_state.LineState.TheVariants.{LineStart, Name as NameOf, Telling}
 pub use Rattle.roff_arguments.specs.ArgumentList.{listed}

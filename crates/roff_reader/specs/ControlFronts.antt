@@ -1,43 +1,43 @@
 -- The front of a control line, up to its name: what its bytes lead to.
 use Rattle.std.specs.Prelude.{◌≡◌, ℕ, Bool, true, false, if◌then◌else◌, List, [], ◌∷◌, length}
 use Rattle.roff_source.specs.Bytes.{apostrophe, dot}
-use Rattle.roff_escape.specs.Half.{Half, Condition}
-use Rattle.roff_escape.specs.declared.half.ConditionPart.TheVariants.{Choice}
+use Rattle.roff_escape.specs.OpenEscape.{OpenEscape, Condition}
+use Rattle.roff_escape.specs.declared.open_escape.ConditionPart.TheVariants.{Choice}
 use Rattle.roff_scan.specs.Unread.Calls.{IsFront, front_bytes}
 use Rattle.roff_run.specs.Reading.Items.{PageUnread}
 use Rattle.roff_run.specs.Reading.{taking}
 use Rattle.roff_run.specs.Reading.Items.{PageInput, Taking, going_on}
 use Rattle.roff_run.specs.Registers.{Known}
 use Rattle.roff_reader.specs.declared.reader.ahead.ControlFront.{ControlFront}
-use Rattle.roff_run.specs.declared.reading.Reading.{Reading}
-use Rattle.roff_run.specs.declared.reading.Reading.TheVariants.{Control, Deciding}
+use Rattle.roff_run.specs.declared.line_state.LineState.{LineState}
+use Rattle.roff_run.specs.declared.line_state.LineState.TheVariants.{Control, Deciding}
 
 -- the byte with which a control line begins, by whether its requests break
 abbrev pub control_byte : Bool → ℕ
 control_byte breaks = if breaks then dot else apostrophe
 
 -- where this is read and nothing is half read, a control line may begin
-abbrev pub BeginsControl : Reading → Type 0
+abbrev pub BeginsControl : LineState → Type 0
 BeginsControl reading =
-    (k : Known) (i : PageInput) (breaks : Bool) → i.half ≡ []
+    (k : Known) (i : PageInput) (breaks : Bool) → i.escapes ≡ []
     → taking k reading i (control_byte breaks) ≡ going_on i (Control breaks)
 
 -- whether a condition is read
-abbrev pub is_deciding : Reading → Bool
+abbrev pub is_deciding : LineState → Bool
 is_deciding (Deciding keeps) = true
 is_deciding (_) = false
 
 -- what is half read behind a name, by whether a condition is read then
-abbrev pub half_begun : Bool → List Half → List Half
+abbrev pub half_begun : Bool → List OpenEscape → List OpenEscape
 half_begun true half = Condition (Choice false) [] ∷ []
 half_begun false half = half
 
 -- the input behind a name, where this is read then
-abbrev pub input_begun : Reading → PageInput → PageInput
-input_begun reading i = record i { half = half_begun (is_deciding reading) i.half }
+abbrev pub input_begun : LineState → PageInput → PageInput
+input_begun reading i = record i { escapes = half_begun (is_deciding reading) i.escapes }
 
 -- behind something only what is half read changes, and this is read
-abbrev pub LeadsTo : (PageInput → Taking) → Reading → Type 0
+abbrev pub LeadsTo : (PageInput → Taking) → LineState → Type 0
 LeadsTo behind reading = (i : PageInput) → behind i ≡ going_on (input_begun reading i) reading
 
 -- these bytes begin with those of a control line's front

@@ -26,15 +26,10 @@ mod string_names;
 mod strings;
 mod text_lines;
 
-use roff_requests::Environments;
-use roff_run::PageEvent;
-use roff_requests::{AllEvents, Events, FewEvents, RequestedEvents};
-use roff_run::Message;
-use roff_run::{Due, Reading};
-use roff_requests::RunRegisters;
-use roff_run::Request;
 use roff_num::{Limit, Limits, Name};
-use roff_scan::{Read, Unread, is_dropped};
+use roff_requests::{AllEvents, Environments, Events, FewEvents, RequestedEvents, RunRegisters};
+use roff_run::{Due, LineState, Message, PageEvent, Request};
+use roff_scan::{Found, Unread, is_dropped};
 use roff_store::Entry;
 use std::alloc::{AllocError, Global};
 use std::marker::Model;
@@ -46,7 +41,7 @@ use std::marker::Model;
 /// All its memory is reserved as it is made.
 #[derive(Drop)]
 pub struct Reader {
-    reading: Reading,
+    reading: LineState,
     registers: RunRegisters,
     requested: RequestedEvents,
 }
@@ -68,7 +63,7 @@ pub enum AtOnce {
     /// It was, and means nothing.
     Done,
     /// It was read as this, of which [`Reader::read_found`] is the rest.
-    Found(Read),
+    Unfinished(Found),
 }
 
 impl Model for Reader {
@@ -89,7 +84,7 @@ impl Reader {
         ensures { IfOk result (λ r. r ≡ fresh_reader names_cap) }
     {
         Ok(Reader {
-            reading: Reading::LineStart,
+            reading: LineState::LineStart,
             registers: RunRegisters::new(alloc, names_cap)?,
             requested: RequestedEvents::new(),
         })
@@ -135,7 +130,7 @@ impl Reader {
     pub fn begin_next_line(&mut self)
         ensures { self.new ≡ record self.old { reading = LineStart } }
     {
-        self.reading = Reading::LineStart;
+        self.reading = LineState::LineStart;
     }
 
     /// The end of a body that a line called: a line begins, unless a control line is being read.
@@ -153,9 +148,9 @@ impl Reader {
             ≡ record unread.old { input = interrupted self.now.reading unread.old.input } }
     {
         match self.reading {
-            Reading::Arguments { .. } => unread.settle(),
-            Reading::StringName { .. } => unread.settle(),
-            Reading::Calling { .. } => unread.settle(),
+            LineState::Arguments { .. } => unread.settle(),
+            LineState::StringName { .. } => unread.settle(),
+            LineState::Calling { .. } => unread.settle(),
             _ => {}
         }
     }
@@ -177,7 +172,7 @@ impl Reader {
 
     /// This is read on, and nothing is meant.
     #[inline(always)]
-    fn read_on(&mut self, reading: Reading) -> Meaning
+    fn read_on(&mut self, reading: LineState) -> Meaning
         ensures reading { self.new ≡ record self.old { reading = reading } }
         ensures message { result.message ≡ None }
         ensures events { result.events ≡ none_meant }

@@ -8,13 +8,12 @@ ghost use Rattle.roff_run.specs.Environments.{gone_back, interrupted_line, switc
 ghost use Rattle.roff_run.specs.Environments.{turned_to, turned_unless, with_interruption};
 ghost use Rattle.roff_num.specs.declared.limits.Limits.{Limits as LimitsOf};
 
-use roff_run::TextLine;
 use roff_lines::Env;
 use roff_num::{Limit, Limits};
+use roff_run::{EnvironmentNumber, TextLine};
 use std::alloc::{AllocError, Global};
 use std::marker::Model;
 use std::mem;
-use roff_run::EnvironmentNumber;
 
 /// An environment, and what isn't told yet of its interrupted line.
 #[derive(Drop)]

@@ -11,8 +11,8 @@ mod adding;
 use adding::{break_events, few_behind, push_line, push_stops};
 use arrayvec::ArrayVec;
 use roff_lines::{Event, Param};
-use std::marker::Model;
 use roff_run::{LineEvents, PageEvent};
+use std::marker::Model;
 
 /// The events of something of a text line behind one that tells that an interrupted line goes on, or
 /// the events of a request and of its break.

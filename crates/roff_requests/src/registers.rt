@@ -11,11 +11,10 @@ ghost use Rattle.roff_run.specs.declared.message.Message.TheVariants.{BadNumber}
 
 mod read_only;
 
-use roff_run::Message;
-use roff_run::TextLine;
 use read_only::{is_read_only, query_of};
 use roff_lines::Settings;
 use roff_num::{Direction, Format, Limit, Name, Num, NumText, write_num};
+use roff_run::{Message, TextLine};
 use roff_store::{RegTable, Register};
 use std::alloc::{AllocError, Global};
 use std::marker::Model;
@@ -89,7 +88,7 @@ impl RunRegisters {
     ghost use Rattle.roff_run.specs.Registers.{Remove, SetTo, FormatAs, StepBy, changed_by_all, is_page, is_page_odd, known_behind, no_registers, settable, step_changes, step_messages, text_of_register, value_in_force};
     ghost use Rattle.roff_run.specs.Registers.Capped.{admitted, after, with_change};
     ghost use Rattle.roff_requests.specs.Registers.Coded.{change_of, known_of};
-    ghost use Rattle.roff_run.specs.Registers.{Known as KnownOfRun};
+    ghost use Rattle.roff_run.specs.Registers.{Known};
 
     /// No register is set, and the page number is 0; so many names may have one.
     pub fn new(alloc: Global, cap: u32) -> Result<Self, AllocError>
@@ -144,7 +143,7 @@ impl RunRegisters {
 
     /// The value in force under a name that isn't that of a read-only register.
     pub fn set_value(&self, name: &Name) -> Option<Num>
-        ensures { IfSome result (λ value. (k : KnownOfRun) → k.registers ≡ self.now.all
+        ensures { IfSome result (λ value. (k : Known) → k.registers ≡ self.now.all
             → value ≡ value_in_force k name.now) }
     {
         match query_of(name) {

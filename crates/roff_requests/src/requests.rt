@@ -1,7 +1,7 @@
 //! What each request does.
 
 ghost use Rattle.std.specs.Prelude.{◌≡◌, ℕ, List};
-ghost use Rattle.roff_run.specs.Registers.{Known as KnownOfRun};
+ghost use Rattle.roff_run.specs.Registers.{Known};
 ghost use Rattle.roff_requests.specs.Request.Coded.{GivesFirst, KnowsOf, done_of, effect_of};
 ghost use Rattle.roff_run.specs.Requests.{request_effect, row_of};
 
@@ -14,12 +14,12 @@ mod spacing;
 mod switching;
 mod tabs;
 
-use roff_run::Request;
 use Request::{LeftOut, WithoutEffect};
-pub use effects::{Changes, Effect, Known};
 pub(crate) use effects::Done;
+pub use effects::{Changes, Effect, RequestFacts};
 pub use numbering::{name_given, register_named};
 use roff_lines::Param;
+use roff_run::Request;
 pub use tabs::tab_stops;
 
 /// The first arguments of a request, as far as they are given.
@@ -31,8 +31,8 @@ pub struct Given<'a> {
 }
 
 /// What a request means, called by a dot or not, as far as the run is known, with these arguments.
-pub fn effect(request: Request, by_dot: bool, known: Known, given: Given<'_>) -> Effect
-    ensures { (k : KnownOfRun) (as_given : List (List ℕ))
+pub fn effect(request: Request, by_dot: bool, known: RequestFacts, given: Given<'_>) -> Effect
+    ensures { (k : Known) (as_given : List (List ℕ))
         → KnowsOf k request as_given known → GivesFirst as_given given.entry
         → effect_of as_given result ≡ request_effect k by_dot request as_given }
 {
@@ -40,8 +40,8 @@ pub fn effect(request: Request, by_dot: bool, known: Known, given: Given<'_>) ->
 }
 
 /// What a request does behind its break.
-fn does(request: Request, known: Known, given: Given<'_>) -> Done
-    ensures { (k : KnownOfRun) (as_given : List (List ℕ))
+fn does(request: Request, known: RequestFacts, given: Given<'_>) -> Done
+    ensures { (k : Known) (as_given : List (List ℕ))
         → KnowsOf k request as_given known → GivesFirst as_given given.entry
         → done_of as_given result ≡ (row_of request).does k as_given }
 {

@@ -3,7 +3,7 @@
 use Rattle.std.proofs.Common.{◌≡◌, ℕ, ◌+◌, Bool, true, false, List, [], ◌∷◌, ◌++◌, Option, Some, None, refl, sym, subst, ap, append_assoc}
 use Rattle.std.specs.Prelude.{nat_lt, ◌&&◌, is_none, if◌then◌else◌}
 use Rattle.roff_num.specs.declared.limits.Limits.{Limits}
-use Rattle.roff_escape.specs.Halves.{seen_stays}
+use Rattle.roff_escape.specs.OpenEscapes.{is_ended_by}
 use Rattle.roff_ahead.specs.Input.{Ahead, ByteAhead, FreeAhead, EndAhead, ReturnAhead, DoAhead, cost, item_taken}
 use Rattle.roff_source.specs.Tape.{Tape, Item, Answer, Gives, Ends, OneByte, OneNote, Ending, Ended, Failed, Stopped, front, behind_front, items_then, only, Took}
 use Rattle.roff_scan.specs.Unread.{Unread, taking, taking_ahead, taking_answer, looked_then, answer_behind, asks_to_take, looking, looking_at, looking_past, asks_to_look, Asked}
@@ -13,13 +13,13 @@ use Rattle.roff_run.specs.Reading.{interrupted}
 use Rattle.roff_run.specs.Reading.Calls.{behind_return}
 use Rattle.roff_run.specs.Reading.Items.{PageInput}
 use Rattle.roff_run.specs.Requests.{PageEvent}
-use Rattle.roff_run.specs.Run.{front_seen, State, made, byte_taken, ending_input, ending_with, ending_as, stopped_by, in_front_taken, answered, ahead_taken, half_ends, awaited, awaited_of_source}
+use Rattle.roff_run.specs.Run.{front_seen, State, made, byte_taken, ending_input, ending_with, ending_as, stopped_by, in_front_taken, answered, ahead_taken, escape_ends, awaited, awaited_of_source}
 use Rattle.roff_run.specs.declared.message.Message.TheVariants.{ReadFailed}
 use Rattle.roff_run.specs.declared.status.Status.TheVariants.{Device, Limit as Limited}
 
 -- how the items of the source end, in a run with nothing ahead
 abbrev pub ending_step : Limits → Ending → State → State
-ending_step l Ended from = ending_input l from.input.half from
+ending_step l Ended from = ending_input l from.input.escapes from
 ending_step l Failed from = ending_with Device ReadFailed from
 ending_step l (Stopped limit) from = ending_as (Limited limit) from
 
@@ -203,7 +203,7 @@ over_unread-ending u a tape behind s given is = ending_of u.input u.limits s u.i
 -- what a step does that sees this in front, a byte or nothing, from one state, where this one is it behind the look
 abbrev pub front_step : Limits → Option ℕ → State → State → State
 front_step l seen from behind =
-    if seen_stays behind.input.half seen then made l from (half_ends behind) else in_front_taken l behind.input.ahead behind
+    if is_ended_by behind.input.escapes seen then made l from (escape_ends behind) else in_front_taken l behind.input.ahead behind
 
 -- what a step does in which what is half read waits, by what is seen, from one state, where this one is it behind the look
 abbrev pub sighted_step : Limits → Sighted → State → State → State

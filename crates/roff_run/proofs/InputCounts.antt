@@ -6,7 +6,7 @@ use Rattle.roff_num.specs.declared.limit.Limit.{Limit}
 use Rattle.roff_num.specs.declared.limit.Limit.TheVariants.{Stack, Depth, Conditions, Names, Store, Diversions}
 use Rattle.roff_num.specs.declared.limits.Limits.{Limits}
 use Rattle.roff_arguments.specs.Arguments.{held, settled, no_arguments}
-use Rattle.roff_escape.specs.Half.{texts_held}
+use Rattle.roff_escape.specs.OpenEscape.{texts_held}
 use Rattle.roff_ahead.specs.Input.{Ahead, ByteAhead, FreeAhead, EndAhead, ReturnAhead, DoAhead, counting, item_taken, leaving, pushed, depth, results, bytes_ahead, ends_ahead, calls_behind, kept_behind, kept_below}
 use Rattle.roff_arguments.specs.Arguments.{live_bytes}
 use Rattle.roff_ahead.specs.Input.Names.{names_added, stored}
@@ -22,8 +22,8 @@ use Rattle.roff_run.specs.Reading.Units.{settling}
 use Rattle.roff_run.specs.Registers.{AllRegisters}
 use Rattle.roff_run.specs.Requests.{PageEvent}
 use Rattle.roff_run.specs.Run.Counts.{first_passed, counts_in}
-use Rattle.roff_run.specs.declared.reading.Reading.{Reading}
-use Rattle.roff_run.specs.declared.reading.Reading.TheVariants.{Arguments as InArguments, StringName, Calling}
+use Rattle.roff_run.specs.declared.line_state.LineState.{LineState}
+use Rattle.roff_run.specs.declared.line_state.LineState.TheVariants.{Arguments as InArguments, StringName, Calling}
 
 -- of either part of a test it holds
 pub one_of : {A : Type 0} (P : A → Type 0) (c : Bool) (x y : A) → P x → P y → P (if c then x else y)
@@ -50,12 +50,12 @@ names_added-same now before names first_names =
     ap (λ (names : Named Entry). length names - now.first_names) names ∙ ap (λ (first : ℕ). length before.names - first) first_names
 
 -- by what stands ahead, the calls of bodies and the results that are kept alone
-by_ahead : (now before : PageInput) → now.arguments ≡ before.arguments → now.half ≡ before.half → now.names ≡ before.names
+by_ahead : (now before : PageInput) → now.arguments ≡ before.arguments → now.escapes ≡ before.escapes → now.names ≡ before.names
     → now.first_names ≡ before.first_names → now.open_texts ≡ before.open_texts → bytes_ahead now.ahead ≤ bytes_ahead before.ahead
     → ends_ahead now.ahead ≤ ends_ahead before.ahead → live_bytes now.calls ≤ live_bytes before.calls → length now.kept ≤ length before.kept → NoMore now before
 by_ahead now before same same_half names first_names open_texts bytes texts calls kept =
     let held_same : held now.arguments ≡ held before.arguments = ap held same in
-    let half_same : texts_held now.half ≡ texts_held before.half = ap texts_held same_half in
+    let half_same : texts_held now.escapes ≡ texts_held before.escapes = ap texts_held same_half in
     let texts_same : length now.open_texts ≡ length before.open_texts = ap (λ (texts : List (List ℕ)). length texts) open_texts in
     let stored_same = stored-same now before names open_texts in
     let names_same = names_added-same now before names first_names in
@@ -146,12 +146,12 @@ NoMore-taking a u = NoMore-taking_of u.input.ahead a u.input u.looked u.limits
 
 -- where no quote follows, as many bytes are held
 pub pushed-settling : (i : PageInput) → pushed (settling i) ≡ pushed i
-pushed-settling i = ap (λ n. bytes_ahead i.ahead + n + texts_held i.half + live_bytes i.calls) (held-only_kept (settled i.arguments) ∙ held-settled i.arguments)
+pushed-settling i = ap (λ n. bytes_ahead i.ahead + n + texts_held i.escapes + live_bytes i.calls) (held-only_kept (settled i.arguments) ∙ held-settled i.arguments)
 
 pub NoMore-settling : (i : PageInput) → NoMore (settling i) i
 NoMore-settling i = record { bytes = omega (arith, pushed-settling i); texts = omega arith; results = omega arith; stored = omega arith; names = omega arith; open_texts = omega arith }
 
-pub NoMore-interrupted : (reading : Reading) (i : PageInput) → NoMore (interrupted reading i) i
+pub NoMore-interrupted : (reading : LineState) (i : PageInput) → NoMore (interrupted reading i) i
 NoMore-interrupted (InArguments breaks request) i = NoMore-settling i
 NoMore-interrupted (StringName appends) i = NoMore-settling i
 NoMore-interrupted (Calling name) i = NoMore-settling i

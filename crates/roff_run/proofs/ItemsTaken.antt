@@ -8,21 +8,21 @@ use Rattle.roff_num.specs.declared.limit.Limit.TheVariants.{Bytes}
 use Rattle.roff_num.specs.declared.limits.Limits.{Limits}
 use Rattle.roff_arguments.specs.Arguments.{Arguments}
 use Rattle.roff_escape.specs.Conditions.{ends_condition, is_decided}
-use Rattle.roff_escape.specs.Halves.{decides_now, newline_stays, seen_stays}
+use Rattle.roff_escape.specs.OpenEscapes.{decides_now, newline_stays, is_ended_by}
 use Rattle.roff_ahead.specs.Input.{Ahead, ByteAhead, counting, item_taken, pushed, depth, results}
 use Rattle.roff_ahead.specs.Input.Names.{names_added, stored}
 use Rattle.roff_source.specs.Tape.{Tape, Answer, Gives, OneByte, front, items_then}
 use Rattle.roff_ahead.specs.Shown.{seen_ahead}
-use Rattle.roff_escape.specs.Half.{Half, Backslash, Comment, Name, Size, Delimited, Width, Condition}
-use Rattle.roff_escape.specs.declared.half.ConditionPart.{ConditionPart}
-use Rattle.roff_escape.specs.declared.half.ConditionPart.TheVariants.{Choice, Expression, Compared, Decided}
-use Rattle.roff_run.specs.declared.reading.Reading.{Reading}
+use Rattle.roff_escape.specs.OpenEscape.{OpenEscape, Backslash, Comment, Name, Size, Delimited, Width, Condition}
+use Rattle.roff_escape.specs.declared.open_escape.ConditionPart.{ConditionPart}
+use Rattle.roff_escape.specs.declared.open_escape.ConditionPart.TheVariants.{Choice, Expression, Compared, Decided}
+use Rattle.roff_run.specs.declared.line_state.LineState.{LineState}
 use Rattle.roff_run.specs.ItemsTaken.{TakesItems, BytesAheadAreTaken, BytesOfTheSourceAreTaken}
 use Rattle.roff_run.specs.Within.{IsWithin}
 use Rattle.roff_run.specs.Reading.Items.{PageInput, going_on}
 use Rattle.roff_run.specs.Registers.{AllRegisters}
 use Rattle.roff_run.specs.Requests.{PageEvent}
-use Rattle.roff_run.specs.Run.{State, made, byte_taken, front_seen, half_ends, awaited, awaited_of_source, answered, moved, in_front_taken, taking_ahead, taking_byte, taken_as, grown, unless_refused, stopped_by, item_read, step}
+use Rattle.roff_run.specs.Run.{State, made, byte_taken, front_seen, escape_ends, awaited, awaited_of_source, answered, moved, in_front_taken, taking_ahead, taking_byte, taken_as, grown, unless_refused, stopped_by, item_read, step}
 use Rattle.roff_run.specs.Run.Counts.{first_passed}
 
 -- where bytes come from: they stand ahead of these items, or in the source in front of this tape
@@ -41,12 +41,12 @@ tape_at (FromAhead rest) bytes tape = tape
 tape_at (FromSource behind) bytes tape = items_then (map OneByte bytes) behind
 
 -- an input where these bytes come first
-abbrev pub input_of : State → Origin → List ℕ → Arguments → List Half → ℕ → ℕ → PageInput
+abbrev pub input_of : State → Origin → List ℕ → Arguments → List OpenEscape → ℕ → ℕ → PageInput
 input_of s from bytes arguments half charge line =
-    record s.input { ahead = ahead_at from bytes; arguments = arguments; half = half; charge = charge; line = line }
+    record s.input { ahead = ahead_at from bytes; arguments = arguments; escapes = half; charge = charge; line = line }
 
 -- a run that reads this, where these bytes come first
-abbrev pub going : State → Reading → Origin → List ℕ → Arguments → List Half → ℕ → ℕ → State
+abbrev pub going : State → LineState → Origin → List ℕ → Arguments → List OpenEscape → ℕ → ℕ → State
 going s reading from bytes arguments half charge line = record s {
   tape = tape_at from bytes s.tape;
   input = input_of s from bytes arguments half charge line;
@@ -58,10 +58,10 @@ going s reading from bytes arguments half charge line = record s {
 
 -- a byte that doesn't end what is half read is taken, whether it is waited for or not
 taken-awaited : (l : Limits) (stays : Bool) (b : ℕ) (behind : List (Ahead PageEvent)) (s : State) → s.input.ahead ≡ ByteAhead b ∷ behind
-    → seen_stays s.input.half (Some b) ≡ false
+    → is_ended_by s.input.escapes (Some b) ≡ false
     → (if stays then front_seen l (Some b) s else in_front_taken l s.input.ahead s) ≡ taking_ahead l (ByteAhead b) behind s
 taken-awaited l true b behind s ahead is =
-    ap (λ (c : Bool). if c then made l s (half_ends s) else in_front_taken l s.input.ahead s) is
+    ap (λ (c : Bool). if c then made l s (escape_ends s) else in_front_taken l s.input.ahead s) is
     ∙ ap (λ (items : List (Ahead PageEvent)). in_front_taken l items s) ahead
 taken-awaited l false b behind s ahead is = ap (λ (items : List (Ahead PageEvent)). in_front_taken l items s) ahead
 
@@ -72,7 +72,7 @@ undecided-part (Expression negated) seen goes_on = refl
 undecided-part (Compared negated d first) seen goes_on = refl
 undecided-part (Decided decision freed) seen goes_on = absurd (cc)
 
-undecided : (half : List Half) (seen : Option ℕ) → seen_stays half seen ≡ false → decides_now half ≡ false
+undecided : (half : List OpenEscape) (seen : Option ℕ) → is_ended_by half seen ≡ false → decides_now half ≡ false
 undecided [] seen goes_on = refl
 undecided (Backslash ∷ rest) seen goes_on = refl
 undecided (Comment ∷ rest) seen goes_on = refl
@@ -83,19 +83,19 @@ undecided (Width d width is_deep ∷ rest) seen goes_on = refl
 undecided (Condition part text ∷ rest) seen goes_on = undecided-part part seen goes_on
 
 -- so where a byte doesn't end what is half read, nothing decides first
-looks : (l : Limits) (b : ℕ) (s : State) → seen_stays s.input.half (Some b) ≡ false
-    → item_read l s ≡ (if newline_stays s.input.half then awaited l (seen_ahead s.input.ahead) s else in_front_taken l s.input.ahead s)
+looks : (l : Limits) (b : ℕ) (s : State) → is_ended_by s.input.escapes (Some b) ≡ false
+    → item_read l s ≡ (if newline_stays s.input.escapes then awaited l (seen_ahead s.input.ahead) s else in_front_taken l s.input.ahead s)
 looks l b s is =
-    ap (λ (c : Bool). if newline_stays s.input.half then (if c then made l s (half_ends s) else awaited l (seen_ahead s.input.ahead) s) else in_front_taken l s.input.ahead s)
-    (undecided s.input.half (Some b) is)
+    ap (λ (c : Bool). if newline_stays s.input.escapes then (if c then made l s (escape_ends s) else awaited l (seen_ahead s.input.ahead) s) else in_front_taken l s.input.ahead s)
+    (undecided s.input.escapes (Some b) is)
 
 -- the input is read where a byte is ahead
 item_read-byte : (l : Limits) (b : ℕ) (behind : List (Ahead PageEvent)) (s : State) → s.input.ahead ≡ ByteAhead b ∷ behind
-    → seen_stays s.input.half (Some b) ≡ false → item_read l s ≡ taking_ahead l (ByteAhead b) behind s
+    → is_ended_by s.input.escapes (Some b) ≡ false → item_read l s ≡ taking_ahead l (ByteAhead b) behind s
 item_read-byte l b behind s ahead is =
     looks l b s is
-    ∙ ap (λ (items : List (Ahead PageEvent)). if newline_stays s.input.half then awaited l (seen_ahead items) s else in_front_taken l s.input.ahead s) ahead
-    ∙ taken-awaited l (newline_stays s.input.half) b behind s ahead is
+    ∙ ap (λ (items : List (Ahead PageEvent)). if newline_stays s.input.escapes then awaited l (seen_ahead items) s else in_front_taken l s.input.ahead s) ahead
+    ∙ taken-awaited l (newline_stays s.input.escapes) b behind s ahead is
 
 -- it is taken within the limit on bytes
 taking_ahead-within : (l : Limits) (b : ℕ) (behind : List (Ahead PageEvent)) (s : State) → s.input.charge < l.bytes
@@ -113,21 +113,22 @@ bytes_ahead_are_taken l s b behind on ahead is within =
     step-TakesItems l s on ∙ item_read-byte l b behind s ahead is ∙ taking_ahead-within l b behind s within
 
 -- a byte of the source is taken, whether it is waited for or not
-answered-awaited : (l : Limits) (stays : Bool) (b : ℕ) (s : State) → seen_stays s.input.half (Some b) ≡ false → s.input.ahead ≡ []
+answered-awaited : (l : Limits) (stays : Bool) (b : ℕ) (s : State) → is_ended_by s.input.escapes (Some b) ≡ false
+    → s.input.ahead ≡ []
     → (if stays then awaited_of_source l (Gives (OneByte b)) s else in_front_taken l s.input.ahead s) ≡ answered l (front s.tape) s
 answered-awaited l true b s is none =
-    ap (λ (c : Bool). if c then made l s (half_ends s) else in_front_taken l s.input.ahead s) is
+    ap (λ (c : Bool). if c then made l s (escape_ends s) else in_front_taken l s.input.ahead s) is
     ∙ ap (λ (items : List (Ahead PageEvent)). in_front_taken l items s) none
 answered-awaited l false b s is none = ap (λ (items : List (Ahead PageEvent)). in_front_taken l items s) none
 
 -- the input is read where a byte of the source comes first
-item_read-source : (l : Limits) (b : ℕ) (s : State) → s.input.ahead ≡ [] → front s.tape ≡ Gives (OneByte b) → seen_stays s.input.half (Some b) ≡ false
+item_read-source : (l : Limits) (b : ℕ) (s : State) → s.input.ahead ≡ [] → front s.tape ≡ Gives (OneByte b) → is_ended_by s.input.escapes (Some b) ≡ false
     → item_read l s ≡ taking_byte l b s
 item_read-source l b s none gives is =
     looks l b s is
-    ∙ ap (λ (items : List (Ahead PageEvent)). if newline_stays s.input.half then awaited l (seen_ahead items) s else in_front_taken l s.input.ahead s) none
-    ∙ ap (λ (a : Answer). if newline_stays s.input.half then awaited_of_source l a s else in_front_taken l s.input.ahead s) gives
-    ∙ answered-awaited l (newline_stays s.input.half) b s is none
+    ∙ ap (λ (items : List (Ahead PageEvent)). if newline_stays s.input.escapes then awaited l (seen_ahead items) s else in_front_taken l s.input.ahead s) none
+    ∙ ap (λ (a : Answer). if newline_stays s.input.escapes then awaited_of_source l a s else in_front_taken l s.input.ahead s) gives
+    ∙ answered-awaited l (newline_stays s.input.escapes) b s is none
     ∙ ap (λ (a : Answer). answered l a s) gives
 
 -- it is taken within the limit on bytes
@@ -175,7 +176,7 @@ made-Fits l from done fits =
     ap (λ (r : Option Limit). unless_refused l r from done) allowed
 
 -- this is read on, and nothing is meant
-pub taken_as-going_on : (i : PageInput) (reading : Reading) (s : State) → taken_as (going_on i reading) s ≡ record s { input = i; reading = reading }
+pub taken_as-going_on : (i : PageInput) (reading : LineState) (s : State) → taken_as (going_on i reading) s ≡ record s { input = i; reading = reading }
 taken_as-going_on i reading s = ap (λ (m : List ℕ). record s { input = i; reading = reading; messages = m }) (append-nil s.messages)
 
 -- a state within the limits is within those that a step looks at

@@ -4,20 +4,20 @@
 use Rattle.std.proofs.Common.{◌≡◌, ℕ, ◌+◌, ◌*◌, ◌-◌, ◌≤◌, Bool, true, false, List, [], ◌∷◌, ◌++◌, Option, Some, None, refl, sym, subst, arith, pos}
 use Rattle.std.specs.Prelude.{◌||◌, ◌==◌}
 use Rattle.roff_source.specs.Bytes.{tab, newline, blank, is_dropped}
-use Rattle.roff_escape.specs.Halves.{byte_read, reading_ended}
+use Rattle.roff_escape.specs.OpenEscapes.{byte_read, reading_ended}
 use Rattle.roff_ahead.specs.Input.{beginning_line, choosing}
 use Rattle.roff_ahead.specs.Input.Calls.{arguments_given, kept_last, without_last}
-use Rattle.roff_escape.specs.declared.half.CopyUnit.{CopyUnit}
-use Rattle.roff_escape.specs.declared.half.CopyUnit.TheVariants.{Kept}
-use Rattle.roff_escape.specs.Half.{Half, unit_bytes}
-use Rattle.roff_escape.specs.declared.half.Decision.{Decision}
-use Rattle.roff_escape.specs.declared.half.Decision.TheVariants.{Is}
-use Rattle.roff_escape.specs.declared.half.Read.{Read}
-use Rattle.roff_escape.specs.declared.half.Read.TheVariants.{GoesOn, Unit as GivesUnit, Holds, Escape, Asks, Motion, Measures, Tells, Decides}
-use Rattle.roff_escape.specs.declared.half.Surroundings.{Surroundings}
-use Rattle.roff_escape.specs.declared.half.Surroundings.TheVariants.{Text as AboveText, Arguments as AboveArguments, Copy as AboveCopy}
-use Rattle.roff_run.specs.declared.reading.Reading.{Reading}
-use Rattle.roff_run.specs.declared.reading.Reading.TheVariants.{LineStart, Branch, Braced, Text as InText, Control, Name, Arguments as InArguments, Deciding, StringName, StringText, Skipping, Dropped, Telling, Told, Exiting, Calling, Defining}
+use Rattle.roff_escape.specs.declared.open_escape.CopyUnit.{CopyUnit}
+use Rattle.roff_escape.specs.declared.open_escape.CopyUnit.TheVariants.{Kept}
+use Rattle.roff_escape.specs.OpenEscape.{OpenEscape, unit_bytes}
+use Rattle.roff_escape.specs.declared.open_escape.Decision.{Decision}
+use Rattle.roff_escape.specs.declared.open_escape.Decision.TheVariants.{Is}
+use Rattle.roff_escape.specs.declared.open_escape.Found.{Found}
+use Rattle.roff_escape.specs.declared.open_escape.Found.TheVariants.{GoesOn, Unit as GivesUnit, Holds, Escape, Asks, Motion, Measures, Tells, Decides}
+use Rattle.roff_escape.specs.declared.open_escape.Surroundings.{Surroundings}
+use Rattle.roff_escape.specs.declared.open_escape.Surroundings.TheVariants.{Text as AboveText, Arguments as AboveArguments, Copy as AboveCopy}
+use Rattle.roff_run.specs.declared.line_state.LineState.{LineState}
+use Rattle.roff_run.specs.declared.line_state.LineState.TheVariants.{LineStart, Branch, Braced, Text as InText, Control, Name, Arguments as InArguments, Deciding, StringName, StringText, Skipping, Dropped, Telling, Told, Exiting, Calling, Defining}
 use Rattle.roff_num.specs.declared.short_name.ShortName.{ShortName}
 use Rattle.roff_run.specs.declared.request.LineReading.{LineReading}
 use Rattle.roff_run.specs.declared.request.LineReading.TheVariants.{ByArguments, ByCondition, ByElse, ByLastLine, ByMessage, ByString, ByLines}
@@ -28,7 +28,7 @@ use Rattle.roff_run.specs.declared.definition.DefinitionLine.TheVariants.{MayBeL
 use Rattle.roff_run.specs.Definitions.{end_mark, ends_mark, front_of, line_from, matched_behind}
 use Rattle.roff_num.specs.ShortNames.{name_at}
 use Rattle.roff_run.specs.declared.request.Request.{Request}
-use Rattle.roff_run.specs.Reading.{kept_taking, interrupted, taking, half_ended}
+use Rattle.roff_run.specs.Reading.{kept_taking, interrupted, taking, escape_ended}
 use Rattle.roff_run.specs.Reading.Arguments.{arguments_ended}
 use Rattle.roff_run.specs.Reading.Beginnings.{at_start}
 use Rattle.roff_run.specs.Reading.Branches.{branch_of, branch_taking, is_so, decided, kept_if, condition_found, reads_else, condition_begun}
@@ -43,42 +43,42 @@ use Rattle.roff_run.specs.Reading.Units.{no_unit_found}
 use Rattle.roff_run.specs.Registers.{Known}
 use Rattle.roff_run.specs.Requests.{called_by, row_of}
 use Rattle.roff_run.specs.TurnsToCome.{begun, endings_of}
-use Rattle.roff_run.proofs.HalfCounts.{Falls, Leaves, freed_endings, endings-byte_read, endings-reading_ended, some_ending}
+use Rattle.roff_run.proofs.EscapeCounts.{Falls, Leaves, freed_endings, endings-byte_read, endings-reading_ended, some_ending}
 use Rattle.roff_run.proofs.MarkEnds.{ends-line_from, ends_mark-begins_nothing, ends_mark-chooses_nothing}
-use Rattle.roff_run.proofs.KeepingText.{Keeps, KeepsBy, Keeps-if, Stays, Keeps-stays, Stays-skipping_taking, Stays-dropped_taking, unnamed-branch_of, Keeps-with_half, Keeps-text_found, Keeps-beginning_found}
+use Rattle.roff_run.proofs.KeepingText.{Keeps, KeepsBy, Keeps-if, Stays, Keeps-stays, Stays-skipping_taking, Stays-dropped_taking, unnamed-branch_of, Keeps-with_escapes, Keeps-text_found, Keeps-beginning_found}
 use Rattle.roff_run.proofs.KeepingLines.{Alike-same, Keeps-alike, Keeps-no_more, Alike-string_entered, Alike-definition_grown, Alike-definition_dropped, Keeps-arguments_ended, Keeps-no_unit_found, Keeps-arguments_found, Keeps-string_line_ended, Keeps-string_name_found, Keeps-string_text_found, Keeps-message_found, Keeps-called, Keeps-call_found}
 
 -- the first byte of a branch
-Keeps-branch_taking : (less most : ℕ) (k : Known) (i j : PageInput) (old : Reading) (so : Bool) (b : ℕ) → Keeps less i j old → less + 2 ≤ most
+Keeps-branch_taking : (less most : ℕ) (k : Known) (i j : PageInput) (old : LineState) (so : Bool) (b : ℕ) → Keeps less i j old → less + 2 ≤ most
     → KeepsBy most i (branch_taking k j so b)
 Keeps-branch_taking less most k i j old true b keeps one_more =
-    let read : Leaves (endings_of j.half + 1) (byte_read (at_start k) j.half b) = endings-byte_read (at_start k) j.half b in
-    Keeps-beginning_found most k i (record j { half = (byte_read (at_start k) j.half b).1 }) Branch (byte_read (at_start k) j.half b).0
-    (Keeps-with_half less most i j old Branch (byte_read (at_start k) j.half b).1 keeps (omega (arith, keeps.half, read, one_more)))
+    let read : Leaves (endings_of j.escapes + 1) (byte_read (at_start k) j.escapes b) = endings-byte_read (at_start k) j.escapes b in
+    Keeps-beginning_found most k i (record j { escapes = (byte_read (at_start k) j.escapes b).1 }) Branch (byte_read (at_start k) j.escapes b).0
+    (Keeps-with_escapes less most i j old Branch (byte_read (at_start k) j.escapes b).1 keeps (omega (arith, keeps.escapes, read, one_more)))
 Keeps-branch_taking less most k i j old false b keeps one_more =
-    Keeps-stays most i j LineStart _ (Keeps-with_half less most i j old LineStart j.half keeps (omega (arith, keeps.half, one_more))) (Stays-skipping_taking j 0 0 false b)
+    Keeps-stays most i j LineStart _ (Keeps-with_escapes less most i j old LineStart j.escapes keeps (omega (arith, keeps.escapes, one_more))) (Stays-skipping_taking j 0 0 false b)
 
 -- a result is kept, or isn't
-Keeps-kept_if : (most : ℕ) (i j : PageInput) (reading : Reading) (keeps so : Bool) → Keeps most i j reading → Keeps most i (kept_if keeps so j) reading
+Keeps-kept_if : (most : ℕ) (i j : PageInput) (reading : LineState) (keeps so : Bool) → Keeps most i j reading → Keeps most i (kept_if keeps so j) reading
 Keeps-kept_if most i j reading true so keeps =
-    record { charge = keeps.charge; newlines = keeps.newlines; line = keeps.line; free = keeps.free; half = keeps.half }
+    record { charge = keeps.charge; newlines = keeps.newlines; line = keeps.line; free = keeps.free; escapes = keeps.escapes }
 Keeps-kept_if most i j reading false so keeps = keeps
 
 -- a condition decided
-Keeps-decided : (less most : ℕ) (k : Known) (i j : PageInput) (old : Reading) (decision : Decision) (so : Bool) (freed : Option ℕ) → Keeps less i j old
+Keeps-decided : (less most : ℕ) (k : Known) (i j : PageInput) (old : LineState) (decision : Decision) (so : Bool) (freed : Option ℕ) → Keeps less i j old
     → less + 2 * freed_endings (Decides decision freed) ≤ most → KeepsBy most i (decided k j so freed)
 Keeps-decided less most k i j old decision so None keeps few =
-    Keeps-with_half less most i j old (branch_of so) j.half keeps (omega (arith, keeps.half, few, unnamed-branch_of so))
+    Keeps-with_escapes less most i j old (branch_of so) j.escapes keeps (omega (arith, keeps.escapes, few, unnamed-branch_of so))
 Keeps-decided less most k i j old decision so (Some b) keeps few = Keeps-branch_taking less most k i j old so b keeps few
 
 -- or didn't yet
-Keeps-undecided : (less most : ℕ) (k : Known) (i j : PageInput) (reading : Reading) (found : Read) → Keeps less i j reading → less + 2 * freed_endings found ≤ most
+Keeps-undecided : (less most : ℕ) (k : Known) (i j : PageInput) (reading : LineState) (found : Found) → Keeps less i j reading → less + 2 * freed_endings found ≤ most
     → KeepsBy most i (no_unit_found k j reading found)
 Keeps-undecided less most k i j reading found keeps few =
-    Keeps-no_unit_found most k i j reading found (Keeps-with_half less most i j reading reading j.half keeps (omega (arith, keeps.half, few)))
+    Keeps-no_unit_found most k i j reading found (Keeps-with_escapes less most i j reading reading j.escapes keeps (omega (arith, keeps.escapes, few)))
 
 -- what was found of a condition, by whether its result is kept
-Keeps-condition_found : (less most : ℕ) (k : Known) (i j : PageInput) (keeping : Bool) (found : Read) → Keeps less i j (Deciding keeping)
+Keeps-condition_found : (less most : ℕ) (k : Known) (i j : PageInput) (keeping : Bool) (found : Found) → Keeps less i j (Deciding keeping)
     → less + 2 * freed_endings found ≤ most → KeepsBy most i (condition_found k j keeping found)
 Keeps-condition_found less most k i j keeping (Decides decision freed) keeps few =
     Keeps-decided less most k i _ (Deciding keeping) decision (is_so k decision) freed
@@ -93,73 +93,73 @@ Keeps-condition_found less most k i j keeping (Escape b) keeps few = Keeps-undec
 Keeps-condition_found less most k i j keeping (Motion columns remark) keeps few = Keeps-undecided less most k i j (Deciding keeping) (Motion columns remark) keeps few
 
 -- two endings more are to come at the most
-abbrev pub KeepsTwoMore : PageInput → Reading → PageInput → Reading → Type 0
-KeepsTwoMore i old j reading = Keeps (2 * endings_of i.half + begun old + 4) i j reading
+abbrev pub KeepsTwoMore : PageInput → LineState → PageInput → LineState → Type 0
+KeepsTwoMore i old j reading = Keeps (2 * endings_of i.escapes + begun old + 4) i j reading
 
 -- the same of what is done with an item
-abbrev TwoMore : PageInput → Reading → Taking → Type 0
+abbrev TwoMore : PageInput → LineState → Taking → Type 0
 TwoMore i old t = KeepsTwoMore i old t.input t.reading
 
 -- the same input, where the same is read
-pub KeepsTwoMore-same : (i : PageInput) (reading : Reading) → KeepsTwoMore i reading i reading
-KeepsTwoMore-same i reading = record { charge = refl; newlines = refl; line = refl; free = refl; half = omega arith }
+pub KeepsTwoMore-same : (i : PageInput) (reading : LineState) → KeepsTwoMore i reading i reading
+KeepsTwoMore-same i reading = record { charge = refl; newlines = refl; line = refl; free = refl; escapes = omega arith }
 
 -- what leaves the input, and reads no name
-TwoMore-stays : (i : PageInput) (old : Reading) (t : Taking) → Stays i t → TwoMore i old t
+TwoMore-stays : (i : PageInput) (old : LineState) (t : Taking) → Stays i t → TwoMore i old t
 TwoMore-stays i old t stays = Keeps-stays _ i i old t (KeepsTwoMore-same i old) stays
 
 -- what something reads, with this half read then
-Keeps-same_reading : (base : Surroundings) (i : PageInput) (reading : Reading) (b : ℕ)
-    → KeepsTwoMore i reading (record i { half = (byte_read base i.half b).1 }) reading
+Keeps-same_reading : (base : Surroundings) (i : PageInput) (reading : LineState) (b : ℕ)
+    → KeepsTwoMore i reading (record i { escapes = (byte_read base i.escapes b).1 }) reading
 Keeps-same_reading base i reading b =
-    let read : Leaves (endings_of i.half + 1) (byte_read base i.half b) = endings-byte_read base i.half b in
-    Keeps-with_half _ _ i i reading reading (byte_read base i.half b).1 (KeepsTwoMore-same i reading) (omega (arith, read))
+    let read : Leaves (endings_of i.escapes + 1) (byte_read base i.escapes b) = endings-byte_read base i.escapes b in
+    Keeps-with_escapes _ _ i i reading reading (byte_read base i.escapes b).1 (KeepsTwoMore-same i reading) (omega (arith, read))
 
 -- a byte that begins so many endings more at the most, behind a name or the line that ends a definition
-module _ (some most : ℕ) (k : Known) (i j : PageInput) (b : ℕ) (keeps : Keeps (2 * endings_of j.half) i j LineStart)
-    (reads : (base : Surroundings) → Leaves (endings_of j.half + some) (byte_read base j.half b))
-    (chooses : Leaves (2 + some) (byte_read AboveArguments (choosing j).half b))
-    (few : 2 * (endings_of j.half + some) + 4 ≤ most) where
+module _ (some most : ℕ) (k : Known) (i j : PageInput) (b : ℕ) (keeps : Keeps (2 * endings_of j.escapes) i j LineStart)
+    (reads : (base : Surroundings) → Leaves (endings_of j.escapes + some) (byte_read base j.escapes b))
+    (chooses : Leaves (2 + some) (byte_read AboveArguments (choosing j).escapes b))
+    (few : 2 * (endings_of j.escapes + some) + 4 ≤ most) where
   -- what it reads, where this is read
-  Keeps-begins : (base : Surroundings) (reading : Reading) → begun reading ≤ 4 → Keeps most i (record j { half = (byte_read base j.half b).1 }) reading
+  Keeps-begins : (base : Surroundings) (reading : LineState) → begun reading ≤ 4 → Keeps most i (record j { escapes = (byte_read base j.escapes b).1 }) reading
   Keeps-begins base reading less =
-      let read : Leaves (endings_of j.half + some) (byte_read base j.half b) = reads base in
-      Keeps-with_half _ most i j LineStart reading (byte_read base j.half b).1 keeps (omega (arith, read, few, less))
+      let read : Leaves (endings_of j.escapes + some) (byte_read base j.escapes b) = reads base in
+      Keeps-with_escapes _ most i j LineStart reading (byte_read base j.escapes b).1 keeps (omega (arith, read, few, less))
 
   -- the first byte of a condition, which may begin an escape
   Keeps-condition_begun : (keeping : Bool) → KeepsBy most i (condition_begun k j keeping b)
   Keeps-condition_begun keeping =
-      let half : List Half = (choosing j).half in
+      let half : List OpenEscape = (choosing j).escapes in
       Keeps-if most i (b == newline) _ _
-      (Keeps-condition_found (2 * endings_of j.half) most k i j keeping (Decides (Is false) (Some b))
-      (record { charge = keeps.charge; newlines = keeps.newlines; line = keeps.line; free = keeps.free; half = omega arith }) (omega (arith, few)))
-      (Keeps-condition_found (2 * endings_of (byte_read AboveArguments half b).1) most k i (record j { half = (byte_read AboveArguments half b).1 }) keeping (byte_read AboveArguments half b).0
-      (Keeps-with_half _ _ i j LineStart (Deciding keeping) (byte_read AboveArguments half b).1 keeps (omega arith)) (omega (arith, chooses, few)))
+      (Keeps-condition_found (2 * endings_of j.escapes) most k i j keeping (Decides (Is false) (Some b))
+      (record { charge = keeps.charge; newlines = keeps.newlines; line = keeps.line; free = keeps.free; escapes = omega arith }) (omega (arith, few)))
+      (Keeps-condition_found (2 * endings_of (byte_read AboveArguments half b).1) most k i (record j { escapes = (byte_read AboveArguments half b).1 }) keeping (byte_read AboveArguments half b).0
+      (Keeps-with_escapes _ _ i j LineStart (Deciding keeping) (byte_read AboveArguments half b).1 keeps (omega arith)) (omega (arith, chooses, few)))
 
   -- the first byte behind a request's name
   Keeps-line_taking : (breaks : Bool) (request : Request) (line : LineReading) → KeepsBy most i (line_taking k j breaks request line b)
   Keeps-line_taking breaks request ByArguments =
-      Keeps-arguments_found most k i _ breaks request (byte_read AboveArguments j.half b).0 (Keeps-begins AboveArguments (InArguments breaks request) (omega arith))
+      Keeps-arguments_found most k i _ breaks request (byte_read AboveArguments j.escapes b).0 (Keeps-begins AboveArguments (InArguments breaks request) (omega arith))
   Keeps-line_taking breaks request (ByCondition keeping) = Keeps-condition_begun keeping
   Keeps-line_taking breaks request (ByString appends) =
-      Keeps-string_name_found most k i _ appends (byte_read AboveArguments j.half b).0 (Keeps-begins AboveArguments (StringName appends) (omega arith))
+      Keeps-string_name_found most k i _ appends (byte_read AboveArguments j.escapes b).0 (Keeps-begins AboveArguments (StringName appends) (omega arith))
   Keeps-line_taking breaks request ByLastLine =
-      Keeps-arguments_found most k i _ breaks request (byte_read AboveArguments j.half b).0 (Keeps-begins AboveArguments (InArguments breaks request) (omega arith))
+      Keeps-arguments_found most k i _ breaks request (byte_read AboveArguments j.escapes b).0 (Keeps-begins AboveArguments (InArguments breaks request) (omega arith))
   Keeps-line_taking breaks request (ByMessage aborts) =
-      Keeps-message_found most k i _ aborts true (byte_read AboveCopy j.half b).0 (Keeps-begins AboveCopy (Telling aborts true) (omega arith))
+      Keeps-message_found most k i _ aborts true (byte_read AboveCopy j.escapes b).0 (Keeps-begins AboveCopy (Telling aborts true) (omega arith))
   Keeps-line_taking breaks request (ByLines lines) =
-      Keeps-arguments_found most k i _ breaks request (byte_read AboveArguments j.half b).0 (Keeps-begins AboveArguments (InArguments breaks request) (omega arith))
+      Keeps-arguments_found most k i _ breaks request (byte_read AboveArguments j.escapes b).0 (Keeps-begins AboveArguments (InArguments breaks request) (omega arith))
   Keeps-line_taking breaks request ByElse =
-      Keeps-branch_taking (2 * endings_of j.half) most k i (without_last j) LineStart (reads_else (kept_last j)) b
-      (record { charge = keeps.charge; newlines = keeps.newlines; line = keeps.line; free = keeps.free; half = omega arith }) (omega (arith, few))
+      Keeps-branch_taking (2 * endings_of j.escapes) most k i (without_last j) LineStart (reads_else (kept_last j)) b
+      (record { charge = keeps.charge; newlines = keeps.newlines; line = keeps.line; free = keeps.free; escapes = omega arith }) (omega (arith, few))
 
   -- a byte behind a name that it doesn't belong to
   Keeps-called_taking : (breaks : Bool) (called : Called) → KeepsBy most i (called_taking k j breaks called b)
   Keeps-called_taking breaks (ARequest request) = Keeps-line_taking breaks request (row_of request).line
   Keeps-called_taking breaks (ABody name) =
-      Keeps-call_found most k i _ name (byte_read AboveArguments j.half b).0 (Keeps-begins AboveArguments (Calling name) (omega arith))
+      Keeps-call_found most k i _ name (byte_read AboveArguments j.escapes b).0 (Keeps-begins AboveArguments (Calling name) (omega arith))
   Keeps-called_taking breaks Unknown =
-      Keeps-stays most i j LineStart _ (Keeps-with_half _ most i j LineStart LineStart j.half keeps (omega (arith, few))) (Stays-dropped_taking j b)
+      Keeps-stays most i j LineStart _ (Keeps-with_escapes _ most i j LineStart LineStart j.escapes keeps (omega (arith, few))) (Stays-dropped_taking j b)
 
   Keeps-name_ended_taking : (breaks : Bool) (name : ShortName) → KeepsBy most i (name_ended_taking k j breaks name b)
   Keeps-name_ended_taking breaks name = Keeps-called_taking breaks (called_by name j.names)
@@ -170,7 +170,7 @@ Keeps-behind_definition : (most : ℕ) (k : Known) (i j : PageInput) (end : Opti
 Keeps-behind_definition most k i j None b ends keeps few = Keeps-stays most i j LineStart _ keeps (Stays-dropped_taking j b)
 Keeps-behind_definition most k i j (Some name) b ends keeps few =
     Keeps-name_ended_taking 0 most k i (beginning_line j) b
-    (record { charge = keeps.charge; newlines = keeps.newlines; line = keeps.line; free = keeps.free; half = omega arith })
+    (record { charge = keeps.charge; newlines = keeps.newlines; line = keeps.line; free = keeps.free; escapes = omega arith })
     (λ base. ends_mark-begins_nothing base b ends) (ends_mark-chooses_nothing b ends) few true name
 
 -- a unit of a definition's text, where its line is this
@@ -194,7 +194,7 @@ Keeps-definition_line most k i j name appends end matched unit keeps few =
     (λ b last. ends-line_from (end_mark end) matched unit b last) keeps few
 
 -- what was found of a definition's text
-Keeps-definition_found : (most : ℕ) (k : Known) (i j : PageInput) (name : Option ShortName) (appends : Bool) (end : Option ShortName) (matched : Option ℕ) (found : Read)
+Keeps-definition_found : (most : ℕ) (k : Known) (i j : PageInput) (name : Option ShortName) (appends : Bool) (end : Option ShortName) (matched : Option ℕ) (found : Found)
     → Keeps most i j (Defining name appends end matched) → 4 ≤ most → KeepsBy most i (definition_found k j name appends end matched found)
 Keeps-definition_found most k i j name appends end matched (GivesUnit unit) keeps few = Keeps-definition_line most k i j name appends end matched unit keeps few
 Keeps-definition_found most k i j name appends end matched (Escape b) keeps few = Keeps-definition_line most k i j name appends end matched (Kept b) keeps few
@@ -208,74 +208,74 @@ Keeps-definition_found most k i j name appends end matched (Decides decision fre
 
 -- what is read behind a request's name
 Keeps-behind_name : (i : PageInput) (breaks : Bool) (first : ℕ) (request : Request) (line : LineReading) → TwoMore i (Name breaks first) (behind_name i breaks request line)
-Keeps-behind_name i breaks first request ByArguments = record { charge = refl; newlines = refl; line = refl; free = refl; half = omega arith }
+Keeps-behind_name i breaks first request ByArguments = record { charge = refl; newlines = refl; line = refl; free = refl; escapes = omega arith }
 Keeps-behind_name i breaks first request (ByCondition keeping) =
-    record { charge = refl; newlines = refl; line = refl; free = refl; half = omega arith }
-Keeps-behind_name i breaks first request (ByString appends) = record { charge = refl; newlines = refl; line = refl; free = refl; half = omega arith }
-Keeps-behind_name i breaks first request ByLastLine = record { charge = refl; newlines = refl; line = refl; free = refl; half = omega arith }
-Keeps-behind_name i breaks first request (ByMessage aborts) = record { charge = refl; newlines = refl; line = refl; free = refl; half = omega arith }
-Keeps-behind_name i breaks first request (ByLines lines) = record { charge = refl; newlines = refl; line = refl; free = refl; half = omega arith }
+    record { charge = refl; newlines = refl; line = refl; free = refl; escapes = omega arith }
+Keeps-behind_name i breaks first request (ByString appends) = record { charge = refl; newlines = refl; line = refl; free = refl; escapes = omega arith }
+Keeps-behind_name i breaks first request ByLastLine = record { charge = refl; newlines = refl; line = refl; free = refl; escapes = omega arith }
+Keeps-behind_name i breaks first request (ByMessage aborts) = record { charge = refl; newlines = refl; line = refl; free = refl; escapes = omega arith }
+Keeps-behind_name i breaks first request (ByLines lines) = record { charge = refl; newlines = refl; line = refl; free = refl; escapes = omega arith }
 Keeps-behind_name i breaks first request ByElse =
-    record { charge = refl; newlines = refl; line = refl; free = refl; half = omega (arith, unnamed-branch_of (reads_else (kept_last i))) }
+    record { charge = refl; newlines = refl; line = refl; free = refl; escapes = omega (arith, unnamed-branch_of (reads_else (kept_last i))) }
 
 -- the last byte of a name
 Keeps-behind_called : (i : PageInput) (breaks : Bool) (first : ℕ) (called : Called) → TwoMore i (Name breaks first) (behind_called i breaks called)
 Keeps-behind_called i breaks first (ARequest request) = Keeps-behind_name i breaks first request (row_of request).line
-Keeps-behind_called i breaks first (ABody name) = record { charge = refl; newlines = refl; line = refl; free = refl; half = omega arith }
-Keeps-behind_called i breaks first Unknown = record { charge = refl; newlines = refl; line = refl; free = refl; half = omega arith }
+Keeps-behind_called i breaks first (ABody name) = record { charge = refl; newlines = refl; line = refl; free = refl; escapes = omega arith }
+Keeps-behind_called i breaks first Unknown = record { charge = refl; newlines = refl; line = refl; free = refl; escapes = omega arith }
 
 -- a byte that isn't dropped
-Keeps-kept_taking : (k : Known) (reading : Reading) (i : PageInput) (b : ℕ) → TwoMore i reading (kept_taking k reading i b)
-Keeps-kept_taking k LineStart i b = Keeps-beginning_found _ k i _ LineStart (byte_read (at_start k) i.half b).0 (Keeps-same_reading (at_start k) i LineStart b)
-Keeps-kept_taking k Branch i b = Keeps-beginning_found _ k i _ Branch (byte_read (at_start k) i.half b).0 (Keeps-same_reading (at_start k) i Branch b)
-Keeps-kept_taking k Braced i b = Keeps-beginning_found _ k i _ Braced (byte_read (at_start k) i.half b).0 (Keeps-same_reading (at_start k) i Braced b)
-Keeps-kept_taking k (InText line) i b = Keeps-text_found _ k i _ line (byte_read (on_line k line) i.half b).0 (Keeps-same_reading (on_line k line) i (InText line) b)
+Keeps-kept_taking : (k : Known) (reading : LineState) (i : PageInput) (b : ℕ) → TwoMore i reading (kept_taking k reading i b)
+Keeps-kept_taking k LineStart i b = Keeps-beginning_found _ k i _ LineStart (byte_read (at_start k) i.escapes b).0 (Keeps-same_reading (at_start k) i LineStart b)
+Keeps-kept_taking k Branch i b = Keeps-beginning_found _ k i _ Branch (byte_read (at_start k) i.escapes b).0 (Keeps-same_reading (at_start k) i Branch b)
+Keeps-kept_taking k Braced i b = Keeps-beginning_found _ k i _ Braced (byte_read (at_start k) i.escapes b).0 (Keeps-same_reading (at_start k) i Braced b)
+Keeps-kept_taking k (InText line) i b = Keeps-text_found _ k i _ line (byte_read (on_line k line) i.escapes b).0 (Keeps-same_reading (on_line k line) i (InText line) b)
 Keeps-kept_taking k (Control breaks) i b =
     Keeps-if _ i (b == blank || b == tab) _ _ (KeepsTwoMore-same i (Control breaks))
     (Keeps-if _ i (ends_name b) _ _ (TwoMore-stays i (Control breaks) _ (Stays-dropped_taking i b))
-    (record { charge = refl; newlines = refl; line = refl; free = refl; half = omega arith }))
+    (record { charge = refl; newlines = refl; line = refl; free = refl; escapes = omega arith }))
 Keeps-kept_taking k (Name breaks first) i b =
     Keeps-if _ i (ends_name b) _ _
-    (Keeps-name_ended_taking 1 _ k i i b (record { charge = refl; newlines = refl; line = refl; free = refl; half = omega arith })
-    (λ base. endings-byte_read base i.half b) (endings-byte_read AboveArguments (choosing i).half b) (omega arith) breaks
+    (Keeps-name_ended_taking 1 _ k i i b (record { charge = refl; newlines = refl; line = refl; free = refl; escapes = omega arith })
+    (λ base. endings-byte_read base i.escapes b) (endings-byte_read AboveArguments (choosing i).escapes b) (omega arith) breaks
     (record { first = first; second = None }))
     (Keeps-behind_called i breaks first (called_by (record { first = first; second = Some b }) i.names))
 Keeps-kept_taking k (InArguments breaks request) i b =
-    Keeps-arguments_found _ k i _ breaks request (byte_read AboveArguments i.half b).0 (Keeps-same_reading AboveArguments i (InArguments breaks request) b)
+    Keeps-arguments_found _ k i _ breaks request (byte_read AboveArguments i.escapes b).0 (Keeps-same_reading AboveArguments i (InArguments breaks request) b)
 Keeps-kept_taking k (Deciding keeping) i b =
-    let read : Leaves (endings_of i.half + 1) (byte_read AboveArguments i.half b) = endings-byte_read AboveArguments i.half b in
-    Keeps-condition_found (2 * endings_of (byte_read AboveArguments i.half b).1) _ k i (record i { half = (byte_read AboveArguments i.half b).1 }) keeping (byte_read AboveArguments i.half b).0
-    (Keeps-with_half _ _ i i (Deciding keeping) (Deciding keeping) (byte_read AboveArguments i.half b).1 (KeepsTwoMore-same i (Deciding keeping)) (omega arith)) (omega (arith, read))
+    let read : Leaves (endings_of i.escapes + 1) (byte_read AboveArguments i.escapes b) = endings-byte_read AboveArguments i.escapes b in
+    Keeps-condition_found (2 * endings_of (byte_read AboveArguments i.escapes b).1) _ k i (record i { escapes = (byte_read AboveArguments i.escapes b).1 }) keeping (byte_read AboveArguments i.escapes b).0
+    (Keeps-with_escapes _ _ i i (Deciding keeping) (Deciding keeping) (byte_read AboveArguments i.escapes b).1 (KeepsTwoMore-same i (Deciding keeping)) (omega arith)) (omega (arith, read))
 Keeps-kept_taking k (StringName appends) i b =
-    Keeps-string_name_found _ k i _ appends (byte_read AboveArguments i.half b).0 (Keeps-same_reading AboveArguments i (StringName appends) b)
+    Keeps-string_name_found _ k i _ appends (byte_read AboveArguments i.escapes b).0 (Keeps-same_reading AboveArguments i (StringName appends) b)
 Keeps-kept_taking k (StringText name appends is_front) i b =
-    Keeps-string_text_found _ k i _ name appends is_front (byte_read AboveCopy i.half b).0
+    Keeps-string_text_found _ k i _ name appends is_front (byte_read AboveCopy i.escapes b).0
     (Keeps-same_reading AboveCopy i (StringText name appends is_front) b)
 Keeps-kept_taking k (Calling name) i b =
-    Keeps-call_found _ k i _ name (byte_read AboveArguments i.half b).0 (Keeps-same_reading AboveArguments i (Calling name) b)
+    Keeps-call_found _ k i _ name (byte_read AboveArguments i.escapes b).0 (Keeps-same_reading AboveArguments i (Calling name) b)
 Keeps-kept_taking k (Defining name appends end matched) i b =
-    Keeps-definition_found _ k i _ name appends end matched (byte_read AboveCopy i.half b).0 (Keeps-same_reading AboveCopy i (Defining name appends end matched) b)
+    Keeps-definition_found _ k i _ name appends end matched (byte_read AboveCopy i.escapes b).0 (Keeps-same_reading AboveCopy i (Defining name appends end matched) b)
     (omega arith)
 Keeps-kept_taking k (Skipping opened closed behind) i b = TwoMore-stays i (Skipping opened closed behind) _ (Stays-skipping_taking i opened closed behind b)
 Keeps-kept_taking k Dropped i b = TwoMore-stays i Dropped _ (Stays-dropped_taking i b)
 Keeps-kept_taking k (Telling aborts is_front) i b =
-    Keeps-message_found _ k i _ aborts is_front (byte_read AboveCopy i.half b).0 (Keeps-same_reading AboveCopy i (Telling aborts is_front) b)
+    Keeps-message_found _ k i _ aborts is_front (byte_read AboveCopy i.escapes b).0 (Keeps-same_reading AboveCopy i (Telling aborts is_front) b)
 Keeps-kept_taking k (Told aborts) i b = KeepsTwoMore-same i (Told aborts)
 Keeps-kept_taking k Exiting i b = KeepsTwoMore-same i Exiting
 
 -- what isn't a byte of the line
-pub Keeps-interrupted : (reading : Reading) (i : PageInput) → KeepsTwoMore i reading (interrupted reading i) reading
+pub Keeps-interrupted : (reading : LineState) (i : PageInput) → KeepsTwoMore i reading (interrupted reading i) reading
 Keeps-interrupted LineStart i = KeepsTwoMore-same i LineStart
 Keeps-interrupted Branch i = KeepsTwoMore-same i Branch
 Keeps-interrupted Braced i = KeepsTwoMore-same i Braced
 Keeps-interrupted (InText line) i = KeepsTwoMore-same i (InText line)
 Keeps-interrupted (Control breaks) i = KeepsTwoMore-same i (Control breaks)
 Keeps-interrupted (Name breaks first) i = KeepsTwoMore-same i (Name breaks first)
-Keeps-interrupted (InArguments breaks request) i = record { charge = refl; newlines = refl; line = refl; free = refl; half = omega arith }
+Keeps-interrupted (InArguments breaks request) i = record { charge = refl; newlines = refl; line = refl; free = refl; escapes = omega arith }
 Keeps-interrupted (Deciding keeping) i = KeepsTwoMore-same i (Deciding keeping)
-Keeps-interrupted (StringName appends) i = record { charge = refl; newlines = refl; line = refl; free = refl; half = omega arith }
+Keeps-interrupted (StringName appends) i = record { charge = refl; newlines = refl; line = refl; free = refl; escapes = omega arith }
 Keeps-interrupted (StringText name appends is_front) i = KeepsTwoMore-same i (StringText name appends is_front)
-Keeps-interrupted (Calling name) i = record { charge = refl; newlines = refl; line = refl; free = refl; half = omega arith }
+Keeps-interrupted (Calling name) i = record { charge = refl; newlines = refl; line = refl; free = refl; escapes = omega arith }
 Keeps-interrupted (Defining name appends end matched) i = KeepsTwoMore-same i (Defining name appends end matched)
 Keeps-interrupted (Skipping opened closed behind) i = KeepsTwoMore-same i (Skipping opened closed behind)
 Keeps-interrupted Dropped i = KeepsTwoMore-same i Dropped
@@ -284,60 +284,60 @@ Keeps-interrupted (Told aborts) i = KeepsTwoMore-same i (Told aborts)
 Keeps-interrupted Exiting i = KeepsTwoMore-same i Exiting
 
 -- a byte
-pub Keeps-taking : (k : Known) (reading : Reading) (i : PageInput) (b : ℕ) → TwoMore i reading (taking k reading i b)
+pub Keeps-taking : (k : Known) (reading : LineState) (i : PageInput) (b : ℕ) → TwoMore i reading (taking k reading i b)
 Keeps-taking k reading i b = Keeps-if _ i (is_dropped b) _ _ (Keeps-interrupted reading i) (Keeps-kept_taking k reading i b)
 
 -- one turn fewer is to come
-abbrev pub KeepsOneFewer : PageInput → Reading → PageInput → Reading → Type 0
-KeepsOneFewer i old j reading = Keeps (2 * endings_of i.half + begun old - 1) i j reading
+abbrev pub KeepsOneFewer : PageInput → LineState → PageInput → LineState → Type 0
+KeepsOneFewer i old j reading = Keeps (2 * endings_of i.escapes + begun old - 1) i j reading
 
 -- the same of what is done where something ends
-abbrev OneFewer : PageInput → Reading → Taking → Type 0
+abbrev OneFewer : PageInput → LineState → Taking → Type 0
 OneFewer i old t = KeepsOneFewer i old t.input t.reading
 
 -- so it is where this is half read
-falls_ended : (base : Surroundings) (half : List Half) (first : Half) (others : List Half) → half ≡ first ∷ others → Falls (endings_of half) (reading_ended base half)
+falls_ended : (base : Surroundings) (half : List OpenEscape) (first : OpenEscape) (others : List OpenEscape) → half ≡ first ∷ others → Falls (endings_of half) (reading_ended base half)
 falls_ended base half first others is =
-    subst (λ (h : List Half). Falls (endings_of h) (reading_ended base h)) (sym is) (endings-reading_ended base first others)
+    subst (λ (h : List OpenEscape). Falls (endings_of h) (reading_ended base h)) (sym is) (endings-reading_ended base first others)
 
-Keeps-ended : (base : Surroundings) (i : PageInput) (reading : Reading) (first : Half) (others : List Half) → i.half ≡ first ∷ others
-    → KeepsOneFewer i reading (record i { half = (reading_ended base i.half).1 }) reading
+Keeps-ended : (base : Surroundings) (i : PageInput) (reading : LineState) (first : OpenEscape) (others : List OpenEscape) → i.escapes ≡ first ∷ others
+    → KeepsOneFewer i reading (record i { escapes = (reading_ended base i.escapes).1 }) reading
 Keeps-ended base i reading first others is =
-    let fewer : Falls (endings_of i.half) (reading_ended base i.half) = falls_ended base i.half first others is in
-    record { charge = refl; newlines = refl; line = refl; free = refl; half = omega (arith, fewer) }
+    let fewer : Falls (endings_of i.escapes) (reading_ended base i.escapes) = falls_ended base i.escapes first others is in
+    record { charge = refl; newlines = refl; line = refl; free = refl; escapes = omega (arith, fewer) }
 
 -- what is half read ends
-pub Keeps-half_ended : (k : Known) (reading : Reading) (i : PageInput) (first : Half) (others : List Half) → i.half ≡ first ∷ others
-    → OneFewer i reading (half_ended k reading i)
-Keeps-half_ended k LineStart i first others is =
-    Keeps-beginning_found _ k i _ LineStart (reading_ended (at_start k) i.half).0 (Keeps-ended (at_start k) i LineStart first others is)
-Keeps-half_ended k Branch i first others is = Keeps-beginning_found _ k i _ Branch (reading_ended (at_start k) i.half).0 (Keeps-ended (at_start k) i Branch first others is)
-Keeps-half_ended k Braced i first others is = Keeps-beginning_found _ k i _ Braced (reading_ended (at_start k) i.half).0 (Keeps-ended (at_start k) i Braced first others is)
-Keeps-half_ended k (InText line) i first others is =
-    Keeps-text_found _ k i _ line (reading_ended (on_line k line) i.half).0 (Keeps-ended (on_line k line) i (InText line) first others is)
-Keeps-half_ended k (Control breaks) i first others is = Keeps-ended (AboveText (pos 0)) i (Control breaks) first others is
-Keeps-half_ended k (Name breaks byte) i first others is = Keeps-ended (AboveText (pos 0)) i (Name breaks byte) first others is
-Keeps-half_ended k (InArguments breaks request) i first others is =
-    Keeps-arguments_found _ k i _ breaks request (reading_ended AboveArguments i.half).0 (Keeps-ended AboveArguments i (InArguments breaks request) first others is)
-Keeps-half_ended k (Deciding keeping) i first others is =
-    let fewer : Falls (endings_of i.half) (reading_ended AboveArguments i.half) = falls_ended AboveArguments i.half first others is in
-    Keeps-condition_found (2 * endings_of (reading_ended AboveArguments i.half).1) _ k i (record i { half = (reading_ended AboveArguments i.half).1 }) keeping (reading_ended AboveArguments i.half).0
-    (Keeps-with_half _ _ i i (Deciding keeping) (Deciding keeping) (reading_ended AboveArguments i.half).1 (KeepsTwoMore-same i (Deciding keeping)) (omega arith)) (omega (arith, fewer))
-Keeps-half_ended k (StringName appends) i first others is =
-    Keeps-string_name_found _ k i _ appends (reading_ended AboveArguments i.half).0 (Keeps-ended AboveArguments i (StringName appends) first others is)
-Keeps-half_ended k (StringText name appends is_front) i first others is =
-    Keeps-string_text_found _ k i _ name appends is_front (reading_ended AboveCopy i.half).0 (Keeps-ended AboveCopy i (StringText name appends is_front) first others is)
-Keeps-half_ended k (Calling name) i first others is =
-    Keeps-call_found _ k i _ name (reading_ended AboveArguments i.half).0 (Keeps-ended AboveArguments i (Calling name) first others is)
-Keeps-half_ended k (Defining name appends end matched) i first others is =
-    Keeps-definition_found _ k i _ name appends end matched (reading_ended AboveCopy i.half).0 (Keeps-ended AboveCopy i (Defining name appends end matched) first others is)
-    (let some : 1 ≤ endings_of i.half = rw is (omega (arith, some_ending first others)) in omega (arith, some))
-Keeps-half_ended k (Skipping opened closed behind) i first others is = Keeps-ended (AboveText (pos 0)) i (Skipping opened closed behind) first others is
-Keeps-half_ended k Dropped i first others is = Keeps-ended (AboveText (pos 0)) i Dropped first others is
-Keeps-half_ended k (Telling aborts is_front) i first others is =
-    Keeps-message_found _ k i _ aborts is_front (reading_ended AboveCopy i.half).0 (Keeps-ended AboveCopy i (Telling aborts is_front) first others is)
-Keeps-half_ended k (Told aborts) i first others is = Keeps-ended (AboveText (pos 0)) i (Told aborts) first others is
-Keeps-half_ended k Exiting i first others is = Keeps-ended (AboveText (pos 0)) i Exiting first others is
+pub Keeps-escape_ended : (k : Known) (reading : LineState) (i : PageInput) (first : OpenEscape) (others : List OpenEscape) → i.escapes ≡ first ∷ others
+    → OneFewer i reading (escape_ended k reading i)
+Keeps-escape_ended k LineStart i first others is =
+    Keeps-beginning_found _ k i _ LineStart (reading_ended (at_start k) i.escapes).0 (Keeps-ended (at_start k) i LineStart first others is)
+Keeps-escape_ended k Branch i first others is = Keeps-beginning_found _ k i _ Branch (reading_ended (at_start k) i.escapes).0 (Keeps-ended (at_start k) i Branch first others is)
+Keeps-escape_ended k Braced i first others is = Keeps-beginning_found _ k i _ Braced (reading_ended (at_start k) i.escapes).0 (Keeps-ended (at_start k) i Braced first others is)
+Keeps-escape_ended k (InText line) i first others is =
+    Keeps-text_found _ k i _ line (reading_ended (on_line k line) i.escapes).0 (Keeps-ended (on_line k line) i (InText line) first others is)
+Keeps-escape_ended k (Control breaks) i first others is = Keeps-ended (AboveText (pos 0)) i (Control breaks) first others is
+Keeps-escape_ended k (Name breaks byte) i first others is = Keeps-ended (AboveText (pos 0)) i (Name breaks byte) first others is
+Keeps-escape_ended k (InArguments breaks request) i first others is =
+    Keeps-arguments_found _ k i _ breaks request (reading_ended AboveArguments i.escapes).0 (Keeps-ended AboveArguments i (InArguments breaks request) first others is)
+Keeps-escape_ended k (Deciding keeping) i first others is =
+    let fewer : Falls (endings_of i.escapes) (reading_ended AboveArguments i.escapes) = falls_ended AboveArguments i.escapes first others is in
+    Keeps-condition_found (2 * endings_of (reading_ended AboveArguments i.escapes).1) _ k i (record i { escapes = (reading_ended AboveArguments i.escapes).1 }) keeping (reading_ended AboveArguments i.escapes).0
+    (Keeps-with_escapes _ _ i i (Deciding keeping) (Deciding keeping) (reading_ended AboveArguments i.escapes).1 (KeepsTwoMore-same i (Deciding keeping)) (omega arith)) (omega (arith, fewer))
+Keeps-escape_ended k (StringName appends) i first others is =
+    Keeps-string_name_found _ k i _ appends (reading_ended AboveArguments i.escapes).0 (Keeps-ended AboveArguments i (StringName appends) first others is)
+Keeps-escape_ended k (StringText name appends is_front) i first others is =
+    Keeps-string_text_found _ k i _ name appends is_front (reading_ended AboveCopy i.escapes).0 (Keeps-ended AboveCopy i (StringText name appends is_front) first others is)
+Keeps-escape_ended k (Calling name) i first others is =
+    Keeps-call_found _ k i _ name (reading_ended AboveArguments i.escapes).0 (Keeps-ended AboveArguments i (Calling name) first others is)
+Keeps-escape_ended k (Defining name appends end matched) i first others is =
+    Keeps-definition_found _ k i _ name appends end matched (reading_ended AboveCopy i.escapes).0 (Keeps-ended AboveCopy i (Defining name appends end matched) first others is)
+    (let some : 1 ≤ endings_of i.escapes = rw is (omega (arith, some_ending first others)) in omega (arith, some))
+Keeps-escape_ended k (Skipping opened closed behind) i first others is = Keeps-ended (AboveText (pos 0)) i (Skipping opened closed behind) first others is
+Keeps-escape_ended k Dropped i first others is = Keeps-ended (AboveText (pos 0)) i Dropped first others is
+Keeps-escape_ended k (Telling aborts is_front) i first others is =
+    Keeps-message_found _ k i _ aborts is_front (reading_ended AboveCopy i.escapes).0 (Keeps-ended AboveCopy i (Telling aborts is_front) first others is)
+Keeps-escape_ended k (Told aborts) i first others is = Keeps-ended (AboveText (pos 0)) i (Told aborts) first others is
+Keeps-escape_ended k Exiting i first others is = Keeps-ended (AboveText (pos 0)) i Exiting first others is
 
 -- a string's line that ends with the input where its name is read
 Keeps-last_string : (i : PageInput) (appends : Bool) (name : Option (Option ShortName))
@@ -347,7 +347,7 @@ Keeps-last_string i appends (Some name) =
     Keeps-string_line_ended _ i i LineStart appends (Some name) (KeepsTwoMore-same i LineStart)
 
 -- the end of the input
-pub Keeps-end_taking : (k : Known) (reading : Reading) (i : PageInput) → TwoMore i reading (end_taking k reading i)
+pub Keeps-end_taking : (k : Known) (reading : LineState) (i : PageInput) → TwoMore i reading (end_taking k reading i)
 Keeps-end_taking k LineStart i = KeepsTwoMore-same i LineStart
 Keeps-end_taking k Branch i = Keeps-kept_taking k Branch i newline
 Keeps-end_taking k Braced i = KeepsTwoMore-same i LineStart
@@ -372,10 +372,10 @@ Keeps-end_taking k Exiting i = KeepsTwoMore-same i Exiting
 
 -- an input where nothing is half read
 abbrev plain : PageInput → PageInput
-plain i = record i { half = [] }
+plain i = record i { escapes = [] }
 
-Keeps-plain : (i : PageInput) (most : ℕ) (reading : Reading) → begun reading ≤ most → Keeps most (plain i) (plain i) reading
-Keeps-plain i most reading few = record { charge = refl; newlines = refl; line = refl; free = refl; half = omega (arith, few) }
+Keeps-plain : (i : PageInput) (most : ℕ) (reading : LineState) → begun reading ≤ most → Keeps most (plain i) (plain i) reading
+Keeps-plain i most reading few = record { charge = refl; newlines = refl; line = refl; free = refl; escapes = omega (arith, few) }
 
 -- what a newline gives there where a line is read: a definition may begin
 module _ (k : Known) (i : PageInput) (breaks : Bool) where
@@ -383,7 +383,7 @@ module _ (k : Known) (i : PageInput) (breaks : Bool) where
   Keeps-last_arguments : (request : Request)
       → KeepsBy 3 (plain i) (arguments_ended k (plain i) breaks request (row_of request).line)
   Keeps-last_arguments request =
-      let old : Reading = Defining None false None None in
+      let old : LineState = Defining None false None None in
       Keeps-arguments_ended 3 k (plain i) (plain i) old breaks request (row_of request).line
       (Keeps-plain i 3 old (omega arith)) (omega arith)
 
@@ -402,7 +402,7 @@ module _ (k : Known) (i : PageInput) (breaks : Bool) where
   Keeps-last_line request (ByLines lines) = Keeps-last_arguments request
   Keeps-last_line request ByElse =
       Keeps-branch_taking 0 3 k (plain i) (without_last (plain i)) LineStart (reads_else (kept_last (plain i))) newline
-      (record { charge = refl; newlines = refl; line = refl; free = refl; half = omega arith }) (omega arith)
+      (record { charge = refl; newlines = refl; line = refl; free = refl; escapes = omega arith }) (omega arith)
 
   -- what a line does that ends behind a name
   Keeps-last_name : (called : Called) → KeepsBy 3 (plain i) (called_taking k (plain i) breaks called newline)
@@ -411,7 +411,7 @@ module _ (k : Known) (i : PageInput) (breaks : Bool) where
   Keeps-last_name Unknown = Keeps-plain i 3 LineStart (omega arith)
 
 -- a control line that ends first
-ends_plain : (k : Known) (reading : Reading) (i : PageInput) → line_ends_first reading ≡ true
+ends_plain : (k : Known) (reading : LineState) (i : PageInput) → line_ends_first reading ≡ true
     → OneFewer (plain i) reading (end_taking k reading (plain i))
 ends_plain k (Name breaks first) i is = Keeps-last_name k i breaks (called_by (record { first = first; second = None }) i.names)
 ends_plain k (InArguments breaks request) i is = Keeps-last_arguments k i breaks request
@@ -433,9 +433,9 @@ ends_plain k Dropped i is = absurd (cc)
 ends_plain k (Told aborts) i is = absurd (cc)
 ends_plain k Exiting i is = absurd (cc)
 
-pub Keeps-line_ends : (k : Known) (reading : Reading) (i : PageInput) → line_ends_first reading ≡ true → i.half ≡ []
+pub Keeps-line_ends : (k : Known) (reading : LineState) (i : PageInput) → line_ends_first reading ≡ true → i.escapes ≡ []
     → OneFewer i reading (end_taking k reading i)
 Keeps-line_ends k reading i is none =
-    let with_half : List Half → PageInput = λ half. record i { half = half } in
-    subst (λ (half : List Half). OneFewer (with_half half) reading (end_taking k reading (with_half half))) (sym none)
+    let with_escapes : List OpenEscape → PageInput = λ half. record i { escapes = half } in
+    subst (λ (half : List OpenEscape). OneFewer (with_escapes half) reading (end_taking k reading (with_escapes half))) (sym none)
     (ends_plain k reading i is)

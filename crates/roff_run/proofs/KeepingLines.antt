@@ -8,13 +8,13 @@ use Rattle.std.specs.Prelude.{◌&&◌, length, nat_le, if◌then◌else◌, ◌
 use Rattle.roff_source.specs.Bytes.{newline, blank, quote}
 use Rattle.roff_ahead.specs.Input.Calls.{arguments_given, called_text, calling_body}
 use Rattle.roff_ahead.specs.Input.Names.{body_named, calling, calling_on}
-use Rattle.roff_escape.specs.declared.half.CopyUnit.{CopyUnit}
-use Rattle.roff_escape.specs.declared.half.CopyUnit.TheVariants.{Byte, Kept}
-use Rattle.roff_escape.specs.Half.{unit_bytes}
-use Rattle.roff_escape.specs.declared.half.Read.{Read}
-use Rattle.roff_escape.specs.declared.half.Read.TheVariants.{GoesOn, Unit as GivesUnit, Holds, Escape, Asks, Motion, Measures, Tells, Decides}
-use Rattle.roff_run.specs.declared.reading.Reading.{Reading}
-use Rattle.roff_run.specs.declared.reading.Reading.TheVariants.{LineStart, Arguments as InArguments, StringName, StringText, Telling, Calling, Defining}
+use Rattle.roff_escape.specs.declared.open_escape.CopyUnit.{CopyUnit}
+use Rattle.roff_escape.specs.declared.open_escape.CopyUnit.TheVariants.{Byte, Kept}
+use Rattle.roff_escape.specs.OpenEscape.{unit_bytes}
+use Rattle.roff_escape.specs.declared.open_escape.Found.{Found}
+use Rattle.roff_escape.specs.declared.open_escape.Found.TheVariants.{GoesOn, Unit as GivesUnit, Holds, Escape, Asks, Motion, Measures, Tells, Decides}
+use Rattle.roff_run.specs.declared.line_state.LineState.{LineState}
+use Rattle.roff_run.specs.declared.line_state.LineState.TheVariants.{LineStart, Arguments as InArguments, StringName, StringText, Telling, Calling, Defining}
 use Rattle.roff_num.specs.declared.short_name.ShortName.{ShortName}
 use Rattle.roff_run.specs.declared.request.LineReading.{LineReading}
 use Rattle.roff_run.specs.declared.request.LineReading.TheVariants.{ByArguments, ByCondition, ByElse, ByLastLine, ByMessage, ByString, ByLines}
@@ -43,46 +43,46 @@ pub record Alike (j i : PageInput) : Type 0 where
   newlines : j.newlines ≡ i.newlines
   line : j.line ≡ i.line
   ahead : j.ahead ≡ i.ahead
-  half : j.half ≡ i.half
+  escapes : j.escapes ≡ i.escapes
 
 pub Alike-same : (i : PageInput) → Alike i i
-Alike-same i = record { charge = refl; newlines = refl; line = refl; ahead = refl; half = refl }
+Alike-same i = record { charge = refl; newlines = refl; line = refl; ahead = refl; escapes = refl }
 
 -- where no name is read it keeps what was kept
-pub Keeps-alike : (most : ℕ) (i j : PageInput) (old : Reading) (n : PageInput) (reading : Reading) → Keeps most i j old → Alike n j → begun reading ≡ 0 → Keeps most i n reading
+pub Keeps-alike : (most : ℕ) (i j : PageInput) (old : LineState) (n : PageInput) (reading : LineState) → Keeps most i j old → Alike n j → begun reading ≡ 0 → Keeps most i n reading
 Keeps-alike most i j old n reading keeps alike unnamed = record {
   charge = alike.charge ∙ keeps.charge;
   newlines = alike.newlines ∙ keeps.newlines;
   line = alike.line ∙ keeps.line;
   free = ap free_ahead alike.ahead ∙ keeps.free;
-  half = let same : endings_of n.half ≡ endings_of j.half = ap endings_of alike.half in omega (arith, keeps.half, same, unnamed);
+  escapes = let same : endings_of n.escapes ≡ endings_of j.escapes = ap endings_of alike.escapes in omega (arith, keeps.escapes, same, unnamed);
 }
 
 -- and where no more turns of its own are needed
-pub Keeps-no_more : (most : ℕ) (i j : PageInput) (old : Reading) (n : PageInput) (reading : Reading) → Keeps most i j old → Alike n j → begun reading ≤ begun old
+pub Keeps-no_more : (most : ℕ) (i j : PageInput) (old : LineState) (n : PageInput) (reading : LineState) → Keeps most i j old → Alike n j → begun reading ≤ begun old
     → Keeps most i n reading
 Keeps-no_more most i j old n reading keeps alike few = record {
   charge = alike.charge ∙ keeps.charge;
   newlines = alike.newlines ∙ keeps.newlines;
   line = alike.line ∙ keeps.line;
   free = ap free_ahead alike.ahead ∙ keeps.free;
-  half = let same : endings_of n.half ≡ endings_of j.half = ap endings_of alike.half in omega (arith, keeps.half, same, few);
+  escapes = let same : endings_of n.escapes ≡ endings_of j.escapes = ap endings_of alike.escapes in omega (arith, keeps.escapes, same, few);
 }
 
 -- calls on what names stand for leave an input alike
 Alike-calling_all : (calls : List Call) (j i : PageInput) → Alike j i → Alike (calling_all calls j) i
 Alike-calling_all [] j i alike = alike
 Alike-calling_all (call ∷ calls) j i alike =
-    Alike-calling_all calls (calling call j) i (record { charge = alike.charge; newlines = alike.newlines; line = alike.line; ahead = alike.ahead; half = alike.half })
+    Alike-calling_all calls (calling call j) i (record { charge = alike.charge; newlines = alike.newlines; line = alike.line; ahead = alike.ahead; escapes = alike.escapes })
 
 -- so do calls on texts
 Alike-calling_on : (call : ℕ → Call) (id : Option ℕ) (i : PageInput) → Alike (calling_on call id i) i
 Alike-calling_on call None i = Alike-same i
-Alike-calling_on call (Some id) i = record { charge = refl; newlines = refl; line = refl; ahead = refl; half = refl }
+Alike-calling_on call (Some id) i = record { charge = refl; newlines = refl; line = refl; ahead = refl; escapes = refl }
 
 Alike-string_begun : (name : Option ShortName) (i : PageInput) → Alike (string_begun name i) i
-Alike-string_begun None i = record { charge = refl; newlines = refl; line = refl; ahead = refl; half = refl }
-Alike-string_begun (Some name) i = record { charge = refl; newlines = refl; line = refl; ahead = refl; half = refl }
+Alike-string_begun None i = record { charge = refl; newlines = refl; line = refl; ahead = refl; escapes = refl }
+Alike-string_begun (Some name) i = record { charge = refl; newlines = refl; line = refl; ahead = refl; escapes = refl }
 
 Alike-string_grown : (name : Option ShortName) (unit : CopyUnit) (i : PageInput) → Alike (string_grown name unit i) i
 Alike-string_grown None unit i = Alike-same i
@@ -99,7 +99,7 @@ Alike-if false i j n first second = second
 Alike-string_emptied : (name : Option ShortName) (appends : Bool) (i : PageInput) → Alike (string_emptied name appends i) i
 Alike-string_emptied None appends i = Alike-same i
 Alike-string_emptied (Some name) appends i =
-    Alike-if _ i _ i (Alike-same i) (record { charge = refl; newlines = refl; line = refl; ahead = refl; half = refl })
+    Alike-if _ i _ i (Alike-same i) (record { charge = refl; newlines = refl; line = refl; ahead = refl; escapes = refl })
 
 pub Alike-definition_grown : (name : Option ShortName) (bytes : List ℕ) (i : PageInput) → Alike (definition_grown name bytes i) i
 Alike-definition_grown None bytes i = Alike-same i
@@ -113,7 +113,7 @@ Alike-definition_dropped (Some name) i = Alike-calling_on (λ id. DropOpen id) (
 Alike-holding_call : (unit : CopyUnit) (i : PageInput) → Alike (holding_call unit i) i
 Alike-holding_call unit i =
     Alike-if (nat_le 9 (length i.arguments.whole)) i (holding unit i) i (Alike-same i)
-    (record { charge = refl; newlines = refl; line = refl; ahead = refl; half = refl })
+    (record { charge = refl; newlines = refl; line = refl; ahead = refl; escapes = refl })
 
 -- behind a request's line no name is read
 unnamed-reading_behind : (line : LineReading) → begun (reading_behind line) ≡ 0
@@ -126,29 +126,29 @@ unnamed-reading_behind (ByString appends) = refl
 unnamed-reading_behind (ByLines lines) = refl
 
 -- the end of a request's line
-Keeps-ended_by : (most : ℕ) (i j : PageInput) (old : Reading) (request : Request) (effect : Effect) → Keeps most i j old → KeepsBy most i (ended_by j request effect)
+Keeps-ended_by : (most : ℕ) (i j : PageInput) (old : LineState) (request : Request) (effect : Effect) → Keeps most i j old → KeepsBy most i (ended_by j request effect)
 Keeps-ended_by most i j old request effect keeps =
     let released : PageInput = record j { arguments = no_arguments } in
     Keeps-alike most i j old (calling_all effect.calls released) (reading_behind (row_of request).line) keeps
-    (Alike-calling_all effect.calls released j (record { charge = refl; newlines = refl; line = refl; ahead = refl; half = refl }))
+    (Alike-calling_all effect.calls released j (record { charge = refl; newlines = refl; line = refl; ahead = refl; escapes = refl }))
     (unnamed-reading_behind (row_of request).line)
 
 -- a definition begins
-Keeps-definition_begun : (most : ℕ) (i j : PageInput) (old : Reading) (name : Option ShortName) (appends : Bool)
+Keeps-definition_begun : (most : ℕ) (i j : PageInput) (old : LineState) (name : Option ShortName) (appends : Bool)
     (end : Option ShortName) → Keeps most i j old → 3 ≤ begun old → KeepsBy most i (definition_begun j name appends end)
 Keeps-definition_begun most i j old name appends end keeps some =
     Keeps-no_more most i j old (string_begun name j) (Defining name appends end (Some 0)) keeps (Alike-string_begun name j) some
 
-Keeps-definition_named : (most : ℕ) (i j : PageInput) (old : Reading) (appends : Bool) (name : Option (Option ShortName))
+Keeps-definition_named : (most : ℕ) (i j : PageInput) (old : LineState) (appends : Bool) (name : Option (Option ShortName))
     (end : Option ShortName) → Keeps most i j old → 3 ≤ begun old → KeepsBy most i (definition_named j appends name end)
 Keeps-definition_named most i j old appends None end keeps some =
-    Keeps-alike most i j old _ LineStart keeps (record { charge = refl; newlines = refl; line = refl; ahead = refl; half = refl }) refl
+    Keeps-alike most i j old _ LineStart keeps (record { charge = refl; newlines = refl; line = refl; ahead = refl; escapes = refl }) refl
 Keeps-definition_named most i j old appends (Some None) end keeps some =
-    Keeps-alike most i j old _ LineStart keeps (record { charge = refl; newlines = refl; line = refl; ahead = refl; half = refl }) refl
+    Keeps-alike most i j old _ LineStart keeps (record { charge = refl; newlines = refl; line = refl; ahead = refl; escapes = refl }) refl
 Keeps-definition_named most i j old appends (Some (Some name)) end keeps some =
     Keeps-definition_begun most i j old (Some name) appends end keeps some
 
-Keeps-lines_begun : (most : ℕ) (i j : PageInput) (old : Reading) (lines : LinesFor) (as_given : List (List ℕ))
+Keeps-lines_begun : (most : ℕ) (i j : PageInput) (old : LineState) (lines : LinesFor) (as_given : List (List ℕ))
     → Keeps most i j old → 3 ≤ begun old → KeepsBy most i (lines_begun j lines as_given)
 Keeps-lines_begun most i j old (Macro appends) as_given keeps some =
     Keeps-definition_named most i j old appends (name_at 0 as_given) (name_or_none (name_at 1 as_given)) keeps some
@@ -156,7 +156,7 @@ Keeps-lines_begun most i j old Nobody as_given keeps some =
     Keeps-definition_begun most i j old None false (name_or_none (name_at 0 as_given)) keeps some
 
 -- the end of a line of arguments, behind which a definition may begin
-pub Keeps-arguments_ended : (most : ℕ) (k : Known) (i j : PageInput) (old : Reading) (breaks : Bool) (request : Request)
+pub Keeps-arguments_ended : (most : ℕ) (k : Known) (i j : PageInput) (old : LineState) (breaks : Bool) (request : Request)
     (line : LineReading) → Keeps most i j old → 3 ≤ begun old → KeepsBy most i (arguments_ended k j breaks request line)
 Keeps-arguments_ended most k i j old breaks request (ByLines lines) keeps some =
     Keeps-lines_begun most i j old lines (arguments_given j) keeps some
@@ -179,12 +179,12 @@ Keeps-unit_found : (most : ℕ) (k : Known) (i j : PageInput) (breaks : Bool) (r
 Keeps-unit_found most k i j breaks request (Byte b) keeps =
     Keeps-if most i (b == newline) _ _
     (Keeps-arguments_ended most k i j (InArguments breaks request) breaks request (row_of request).line keeps (omega arith))
-    (record { charge = keeps.charge; newlines = keeps.newlines; line = keeps.line; free = keeps.free; half = keeps.half })
+    (record { charge = keeps.charge; newlines = keeps.newlines; line = keeps.line; free = keeps.free; escapes = keeps.escapes })
 Keeps-unit_found most k i j breaks request (Kept b) keeps =
-    record { charge = keeps.charge; newlines = keeps.newlines; line = keeps.line; free = keeps.free; half = keeps.half }
+    record { charge = keeps.charge; newlines = keeps.newlines; line = keeps.line; free = keeps.free; escapes = keeps.escapes }
 
 -- what was found that is no unit
-pub Keeps-no_unit_found : (most : ℕ) (k : Known) (i j : PageInput) (reading : Reading) (found : Read) → Keeps most i j reading
+pub Keeps-no_unit_found : (most : ℕ) (k : Known) (i j : PageInput) (reading : LineState) (found : Found) → Keeps most i j reading
     → KeepsBy most i (no_unit_found k j reading found)
 Keeps-no_unit_found most k i j reading (Holds unit) keeps = Keeps-holding_text most i j reading unit keeps
 Keeps-no_unit_found most k i j reading (Asks purpose name) keeps = Keeps-asking most k i j reading purpose name keeps
@@ -197,14 +197,14 @@ Keeps-no_unit_found most k i j reading (Motion columns remark) keeps = keeps
 Keeps-no_unit_found most k i j reading (Decides decision freed) keeps = keeps
 
 -- and behind which no quote follows
-Keeps-settled : (most : ℕ) (k : Known) (i j : PageInput) (reading : Reading) (found : Read) → Keeps most i j reading
+Keeps-settled : (most : ℕ) (k : Known) (i j : PageInput) (reading : LineState) (found : Found) → Keeps most i j reading
     → KeepsBy most i (no_unit_found k (settling j) reading found)
 Keeps-settled most k i j reading found keeps =
     Keeps-no_unit_found most k i (settling j) reading found
-    (record { charge = keeps.charge; newlines = keeps.newlines; line = keeps.line; free = keeps.free; half = keeps.half })
+    (record { charge = keeps.charge; newlines = keeps.newlines; line = keeps.line; free = keeps.free; escapes = keeps.escapes })
 
 -- what was found of a line of arguments
-pub Keeps-arguments_found : (most : ℕ) (k : Known) (i j : PageInput) (breaks : Bool) (request : Request) (found : Read) → Keeps most i j (InArguments breaks request)
+pub Keeps-arguments_found : (most : ℕ) (k : Known) (i j : PageInput) (breaks : Bool) (request : Request) (found : Found) → Keeps most i j (InArguments breaks request)
     → KeepsBy most i (arguments_found k j breaks request found)
 Keeps-arguments_found most k i j breaks request (GivesUnit unit) keeps = Keeps-unit_found most k i j breaks request unit keeps
 Keeps-arguments_found most k i j breaks request (Escape b) keeps = Keeps-unit_found most k i j breaks request (Kept b) keeps
@@ -217,7 +217,7 @@ Keeps-arguments_found most k i j breaks request (Tells remark) keeps = Keeps-set
 Keeps-arguments_found most k i j breaks request (Decides decision freed) keeps = Keeps-settled most k i j (InArguments breaks request) (Decides decision freed) keeps
 
 -- a unit of a string's text
-Keeps-string_unit : (most : ℕ) (i j : PageInput) (old : Reading) (name : Option ShortName) (appends is_front : Bool) (unit : CopyUnit) → Keeps most i j old
+Keeps-string_unit : (most : ℕ) (i j : PageInput) (old : LineState) (name : Option ShortName) (appends is_front : Bool) (unit : CopyUnit) → Keeps most i j old
     → KeepsBy most i (string_unit j name appends is_front unit)
 Keeps-string_unit most i j old name appends is_front (Byte b) keeps =
     Keeps-if most i (b == newline) _ _ (Keeps-alike most i j old _ LineStart keeps (Alike-string_entered name appends j) refl)
@@ -228,42 +228,42 @@ Keeps-string_unit most i j old name appends is_front (Kept b) keeps =
     Keeps-alike most i j old _ _ keeps (Alike-string_grown name (Kept b) j) refl
 
 -- what comes of its name
-pub Keeps-string_line_ended : (most : ℕ) (i j : PageInput) (old : Reading) (appends : Bool) (name : Option (Option ShortName)) → Keeps most i j old
+pub Keeps-string_line_ended : (most : ℕ) (i j : PageInput) (old : LineState) (appends : Bool) (name : Option (Option ShortName)) → Keeps most i j old
     → KeepsBy most i (string_line_ended j appends name)
 Keeps-string_line_ended most i j old appends None keeps =
-    Keeps-alike most i j old _ LineStart keeps (record { charge = refl; newlines = refl; line = refl; ahead = refl; half = refl }) refl
+    Keeps-alike most i j old _ LineStart keeps (record { charge = refl; newlines = refl; line = refl; ahead = refl; escapes = refl }) refl
 Keeps-string_line_ended most i j old appends (Some name) keeps =
     let released : PageInput = record j { arguments = no_arguments } in
     Keeps-alike most i released old _ LineStart
-    (record { charge = keeps.charge; newlines = keeps.newlines; line = keeps.line; free = keeps.free; half = keeps.half })
+    (record { charge = keeps.charge; newlines = keeps.newlines; line = keeps.line; free = keeps.free; escapes = keeps.escapes })
     (Alike-string_emptied name appends released) refl
 
-Keeps-string_name_behind : (most : ℕ) (i j : PageInput) (old : Reading) (appends : Bool) (name : Option (Option ShortName)) → Keeps most i j old
+Keeps-string_name_behind : (most : ℕ) (i j : PageInput) (old : LineState) (appends : Bool) (name : Option (Option ShortName)) → Keeps most i j old
     → KeepsBy most i (string_name_behind j appends name)
 Keeps-string_name_behind most i j old appends None keeps = Keeps-alike most i j old j _ keeps (Alike-same j) refl
 Keeps-string_name_behind most i j old appends (Some name) keeps = Keeps-alike most i j old _ _ keeps (Alike-string_begun name j) refl
 
-Keeps-string_name_or_text : (most : ℕ) (i j : PageInput) (old : Reading) (appends : Bool) (unit : CopyUnit) (name : Option (Option ShortName)) → Keeps most i j old
+Keeps-string_name_or_text : (most : ℕ) (i j : PageInput) (old : LineState) (appends : Bool) (unit : CopyUnit) (name : Option (Option ShortName)) → Keeps most i j old
     → KeepsBy most i (string_name_or_text j appends unit name)
 Keeps-string_name_or_text most i j old appends unit None keeps =
     Keeps-string_name_behind most i (holding unit j) old appends (name_read (holding unit j))
-    (record { charge = keeps.charge; newlines = keeps.newlines; line = keeps.line; free = keeps.free; half = keeps.half })
+    (record { charge = keeps.charge; newlines = keeps.newlines; line = keeps.line; free = keeps.free; escapes = keeps.escapes })
 Keeps-string_name_or_text most i j old appends unit (Some name) keeps =
     Keeps-string_unit most i (string_begun name j) LineStart name appends true unit (Keeps-alike most i j old _ LineStart keeps (Alike-string_begun name j) refl)
 
-Keeps-string_name_unit : (most : ℕ) (i j : PageInput) (old : Reading) (appends : Bool) (unit : CopyUnit) → Keeps most i j old
+Keeps-string_name_unit : (most : ℕ) (i j : PageInput) (old : LineState) (appends : Bool) (unit : CopyUnit) → Keeps most i j old
     → KeepsBy most i (string_name_unit j appends unit)
 Keeps-string_name_unit most i j old appends (Byte b) keeps =
     Keeps-if most i (b == newline) _ _ (Keeps-string_line_ended most i j old appends (name_at 0 (arguments_given j)) keeps)
     (Keeps-if most i (b == quote) _ _ (Keeps-string_name_or_text most i j old appends (Byte b) (name_read j) keeps)
     (Keeps-string_name_or_text most i (settling j) old appends (Byte b) (name_read (settling j))
-    (record { charge = keeps.charge; newlines = keeps.newlines; line = keeps.line; free = keeps.free; half = keeps.half })))
+    (record { charge = keeps.charge; newlines = keeps.newlines; line = keeps.line; free = keeps.free; escapes = keeps.escapes })))
 Keeps-string_name_unit most i j old appends (Kept b) keeps =
     Keeps-string_name_or_text most i (settling j) old appends (Kept b) (name_read (settling j))
-    (record { charge = keeps.charge; newlines = keeps.newlines; line = keeps.line; free = keeps.free; half = keeps.half })
+    (record { charge = keeps.charge; newlines = keeps.newlines; line = keeps.line; free = keeps.free; escapes = keeps.escapes })
 
 -- what was found of a string's name
-pub Keeps-string_name_found : (most : ℕ) (k : Known) (i j : PageInput) (appends : Bool) (found : Read) → Keeps most i j (StringName appends)
+pub Keeps-string_name_found : (most : ℕ) (k : Known) (i j : PageInput) (appends : Bool) (found : Found) → Keeps most i j (StringName appends)
     → KeepsBy most i (string_name_found k j appends found)
 Keeps-string_name_found most k i j appends (GivesUnit unit) keeps = Keeps-string_name_unit most i j _ appends unit keeps
 Keeps-string_name_found most k i j appends (Escape b) keeps = Keeps-string_name_unit most i j _ appends (Kept b) keeps
@@ -276,7 +276,7 @@ Keeps-string_name_found most k i j appends (Tells remark) keeps = Keeps-settled 
 Keeps-string_name_found most k i j appends (Decides decision freed) keeps = Keeps-settled most k i j (StringName appends) (Decides decision freed) keeps
 
 -- what was found of its text
-pub Keeps-string_text_found : (most : ℕ) (k : Known) (i j : PageInput) (name : Option ShortName) (appends is_front : Bool) (found : Read) → Keeps most i j (StringText name appends is_front)
+pub Keeps-string_text_found : (most : ℕ) (k : Known) (i j : PageInput) (name : Option ShortName) (appends is_front : Bool) (found : Found) → Keeps most i j (StringText name appends is_front)
     → KeepsBy most i (string_text_found k j name appends is_front found)
 Keeps-string_text_found most k i j name appends is_front (GivesUnit unit) keeps = Keeps-string_unit most i j _ name appends is_front unit keeps
 Keeps-string_text_found most k i j name appends is_front (Escape b) keeps = Keeps-string_unit most i j _ name appends is_front (Kept b) keeps
@@ -293,15 +293,15 @@ Keeps-message_unit : (most : ℕ) (i j : PageInput) (aborts is_front : Bool) (un
     → KeepsBy most i (message_unit j aborts is_front unit)
 Keeps-message_unit most i j aborts is_front (Byte b) keeps =
     Keeps-if most i (b == newline) _ _
-    (record { charge = keeps.charge; newlines = keeps.newlines; line = keeps.line; free = keeps.free; half = omega (arith, keeps.half) })
+    (record { charge = keeps.charge; newlines = keeps.newlines; line = keeps.line; free = keeps.free; escapes = omega (arith, keeps.escapes) })
     (Keeps-if most i (is_front && b == blank) _ _
-    (record { charge = keeps.charge; newlines = keeps.newlines; line = keeps.line; free = keeps.free; half = keeps.half })
-    (record { charge = keeps.charge; newlines = keeps.newlines; line = keeps.line; free = keeps.free; half = keeps.half }))
+    (record { charge = keeps.charge; newlines = keeps.newlines; line = keeps.line; free = keeps.free; escapes = keeps.escapes })
+    (record { charge = keeps.charge; newlines = keeps.newlines; line = keeps.line; free = keeps.free; escapes = keeps.escapes }))
 Keeps-message_unit most i j aborts is_front (Kept b) keeps =
-    record { charge = keeps.charge; newlines = keeps.newlines; line = keeps.line; free = keeps.free; half = keeps.half }
+    record { charge = keeps.charge; newlines = keeps.newlines; line = keeps.line; free = keeps.free; escapes = keeps.escapes }
 
 -- what was found of it
-pub Keeps-message_found : (most : ℕ) (k : Known) (i j : PageInput) (aborts is_front : Bool) (found : Read) → Keeps most i j (Telling aborts is_front)
+pub Keeps-message_found : (most : ℕ) (k : Known) (i j : PageInput) (aborts is_front : Bool) (found : Found) → Keeps most i j (Telling aborts is_front)
     → KeepsBy most i (message_found k j aborts is_front found)
 Keeps-message_found most k i j aborts is_front (GivesUnit unit) keeps = Keeps-message_unit most i j aborts is_front unit keeps
 Keeps-message_found most k i j aborts is_front (Escape b) keeps = Keeps-message_unit most i j aborts is_front (Kept b) keeps
@@ -314,14 +314,14 @@ Keeps-message_found most k i j aborts is_front (Tells remark) keeps = Keeps-no_u
 Keeps-message_found most k i j aborts is_front (Decides decision freed) keeps = Keeps-no_unit_found most k i j (Telling aborts is_front) (Decides decision freed) keeps
 
 -- a body that a line calls is in front
-pub Keeps-called : (most : ℕ) (i j : PageInput) (old : Reading) (name : ShortName) → Keeps most i j old
+pub Keeps-called : (most : ℕ) (i j : PageInput) (old : LineState) (name : ShortName) → Keeps most i j old
     → KeepsBy most i (going_on (calling_body (body_named (name_bytes name) j) j) LineStart)
 Keeps-called most i j old name keeps = record {
   charge = keeps.charge;
   newlines = keeps.newlines;
   line = keeps.line;
   free = free_ahead-called (called_text (body_named (name_bytes name) j)) j.ahead ∙ keeps.free;
-  half = omega (arith, keeps.half);
+  escapes = omega (arith, keeps.escapes);
 }
 
 -- a unit behind the name of a body that a line calls
@@ -331,15 +331,15 @@ Keeps-call_unit most i j name (Byte b) keeps =
     (Keeps-if most i (b == quote) _ _
     (Keeps-no_more most i j (Calling name) _ (Calling name) keeps (Alike-holding_call (Byte b) j) (omega arith))
     (Keeps-no_more most i (settling j) (Calling name) _ (Calling name)
-    (record { charge = keeps.charge; newlines = keeps.newlines; line = keeps.line; free = keeps.free; half = keeps.half })
+    (record { charge = keeps.charge; newlines = keeps.newlines; line = keeps.line; free = keeps.free; escapes = keeps.escapes })
     (Alike-holding_call (Byte b) (settling j)) (omega arith)))
 Keeps-call_unit most i j name (Kept b) keeps =
     Keeps-no_more most i (settling j) (Calling name) _ (Calling name)
-    (record { charge = keeps.charge; newlines = keeps.newlines; line = keeps.line; free = keeps.free; half = keeps.half })
+    (record { charge = keeps.charge; newlines = keeps.newlines; line = keeps.line; free = keeps.free; escapes = keeps.escapes })
     (Alike-holding_call (Kept b) (settling j)) (omega arith)
 
 -- what was found there
-pub Keeps-call_found : (most : ℕ) (k : Known) (i j : PageInput) (name : ShortName) (found : Read) → Keeps most i j (Calling name)
+pub Keeps-call_found : (most : ℕ) (k : Known) (i j : PageInput) (name : ShortName) (found : Found) → Keeps most i j (Calling name)
     → KeepsBy most i (call_found k j name found)
 Keeps-call_found most k i j name (GivesUnit unit) keeps = Keeps-call_unit most i j name unit keeps
 Keeps-call_found most k i j name (Escape b) keeps = Keeps-call_unit most i j name (Kept b) keeps

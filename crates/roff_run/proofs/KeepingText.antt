@@ -16,16 +16,16 @@ use Rattle.roff_escape.specs.declared.escapes.Escape.TheVariants.{Prints, Blank,
 use Rattle.roff_escape.specs.declared.escapes.NameUse.{NameUse}
 use Rattle.roff_escape.specs.declared.escapes.NameUse.TheVariants.{Register, Text as OfText, Argument, Character, Font, LeftOut as NameLeftOut}
 use Rattle.roff_escape.specs.declared.escapes.TextUse.TheVariants.{Motion as OfMotion, LeftOut as LeftOutText}
-use Rattle.roff_escape.specs.declared.half.ConditionPart.TheVariants.{Choice, Expression, Decided, Compared}
-use Rattle.roff_escape.specs.declared.half.CopyUnit.{CopyUnit}
-use Rattle.roff_escape.specs.declared.half.CopyUnit.TheVariants.{Byte, Kept}
-use Rattle.roff_escape.specs.Half.{Half, Backslash, Comment, Name as NameHalf, Size, Delimited, Width, Condition, text_held}
-use Rattle.roff_escape.specs.declared.half.Read.{Read}
-use Rattle.roff_escape.specs.declared.half.Read.TheVariants.{GoesOn, Unit as GivesUnit, Holds, Escape, Asks, Motion, Measures, Tells, Decides}
+use Rattle.roff_escape.specs.declared.open_escape.ConditionPart.TheVariants.{Choice, Expression, Decided, Compared}
+use Rattle.roff_escape.specs.declared.open_escape.CopyUnit.{CopyUnit}
+use Rattle.roff_escape.specs.declared.open_escape.CopyUnit.TheVariants.{Byte, Kept}
+use Rattle.roff_escape.specs.OpenEscape.{OpenEscape, Backslash, Comment, Name as OpenName, Size, Delimited, Width, Condition, text_held}
+use Rattle.roff_escape.specs.declared.open_escape.Found.{Found}
+use Rattle.roff_escape.specs.declared.open_escape.Found.TheVariants.{GoesOn, Unit as GivesUnit, Holds, Escape, Asks, Motion, Measures, Tells, Decides}
 use Rattle.roff_num.specs.declared.direction.Direction.{Direction}
-use Rattle.roff_run.specs.declared.reading.Reading.{Reading}
-use Rattle.roff_run.specs.declared.reading.Reading.TheVariants.{LineStart, Branch, Braced, Text as InText, Control, Name, Arguments as InArguments, Deciding, StringName, StringText, Skipping, Dropped, Telling, Told, Exiting, Calling, Defining}
-use Rattle.roff_run.specs.declared.reading.TextLine.{TextLine}
+use Rattle.roff_run.specs.declared.line_state.LineState.{LineState}
+use Rattle.roff_run.specs.declared.line_state.LineState.TheVariants.{LineStart, Branch, Braced, Text as InText, Control, Name, Arguments as InArguments, Deciding, StringName, StringText, Skipping, Dropped, Telling, Told, Exiting, Calling, Defining}
+use Rattle.roff_run.specs.declared.line_state.TextLine.{TextLine}
 use Rattle.roff_run.specs.Reading.Beginnings.{line_begun, first_taking, first_escape, beginning_found, beginning_text, line_begun_as, escape_begun, first_name}
 use Rattle.roff_run.specs.Reading.Branches.{skipping_taking, branch_of}
 use Rattle.roff_run.specs.Reading.ControlLines.{dropped_taking}
@@ -38,12 +38,12 @@ use Rattle.roff_run.specs.TurnsToCome.{begun, endings_of, free_ahead}
 
 -- an input behind another, in which this is read: of the same counts, with as many free bytes ahead, and no more than so
 -- many turns to come of what is half read and of what is read
-pub record Keeps (most : ℕ) (i j : PageInput) (reading : Reading) : Type 0 where
+pub record Keeps (most : ℕ) (i j : PageInput) (reading : LineState) : Type 0 where
   pub charge : j.charge ≡ i.charge
   pub newlines : j.newlines ≡ i.newlines
   pub line : j.line ≡ i.line
   pub free : free_ahead j.ahead ≡ free_ahead i.ahead
-  pub half : 2 * endings_of j.half + begun reading ≤ most
+  pub escapes : 2 * endings_of j.escapes + begun reading ≤ most
 
 -- the same of what is done with an item
 abbrev pub KeepsBy : ℕ → PageInput → Taking → Type 0
@@ -65,21 +65,21 @@ Stays-if i true t u first second = first
 Stays-if i false t u first second = second
 
 -- where this is read, which is no name
-Stays-going_on : (i : PageInput) (reading : Reading) → begun reading ≡ 0 → Stays i (going_on i reading)
+Stays-going_on : (i : PageInput) (reading : LineState) → begun reading ≡ 0 → Stays i (going_on i reading)
 Stays-going_on i reading unnamed = record { input = refl; unnamed = unnamed }
 
 -- where no name is read, that begins none
-Keeps-unnamed : (most : ℕ) (i j : PageInput) (old reading : Reading) → Keeps most i j old → begun reading ≡ 0 → Keeps most i j reading
+Keeps-unnamed : (most : ℕ) (i j : PageInput) (old reading : LineState) → Keeps most i j old → begun reading ≡ 0 → Keeps most i j reading
 Keeps-unnamed most i j old reading keeps unnamed = record {
   charge = keeps.charge;
   newlines = keeps.newlines;
   line = keeps.line;
   free = keeps.free;
-  half = omega (arith, keeps.half, unnamed);
+  escapes = omega (arith, keeps.escapes, unnamed);
 }
 
 -- what has stayed keeps what was kept
-pub Keeps-stays : (most : ℕ) (i j : PageInput) (reading : Reading) (t : Taking) → Keeps most i j reading → Stays j t → KeepsBy most i t
+pub Keeps-stays : (most : ℕ) (i j : PageInput) (reading : LineState) (t : Taking) → Keeps most i j reading → Stays j t → KeepsBy most i t
 Keeps-stays most i j reading t keeps stays =
     subst (λ (n : PageInput). Keeps most i n t.reading) (sym stays.input) (Keeps-unnamed most i j reading t.reading keeps stays.unnamed)
 
@@ -136,7 +136,7 @@ Stays-line_begun k i b =
     (Stays-if i (b == apostrophe) _ _ (record { input = refl; unnamed = refl })
     (Stays-beginning_text k i (λ line. text_taking i line b) (λ line. Stays-text_taking i line b)))
 
-Stays-first_taking : (k : Known) (i : PageInput) (reading : Reading) (b : ℕ) → Stays i (first_taking k i reading b)
+Stays-first_taking : (k : Known) (i : PageInput) (reading : LineState) (b : ℕ) → Stays i (first_taking k i reading b)
 Stays-first_taking k i Branch b = Stays-if i (b == blank) _ _ (record { input = refl; unnamed = refl }) (Stays-line_begun k i b)
 Stays-first_taking k i Braced b =
     Stays-if i (b == blank) _ _ (record { input = refl; unnamed = refl })
@@ -161,7 +161,7 @@ Stays-first_taking k i (Defining name appends end matched) b = Stays-line_begun 
 Stays-escape_begun : (k : Known) (i : PageInput) (b : ℕ) → Stays i (escape_begun k i b)
 Stays-escape_begun k i b = Stays-beginning_text k i (λ line. escape_taking i line b) (λ line. Stays-escape_taking i line b)
 
-Stays-first_escape : (k : Known) (i : PageInput) (reading : Reading) (b : ℕ) → Stays i (first_escape k i reading b)
+Stays-first_escape : (k : Known) (i : PageInput) (reading : LineState) (b : ℕ) → Stays i (first_escape k i reading b)
 Stays-first_escape k i Branch b = Stays-if i (b == 123) _ _ (record { input = refl; unnamed = refl }) (Stays-escape_begun k i b)
 Stays-first_escape k i Braced b = Stays-if i (b == newline) _ _ (record { input = refl; unnamed = refl }) (Stays-escape_begun k i b)
 Stays-first_escape k i LineStart b = Stays-escape_begun k i b
@@ -216,16 +216,16 @@ free_ahead-register : (k : Known) (step : Option Direction) (name : List ℕ) (i
 free_ahead-register k step name items = free_ahead-pushed (text_of_register (known_behind (step_changes step name) k) name) items
 
 -- nor is one of a width's digits
-pub Keeps-measuring : (most : ℕ) (i j : PageInput) (reading : Reading) (width : ℕ) → Keeps most i j reading → KeepsBy most i (measuring j reading width)
+pub Keeps-measuring : (most : ℕ) (i j : PageInput) (reading : LineState) (width : ℕ) → Keeps most i j reading → KeepsBy most i (measuring j reading width)
 Keeps-measuring most i j reading width keeps =
-    record { charge = keeps.charge; newlines = keeps.newlines; line = keeps.line; free = free_ahead-pushed (decimal width) j.ahead ∙ keeps.free; half = keeps.half }
+    record { charge = keeps.charge; newlines = keeps.newlines; line = keeps.line; free = free_ahead-pushed (decimal width) j.ahead ∙ keeps.free; escapes = keeps.escapes }
 
 -- a unit of a text leaves as many endings
-endings-text_held : (unit : CopyUnit) (half : List Half) → endings_of (text_held unit half) ≡ endings_of half
+endings-text_held : (unit : CopyUnit) (half : List OpenEscape) → endings_of (text_held unit half) ≡ endings_of half
 endings-text_held unit [] = refl
 endings-text_held unit (Backslash ∷ rest) = refl
 endings-text_held unit (Comment ∷ rest) = refl
-endings-text_held unit (NameHalf purpose part ∷ rest) = refl
+endings-text_held unit (OpenName purpose part ∷ rest) = refl
 endings-text_held unit (Size part ∷ rest) = refl
 endings-text_held unit (Delimited purpose d text ∷ rest) = refl
 endings-text_held unit (Width d width is_deep ∷ rest) = refl
@@ -235,37 +235,37 @@ endings-text_held unit (Condition (Decided decision None) text ∷ rest) = refl
 endings-text_held unit (Condition (Decided decision (Some b)) text ∷ rest) = refl
 endings-text_held unit (Condition (Compared negated d first) text ∷ rest) = refl
 
-pub Keeps-holding_text : (most : ℕ) (i j : PageInput) (reading : Reading) (unit : CopyUnit) → Keeps most i j reading → Keeps most i (holding_text unit j) reading
+pub Keeps-holding_text : (most : ℕ) (i j : PageInput) (reading : LineState) (unit : CopyUnit) → Keeps most i j reading → Keeps most i (holding_text unit j) reading
 Keeps-holding_text most i j reading unit keeps = record {
   charge = keeps.charge;
   newlines = keeps.newlines;
   line = keeps.line;
   free = keeps.free;
-  half = omega (arith, keeps.half, endings-text_held unit j.half);
+  escapes = omega (arith, keeps.escapes, endings-text_held unit j.escapes);
 }
 
 -- this is half read otherwise
-pub Keeps-with_half : (less most : ℕ) (i j : PageInput) (old reading : Reading) (half : List Half) → Keeps less i j old → 2 * endings_of half + begun reading ≤ most
-    → Keeps most i (record j { half = half }) reading
-Keeps-with_half less most i j old reading half keeps few =
-    record { charge = keeps.charge; newlines = keeps.newlines; line = keeps.line; free = keeps.free; half = few }
+pub Keeps-with_escapes : (less most : ℕ) (i j : PageInput) (old reading : LineState) (half : List OpenEscape) → Keeps less i j old → 2 * endings_of half + begun reading ≤ most
+    → Keeps most i (record j { escapes = half }) reading
+Keeps-with_escapes less most i j old reading half keeps few =
+    record { charge = keeps.charge; newlines = keeps.newlines; line = keeps.line; free = keeps.free; escapes = few }
 
 -- what a name asks for
-pub Keeps-asking : (most : ℕ) (k : Known) (i j : PageInput) (reading : Reading) (purpose : NameUse) (name : Option (List ℕ)) → Keeps most i j reading
+pub Keeps-asking : (most : ℕ) (k : Known) (i j : PageInput) (reading : LineState) (purpose : NameUse) (name : Option (List ℕ)) → Keeps most i j reading
     → KeepsBy most i (asking k j reading purpose name)
 Keeps-asking most k i j reading purpose None keeps = keeps
 Keeps-asking most k i j reading (Register step) (Some name) keeps =
-    record { charge = keeps.charge; newlines = keeps.newlines; line = keeps.line; free = free_ahead-register k step name j.ahead ∙ keeps.free; half = keeps.half }
+    record { charge = keeps.charge; newlines = keeps.newlines; line = keeps.line; free = free_ahead-register k step name j.ahead ∙ keeps.free; escapes = keeps.escapes }
 Keeps-asking most k i j reading OfText (Some name) keeps =
-    record { charge = keeps.charge; newlines = keeps.newlines; line = keeps.line; free = free_ahead-pushed (body_named name j) j.ahead ∙ keeps.free; half = keeps.half }
+    record { charge = keeps.charge; newlines = keeps.newlines; line = keeps.line; free = free_ahead-pushed (body_named name j) j.ahead ∙ keeps.free; escapes = keeps.escapes }
 Keeps-asking most k i j reading Argument (Some name) keeps =
-    record { charge = keeps.charge; newlines = keeps.newlines; line = keeps.line; free = free_ahead-pushed (argument_named name (arguments_live j)) j.ahead ∙ keeps.free; half = keeps.half }
-Keeps-asking most k i j reading Character (Some name) keeps = record { charge = keeps.charge; newlines = keeps.newlines; line = keeps.line; free = keeps.free; half = keeps.half }
-Keeps-asking most k i j reading Font (Some name) keeps = record { charge = keeps.charge; newlines = keeps.newlines; line = keeps.line; free = keeps.free; half = keeps.half }
-Keeps-asking most k i j reading (NameLeftOut b) (Some name) keeps = record { charge = keeps.charge; newlines = keeps.newlines; line = keeps.line; free = keeps.free; half = keeps.half }
+    record { charge = keeps.charge; newlines = keeps.newlines; line = keeps.line; free = free_ahead-pushed (argument_named name (arguments_live j)) j.ahead ∙ keeps.free; escapes = keeps.escapes }
+Keeps-asking most k i j reading Character (Some name) keeps = record { charge = keeps.charge; newlines = keeps.newlines; line = keeps.line; free = keeps.free; escapes = keeps.escapes }
+Keeps-asking most k i j reading Font (Some name) keeps = record { charge = keeps.charge; newlines = keeps.newlines; line = keeps.line; free = keeps.free; escapes = keeps.escapes }
+Keeps-asking most k i j reading (NameLeftOut b) (Some name) keeps = record { charge = keeps.charge; newlines = keeps.newlines; line = keeps.line; free = keeps.free; escapes = keeps.escapes }
 
 -- a name of a text line
-Keeps-name_taking : (most : ℕ) (k : Known) (i j : PageInput) (reading : Reading) (line : TextLine) (purpose : NameUse) (name : Option (List ℕ)) → Keeps most i j reading
+Keeps-name_taking : (most : ℕ) (k : Known) (i j : PageInput) (reading : LineState) (line : TextLine) (purpose : NameUse) (name : Option (List ℕ)) → Keeps most i j reading
     → KeepsBy most i (name_taking k j reading line purpose name)
 Keeps-name_taking most k i j reading line Character name keeps = Keeps-stays most i j reading _ keeps (Stays-character_taking j line name)
 Keeps-name_taking most k i j reading line Font name keeps = Keeps-unnamed most i j reading _ keeps refl
@@ -275,7 +275,7 @@ Keeps-name_taking most k i j reading line OfText name keeps = Keeps-asking most 
 Keeps-name_taking most k i j reading line Argument name keeps = Keeps-asking most k i j reading Argument name keeps
 
 -- the same where a line begins, or a branch
-Keeps-first_name : (most : ℕ) (k : Known) (i j : PageInput) (reading : Reading) (purpose : NameUse) (name : Option (List ℕ)) → Keeps most i j reading
+Keeps-first_name : (most : ℕ) (k : Known) (i j : PageInput) (reading : LineState) (purpose : NameUse) (name : Option (List ℕ)) → Keeps most i j reading
     → KeepsBy most i (first_name k j reading purpose name)
 Keeps-first_name most k i j reading Character name keeps =
     Keeps-stays most i j reading _ keeps
@@ -287,7 +287,7 @@ Keeps-first_name most k i j reading OfText name keeps = Keeps-asking most k i j 
 Keeps-first_name most k i j reading Argument name keeps = Keeps-asking most k i j reading Argument name keeps
 
 -- what was found of a text line
-pub Keeps-text_found : (most : ℕ) (k : Known) (i j : PageInput) (line : TextLine) (found : Read) → Keeps most i j (InText line)
+pub Keeps-text_found : (most : ℕ) (k : Known) (i j : PageInput) (line : TextLine) (found : Found) → Keeps most i j (InText line)
     → KeepsBy most i (text_found k j line found)
 Keeps-text_found most k i j line GoesOn keeps = keeps
 Keeps-text_found most k i j line (GivesUnit (Byte b)) keeps = Keeps-stays most i j (InText line) _ keeps (Stays-text_taking j line b)
@@ -301,7 +301,8 @@ Keeps-text_found most k i j line (Tells remark) keeps = keeps
 Keeps-text_found most k i j line (Decides decision freed) keeps = keeps
 
 -- what was found where a line begins, or a branch
-pub Keeps-beginning_found : (most : ℕ) (k : Known) (i j : PageInput) (reading : Reading) (found : Read) → Keeps most i j reading
+pub Keeps-beginning_found : (most : ℕ) (k : Known) (i j : PageInput) (reading : LineState) (found : Found)
+    → Keeps most i j reading
     → KeepsBy most i (beginning_found k j reading found)
 Keeps-beginning_found most k i j reading GoesOn keeps = keeps
 Keeps-beginning_found most k i j reading (GivesUnit (Byte b)) keeps = Keeps-stays most i j reading _ keeps (Stays-first_taking k j reading b)

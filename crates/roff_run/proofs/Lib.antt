@@ -9,7 +9,7 @@ pub mod InputCounts
 pub mod TurnsToCome
 pub mod InFront
 pub mod Printing
-pub mod HalfCounts
+pub mod EscapeCounts
 pub mod TextBytes
 pub mod PlainRuns
 pub mod ItemsTaken

@@ -3,16 +3,16 @@ use Rattle.std.proofs.Common.{◌≡◌, ℕ, ◌+◌, Bool, true, false, List, 
 use Rattle.std.specs.Prelude.{drop, if◌then◌else◌}
 use Rattle.std.proofs.lemmas.Bool.{cases_Bool, eqb-true}
 use Rattle.roff_source.specs.Bytes.{backslash}
-use Rattle.roff_escape.specs.Half.{Condition, unit_bytes}
-use Rattle.roff_escape.specs.Halves.{byte_read}
-use Rattle.roff_escape.specs.declared.half.ConditionPart.TheVariants.{Choice}
-use Rattle.roff_escape.specs.declared.half.CopyUnit.{CopyUnit}
-use Rattle.roff_escape.specs.declared.half.Surroundings.{Surroundings}
-use Rattle.roff_escape.specs.declared.half.Surroundings.TheVariants.{Arguments as AboveArguments}
+use Rattle.roff_escape.specs.OpenEscape.{Condition, unit_bytes}
+use Rattle.roff_escape.specs.OpenEscapes.{byte_read}
+use Rattle.roff_escape.specs.declared.open_escape.ConditionPart.TheVariants.{Choice}
+use Rattle.roff_escape.specs.declared.open_escape.CopyUnit.{CopyUnit}
+use Rattle.roff_escape.specs.declared.open_escape.Surroundings.{Surroundings}
+use Rattle.roff_escape.specs.declared.open_escape.Surroundings.TheVariants.{Arguments as AboveArguments}
 use Rattle.roff_run.specs.Definitions.{ends_mark, line_from, line_with}
 use Rattle.roff_run.specs.declared.definition.DefinitionLine.{DefinitionLine}
 use Rattle.roff_run.specs.declared.definition.DefinitionLine.TheVariants.{IsLast, IsText}
-use Rattle.roff_run.proofs.HalfCounts.{Leaves, Leaves-choice_made}
+use Rattle.roff_run.proofs.EscapeCounts.{Leaves, Leaves-choice_made}
 
 -- behind the whole mark a byte that ends the definition is one that may stand there
 IsLast-byte : (b c : ℕ) (ends : Bool) → ends ≡ ends_mark c → (if ends then IsLast c else IsText) ≡ IsLast b → ends_mark b ≡ true

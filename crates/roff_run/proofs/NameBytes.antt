@@ -10,12 +10,12 @@ use Rattle.roff_run.specs.Reading.ControlLines.{BelongsToName, ends_name}
 use Rattle.roff_run.specs.Reading.{kept_taking}
 use Rattle.roff_run.specs.Reading.Items.{PageInput, going_on}
 use Rattle.roff_run.specs.Stages.{Stage, Turns, input_at}
-use Rattle.roff_run.specs.declared.reading.Reading.{Reading}
-use Rattle.roff_run.specs.declared.reading.Reading.TheVariants.{Control, Dropped, LineStart, Name}
+use Rattle.roff_run.specs.declared.line_state.LineState.{LineState}
+use Rattle.roff_run.specs.declared.line_state.LineState.TheVariants.{Control, Dropped, LineStart, Name}
 
 -- a stage
-abbrev pub stage : Reading → Arguments → List (List ℕ) → Stage
-stage reading a texts = record { reading = reading; half = []; arguments = a; texts = texts }
+abbrev pub stage : LineState → Arguments → List (List ℕ) → Stage
+stage reading a texts = record { reading = reading; escapes = []; arguments = a; texts = texts }
 
 -- a byte of a name
 first-of-two : (x y z : Bool) → (x || (y || z)) ≡ false → (x || y) ≡ false

@@ -5,8 +5,8 @@ use Rattle.std.proofs.lemmas.List.{length-append}
 use Rattle.roff_num.specs.declared.limits.Limits.{Limits}
 use Rattle.roff_arguments.specs.Arguments.{Arguments, held}
 use Rattle.roff_source.specs.Bytes.{newline}
-use Rattle.roff_escape.specs.Half.{Half, texts_held}
-use Rattle.roff_escape.specs.Halves.{seen_stays}
+use Rattle.roff_escape.specs.OpenEscape.{OpenEscape, texts_held}
+use Rattle.roff_escape.specs.OpenEscapes.{is_ended_by}
 use Rattle.roff_ahead.specs.Input.{Ahead, ByteAhead, bytes_ahead, ends_ahead, lines_taken}
 use Rattle.roff_arguments.specs.Arguments.{live_bytes}
 use Rattle.roff_source.specs.Tape.{Tape}
@@ -22,7 +22,7 @@ use Rattle.roff_run.specs.Reading.Items.{PageInput, Taking}
 use Rattle.roff_run.specs.Requests.{PageEvent}
 use Rattle.roff_run.specs.Run.{State, after, byte_taken, known, made, step, taken_as}
 use Rattle.roff_run.specs.Stages.{Stage, Turns, input_at}
-use Rattle.roff_run.specs.declared.reading.Reading.{Reading}
+use Rattle.roff_run.specs.declared.line_state.LineState.{LineState}
 
 -- what is counted of a byte, by where it comes from
 abbrev pub newlines_behind : Origin → ℕ → ℕ → ℕ
@@ -52,7 +52,7 @@ run_at s names p from bytes i = record s {
 
 -- a step at a byte
 pub step-taken : (l : Limits) (s : State) (names : Named Entry) (from : Origin) (p : Stage) (b : ℕ) (bytes : List ℕ) (i : PageInput) (t : State)
-    → TakesItems s → due p.reading ≡ None → seen_stays p.half (Some b) ≡ false → i.charge + 1 ≤ l.bytes → byte_taken b (run_at s names p from bytes (behind_byte from b i)) ≡ t → IsWithin l t
+    → TakesItems s → due p.reading ≡ None → is_ended_by p.escapes (Some b) ≡ false → i.charge + 1 ≤ l.bytes → byte_taken b (run_at s names p from bytes (behind_byte from b i)) ≡ t → IsWithin l t
     → step l (run_at s names p from (b ∷ bytes) i) ≡ t
 step-taken l s names (FromAhead rest) p b bytes i t on none_due stays few is within =
     let before : State = run_at s names p (FromAhead rest) (b ∷ bytes) i in
@@ -67,7 +67,7 @@ step-taken l s names (FromSource tape) p b bytes i t on none_due stays few is wi
 
 -- one that leads to another stage
 step-turns : (l : Limits) (s : State) (names : Named Entry) (from : Origin) (p q : Stage) (b : ℕ) (bytes : List ℕ) (i : PageInput)
-    → TakesItems s → due p.reading ≡ None → seen_stays p.half (Some b) ≡ false → i.charge + 1 ≤ l.bytes → Turns names p b q → IsWithin l (run_at s names q from bytes (behind_byte from b i))
+    → TakesItems s → due p.reading ≡ None → is_ended_by p.escapes (Some b) ≡ false → i.charge + 1 ≤ l.bytes → Turns names p b q → IsWithin l (run_at s names q from bytes (behind_byte from b i))
     → step l (run_at s names p from (b ∷ bytes) i) ≡ run_at s names q from bytes (behind_byte from b i)
 step-turns l s names from p q b bytes i on none_due stays few turns within =
     let taken : State = run_at s names p from bytes (behind_byte from b i) in
@@ -84,7 +84,7 @@ pub record Most : Type 0 where
 
 -- no more is held at a stage, and nothing of what is half read
 pub record IsSmall (most : Most) (p : Stage) : Type 0 where
-  pub none_half : texts_held p.half ≡ 0
+  pub none_half : texts_held p.escapes ≡ 0
   pub held_few : held p.arguments ≤ most.held
   pub stored_few : sum_by length p.texts ≤ most.stored
   pub texts_few : length p.texts ≤ most.texts
@@ -93,7 +93,7 @@ pub record IsSmall (most : Most) (p : Stage) : Type 0 where
 -- at the most
 pub data Path (most : Most) (names : Named Entry) : Stage → List ℕ → Stage → Type 0 where
   Here : (p : Stage) → Path most names p [] p
-  Onward : (p q r : Stage) (b : ℕ) (bytes : List ℕ) → due p.reading ≡ None → seen_stays p.half (Some b) ≡ false → Turns names p b q → IsSmall most q → held q.arguments ≤ held p.arguments + 1
+  Onward : (p q r : Stage) (b : ℕ) (bytes : List ℕ) → due p.reading ≡ None → is_ended_by p.escapes (Some b) ≡ false → Turns names p b q → IsSmall most q → held q.arguments ≤ held p.arguments + 1
       → Path most names q bytes r → Path most names p (b ∷ bytes) r
 
 -- one path behind another
@@ -226,21 +226,21 @@ counted-source tape bytes i none =
     ∙ sym (behind_bytes-counts (FromSource tape) bytes i) ∙ behind_bytes-source tape bytes i
 
 -- a run that stands at these bytes is at this stage
-pub is-run_at : (s : State) (from : Origin) (bytes : List ℕ) (p : Stage) → s.reading ≡ p.reading → s.input.half ≡ p.half → s.input.arguments ≡ p.arguments
+pub is-run_at : (s : State) (from : Origin) (bytes : List ℕ) (p : Stage) → s.reading ≡ p.reading → s.input.escapes ≡ p.escapes → s.input.arguments ≡ p.arguments
     → s.input.open_texts ≡ p.texts → s.input.ahead ≡ ahead_at from bytes → s.tape ≡ tape_at from bytes s.tape → run_at s s.input.names p from bytes s.input ≡ s
 is-run_at s from bytes p reading half arguments texts ahead tape =
-    let of : Tape → List (Ahead PageEvent) → Reading → List Half → Arguments → List (List ℕ) → State = λ t items r h a made.
-    record s { tape = t; input = record s.input { ahead = items; half = h; arguments = a; open_texts = made }; reading = r } in
-    ap (λ (t : Tape). of t (ahead_at from bytes) p.reading p.half p.arguments p.texts) (sym tape)
-    ∙ ap (λ (items : List (Ahead PageEvent)). of s.tape items p.reading p.half p.arguments p.texts) (sym ahead)
-    ∙ ap (λ (r : Reading). of s.tape s.input.ahead r p.half p.arguments p.texts) (sym reading)
-    ∙ ap (λ (h : List Half). of s.tape s.input.ahead s.reading h p.arguments p.texts) (sym half)
-    ∙ ap (λ (a : Arguments). of s.tape s.input.ahead s.reading s.input.half a p.texts) (sym arguments)
-    ∙ ap (λ (made : List (List ℕ)). of s.tape s.input.ahead s.reading s.input.half s.input.arguments made) (sym texts)
+    let of : Tape → List (Ahead PageEvent) → LineState → List OpenEscape → Arguments → List (List ℕ) → State = λ t items r h a made.
+    record s { tape = t; input = record s.input { ahead = items; escapes = h; arguments = a; open_texts = made }; reading = r } in
+    ap (λ (t : Tape). of t (ahead_at from bytes) p.reading p.escapes p.arguments p.texts) (sym tape)
+    ∙ ap (λ (items : List (Ahead PageEvent)). of s.tape items p.reading p.escapes p.arguments p.texts) (sym ahead)
+    ∙ ap (λ (r : LineState). of s.tape s.input.ahead r p.escapes p.arguments p.texts) (sym reading)
+    ∙ ap (λ (h : List OpenEscape). of s.tape s.input.ahead s.reading h p.arguments p.texts) (sym half)
+    ∙ ap (λ (a : Arguments). of s.tape s.input.ahead s.reading s.input.escapes a p.texts) (sym arguments)
+    ∙ ap (λ (made : List (List ℕ)). of s.tape s.input.ahead s.reading s.input.escapes s.input.arguments made) (sym texts)
 
 -- the steps at bytes that lead from stage to stage, and at the one behind them
 pub after-last : (l : Limits) (s : State) (names : Named Entry) (from : Origin) (most : Most) (p q : Stage) (bytes : List ℕ) (b : ℕ) (i : PageInput) (t : State)
-    → TakesItems s → Path most names p bytes q → HasRoom l s names from most p (bytes ++ b ∷ []) i → due q.reading ≡ None → seen_stays q.half (Some b) ≡ false
+    → TakesItems s → Path most names p bytes q → HasRoom l s names from most p (bytes ++ b ∷ []) i → due q.reading ≡ None → is_ended_by q.escapes (Some b) ≡ false
     → byte_taken b (run_at s names q from [] (behind_byte from b (behind_bytes from bytes i))) ≡ t → IsWithin l t
     → after l (length (bytes ++ b ∷ [])) (run_at s names p from (bytes ++ b ∷ []) i) ≡ t
 after-last l s names from most p q bytes b i t on path room none_due stays is within =

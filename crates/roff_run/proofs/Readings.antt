@@ -7,25 +7,25 @@ use Rattle.std.proofs.lemmas.Bool.Decides.{nat_tests}
 use Rattle.roff_num.specs.declared.limit.Limit.{Limit}
 use Rattle.roff_num.specs.declared.limit.Limit.TheVariants.{Bytes}
 use Rattle.roff_num.specs.declared.limits.Limits.{Limits}
-use Rattle.roff_escape.specs.Halves.{decides_now, seen_stays, newline_stays}
+use Rattle.roff_escape.specs.OpenEscapes.{decides_now, is_ended_by, newline_stays}
 use Rattle.roff_ahead.specs.Input.{Ahead, ByteAhead, FreeAhead, EndAhead, ReturnAhead, DoAhead, cost, item_taken, counting}
 use Rattle.roff_source.specs.Tape.{Answer, OneByte, OneNote, Ended, Failed, Stopped, Gives, Ends, front}
 use Rattle.roff_ahead.specs.Shown.{Sighted, SeesByte, SeesNothing, SeesNote, SeesEnding, seen_ahead}
-use Rattle.roff_escape.specs.Half.{Half}
+use Rattle.roff_escape.specs.OpenEscape.{OpenEscape}
 use Rattle.roff_run.specs.Requests.{PageEvent}
 use Rattle.roff_run.specs.Reading.Calls.{behind_return}
 use Rattle.roff_run.specs.Reading.Ends.{due, line_ends_first}
-use Rattle.roff_run.specs.declared.reading.Due.{Due}
-use Rattle.roff_run.specs.declared.reading.Due.TheVariants.{Leaves, Tells as TellsText}
-use Rattle.roff_run.specs.declared.reading.Reading.{Reading}
-use Rattle.roff_run.specs.declared.reading.Reading.TheVariants.{LineStart, Branch, Braced, Text as InText, Control, Name, Arguments as InArguments, Deciding, StringName, StringText, Skipping, Dropped, Telling, Told, Exiting, Calling, Defining}
-use Rattle.roff_run.specs.Run.{waiting, State, known, ending_as, ending_with, stopped_by, unless_refused, grown, made, moved, byte_taken, half_ends, end_met, ahead_taken, taking_ahead, taking_byte, ending_input, answered, in_front_taken, front_seen, awaited_of_source, awaited, item_read, input_ended, message_told, aborted, input_left, reading_by, reading_on}
+use Rattle.roff_run.specs.declared.line_state.Due.{Due}
+use Rattle.roff_run.specs.declared.line_state.Due.TheVariants.{Leaves, Tells as TellsText}
+use Rattle.roff_run.specs.declared.line_state.LineState.{LineState}
+use Rattle.roff_run.specs.declared.line_state.LineState.TheVariants.{LineStart, Branch, Braced, Text as InText, Control, Name, Arguments as InArguments, Deciding, StringName, StringText, Skipping, Dropped, Telling, Told, Exiting, Calling, Defining}
+use Rattle.roff_run.specs.Run.{waiting, State, known, ending_as, ending_with, stopped_by, unless_refused, grown, made, moved, byte_taken, escape_ends, end_met, ahead_taken, taking_ahead, taking_byte, ending_input, answered, in_front_taken, front_seen, awaited_of_source, awaited, item_read, input_ended, message_told, aborted, input_left, reading_by, reading_on}
 use Rattle.roff_run.specs.Run.Counts.{passes_bytes, first_passed}
 use Rattle.roff_run.specs.declared.message.Message.TheVariants.{ReadFailed}
 use Rattle.roff_run.specs.declared.status.Status.TheVariants.{Device, Limit as Limited}
 use Rattle.roff_run.specs.TurnsToCome.{begun, endings_of}
 use Rattle.roff_run.proofs.KeepingText.{Keeps}
-use Rattle.roff_run.proofs.Keeping.{KeepsTwoMore-same, Keeps-taking, Keeps-interrupted, Keeps-half_ended, Keeps-line_ends}
+use Rattle.roff_run.proofs.Keeping.{KeepsTwoMore-same, Keeps-taking, Keeps-interrupted, Keeps-escape_ended, Keeps-line_ends}
 
 -- no count passes its limit in a state
 abbrev pub IsMade : Limits → State → Type 0
@@ -60,11 +60,12 @@ pub data ReadsOn (l : Limits) (s : State) : State → Type 0 where
   -- a note of the source was taken
   NoteTaken : (message : List ℕ) → front s.tape ≡ Gives (OneNote message) → ReadsOn l s (behind_note message s)
   -- the innermost of what is half read ended
-  HalfEnds : (first : Half) (others : List Half) → s.input.half ≡ first ∷ others → IsMade l (half_ends s) → ReadsOn l s (half_ends s)
+  HalfEnds : (first : OpenEscape) (others : List OpenEscape) → s.input.escapes ≡ first ∷ others → IsMade l (escape_ends s) → ReadsOn l s (escape_ends s)
   -- the input ended, with nothing half read
-  InputEnds : s.input.ahead ≡ [] → s.input.half ≡ [] → front s.tape ≡ Ends Ended → IsMade l (end_met s) → ReadsOn l s (end_met s)
+  InputEnds : s.input.ahead ≡ [] → s.input.escapes ≡ [] → front s.tape ≡ Ends Ended → IsMade l (end_met s)
+      → ReadsOn l s (end_met s)
   -- it ended in a control line that ends first
-  LineEnds : line_ends_first s.reading ≡ true → s.input.half ≡ [] → IsMade l (line_ends s) → ReadsOn l s (line_ends s)
+  LineEnds : line_ends_first s.reading ≡ true → s.input.escapes ≡ [] → IsMade l (line_ends s) → ReadsOn l s (line_ends s)
   -- a message was told
   MessageTold : s.reading ≡ Told false → IsMade l (message_told s) → ReadsOn l s (message_told s)
   -- a message ended the run
@@ -108,22 +109,23 @@ ReadsOn-taking_byte l b s none gives =
     (λ goes. ReadsOn-made l s (behind_byte b s) (ByteTaken b none gives (within l.bytes (s.input.charge + 1) goes)))
 
 -- the end of the input, with nothing half read
-ReadsOn-input_ended : (l : Limits) (first : Bool) (s : State) → s.input.ahead ≡ [] → s.input.half ≡ [] → front s.tape ≡ Ends Ended
+ReadsOn-input_ended : (l : Limits) (first : Bool) (s : State) → s.input.ahead ≡ [] → s.input.escapes ≡ []
+    → front s.tape ≡ Ends Ended
     → line_ends_first s.reading ≡ first → ReadsOn l s (made l s (input_ended first s))
 ReadsOn-input_ended l false s none half ends is = ReadsOn-made l s (end_met s) (InputEnds none half ends)
 ReadsOn-input_ended l true s none half ends is = ReadsOn-made l s (line_ends s) (LineEnds is half)
 
 -- the end of the input
-ReadsOn-ending_input : (l : Limits) (half : List Half) (s : State) → s.input.ahead ≡ [] → s.input.half ≡ half → front s.tape ≡ Ends Ended
+ReadsOn-ending_input : (l : Limits) (half : List OpenEscape) (s : State) → s.input.ahead ≡ [] → s.input.escapes ≡ half → front s.tape ≡ Ends Ended
     → ReadsOn l s (ending_input l half s)
 ReadsOn-ending_input l [] s none is ends = ReadsOn-input_ended l (line_ends_first s.reading) s none is ends refl
-ReadsOn-ending_input l (first ∷ others) s none is ends = ReadsOn-made l s (half_ends s) (HalfEnds first others is)
+ReadsOn-ending_input l (first ∷ others) s none is ends = ReadsOn-made l s (escape_ends s) (HalfEnds first others is)
 
 -- the source answered
 ReadsOn-answered : (l : Limits) (a : Answer) (s : State) → s.input.ahead ≡ [] → front s.tape ≡ a → ReadsOn l s (answered l a s)
 ReadsOn-answered l (Gives (OneByte b)) s none gives = ReadsOn-taking_byte l b s none gives
 ReadsOn-answered l (Gives (OneNote message)) s none gives = NoteTaken message gives
-ReadsOn-answered l (Ends Ended) s none ends = ReadsOn-ending_input l s.input.half s none refl ends
+ReadsOn-answered l (Ends Ended) s none ends = ReadsOn-ending_input l s.input.escapes s none refl ends
 ReadsOn-answered l (Ends Failed) s none ends = SourceFails ends
 ReadsOn-answered l (Ends (Stopped limit)) s none ends = SourceStops limit ends
 
@@ -133,13 +135,13 @@ ReadsOn-in_front_taken l [] s is = ReadsOn-answered l (front s.tape) s is refl
 ReadsOn-in_front_taken l (item ∷ behind) s is = ReadsOn-taking_ahead l item behind s is
 
 -- something was seen in front, or nothing
-ReadsOn-front_seen : (l : Limits) (seen : Option ℕ) (s : State) (first : Half) (others : List Half) → s.input.half ≡ first ∷ others → ReadsOn l s (front_seen l seen s)
+ReadsOn-front_seen : (l : Limits) (seen : Option ℕ) (s : State) (first : OpenEscape) (others : List OpenEscape) → s.input.escapes ≡ first ∷ others → ReadsOn l s (front_seen l seen s)
 ReadsOn-front_seen l seen s first others is =
-    ReadsOn-if l s (seen_stays s.input.half seen) _ _
-    (λ stays. ReadsOn-made l s (half_ends s) (HalfEnds first others is)) (λ taken. ReadsOn-in_front_taken l s.input.ahead s refl)
+    ReadsOn-if l s (is_ended_by s.input.escapes seen) _ _
+    (λ stays. ReadsOn-made l s (escape_ends s) (HalfEnds first others is)) (λ taken. ReadsOn-in_front_taken l s.input.ahead s refl)
 
 -- the source was seen there
-ReadsOn-awaited_of_source : (l : Limits) (a : Answer) (s : State) (first : Half) (others : List Half) → s.input.half ≡ first ∷ others → front s.tape ≡ a
+ReadsOn-awaited_of_source : (l : Limits) (a : Answer) (s : State) (first : OpenEscape) (others : List OpenEscape) → s.input.escapes ≡ first ∷ others → front s.tape ≡ a
     → ReadsOn l s (awaited_of_source l a s)
 ReadsOn-awaited_of_source l (Gives (OneByte b)) s first others is gives = ReadsOn-front_seen l (Some b) s first others is
 ReadsOn-awaited_of_source l (Gives (OneNote message)) s first others is gives = NoteTaken message gives
@@ -148,7 +150,7 @@ ReadsOn-awaited_of_source l (Ends Failed) s first others is ends = SourceFails e
 ReadsOn-awaited_of_source l (Ends (Stopped limit)) s first others is ends = SourceStops limit ends
 
 -- anything was
-ReadsOn-awaited : (l : Limits) (sight : Option Sighted) (s : State) (first : Half) (others : List Half) → s.input.half ≡ first ∷ others
+ReadsOn-awaited : (l : Limits) (sight : Option Sighted) (s : State) (first : OpenEscape) (others : List OpenEscape) → s.input.escapes ≡ first ∷ others
     → ReadsOn l s (awaited l sight s)
 ReadsOn-awaited l (Some (SeesByte b)) s first others is = ReadsOn-front_seen l (Some b) s first others is
 ReadsOn-awaited l (Some SeesNothing) s first others is = ReadsOn-front_seen l None s first others is
@@ -157,13 +159,13 @@ ReadsOn-awaited l (Some (SeesEnding ending)) s first others is = ReadsOn-front_s
 ReadsOn-awaited l None s first others is = ReadsOn-awaited_of_source l (front s.tape) s first others is refl
 
 -- what is half read waits
-ReadsOn-waiting : (l : Limits) (s : State) (first : Half) (others : List Half) → s.input.half ≡ first ∷ others → ReadsOn l s (waiting l s)
+ReadsOn-waiting : (l : Limits) (s : State) (first : OpenEscape) (others : List OpenEscape) → s.input.escapes ≡ first ∷ others → ReadsOn l s (waiting l s)
 ReadsOn-waiting l s first others is =
-    ReadsOn-if l s (decides_now s.input.half) _ _
-    (λ decides. ReadsOn-made l s (half_ends s) (HalfEnds first others is)) (λ looks. ReadsOn-awaited l (seen_ahead s.input.ahead) s first others is)
+    ReadsOn-if l s (decides_now s.input.escapes) _ _
+    (λ decides. ReadsOn-made l s (escape_ends s) (HalfEnds first others is)) (λ looks. ReadsOn-awaited l (seen_ahead s.input.ahead) s first others is)
 
 -- by what is half read
-by_half : (l : Limits) (s : State) (half : List Half) → s.input.half ≡ half
+by_half : (l : Limits) (s : State) (half : List OpenEscape) → s.input.escapes ≡ half
     → ReadsOn l s (if newline_stays half then waiting l s else in_front_taken l s.input.ahead s)
 by_half l s [] is = ReadsOn-in_front_taken l s.input.ahead s refl
 by_half l s (first ∷ others) is =
@@ -172,10 +174,10 @@ by_half l s (first ∷ others) is =
 
 -- one item of the input, or how it ends
 ReadsOn-item_read : (l : Limits) (s : State) → ReadsOn l s (item_read l s)
-ReadsOn-item_read l s = by_half l s s.input.half refl
+ReadsOn-item_read l s = by_half l s s.input.escapes refl
 
 -- a message is due where its line has ended
-told_where_due : (reading : Reading) (aborts : Bool) → due reading ≡ Some (TellsText aborts) → reading ≡ Told aborts
+told_where_due : (reading : LineState) (aborts : Bool) → due reading ≡ Some (TellsText aborts) → reading ≡ Told aborts
 told_where_due (Told aborts) other is = cc
 told_where_due LineStart aborts is = absurd (cc)
 told_where_due Branch aborts is = absurd (cc)
@@ -195,7 +197,7 @@ told_where_due (Telling other is_front) aborts is = absurd (cc)
 told_where_due Exiting aborts is = absurd (cc)
 
 -- and the input is left behind the last line
-pub left_where_due : (reading : Reading) → due reading ≡ Some Leaves → reading ≡ Exiting
+pub left_where_due : (reading : LineState) → due reading ≡ Some Leaves → reading ≡ Exiting
 left_where_due Exiting is = refl
 left_where_due LineStart is = absurd (cc)
 left_where_due Branch is = absurd (cc)
@@ -235,7 +237,7 @@ pub record Behind (most : ℕ) (s t : State) : Type 0 where
   pub last_message : t.last_message ≡ s.last_message
 
 -- a byte
-pub Behind-byte_taken : (b : ℕ) (s : State) → Behind (2 * endings_of s.input.half + begun s.reading + 4) s (byte_taken b s)
+pub Behind-byte_taken : (b : ℕ) (s : State) → Behind (2 * endings_of s.input.escapes + begun s.reading + 4) s (byte_taken b s)
 Behind-byte_taken b s = record {
   input = Keeps-taking (known s) s.reading s.input b;
   tape = refl;
@@ -246,7 +248,7 @@ Behind-byte_taken b s = record {
 }
 
 -- no turn more is begun behind the end of a called body
-pub begun-behind_return : (reading : Reading) → begun (behind_return reading) ≡ begun reading
+pub begun-behind_return : (reading : LineState) → begun (behind_return reading) ≡ begun reading
 begun-behind_return LineStart = refl
 begun-behind_return Branch = refl
 begun-behind_return Braced = refl
@@ -266,13 +268,13 @@ begun-behind_return (Told aborts) = refl
 begun-behind_return Exiting = refl
 
 -- an item ahead of the source
-pub Behind-ahead_taken : (item : Ahead PageEvent) (s : State) → Behind (2 * endings_of s.input.half + begun s.reading + 4) s (ahead_taken item s)
+pub Behind-ahead_taken : (item : Ahead PageEvent) (s : State) → Behind (2 * endings_of s.input.escapes + begun s.reading + 4) s (ahead_taken item s)
 Behind-ahead_taken (ByteAhead b) s = Behind-byte_taken b s
 Behind-ahead_taken (FreeAhead b) s = Behind-byte_taken b s
 Behind-ahead_taken EndAhead s =
     record { input = KeepsTwoMore-same s.input s.reading; tape = refl; history = refl; is_closing = refl; ended = refl; last_message = refl }
 Behind-ahead_taken ReturnAhead s = record {
-  input = record { charge = refl; newlines = refl; line = refl; free = refl; half = omega (arith, begun-behind_return s.reading) };
+  input = record { charge = refl; newlines = refl; line = refl; free = refl; escapes = omega (arith, begun-behind_return s.reading) };
   tape = refl;
   history = refl;
   is_closing = refl;
@@ -283,9 +285,9 @@ Behind-ahead_taken (DoAhead event) s =
     record { input = Keeps-interrupted s.reading s.input; tape = refl; history = refl; is_closing = refl; ended = refl; last_message = refl }
 
 -- what is half read
-pub Behind-half_ends : (s : State) (first : Half) (others : List Half) → s.input.half ≡ first ∷ others → Behind (2 * endings_of s.input.half + begun s.reading - 1) s (half_ends s)
-Behind-half_ends s first others is = record {
-  input = Keeps-half_ended (known s) s.reading s.input first others is;
+pub Behind-escape_ends : (s : State) (first : OpenEscape) (others : List OpenEscape) → s.input.escapes ≡ first ∷ others → Behind (2 * endings_of s.input.escapes + begun s.reading - 1) s (escape_ends s)
+Behind-escape_ends s first others is = record {
+  input = Keeps-escape_ended (known s) s.reading s.input first others is;
   tape = refl;
   history = refl;
   is_closing = refl;
@@ -294,8 +296,8 @@ Behind-half_ends s first others is = record {
 }
 
 -- a control line that ends with the input
-pub Behind-line_ends : (s : State) → line_ends_first s.reading ≡ true → s.input.half ≡ []
-    → Behind (2 * endings_of s.input.half + begun s.reading - 1) s (line_ends s)
+pub Behind-line_ends : (s : State) → line_ends_first s.reading ≡ true → s.input.escapes ≡ []
+    → Behind (2 * endings_of s.input.escapes + begun s.reading - 1) s (line_ends s)
 Behind-line_ends s first none = record {
   input = Keeps-line_ends (known s) s.reading s.input first none;
   tape = refl;

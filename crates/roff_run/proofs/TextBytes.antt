@@ -6,19 +6,19 @@ use Rattle.std.proofs.lemmas.Bool.{cases_Bool, eqb-true}
 use Rattle.roff_lines.specs.declared.event.Event.TheVariants.{Print, WordEnd, Gap}
 use Rattle.roff_lines.specs.declared.glyph.Glyph.TheVariants.{Printed}
 use Rattle.roff_source.specs.Bytes.{blank, backslash, is_silent, is_text_byte, newline, tab}
-use Rattle.roff_escape.specs.Half.{Half, Backslash}
-use Rattle.roff_escape.specs.Halves.{byte_read}
-use Rattle.roff_escape.specs.declared.half.CopyUnit.TheVariants.{Byte}
-use Rattle.roff_escape.specs.declared.half.Read.TheVariants.{GoesOn, Unit as GivesUnit}
+use Rattle.roff_escape.specs.OpenEscape.{OpenEscape, Backslash}
+use Rattle.roff_escape.specs.OpenEscapes.{byte_read}
+use Rattle.roff_escape.specs.declared.open_escape.CopyUnit.TheVariants.{Byte}
+use Rattle.roff_escape.specs.declared.open_escape.Found.TheVariants.{GoesOn, Unit as GivesUnit}
 use Rattle.roff_run.specs.Reading.{interrupted, kept_taking}
 use Rattle.roff_run.specs.Reading.Items.{PageInput, Taking, going_on, meaning_events}
 use Rattle.roff_run.specs.Reading.TextLines.{blank_taking, glyph_taking, on_line, other_taking, tab_taking, text_line_end, text_taking}
 use Rattle.roff_run.specs.Reading.Found.{read_in}
 use Rattle.roff_run.specs.Requests.{Text}
 use Rattle.roff_run.specs.Telling.{Prints, byte_events}
-use Rattle.roff_run.specs.declared.reading.Reading.{Reading}
-use Rattle.roff_run.specs.declared.reading.Reading.TheVariants.{LineStart, Text as InText}
-use Rattle.roff_run.specs.declared.reading.TextLine.{TextLine}
+use Rattle.roff_run.specs.declared.line_state.LineState.{LineState}
+use Rattle.roff_run.specs.declared.line_state.LineState.TheVariants.{LineStart, Text as InText}
+use Rattle.roff_run.specs.declared.line_state.TextLine.{TextLine}
 
 -- a byte of plain text is none of another kind
 pub is_other : (b c : ℕ) → is_text_byte b ≡ true → is_text_byte c ≡ false → (b == c) ≡ false
@@ -47,7 +47,7 @@ abbrev line_of : Bool → Bool → TextLine
 line_of has_other has_brace = record { has_glyph = true; has_other = has_other; has_brace = has_brace; leading = 0 }
 
 -- a blank or a glyph of such a line
-told-by : (i : PageInput) (reading : Reading) (is_blank : Bool) (b : ℕ)
+told-by : (i : PageInput) (reading : LineState) (is_blank : Bool) (b : ℕ)
     → (if is_blank then meaning_events i reading (Text WordEnd ∷ Text (Gap 1) ∷ []) else meaning_events i reading (Text (Print (Printed b)) ∷ []))
     ≡ meaning_events i reading (if is_blank then Text WordEnd ∷ Text (Gap 1) ∷ [] else Text (Print (Printed b)) ∷ [])
 told-by i reading true b = refl
@@ -71,9 +71,9 @@ prints-plain has_other has_brace b text = λ k i none_half.
     let line : TextLine = line_of has_other has_brace in
     ap (λ (c : Bool). if c then going_on (interrupted (InText line) i) (InText line) else kept_taking k (InText line) i b)
     (kept-text (nat_lt b 32) (b == 127) (b == backslash) (not (b == newline || b == tab || is_silent b)) text)
-    ∙ ap (λ (half : List Half). read_in k (InText line) i (byte_read (on_line k line) half b)) none_half
+    ∙ ap (λ (half : List OpenEscape). read_in k (InText line) i (byte_read (on_line k line) half b)) none_half
     ∙ ap (λ (c : Bool). read_in k (InText line) i (if c then (GoesOn, Backslash ∷ []) else (GivesUnit (Byte b), []))) (is_other b backslash text refl)
-    ∙ ap (λ (half : List Half). text_taking (record i { half = half }) line b) (sym none_half)
+    ∙ ap (λ (half : List OpenEscape). text_taking (record i { escapes = half }) line b) (sym none_half)
     ∙ told-kept i has_other has_brace b text
 
 -- on any line with a glyph, and without leading blanks

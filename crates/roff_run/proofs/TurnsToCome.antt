@@ -3,22 +3,22 @@ use Rattle.std.proofs.Common.{◌≡◌, ℕ, ◌+◌, ◌≤◌, Bool, true, fa
 use Rattle.std.specs.Prelude.{nat_lt, if◌then◌else◌}
 use Rattle.std.proofs.lemmas.Bool.{ltb-false}
 use Rattle.roff_num.specs.declared.limit.Limit.TheVariants.{Bytes}
-use Rattle.roff_escape.specs.Halves.{newline_stays}
+use Rattle.roff_escape.specs.OpenEscapes.{newline_stays}
 use Rattle.roff_ahead.specs.Input.{Ahead, ByteAhead, FreeAhead, EndAhead, ReturnAhead, DoAhead, cost, item_taken}
 use Rattle.roff_source.specs.Tape.{Answer, Gives, Ends, OneByte, OneNote}
 use Rattle.roff_scan.specs.Unread.{Unread, taking, taking_answer, answer_behind}
 use Rattle.roff_ahead.specs.Shown.{Shown, ShowsByte, ShowsEnd, ShowsReturn, ShowsDo, ShowsNote, ShowsEnding, ShowsRefusal}
-use Rattle.roff_escape.specs.Half.{Half}
-use Rattle.roff_run.specs.Reading.{half_ended, taking as byte_taking}
+use Rattle.roff_escape.specs.OpenEscape.{OpenEscape}
+use Rattle.roff_run.specs.Reading.{escape_ended, taking as byte_taking}
 use Rattle.roff_run.specs.Reading.Ends.{end_taking, line_ends_first}
 use Rattle.roff_run.specs.Reading.Items.{PageInput}
 use Rattle.roff_run.specs.Registers.{Known}
 use Rattle.roff_run.specs.Requests.{PageEvent}
-use Rattle.roff_run.specs.declared.reading.Reading.{Reading}
-use Rattle.roff_run.specs.declared.reading.Reading.TheVariants.{LineStart, Branch, Braced, Text as InText, Control, Name, Arguments as InArguments, Deciding, StringName, StringText, Skipping, Dropped, Telling, Told, Exiting, Calling, Defining}
+use Rattle.roff_run.specs.declared.line_state.LineState.{LineState}
+use Rattle.roff_run.specs.declared.line_state.LineState.TheVariants.{LineStart, Branch, Braced, Text as InText, Control, Name, Arguments as InArguments, Deciding, StringName, StringText, Skipping, Dropped, Telling, Told, Exiting, Calling, Defining}
 use Rattle.roff_run.specs.TurnsToCome.{begun, endings_of, turns_within, turns_to_come}
-use Rattle.roff_run.proofs.HalfCounts.{some_ending}
-use Rattle.roff_run.proofs.Keeping.{KeepsTwoMore, Keeps-taking, Keeps-half_ended, Keeps-line_ends}
+use Rattle.roff_run.proofs.EscapeCounts.{some_ending}
+use Rattle.roff_run.proofs.Keeping.{KeepsTwoMore, Keeps-taking, Keeps-escape_ended, Keeps-line_ends}
 
 -- a call took a byte, the end of a text or of a body, or an event
 abbrev pub IsTaken : Shown PageEvent → Type 0
@@ -65,35 +65,36 @@ pub turns_to_come-taking : (a : Answer) (u : Unread PageEvent) → IsTaken (taki
 turns_to_come-taking a u taken = falls-taking u.input.ahead a u.input u.looked u taken
 
 -- what keeps the input's counts, and leaves two endings more to come, leaves four turns more at most
-turns-two_more : (bytes : ℕ) (i j : PageInput) (old reading : Reading) → KeepsTwoMore i old j reading
+turns-two_more : (bytes : ℕ) (i j : PageInput) (old reading : LineState) → KeepsTwoMore i old j reading
     → turns_within bytes j + begun reading ≤ turns_within bytes i + begun old + 4
-turns-two_more bytes i j old reading keeps = omega (arith, keeps.charge, keeps.free, keeps.half)
+turns-two_more bytes i j old reading keeps = omega (arith, keeps.charge, keeps.free, keeps.escapes)
 
 -- and so does a byte
-pub turns_within-byte : (bytes : ℕ) (k : Known) (reading : Reading) (i : PageInput) (b : ℕ)
+pub turns_within-byte : (bytes : ℕ) (k : Known) (reading : LineState) (i : PageInput) (b : ℕ)
     → turns_within bytes (byte_taking k reading i b).input + begun (byte_taking k reading i b).reading ≤ turns_within bytes i + begun reading + 4
 turns_within-byte bytes k reading i b = turns-two_more bytes i _ reading _ (Keeps-taking k reading i b)
 
 -- what is half read where a newline stays
-pub length-newline_stays : (half : List Half) → newline_stays half ≡ true → 1 ≤ length half
+pub length-newline_stays : (half : List OpenEscape) → newline_stays half ≡ true → 1 ≤ length half
 length-newline_stays [] stays = cc
 length-newline_stays (first ∷ rest) stays = omega arith
 
 -- where what is half read ends, a turn fewer is to come
-ended : (bytes : ℕ) (k : Known) (reading : Reading) (i : PageInput) (half : List Half) → i.half ≡ half → 1 ≤ length half
-    → turns_within bytes (half_ended k reading i).input + begun (half_ended k reading i).reading + 1 ≤ turns_within bytes i + begun reading
+ended : (bytes : ℕ) (k : Known) (reading : LineState) (i : PageInput) (half : List OpenEscape) → i.escapes ≡ half
+    → 1 ≤ length half
+    → turns_within bytes (escape_ended k reading i).input + begun (escape_ended k reading i).reading + 1 ≤ turns_within bytes i + begun reading
 ended bytes k reading i [] is some = omega (arith, some)
 ended bytes k reading i (first ∷ others) is some =
-    let keeps = Keeps-half_ended k reading i first others is in
-    let some : 1 ≤ endings_of i.half = rw is (omega (arith, some_ending first others)) in
-    omega (arith, keeps.charge, keeps.free, keeps.half, some)
+    let keeps = Keeps-escape_ended k reading i first others is in
+    let some : 1 ≤ endings_of i.escapes = rw is (omega (arith, some_ending first others)) in
+    omega (arith, keeps.charge, keeps.free, keeps.escapes, some)
 
-pub turns_within-half_ended : (bytes : ℕ) (k : Known) (reading : Reading) (i : PageInput) → 1 ≤ length i.half
-    → turns_within bytes (half_ended k reading i).input + begun (half_ended k reading i).reading + 1 ≤ turns_within bytes i + begun reading
-turns_within-half_ended bytes k reading i some = ended bytes k reading i i.half refl some
+pub turns_within-escape_ended : (bytes : ℕ) (k : Known) (reading : LineState) (i : PageInput) → 1 ≤ length i.escapes
+    → turns_within bytes (escape_ended k reading i).input + begun (escape_ended k reading i).reading + 1 ≤ turns_within bytes i + begun reading
+turns_within-escape_ended bytes k reading i some = ended bytes k reading i i.escapes refl some
 
 -- what a control line reads that ends first needs a turn
-pub begun-line_ends_first : (reading : Reading) → line_ends_first reading ≡ true → 1 ≤ begun reading
+pub begun-line_ends_first : (reading : LineState) → line_ends_first reading ≡ true → 1 ≤ begun reading
 begun-line_ends_first (Name breaks first) is = omega arith
 begun-line_ends_first (InArguments breaks request) is = omega arith
 begun-line_ends_first (Calling name) is = omega arith
@@ -113,8 +114,8 @@ begun-line_ends_first (Told aborts) is = absurd (cc)
 begun-line_ends_first Exiting is = absurd (cc)
 
 -- so where it ends with the input, a turn fewer is to come
-pub turns_within-line_ends : (bytes : ℕ) (k : Known) (reading : Reading) (i : PageInput) → line_ends_first reading ≡ true
-    → i.half ≡ [] → turns_within bytes (end_taking k reading i).input + begun (end_taking k reading i).reading + 1 ≤ turns_within bytes i + begun reading
+pub turns_within-line_ends : (bytes : ℕ) (k : Known) (reading : LineState) (i : PageInput) → line_ends_first reading ≡ true
+    → i.escapes ≡ [] → turns_within bytes (end_taking k reading i).input + begun (end_taking k reading i).reading + 1 ≤ turns_within bytes i + begun reading
 turns_within-line_ends bytes k reading i first none =
     let keeps = Keeps-line_ends k reading i first none in
-    omega (arith, keeps.charge, keeps.free, keeps.half, begun-line_ends_first reading first)
+    omega (arith, keeps.charge, keeps.free, keeps.escapes, begun-line_ends_first reading first)

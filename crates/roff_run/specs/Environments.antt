@@ -10,7 +10,7 @@ pub use Rattle.roff_run.specs.declared.environment_number.EnvironmentNumber.{Env
 pub use Rattle.roff_run.specs.declared.environment_number.EnvironmentNumber.TheVariants.{Zero, One, Two}
 use Rattle.roff_run.specs.declared.event.PageEvent.{PageEvent}
 use Rattle.roff_run.specs.declared.event.PageEvent.TheVariants.{Text, Space, Interrupt, Environment, Back}
-use Rattle.roff_run.specs.declared.reading.TextLine.{TextLine}
+use Rattle.roff_run.specs.declared.line_state.TextLine.{TextLine}
 
 -- all that happened to the page, the newest first
 abbrev pub PageHistory : Type 0

@@ -1,7 +1,7 @@
 -- A run that takes items, and the bytes that it takes in one step each.
 use Rattle.std.specs.Prelude.{◌≡◌, ℕ, ◌<◌, false, List, [], ◌∷◌, Some, None}
 use Rattle.roff_num.specs.declared.limits.Limits.{Limits}
-use Rattle.roff_escape.specs.Halves.{seen_stays}
+use Rattle.roff_escape.specs.OpenEscapes.{is_ended_by}
 use Rattle.roff_ahead.specs.Input.{Ahead, ByteAhead, item_taken, counting}
 use Rattle.roff_source.specs.Tape.{Gives, OneByte, front}
 use Rattle.roff_run.specs.Reading.Ends.{due}
@@ -19,12 +19,12 @@ pub record TakesItems (s : State) : Type 0 where
 abbrev pub BytesAheadAreTaken : Type 0
 BytesAheadAreTaken =
     (l : Limits) (s : State) (b : ℕ) (behind : List (Ahead PageEvent)) → TakesItems s → s.input.ahead ≡ ByteAhead b ∷ behind →
-    seen_stays s.input.half (Some b) ≡ false → s.input.charge < l.bytes →
+    is_ended_by s.input.escapes (Some b) ≡ false → s.input.charge < l.bytes →
     step l s ≡ made l s (byte_taken b (record s { input = item_taken (ByteAhead b) behind s.input }))
 
 -- and so is a byte of the source where nothing is ahead: it is counted
 abbrev pub BytesOfTheSourceAreTaken : Type 0
 BytesOfTheSourceAreTaken =
     (l : Limits) (s : State) (b : ℕ) → TakesItems s → s.input.ahead ≡ [] → front s.tape ≡ Gives (OneByte b) →
-    seen_stays s.input.half (Some b) ≡ false → s.input.charge < l.bytes →
+    is_ended_by s.input.escapes (Some b) ≡ false → s.input.charge < l.bytes →
     step l s ≡ made l s (byte_taken b (moved (record s { input = counting b s.input })))

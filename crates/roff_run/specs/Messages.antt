@@ -6,8 +6,8 @@ use Rattle.roff_run.specs.declared.message.Message.TheVariants.{LimitReached, Ba
 use Rattle.roff_run.specs.declared.message.CharacterName.{CharacterName}
 use Rattle.roff_run.specs.declared.message.CharacterName.TheVariants.{Nothing, One, Two}
 use Rattle.roff_source.specs.Bytes.{newline, backslash}
-use Rattle.roff_escape.specs.declared.half.Remark.{Remark}
-use Rattle.roff_escape.specs.declared.half.Remark.TheVariants.{LeftOut as EscapeLeftOut, UnknownCharacter as NoCharacter, BadNumber as NoNumber, BackwardMotion as MotionBack}
+use Rattle.roff_escape.specs.declared.open_escape.Remark.{Remark}
+use Rattle.roff_escape.specs.declared.open_escape.Remark.TheVariants.{LeftOut as EscapeLeftOut, UnknownCharacter as NoCharacter, BadNumber as NoNumber, BackwardMotion as MotionBack}
 
 -- the name of a character, as far as it was read, cut to two bytes
 abbrev pub character_name : Option (List ℕ) → CharacterName

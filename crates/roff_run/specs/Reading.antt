@@ -16,9 +16,9 @@ pub mod Found
 pub mod Ends
 use Rattle.std.specs.Prelude.{◌≡◌, ℕ, ◌||◌, Some, None, if◌then◌else◌, ◌==◌}
 use Rattle.roff_source.specs.Bytes.{tab, blank, is_dropped}
-use Rattle.roff_escape.specs.Halves.{byte_read, reading_ended}
-use Rattle.roff_run.specs.declared.reading.Reading.{Reading}
-use Rattle.roff_run.specs.declared.reading.Reading.TheVariants.{Control, Name, Arguments as InArguments, StringName, Skipping, Dropped, Told, Exiting, Calling}
+use Rattle.roff_escape.specs.OpenEscapes.{byte_read, reading_ended}
+use Rattle.roff_run.specs.declared.line_state.LineState.{LineState}
+use Rattle.roff_run.specs.declared.line_state.LineState.TheVariants.{Control, Name, Arguments as InArguments, StringName, Skipping, Dropped, Told, Exiting, Calling}
 use Rattle.roff_run.specs.Reading.Branches.{skipping_taking}
 use Rattle.roff_run.specs.Reading.ControlLines.{dropped_taking, ends_name, name_ended_taking, name_whole_taking}
 use Rattle.roff_run.specs.Reading.Items.{PageInput, Taking, going_on}
@@ -27,7 +27,7 @@ use Rattle.roff_run.specs.Reading.Units.{settling}
 use Rattle.roff_run.specs.Registers.{Known}
 
 -- a byte that isn't dropped
-abbrev pub kept_taking : Known → Reading → PageInput → ℕ → Taking
+abbrev pub kept_taking : Known → LineState → PageInput → ℕ → Taking
 kept_taking k (Control breaks) i b =
     if b == blank || b == tab then going_on i (Control breaks)
     else if ends_name b then dropped_taking i b
@@ -39,23 +39,23 @@ kept_taking k (Skipping opened closed behind) i b = skipping_taking i opened clo
 kept_taking k Dropped i b = dropped_taking i b
 kept_taking k (Told aborts) i b = going_on i (Told aborts)
 kept_taking k Exiting i b = going_on i Exiting
-kept_taking k reading i b = read_in k reading i (byte_read (place_in k reading) i.half b)
+kept_taking k reading i b = read_in k reading i (byte_read (place_in k reading) i.escapes b)
 
 -- what isn't a byte of the line: no quote follows the quote before it
-abbrev pub interrupted : Reading → PageInput → PageInput
+abbrev pub interrupted : LineState → PageInput → PageInput
 interrupted (InArguments breaks request) i = settling i
 interrupted (StringName appends) i = settling i
 interrupted (Calling name) i = settling i
 interrupted (_) i = i
 
 -- what a byte does where this is being read
-abbrev pub taking : Known → Reading → PageInput → ℕ → Taking
+abbrev pub taking : Known → LineState → PageInput → ℕ → Taking
 taking k reading i b = if is_dropped b then going_on (interrupted reading i) reading else kept_taking k reading i b
 
 -- a byte changes nothing where this is read
-abbrev pub Passes : Reading → ℕ → Type 0
+abbrev pub Passes : LineState → ℕ → Type 0
 Passes reading b = (k : Known) (i : PageInput) → taking k reading i b ≡ going_on i reading
 
 -- what is half read ends before what stays, or at the input's end
-abbrev pub half_ended : Known → Reading → PageInput → Taking
-half_ended k reading i = read_in k reading i (reading_ended (place_in k reading) i.half)
+abbrev pub escape_ended : Known → LineState → PageInput → Taking
+escape_ended k reading i = read_in k reading i (reading_ended (place_in k reading) i.escapes)

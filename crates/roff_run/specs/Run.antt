@@ -9,18 +9,18 @@ use Rattle.roff_num.specs.LimitValues.{value_of}
 use Rattle.roff_num.specs.declared.limit.Limit.{Limit}
 use Rattle.roff_num.specs.declared.limit.Limit.TheVariants.{Bytes}
 use Rattle.roff_num.specs.declared.limits.Limits.{Limits}
-use Rattle.roff_escape.specs.Halves.{decides_now, newline_stays, seen_stays}
+use Rattle.roff_escape.specs.OpenEscapes.{decides_now, newline_stays, is_ended_by}
 use Rattle.roff_ahead.specs.Input.{Ahead, ByteAhead, FreeAhead, EndAhead, DoAhead, initial_input, cost, item_taken, counting, leaving, ReturnAhead}
 use Rattle.roff_ahead.specs.Input.Calls.{arguments_live}
 use Rattle.roff_source.specs.Tape.{Tape, Answer, OneByte, OneNote, Ended, Failed, Stopped, Gives, Ends, front, behind_front}
 use Rattle.roff_scan.specs.Unread.{Unread}
 use Rattle.roff_ahead.specs.Shown.{Sighted, SeesByte, SeesNothing, SeesNote, SeesEnding, seen_ahead}
 use Rattle.roff_arguments.specs.Arguments.{no_arguments}
-use Rattle.roff_escape.specs.Half.{Half}
+use Rattle.roff_escape.specs.OpenEscape.{OpenEscape}
 use Rattle.roff_run.specs.Messages.{message_line, message_lines, told_line}
 use Rattle.roff_run.specs.Environments.{environments, interrupted_line}
 use Rattle.roff_run.specs.Output.{PageHistory, text_of, written}
-use Rattle.roff_run.specs.Reading.{taking, half_ended, interrupted}
+use Rattle.roff_run.specs.Reading.{taking, escape_ended, interrupted}
 use Rattle.roff_run.specs.Reading.Calls.{behind_return}
 use Rattle.roff_run.specs.Reading.Ends.{end_taking, due, line_ends_first}
 use Rattle.roff_run.specs.Reading.Items.{PageInput, Taking}
@@ -29,10 +29,10 @@ use Rattle.roff_run.specs.Registers.{AllRegisters, Known, no_registers, changed_
 use Rattle.roff_run.specs.Requests.{PageEvent, Text, Effect, first_entries, requests}
 use Rattle.roff_run.specs.declared.message.Message.{Message}
 use Rattle.roff_run.specs.declared.message.Message.TheVariants.{LimitReached, ReadFailed}
-use Rattle.roff_run.specs.declared.reading.Due.{Due}
-use Rattle.roff_run.specs.declared.reading.Due.TheVariants.{Leaves, Tells as TellsText}
-use Rattle.roff_run.specs.declared.reading.Reading.{Reading}
-use Rattle.roff_run.specs.declared.reading.Reading.TheVariants.{LineStart}
+use Rattle.roff_run.specs.declared.line_state.Due.{Due}
+use Rattle.roff_run.specs.declared.line_state.Due.TheVariants.{Leaves, Tells as TellsText}
+use Rattle.roff_run.specs.declared.line_state.LineState.{LineState}
+use Rattle.roff_run.specs.declared.line_state.LineState.TheVariants.{LineStart}
 use Rattle.roff_run.specs.declared.status.Status.{Status}
 use Rattle.roff_run.specs.declared.status.Status.TheVariants.{Aborted, Done, Device, Limit as Limited}
 use Rattle.roff_run.specs.Run.Counts.{passes_bytes, first_passed, refusal, counts_in}
@@ -45,7 +45,7 @@ pub record State : Type 0 where
   -- what stands ahead of them, what is half read, and what was counted
   pub input : PageInput
   -- what is being read
-  pub reading : Reading
+  pub reading : LineState
   -- the number registers
   pub registers : AllRegisters
   -- the events that the last item means and that are still to be performed
@@ -150,8 +150,8 @@ abbrev pub byte_taken : ℕ → State → State
 byte_taken b s = taken_as (taking (known s) s.reading s.input b) s
 
 -- what is half read ends before what stays
-abbrev pub half_ends : State → State
-half_ends s = taken_as (half_ended (known s) s.reading s.input) s
+abbrev pub escape_ends : State → State
+escape_ends s = taken_as (escape_ended (known s) s.reading s.input) s
 
 -- the end of the input is met: an unfinished line ends, and then the pending line is placed
 abbrev pub end_met : State → State
@@ -200,15 +200,15 @@ taking_byte l b s =
     else made l s (byte_taken b (moved (record s { input = counting b s.input })))
 
 -- the end of the input: what is half read ends first, one after another
-abbrev pub ending_input : Limits → List Half → State → State
+abbrev pub ending_input : Limits → List OpenEscape → State → State
 ending_input l [] s = made l s (input_ended (line_ends_first s.reading) s)
-ending_input l (first ∷ others) s = made l s (half_ends s)
+ending_input l (first ∷ others) s = made l s (escape_ends s)
 
 -- the source was asked, with nothing ahead of it, and answered this. At the limit a byte is looked at and not taken.
 abbrev pub answered : Limits → Answer → State → State
 answered l (Gives (OneByte b)) s = taking_byte l b s
 answered l (Gives (OneNote message)) s = moved (record s { messages = s.messages ++ message })
-answered l (Ends Ended) s = ending_input l s.input.half s
+answered l (Ends Ended) s = ending_input l s.input.escapes s
 answered l (Ends Failed) s = ending_with Device ReadFailed s
 answered l (Ends (Stopped limit)) s = ending_as (Limited limit) s
 
@@ -220,7 +220,7 @@ in_front_taken l (item ∷ behind) s = taking_ahead l item behind s
 -- what is half read waits, and this is seen, a byte or nothing that can be read: it stays, and ends what is half read,
 -- or the item in front is taken
 abbrev pub front_seen : Limits → Option ℕ → State → State
-front_seen l seen s = if seen_stays s.input.half seen then made l s (half_ends s) else in_front_taken l s.input.ahead s
+front_seen l seen s = if is_ended_by s.input.escapes seen then made l s (escape_ends s) else in_front_taken l s.input.ahead s
 
 -- it waits, and the source is seen behind ends of texts alone, and answers this
 abbrev pub awaited_of_source : Limits → Answer → State → State
@@ -240,11 +240,11 @@ awaited l None s = awaited_of_source l (front s.tape) s
 
 -- what is half read waits: a condition that is read decides, and else something is seen
 abbrev pub waiting : Limits → State → State
-waiting l s = if decides_now s.input.half then made l s (half_ends s) else awaited l (seen_ahead s.input.ahead) s
+waiting l s = if decides_now s.input.escapes then made l s (escape_ends s) else awaited l (seen_ahead s.input.ahead) s
 
 -- one item of the input, or how it ends
 abbrev pub item_read : Limits → State → State
-item_read l s = if newline_stays s.input.half then waiting l s else in_front_taken l s.input.ahead s
+item_read l s = if newline_stays s.input.escapes then waiting l s else in_front_taken l s.input.ahead s
 
 -- what is due comes first: a message is told, or ends the run; or the input is left, and its end is met
 abbrev pub reading_by : Limits → Option Due → State → State

@@ -7,15 +7,15 @@ use Rattle.roff_run.specs.Reading.{taking}
 use Rattle.roff_run.specs.Reading.Items.{PageInput, meaning_events}
 use Rattle.roff_run.specs.Registers.{Known}
 use Rattle.roff_run.specs.Requests.{PageEvent, Text}
-use Rattle.roff_run.specs.declared.reading.Reading.{Reading}
+use Rattle.roff_run.specs.declared.line_state.LineState.{LineState}
 
 -- the events of such a byte: a blank ends a word, and a gap of it follows
 abbrev pub byte_events : ℕ → List PageEvent
 byte_events b = if b == 32 then Text WordEnd ∷ Text (Gap 1) ∷ [] else Text (Print (Printed b)) ∷ []
 
 -- a byte means these where this is read and nothing is half read, and what is read stays
-abbrev pub Prints : Reading → ℕ → Type 0
-Prints reading b = (k : Known) (i : PageInput) → i.half ≡ [] → taking k reading i b ≡ meaning_events i reading (byte_events b)
+abbrev pub Prints : LineState → ℕ → Type 0
+Prints reading b = (k : Known) (i : PageInput) → i.escapes ≡ [] → taking k reading i b ≡ meaning_events i reading (byte_events b)
 
 -- a page's history, and such a byte behind it
 abbrev pub byte_told : ℕ → PageHistory → PageHistory

@@ -1,13 +1,13 @@
 -- How many turns of a run are still to come at the most: each takes something, or ends what is half read.
 use Rattle.std.specs.Prelude.{ℕ, ◌+◌, ◌-◌, ◌*◌, List, [], ◌∷◌, None}
-use Rattle.roff_escape.specs.Half.{Half, Condition}
+use Rattle.roff_escape.specs.OpenEscape.{OpenEscape, Condition}
 use Rattle.roff_ahead.specs.Input.{Ahead, ByteAhead, FreeAhead, EndAhead, ReturnAhead, DoAhead}
 use Rattle.roff_scan.specs.Unread.{Unread}
-use Rattle.roff_escape.specs.declared.half.ConditionPart.TheVariants.{Decided}
+use Rattle.roff_escape.specs.declared.open_escape.ConditionPart.TheVariants.{Decided}
 use Rattle.roff_run.specs.Reading.Items.{PageInput}
 use Rattle.roff_run.specs.Requests.{PageEvent}
-use Rattle.roff_run.specs.declared.reading.Reading.{Reading}
-use Rattle.roff_run.specs.declared.reading.Reading.TheVariants.{Name, Arguments as InArguments, Telling, Told, Calling, Defining}
+use Rattle.roff_run.specs.declared.line_state.LineState.{LineState}
+use Rattle.roff_run.specs.declared.line_state.LineState.TheVariants.{Name, Arguments as InArguments, Telling, Told, Calling, Defining}
 
 -- the bytes ahead that cost nothing
 abbrev pub free_ahead : List (Ahead PageEvent) → ℕ
@@ -20,7 +20,7 @@ free_ahead (DoAhead event ∷ items) = free_ahead items
 
 -- how many turns it takes to end these at the most: a condition is read before it decides, and a byte behind it may begin
 -- a reading
-abbrev pub endings_of : List Half → ℕ
+abbrev pub endings_of : List OpenEscape → ℕ
 endings_of [] = 0
 endings_of (Condition (Decided decision None) text ∷ rest) = endings_of rest + 1
 endings_of (Condition part text ∷ rest) = endings_of rest + 2
@@ -28,7 +28,7 @@ endings_of (half ∷ rest) = endings_of rest + 1
 
 -- What is read may need turns of its own. A control line that ends where the input does takes one, and behind it a message
 -- is told, or a definition begins; what ends in a definition may end that, and begin a line of arguments or a condition.
-abbrev pub begun : Reading → ℕ
+abbrev pub begun : LineState → ℕ
 begun (Name breaks first) = 4
 begun (InArguments breaks request) = 4
 begun (Calling name) = 1
@@ -40,7 +40,7 @@ begun (_) = 0
 -- what falls with each turn beside that, within so many bytes: each item is paid for or free, and may begin two endings;
 -- each ending takes a turn, and may begin a line whose end takes another one
 abbrev pub turns_within : ℕ → PageInput → ℕ
-turns_within bytes i = 5 * (bytes - i.charge) + 5 * free_ahead i.ahead + 2 * endings_of i.half
+turns_within bytes i = 5 * (bytes - i.charge) + 5 * free_ahead i.ahead + 2 * endings_of i.escapes
 
 -- the same of the unread input, within its limit
 abbrev pub turns_to_come : Unread PageEvent → ℕ

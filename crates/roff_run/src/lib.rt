@@ -5,17 +5,17 @@
 mod definition;
 mod environment_number;
 mod event;
+mod line_state;
 mod message;
 mod query;
-mod reading;
 mod request;
 mod status;
 
 pub use definition::{DefinitionLine, EndMark, matched_behind};
 pub use environment_number::EnvironmentNumber;
 pub use event::{LineEvents, PageEvent};
+pub use line_state::{Due, LineState, TextByte, TextLine, TextStep, blanks_in_front, ends_name};
 pub use message::{CharacterName, Message, MessageLine};
 pub use query::Query;
-pub use reading::{Due, Reading, TextByte, TextLine, TextStep, blanks_in_front, ends_name};
 pub use request::{Called, LineReading, LinesFor, Request};
 pub use status::Status;

@@ -4,9 +4,9 @@ ghost use Rattle.std.specs.Prelude.{◌≡◌, slice_get};
 ghost use Rattle.roff_run.specs.RequestRows.{coded_row};
 ghost use Rattle.roff_run.specs.Requests.{requests};
 
-use roff_num::ShortName;
 use LineReading::{ByArguments, ByCondition, ByElse, ByLastLine, ByLines, ByMessage, ByString};
 use Request::{LeftOut, WithoutEffect};
+use roff_num::ShortName;
 
 /// A request.
 #[derive(Clone, Copy, Debug, PartialEq, Eq)]

@@ -5,8 +5,8 @@ use Rattle.std.proofs.lemmas.Bool.Decides.{nat_tests}
 use Rattle.roff_num.specs.declared.limit.Limit.{Limit}
 use Rattle.roff_num.specs.declared.limit.Limit.TheVariants.{Stack, Depth, Store, Names}
 use Rattle.roff_arguments.specs.Arguments.{Arguments, held}
-use Rattle.roff_escape.specs.Half.{Half, texts_held}
-use Rattle.roff_ahead.specs.Input.{Input, EndAhead, pushed, depth, results, pushing, freeing, leaving, with_arguments, with_half}
+use Rattle.roff_escape.specs.OpenEscape.{OpenEscape, texts_held}
+use Rattle.roff_ahead.specs.Input.{Input, EndAhead, pushed, depth, results, pushing, freeing, leaving, with_arguments, with_escapes}
 use Rattle.roff_ahead.specs.Input.Names.{names_added, stored}
 use Rattle.roff_scan.specs.Unread.{Unread, IsWithin, changing, unless_passed}
 use Rattle.roff_scan.proofs.CallsOver.{kept_below-few}
@@ -251,10 +251,10 @@ IsWithin-leaving u within = record {
 }
 
 -- where no more is held of texts between delimiters
-pub IsWithin-with_half :
-    {E : Type 0} (u : Unread E) (half : List Half) → IsWithin u → texts_held half ≤ texts_held u.input.half
-    → IsWithin (record u { input = with_half half u.input })
-IsWithin-with_half u half within fewer =
+pub IsWithin-with_escapes :
+    {E : Type 0} (u : Unread E) (half : List OpenEscape) → IsWithin u → texts_held half ≤ texts_held u.input.escapes
+    → IsWithin (record u { input = with_escapes half u.input })
+IsWithin-with_escapes u half within fewer =
     record {
       charge = within.charge;
       newlines = within.newlines;

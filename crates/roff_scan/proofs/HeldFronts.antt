@@ -11,7 +11,7 @@ use Rattle.roff_source.specs.Tape.{Tape}
 use Rattle.roff_scan.specs.Unread.{Unread, IsWithin}
 use Rattle.roff_scan.specs.Unread.Calls.{HoldsFewer, IsFront, NoNewline, OfSource, OfTexts, PassesFront, front_bytes, next_bytes}
 use Rattle.roff_scan.specs.Unread.Kept.{NoneBegun}
-use Rattle.roff_escape.specs.declared.half.CopyUnit.TheVariants.{Byte}
+use Rattle.roff_escape.specs.declared.open_escape.CopyUnit.TheVariants.{Byte}
 use Rattle.roff_scan.proofs.Fronts.{passes_none}
 use Rattle.roff_arguments.proofs.KeptArguments.{held-only_kept, held-with_argument_byte}
 use Rattle.roff_scan.proofs.LineCalls.{NoneBegun-with_unit}

@@ -13,8 +13,8 @@ use Rattle.roff_scan.specs.Unread.Kept.{NoneBegun}
 use Rattle.roff_arguments.specs.declared.arguments.ArgumentList.{ArgumentList}
 use Rattle.roff_arguments.specs.declared.arguments.Place.{Place}
 use Rattle.roff_arguments.specs.declared.arguments.Place.TheVariants.{Between, InPlain, InQuotes, BehindQuote}
-use Rattle.roff_escape.specs.declared.half.CopyUnit.{CopyUnit}
-use Rattle.roff_escape.specs.declared.half.CopyUnit.TheVariants.{Byte, Kept}
+use Rattle.roff_escape.specs.declared.open_escape.CopyUnit.{CopyUnit}
+use Rattle.roff_escape.specs.declared.open_escape.CopyUnit.TheVariants.{Byte, Kept}
 use Rattle.roff_scan.proofs.Changing.{OthersWithin, put_past_stack, put_past_depth, put_within, IsWithin-put}
 use Rattle.roff_ahead.proofs.Counts.{bytes_ahead-bytes, ends_ahead-bytes, returns_ahead-bytes}
 use Rattle.roff_arguments.proofs.KeptArguments.{held-finished, held-only_kept, total_length-reverse}

@@ -7,7 +7,7 @@ use Rattle.std.proofs.Math.Seq.{take-append_seam}
 use Rattle.std.proofs.lemmas.List.{nil_from_length, take_min}
 use Rattle.roff_source.specs.Bytes.{newline, is_passed}
 use Rattle.roff_ahead.specs.Input.{Ahead, Input, is_none_ahead, counting, lines_taken}
-use Rattle.roff_escape.specs.Half.{Half}
+use Rattle.roff_escape.specs.OpenEscape.{OpenEscape}
 use Rattle.roff_source.specs.Tape.{Tape, OneByte, Took}
 use Rattle.roff_scan.specs.Unread.{Unread, IsWithin, is_bare}
 use Rattle.roff_scan.specs.Unread.Calls.{IsBare, PassesOver}
@@ -69,7 +69,7 @@ some_bytes (b ∷ front) last none = cc
 
 module _ {E : Type 0} where
   -- what is bare, part by part
-  bare_parts : (ahead : List (Ahead E)) (looked : Option ℕ) (half : List Half) → (is_none_ahead ahead && is_none looked && (length half == 0)) ≡ true
+  bare_parts : (ahead : List (Ahead E)) (looked : Option ℕ) (half : List OpenEscape) → (is_none_ahead ahead && is_none looked && (length half == 0)) ≡ true
       → (ahead ≡ []) × ((looked ≡ None) × (half ≡ []))
   bare_parts [] None half bare = (refl, (refl, nil_from_length half (none_at_all (length half) bare)))
   bare_parts [] (Some b) half bare = cc
@@ -77,8 +77,8 @@ module _ {E : Type 0} where
 
   IsBare-is_bare : (u : Unread E) → is_bare u ≡ true → IsBare u
   IsBare-is_bare u bare =
-      let parts = bare_parts u.input.ahead u.looked u.input.half bare in
-      record { ahead = parts.0; half = parts.1.1; looked = parts.1.0 }
+      let parts = bare_parts u.input.ahead u.looked u.input.escapes bare in
+      record { ahead = parts.0; escapes = parts.1.1; looked = parts.1.0 }
 
   module _ (old new : Tape → Type 0) (ready : List ℕ) (within_block : Bool) (bytes front : List ℕ) (last : ℕ) where
     -- the input behind the bytes that were passed over: those in front were counted, and then the last

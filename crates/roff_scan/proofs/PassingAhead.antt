@@ -42,7 +42,7 @@ module _ {E : Type 0} where
         }
 
     -- and they were passed over
-    pub passes_ahead : (before : Unread E) → u ≡ before → u.input.half ≡ [] → (within_block : Bool)
+    pub passes_ahead : (before : Unread E) → u ≡ before → u.input.escapes ≡ [] → (within_block : Bool)
         → AllByRecursion (λ b. is_passed within_block b ≡ true) bytes
         → PassesAhead before (record u { input = behind_bytes (length bytes) behind u.input }) within_block
     passes_ahead before is none_half within_block plain =

@@ -1,7 +1,7 @@
 -- Bytes of a pushed text that a condition takes at once: what is left ahead and half read behind them.
 use Rattle.std.proofs.Common.{◌≡◌, ℕ, ◌+◌, ◌≤◌, List, ◌++◌, length, map, sym, ap, subst, ◌∙◌, arith}
 use Rattle.roff_escape.specs.ConditionFronts.{HalvesTaken}
-use Rattle.roff_escape.specs.Half.{Half}
+use Rattle.roff_escape.specs.OpenEscape.{OpenEscape}
 use Rattle.roff_ahead.specs.Input.{Ahead, ByteAhead, Input, bytes_ahead, ends_ahead}
 use Rattle.roff_source.specs.Tape.{Tape}
 use Rattle.roff_scan.specs.Unread.{Unread, IsWithin}
@@ -12,11 +12,11 @@ use Rattle.roff_ahead.proofs.GivenFronts.{HalvesTaken-held}
 
 module _ {E : Type 0} where
   -- the input behind bytes that were given, where this is half read
-  abbrev pub behind_given : ℕ → List (Ahead E) → List Half → Unread E → Unread E
-  behind_given count behind half u = record u { input = record (behind_bytes count behind u.input) { half = half } }
+  abbrev pub behind_given : ℕ → List (Ahead E) → List OpenEscape → Unread E → Unread E
+  behind_given count behind half u = record u { input = record (behind_bytes count behind u.input) { escapes = half } }
 
-  module _ (u : Unread E) (half : List Half) (bytes : List ℕ) (behind : List (Ahead E)) (front : u.input.ahead ≡ map ByteAhead bytes ++ behind)
-      (takes : HalvesTaken u.input.half bytes half) where
+  module _ (u : Unread E) (half : List OpenEscape) (bytes : List ℕ) (behind : List (Ahead E)) (front : u.input.ahead ≡ map ByteAhead bytes ++ behind)
+      (takes : HalvesTaken u.input.escapes bytes half) where
     -- no count is above its limit behind as many as there are, and behind so many
     given-within : u.input.charge + length bytes ≤ u.limits.bytes → IsWithin u → IsWithin (behind_given (length bytes) behind half u)
     given-within allowed within =
@@ -25,7 +25,7 @@ module _ {E : Type 0} where
         record {
           charge = allowed;
           newlines = omega (arith, within.newlines);
-          pushed = omega (arith, fewer, HalvesTaken-held u.input.half half bytes takes, within.pushed);
+          pushed = omega (arith, fewer, HalvesTaken-held u.input.escapes half bytes takes, within.pushed);
           depth = omega (arith, ends, within.depth);
           results = within.results;
           stored = within.stored;
@@ -47,7 +47,7 @@ module _ {E : Type 0} where
       in_front = took.in_front;
       stays = record { before = λ t may. may; after = λ t may. may };
       input =
-          ap (λ (u : Unread E). record u { input = record u.input { half = before.input.half } }) took.input
+          ap (λ (u : Unread E). record u { input = record u.input { escapes = before.input.escapes } }) took.input
           ∙ ap (λ (i : Input E). record before { input = i }) (sym (bytes_taken-is took.bytes took.behind before.input took.in_front));
       within = took.within;
     });

@@ -9,15 +9,15 @@ use Rattle.roff_num.specs.declared.limit.Limit.{Limit}
 use Rattle.roff_num.specs.declared.limit.Limit.TheVariants.{Bytes, Stack, Depth, Diversions, Conditions, Store, Names}
 use Rattle.roff_num.specs.declared.limits.Limits.{Limits}
 use Rattle.roff_source.specs.Bytes.{is_passed}
-use Rattle.roff_escape.specs.Halves.{Reads, reading_ended}
-use Rattle.roff_ahead.specs.Input.{with_half, Input, initial_input, is_none_ahead, Ahead, cost, counting, item_taken, pushed, depth, results}
+use Rattle.roff_escape.specs.OpenEscapes.{Reads, reading_ended}
+use Rattle.roff_ahead.specs.Input.{with_escapes, Input, initial_input, is_none_ahead, Ahead, cost, counting, item_taken, pushed, depth, results}
 use Rattle.roff_ahead.specs.Input.Names.{stored, names_added}
 use Rattle.roff_store.specs.Texts.{Texts}
 use Rattle.roff_source.specs.Tape.{Tape, Answer, Answers, Gives, Ends, OneByte, OneNote, items_then}
-use Rattle.roff_escape.specs.declared.half.Decision.TheVariants.{Is}
-use Rattle.roff_escape.specs.declared.half.Read.{Read}
-use Rattle.roff_escape.specs.declared.half.Read.TheVariants.{Decides}
-use Rattle.roff_escape.specs.declared.half.Surroundings.{Surroundings}
+use Rattle.roff_escape.specs.declared.open_escape.Decision.TheVariants.{Is}
+use Rattle.roff_escape.specs.declared.open_escape.Found.{Found}
+use Rattle.roff_escape.specs.declared.open_escape.Found.TheVariants.{Decides}
+use Rattle.roff_escape.specs.declared.open_escape.Surroundings.{Surroundings}
 use Rattle.roff_ahead.specs.Shown.{no_texts, Shown, shown_ahead, Sighted, seen_ahead, ShowsByte, ShowsNote, ShowsEnding, ShowsRefusal, SeesByte, SeesNote, SeesEnding}
 
 -- the unread input
@@ -51,7 +51,7 @@ initial_unread limits first_names = record { input = initial_input first_names; 
 
 -- whether the source's next byte is the next one: nothing is ahead, nothing half read, and nothing looked at
 abbrev pub is_bare : {E : Type 0} → Unread E → Bool
-is_bare u = is_none_ahead u.input.ahead && is_none u.looked && (length u.input.half == 0)
+is_bare u = is_none_ahead u.input.ahead && is_none u.looked && (length u.input.escapes == 0)
 
 -- The bytes that are passed over at once where these stand ready: those in front that are passed, and no more than the
 -- limit on bytes allows.
@@ -149,11 +149,11 @@ abbrev pub changing : {E : Type 0} → Input E → Unread E → Result (Unit {0}
 changing i u = unless_passed (input_refusal u.limits i) i u
 
 -- what a reading gives, and the input with what is half read then
-abbrev pub reading : {E : Type 0} → Reads → Unread E → Read × Unread E
-reading r u = (r.0, record u { input = with_half r.1 u.input })
+abbrev pub reading : {E : Type 0} → Reads → Unread E → Found × Unread E
+reading r u = (r.0, record u { input = with_escapes r.1 u.input })
 
 -- A condition that is read and asks nothing more ended, with no byte freed: whether it is so. Where there was none, nothing
 -- happened.
 abbrev pub EndsDecided : {E : Type 0} → Option Bool → Unread E → Unread E → Type 0
 EndsDecided None old new = new ≡ old
-EndsDecided (Some so) old new = (base : Surroundings) → (Decides (Is so) None, new) ≡ reading (reading_ended base old.input.half) old
+EndsDecided (Some so) old new = (base : Surroundings) → (Decides (Is so) None, new) ≡ reading (reading_ended base old.input.escapes) old

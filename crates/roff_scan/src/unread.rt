@@ -6,17 +6,16 @@ ghost use Rattle.roff_ahead.specs.Input.{is_none_ahead, pushed, depth};
 mod arguments;
 mod calls;
 mod fronts;
-mod halves;
 mod names;
+mod open_escapes;
 mod pushed;
 mod results;
 mod skipped;
 mod taken;
 
-use roff_arguments::ArgumentTexts;
-use roff_arguments::Calls;
 use roff_ahead::Frames;
-use roff_escape::Halves;
+use roff_arguments::{ArgumentTexts, Calls};
+use roff_escape::OpenEscapes;
 use roff_num::Limits;
 use std::alloc::{AllocError, Global};
 use std::marker::Model;
@@ -30,7 +29,7 @@ pub struct Unread<E> {
     frames: Frames<E>,
     arguments: ArgumentTexts,
     calls: Calls,
-    half: Halves,
+    escapes: OpenEscapes,
     /// The results of conditions that are kept for their other branch, the newest at the back, each
     /// with how many calls weren't over then.
     kept: Vec<(bool, u32)>,
@@ -68,7 +67,7 @@ impl<E: Copy> Unread<E> {
             frames: Frames::new(alloc, &limits, first_names)?,
             arguments: ArgumentTexts::new(alloc, limits.stack)?,
             calls: Calls::new(alloc, limits.stack, limits.depth)?,
-            half: Halves::new(alloc, limits.stack)?,
+            escapes: OpenEscapes::new(alloc, limits.stack)?,
             kept: Vec::with_capacity(alloc, limits.conditions as usize)?,
             looked: None,
             charge: 0,
@@ -108,7 +107,7 @@ impl<E: Copy> Unread<E> {
     {
         self.frames.byte_count()
             + self.arguments.held()
-            + self.half.held()
+            + self.escapes.held()
             + self.calls.byte_count()
     }
 

@@ -4,5 +4,7 @@
 mod bytes;
 mod source;
 
-pub use bytes::{at_most, is_argument_byte, is_dropped, is_silent, newlines_among, passed_len, text_in_front};
+pub use bytes::{
+    at_most, is_argument_byte, is_dropped, is_silent, newlines_among, passed_len, text_in_front,
+};
 pub use source::{ByteSource, Note, ReadSource, Taken};

@@ -4,7 +4,7 @@ use Rattle.std.specs.List.{AllByRecursion}
 use Rattle.roff_source.specs.Bytes.{is_passed}
 use Rattle.roff_escape.specs.ConditionFronts.{HalvesTaken, TakesOn}
 use Rattle.roff_ahead.specs.Frames.Kept.{Framed, IsSound, kept_by}
-use Rattle.roff_escape.specs.HalfTexts.{KeptHalves}
+use Rattle.roff_escape.specs.EscapeTexts.{KeptEscapes}
 use Rattle.roff_ahead.specs.Input.{Ahead, ByteAhead}
 use Rattle.roff_ahead.specs.Shown.{Shown, shown_ahead}
 use Rattle.roff_ahead.specs.declared.frames.Frames.TheInside.{Inside}
@@ -36,25 +36,25 @@ pub record PutsWithin {E : Type 0} (old new : Framed E) (text : List ℕ) (behin
   pub kept : is_put ≡ false → new ≡ old
 
 -- a byte of a pushed text was in front, and was given to what is half read, which took it
-pub record GivesOne {E : Type 0} (old new : Framed E) (before after : KeptHalves) : Type 0 where
+pub record GivesOne {E : Type 0} (old new : Framed E) (before after : KeptEscapes) : Type 0 where
   pub byte : ℕ
   pub behind : List (Ahead E)
   pub in_front : old.ahead ≡ ByteAhead byte ∷ behind
   pub taken : new ≡ record old { ahead = behind }
-  pub takes : TakesOn before.half byte after.half
+  pub takes : TakesOn before.escapes byte after.escapes
 
 -- the same, or none was given and nothing changed
-pub record GivesByte {E : Type 0} (old new : Framed E) (before after : KeptHalves) (is_given : Bool) : Type 0 where
+pub record GivesByte {E : Type 0} (old new : Framed E) (before after : KeptEscapes) (is_given : Bool) : Type 0 where
   pub given : is_given ≡ true → GivesOne old new before after
   pub kept : is_given ≡ false → (new ≡ old) × (after ≡ before)
   pub room : after.room ≡ before.room
 
 -- so many bytes in front were given so, one after another
-pub record GivesFront {E : Type 0} (old new : Framed E) (before after : KeptHalves) (count : ℕ) : Type 0 where
+pub record GivesFront {E : Type 0} (old new : Framed E) (before after : KeptEscapes) (count : ℕ) : Type 0 where
   pub bytes : List ℕ
   pub behind : List (Ahead E)
   pub in_front : old.ahead ≡ map ByteAhead bytes ++ behind
   pub length_is : length bytes ≡ count
   pub taken : new ≡ record old { ahead = behind }
-  pub takes : HalvesTaken before.half bytes after.half
+  pub takes : HalvesTaken before.escapes bytes after.escapes
   pub room : after.room ≡ before.room

@@ -5,25 +5,25 @@ ghost use Rattle.roff_ahead.specs.Input.{first, DoAhead, bytes_ahead, leading};
 ghost use Rattle.roff_ahead.specs.declared.frames.Frame.TheVariants.{Body};
 
 use super::{Frame, Frames};
-use roff_escape::Halves;
 use crate::slots::{Front, Slots};
+use roff_escape::OpenEscapes;
 use roff_store::LeaseId;
 
 impl<E: Copy> Frames<E> {
     ghost use Rattle.roff_ahead.specs.Frames.Calls.{GivesByte, GivesFront};
-    ghost use Rattle.roff_escape.specs.Half.{texts_held};
+    ghost use Rattle.roff_escape.specs.OpenEscape.{texts_held};
 
     /// Gives bytes of a pushed text in front to what is half read, one after another, as long as
     /// it takes them where a condition is read, and so many at the most. Returns how many.
     #[inline(always)]
-    pub fn give_front(&mut self, half: &mut Halves, most: usize) -> usize
-        requires { bytes_ahead self.old.ahead + texts_held half.old.half ≤ half.old.room }
-        ensures gives { GivesFront self.old self.new half.old half.new result }
+    pub fn give_front(&mut self, escapes: &mut OpenEscapes, most: usize) -> usize
+        requires { bytes_ahead self.old.ahead + texts_held escapes.old.escapes ≤ escapes.old.room }
+        ensures gives { GivesFront self.old self.new escapes.old escapes.new result }
         ensures few { result ≤ most }
     {
         let mut count = 0;
         while count < most {
-            if !self.give_byte(half) {
+            if !self.give_byte(escapes) {
                 return count;
             }
             count += 1;
@@ -33,13 +33,13 @@ impl<E: Copy> Frames<E> {
 
     /// The same of one byte. Returns whether it was given.
     #[inline(always)]
-    fn give_byte(&mut self, half: &mut Halves) -> bool
-        requires { bytes_ahead self.old.ahead + texts_held half.old.half ≤ half.old.room }
-        ensures { GivesByte self.old self.new half.old half.new result }
+    fn give_byte(&mut self, escapes: &mut OpenEscapes) -> bool
+        requires { bytes_ahead self.old.ahead + texts_held escapes.old.escapes ≤ escapes.old.room }
+        ensures { GivesByte self.old self.new escapes.old escapes.new result }
     {
         match self.slots.front() {
             Some(Front::Byte(byte)) => {
-                if !half.take_on(byte) {
+                if !escapes.take_on(byte) {
                     return false;
                 }
                 let _ = self.slots.take();

@@ -5,8 +5,8 @@ ghost use Rattle.roff_ahead.specs.Input.{ByteAhead, EndAhead, ReturnAhead};
 ghost use Rattle.roff_source.specs.Bytes.{is_passed, newline};
 
 use super::{Frame, Frames};
-use roff_source::passed_len;
 use crate::slots::Front;
+use roff_source::passed_len;
 
 impl<E: Copy> Frames<E> {
     ghost use Rattle.roff_ahead.specs.Frames.Calls.{PassesFront};

@@ -5,9 +5,9 @@ ghost use Rattle.roff_ahead.specs.Input.{is_none_ahead, front_cost, ByteAhead};
 ghost use Rattle.roff_escape.specs.Waiting.{WaitsFor};
 
 use super::{Frame, Frames};
-use roff_escape::Halves;
-use crate::slots::Front;
 use crate::item::{Item, Sight};
+use crate::slots::Front;
+use roff_escape::OpenEscapes;
 
 impl<E: Copy> Frames<E> {
     ghost use Rattle.roff_ahead.specs.Shown.{shown, sighted, seen_ahead};
@@ -122,15 +122,15 @@ impl<E: Copy> Frames<E> {
 
     /// The same, if what is half read waits for the byte.
     #[inline(always)]
-    pub fn take_waiting(&mut self, half: &Halves) -> Option<u8>
+    pub fn take_waiting(&mut self, escapes: &OpenEscapes) -> Option<u8>
         ensures taken { IfSome result (λ b.
             self.old ≡ record self.new { ahead = ByteAhead b ∷ self.new.ahead }) }
-        ensures waits { IfSome result (λ b. WaitsFor half.now.half b) }
+        ensures waits { IfSome result (λ b. WaitsFor escapes.now.escapes b) }
         ensures kept { result ≡ None → self.new ≡ self.old }
     {
         match self.slots.front() {
             Some(Front::Byte(byte)) => {
-                if !half.waits_for(byte) {
+                if !escapes.waits_for(byte) {
                     return None;
                 }
                 self.slots.take();
@@ -141,7 +141,7 @@ impl<E: Copy> Frames<E> {
                     return None;
                 }
                 let byte = self.texts.lease_front(lease)[0];
-                if !half.waits_for(byte) {
+                if !escapes.waits_for(byte) {
                     return None;
                 }
                 self.texts.lease_pass(lease, 1);

@@ -6,7 +6,7 @@ use Rattle.roff_source.specs.Tape.{Tape, Item, Took, behind_front, items_then}
 use Rattle.roff_num.specs.Faults.{Rises}
 use Rattle.roff_run.specs.declared.status.Status.{Status}
 use Rattle.roff_run.specs.declared.status.Status.TheVariants.{Aborted, Done, Device, Limit as Limited}
-use Rattle.roff_run.specs.declared.reading.Reading.TheVariants.{Exiting}
+use Rattle.roff_run.specs.declared.line_state.LineState.TheVariants.{Exiting}
 use Rattle.roff_run.specs.declared.message.Message.TheVariants.{WriteFailed}
 use Rattle.roff_run.specs.Messages.{message_line}
 use Rattle.roff_run.specs.Run.{State, Leads, initial, step, output, reported}

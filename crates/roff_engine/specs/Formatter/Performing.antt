@@ -19,7 +19,7 @@ use Rattle.roff_run.specs.Registers.{AllRegisters, Known}
 use Rattle.roff_run.specs.declared.event.PageEvent.{PageEvent}
 use Rattle.roff_run.specs.declared.event.PageEvent.TheVariants.{Text}
 use Rattle.roff_run.specs.declared.message.Message.{Message}
-use Rattle.roff_run.specs.declared.reading.Reading.{Reading}
+use Rattle.roff_run.specs.declared.line_state.LineState.{LineState}
 use Rattle.roff_run.specs.Run.{State, Leads, initial, step, stopped_by, made, taken_as, known_at, output, reported}
 use Rattle.roff_reader.specs.Reader.Taken.{Became, IsReady}
 use Rattle.roff_run.specs.Reading.Items.{PageUnread}
@@ -111,7 +111,7 @@ pub record DoesMeaning (line : ℕ) (messages : List Message) (events : List Pag
   pub reader : new.reader ≡ old.reader
 
 -- a state of a run that hasn't ended, by all that it has
-abbrev pub going : Tape → PageInput → Reading → AllRegisters → PageHistory → List ℕ → Bool → List PageEvent → State
+abbrev pub going : Tape → PageInput → LineState → AllRegisters → PageHistory → List ℕ → Bool → List PageEvent → State
 going tape i reading rs h messages is_closing to_do = record {
   tape = tape;
   input = i;

@@ -19,11 +19,11 @@ use Rattle.roff_reader.specs.Reader.Taken.{IsReady}
 use Rattle.roff_run.specs.Reading.Items.{PageUnread}
 use Rattle.roff_run.specs.TurnsToCome.{begun, turns_to_come}
 use Rattle.roff_run.specs.Reading.Ends.{due, line_ends_first}
-use Rattle.roff_run.specs.declared.reading.Reading.{Reading}
-use Rattle.roff_run.specs.declared.reading.Reading.TheVariants.{Exiting}
-use Rattle.roff_escape.specs.Half.{Half}
+use Rattle.roff_run.specs.declared.line_state.LineState.{LineState}
+use Rattle.roff_run.specs.declared.line_state.LineState.TheVariants.{Exiting}
+use Rattle.roff_escape.specs.OpenEscape.{OpenEscape}
 use Rattle.roff_run.specs.Environments.{PageHistory}
-use Rattle.roff_run.specs.Run.{State, first_unread, half_ends, input_ended, step, stopped_by, reported}
+use Rattle.roff_run.specs.Run.{State, first_unread, escape_ends, input_ended, step, stopped_by, reported}
 
 -- the state of a run that reads on, where the source still gives this tape
 abbrev pub state_at : Tape → Coded → PageHistory → List ℕ → State
@@ -32,10 +32,10 @@ state_at tape run h messages =
 
 -- the end of the input: what is half read ends first, one after another
 abbrev pub input_ends : State → State
-input_ends s = elim s.input.half [ [] ↦ input_ended (line_ends_first s.reading) s | first ∷ others ↦ half_ends s ]
+input_ends s = elim s.input.escapes [ [] ↦ input_ended (line_ends_first s.reading) s | first ∷ others ↦ escape_ends s ]
 
 -- something is half read where the input ends, or a control line that ends first
-abbrev pub IsEnded : List Half → Reading → Type 0
+abbrev pub IsEnded : List OpenEscape → LineState → Type 0
 IsEnded half reading = (1 ≤ length half) ⊎ (line_ends_first reading ≡ true)
 
 -- how many turns are to come of a run at the most
@@ -121,7 +121,7 @@ pub record Acts (line : ℕ) (does : State → State) (old new : Coded) (now beh
 
 -- nothing is half read, and the source is asked for what stands in front
 abbrev pub AsksFirst : PageUnread → Type 0
-AsksFirst u = (u.input.half ≡ []) × (asks_to_take u ≡ true)
+AsksFirst u = (u.input.escapes ≡ []) × (asks_to_take u ≡ true)
 
 -- the run asks its source next, or there is a tape that the source may give
 abbrev pub HasTape : Coded → (Tape → Type 0) → Type 0
@@ -132,10 +132,10 @@ abbrev pub MayEnd : Coded → Type 0
 MayEnd run = (run.unread.looked ≡ None) ⊎ (run.formatter.reader.reading ≡ Exiting)
 
 -- What is due was done: the run goes on where nothing is, or has ended. Where nothing was due it stays.
-pub record Settles (old new : Coded) (now behind : Seen) (r : Result (Unit {0}) Status) : Type 0 where
+pub record DoesDue (old new : Coded) (now behind : Seen) (r : Result (Unit {0}) Status) : Type 0 where
   pub limits : new.limits ≡ old.limits
   pub idle : due old.formatter.reader.reading ≡ None → (r ≡ Ok tt) × (new ≡ old)
-  pub settles : (t tape : Tape) (start : Seen) → IsAt t tape start now old → Continues t tape start behind r new
+  pub does_due : (t tape : Tape) (start : Seen) → IsAt t tape start now old → Continues t tape start behind r new
   pub none_due : OnOk r (due new.formatter.reader.reading ≡ None)
   pub turns : OnOk r (turns_left new ≤ turns_left old)
 

@@ -2,7 +2,7 @@
 
 ghost use Rattle.std.specs.Prelude.{[]};
 ghost use Rattle.roff_engine.specs.Clauses.{DoesTaking, closing_events, sinks, end_taking};
-ghost use Rattle.roff_engine.specs.Clauses.{half_ended};
+ghost use Rattle.roff_engine.specs.Clauses.{escape_ended};
 
 use super::Formatter;
 use crate::halt::Halt;
@@ -20,13 +20,13 @@ const CLOSING: [PageEvent; 2] = [
 
 impl Formatter {
     /// Ends what is half read, before a newline that stays or at the end of the input.
-    pub(crate) fn take_half_end<O: ByteSink, E: ByteSink>(
+    pub(crate) fn take_escape_end<O: ByteSink, E: ByteSink>(
         &mut self,
         unread: &mut Unread<PageEvent>,
         out: &mut O,
         err: &mut E,
     ) -> Result<(), Halt>
-        ensures { DoesTaking (λ k. half_ended k self.old.reader.reading unread.old.input) []
+        ensures { DoesTaking (λ k. escape_ended k self.old.reader.reading unread.old.input) []
             self.old self.new unread.old unread.new
             (sinks (O.sunk out.old) (E.sunk err.old))
             (sinks (O.sunk out.new) (E.sunk err.new)) result }
@@ -46,14 +46,14 @@ impl Formatter {
         out: &mut O,
         err: &mut E,
     ) -> Result<(), Halt>
-        ensures { DoesTaking (λ k. half_ended k self.old.reader.reading unread.old.input) []
+        ensures { DoesTaking (λ k. escape_ended k self.old.reader.reading unread.old.input) []
             self.old self.new unread.old unread.new
             (sinks (O.sunk out.old) (E.sunk err.old))
             (sinks (O.sunk out.new) (E.sunk err.new)) result }
     {
         match self.reader.end_above(unread) {
             AtOnce::Done => Ok(()),
-            AtOnce::Found(found) => self.take_found(found, unread, out, err),
+            AtOnce::Unfinished(found) => self.take_found(found, unread, out, err),
             AtOnce::Not => self.end_as_read(unread, out, err),
         }
     }
@@ -66,12 +66,12 @@ impl Formatter {
         out: &mut O,
         err: &mut E,
     ) -> Result<(), Halt>
-        ensures { DoesTaking (λ k. half_ended k self.old.reader.reading unread.old.input) []
+        ensures { DoesTaking (λ k. escape_ended k self.old.reader.reading unread.old.input) []
             self.old self.new unread.old unread.new
             (sinks (O.sunk out.old) (E.sunk err.old))
             (sinks (O.sunk out.new) (E.sunk err.new)) result }
     {
-        let read = self.reader.end_half(&self.environments, unread);
+        let read = self.reader.end_escape(&self.environments, unread);
         match &read {
             Ok(meaning) => self.act(meaning, unread.line(), out, err),
             Err(limit) => Err(Halt::Refused(*limit)),

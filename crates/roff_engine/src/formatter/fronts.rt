@@ -154,7 +154,7 @@ impl Formatter {
     ) -> bool
         requires begins { BeginsControl self.old.reader.reading }
         requires none_due { due self.old.reader.reading ≡ None }
-        requires none_half { unread.old.input.half ≡ [] }
+        requires none_half { unread.old.input.escapes ≡ [] }
         ensures past { result ≡ true → ReadsPast (S.gives source.old) (S.gives source.new)
             self.old.reader self.new.reader unread.old unread.new }
         ensures kept { result ≡ false

@@ -10,9 +10,9 @@ use crate::halt::Halt;
 use crate::report::report;
 use crate::sink::ByteSink;
 use roff_lines::Event;
-use roff_run::{EnvironmentNumber, Message, PageEvent};
-use roff_requests::Events;
 use roff_reader::Meaning;
+use roff_requests::Events;
+use roff_run::{EnvironmentNumber, Message, PageEvent};
 
 impl Formatter {
     /// Does what was meant on this line of the input: its message is told, and then its events are
@@ -30,7 +30,7 @@ impl Formatter {
             (sinks (O.sunk out.old) (E.sunk err.old))
             (sinks (O.sunk out.new) (E.sunk err.new)) result }
     {
-        match tell(meaning.message, line, err) {
+        match report_message(meaning.message, line, err) {
             Ok(()) => self.perform_all(&meaning.events, out),
             Err(halt) => Err(halt),
         }
@@ -76,7 +76,11 @@ impl Formatter {
     }
 
     /// Performs events, one after another.
-    pub(super) fn perform_each<O: ByteSink>(&mut self, events: &[PageEvent], out: &mut O) -> Result<(), Halt>
+    pub(super) fn perform_each<O: ByteSink>(
+        &mut self,
+        events: &[PageEvent],
+        out: &mut O,
+    ) -> Result<(), Halt>
         ensures { PerformsOnly events.now self.old self.new
             (O.sunk out.old) (O.sunk out.new) result }
     {
@@ -158,7 +162,7 @@ impl Formatter {
 }
 
 /// Writes the message of an effect, if it has one.
-fn tell<E: ByteSink>(message: Option<Message>, line: u32, err: &mut E) -> Result<(), Halt>
+fn report_message<E: ByteSink>(message: Option<Message>, line: u32, err: &mut E) -> Result<(), Halt>
     ensures puts { Puts (E.sunk err.old) (E.sunk err.new)
         (message_lines line (option_to_list message)) result }
     ensures halt { IsOkUnless result Halt.Messages }

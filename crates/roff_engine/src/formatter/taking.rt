@@ -4,8 +4,8 @@ ghost use Rattle.std.specs.Prelude.{[]};
 ghost use Rattle.roff_run.specs.Reading.Items.{Taking};
 ghost use Rattle.roff_reader.specs.Reader.AtOnce.{IsReadAbove};
 ghost use Rattle.roff_run.specs.Reading.Items.{PageUnread};
-ghost use Rattle.roff_run.specs.Registers.{Known as KnownOf};
-ghost use Rattle.roff_reader.specs.declared.reader.AtOnce.TheVariants.{Found};
+ghost use Rattle.roff_run.specs.Registers.{Known};
+ghost use Rattle.roff_reader.specs.declared.reader.AtOnce.TheVariants.{Unfinished};
 ghost use Rattle.roff_engine.specs.Clauses.{DoesTaking, sinks, taking};
 
 use super::Formatter;
@@ -14,7 +14,7 @@ use crate::sink::ByteSink;
 use roff_lines::Glyph;
 use roff_reader::AtOnce;
 use roff_run::PageEvent;
-use roff_scan::{Read, Unread};
+use roff_scan::{Found, Unread};
 
 impl Formatter {
     /// Takes a byte that was taken of the unread input.
@@ -118,7 +118,7 @@ impl Formatter {
     {
         match self.reader.read_above(byte, &self.environments, unread) {
             AtOnce::Done => Ok(()),
-            AtOnce::Found(found) => self.take_found(found, unread, out, err),
+            AtOnce::Unfinished(found) => self.take_found(found, unread, out, err),
             AtOnce::Not => self.take_as_read(byte, unread, out, err),
         }
     }
@@ -127,13 +127,14 @@ impl Formatter {
     #[inline(never)]
     pub(super) fn take_found<O: ByteSink, E: ByteSink>(
         &mut self,
-        found: Read,
+        found: Found,
         unread: &mut Unread<PageEvent>,
         out: &mut O,
         err: &mut E,
     ) -> Result<(), Halt>
-        ensures { (t : KnownOf → Taking) (before : PageUnread)
-            → IsReadAbove t self.old.environments self.old.reader before unread.old (Found found)
+        ensures { (t : Known → Taking) (before : PageUnread)
+            → IsReadAbove t self.old.environments self.old.reader before unread.old
+            (Unfinished found)
             → DoesTaking t [] self.old self.new before unread.new
             (sinks (O.sunk out.old) (E.sunk err.old))
             (sinks (O.sunk out.new) (E.sunk err.new)) result }

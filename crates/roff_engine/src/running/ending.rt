@@ -1,7 +1,7 @@
 //! Ends of what is half read, of the input, and of the run.
 
 ghost use Rattle.std.specs.Prelude.{◌≡◌, ℕ, true, None, Result, Err, OnOk};
-ghost use Rattle.roff_run.specs.Run.{end_met, half_ends, input_ended};
+ghost use Rattle.roff_run.specs.Run.{end_met, escape_ends, input_ended};
 ghost use Rattle.roff_engine.specs.Clauses.{Outcome, Sunk, Tape, Puts, Seen, seen, message_line};
 ghost use Rattle.roff_engine.specs.Clauses.{ReadFailed, Device};
 
@@ -16,13 +16,17 @@ impl Running {
     ghost use Rattle.roff_engine.specs.Running.Turning.{line_told};
 
     /// Ends what is half read, before what stays.
-    pub(super) fn end_half<O: ByteSink, E: ByteSink>(&mut self, out: &mut O, err: &mut E) -> Result<(), Status>
-        ensures { (failures : ℕ) → Acts self.old.unread.input.line half_ends self.old self.new
+    pub(super) fn end_escape<O: ByteSink, E: ByteSink>(
+        &mut self,
+        out: &mut O,
+        err: &mut E,
+    ) -> Result<(), Status>
+        ensures { (failures : ℕ) → Acts self.old.unread.input.line escape_ends self.old self.new
             (seen failures (O.sunk out.old) (E.sunk err.old))
             (seen failures (O.sunk out.new) (E.sunk err.new)) result }
     {
         let line = self.unread.line();
-        match self.formatter.take_half_end(&mut self.unread, out, err) {
+        match self.formatter.take_escape_end(&mut self.unread, out, err) {
             Ok(()) => Ok(()),
             Err(halt) => Err(self.halted(halt, line, line, err)),
         }
@@ -40,11 +44,11 @@ impl Running {
             (seen failures (O.sunk out.old) (E.sunk err.old))
             (seen failures (O.sunk out.new) (E.sunk err.new)) result }
         // It goes on only where something was half read, or a control line.
-        ensures some { OnOk result (IsEnded self.old.unread.input.half
+        ensures some { OnOk result (IsEnded self.old.unread.input.escapes
             self.old.formatter.reader.reading) }
     {
-        if self.unread.is_half_read() {
-            return self.end_half(out, err);
+        if self.unread.has_open_escape() {
+            return self.end_escape(out, err);
         }
         if self.formatter.line_ends_first() {
             return self.end_line(out, err);
@@ -83,7 +87,13 @@ impl Running {
     /// How a run ends that was halted. The byte before its last item stood on the first line, and
     /// the last byte taken stands on the second.
     #[inline(never)]
-    pub(super) fn halted<E: ByteSink>(&self, halt: Halt, line_before: u32, line: u32, err: &mut E) -> Status
+    pub(super) fn halted<E: ByteSink>(
+        &self,
+        halt: Halt,
+        line_before: u32,
+        line: u32,
+        err: &mut E,
+    ) -> Status
         ensures { (t left : Tape) (start : Seen) (failures : ℕ) (out : Sunk)
             → Halts self.now.limits t left (line_told halt line_before line) halt
             start (seen failures out (E.sunk err.old))

@@ -23,22 +23,22 @@ impl Running {
             self.old self.new
             (seen (S.failures source.old) out err) (seen (S.failures source.new) out err) }
     {
-        if self.formatter.prints() && !self.unread.is_half_read() {
+        if self.formatter.prints() && !self.unread.has_open_escape() {
             self.tell_line(source);
-        } else if self.formatter.counts_blanks() && !self.unread.is_half_read() {
+        } else if self.formatter.counts_blanks() && !self.unread.has_open_escape() {
             self.count_blanks(source);
-        } else if self.formatter.holds_arguments() && !self.unread.is_half_read() {
+        } else if self.formatter.holds_arguments() && !self.unread.has_open_escape() {
             self.hold_arguments(source);
-        } else if self.formatter.reads_names() && self.unread.is_half_read() {
+        } else if self.formatter.reads_names() && self.unread.has_open_escape() {
             self.read_name(source);
         } else if self.formatter.reads_condition() {
             self.read_condition(source);
-        } else if self.formatter.adds_text() && !self.unread.is_half_read() {
+        } else if self.formatter.adds_text() && !self.unread.has_open_escape() {
             self.add_text(source);
-        } else if self.formatter.ignores_text() && !self.unread.is_half_read() {
+        } else if self.formatter.ignores_text() && !self.unread.has_open_escape() {
             self.ignore_text(source);
         } else if let Some(most) = self.formatter.holds_fewer() {
-            if !self.unread.is_half_read() {
+            if !self.unread.has_open_escape() {
                 self.hold_fewer(source, most);
             }
         }
@@ -51,7 +51,7 @@ impl Running {
         requires prints { (b : ℕ) → is_text_byte b ≡ true
             → Prints self.old.formatter.reader.reading b }
         requires none_due { due self.old.formatter.reader.reading ≡ None }
-        requires none_half { self.old.unread.input.half ≡ [] }
+        requires none_half { self.old.unread.input.escapes ≡ [] }
         ensures { (out err : Sunk) → GoesPast
             (S.gives source.old) (S.gives source.new) (S.notes source.old) (S.notes source.new)
             self.old self.new
@@ -71,7 +71,7 @@ impl Running {
         requires prints { (b : ℕ) → is_text_byte b ≡ true
             → Prints self.old.formatter.reader.reading b }
         requires none_due { due self.old.formatter.reader.reading ≡ None }
-        requires none_half { self.old.unread.input.half ≡ [] }
+        requires none_half { self.old.unread.input.escapes ≡ [] }
         ensures { (out err : Sunk) → GoesPast
             (S.gives source.old) (S.gives source.new) (S.notes source.old) (S.notes source.new)
             self.old self.new
@@ -88,7 +88,7 @@ impl Running {
     #[inline(never)]
     fn count_blanks<S: ByteSource>(&mut self, source: &mut S)
         requires counts { counts_blanks self.old.formatter.reader.reading ≡ true }
-        requires none_half { self.old.unread.input.half ≡ [] }
+        requires none_half { self.old.unread.input.escapes ≡ [] }
         ensures { (out err : Sunk) → GoesPast
             (S.gives source.old) (S.gives source.new) (S.notes source.old) (S.notes source.new)
             self.old self.new
@@ -106,7 +106,7 @@ impl Running {
         requires holds { (b : ℕ) → is_argument_byte b ≡ true
             → Holds self.old.formatter.reader.reading b }
         requires none_due { due self.old.formatter.reader.reading ≡ None }
-        requires none_half { self.old.unread.input.half ≡ [] }
+        requires none_half { self.old.unread.input.escapes ≡ [] }
         ensures { (out err : Sunk) → GoesPast
             (S.gives source.old) (S.gives source.new) (S.notes source.old) (S.notes source.new)
             self.old self.new
@@ -121,7 +121,7 @@ impl Running {
         requires holds { (b : ℕ) → is_argument_byte b ≡ true
             → HoldsIfFewer (Some most) self.old.formatter.reader.reading b }
         requires none_due { due self.old.formatter.reader.reading ≡ None }
-        requires none_half { self.old.unread.input.half ≡ [] }
+        requires none_half { self.old.unread.input.escapes ≡ [] }
         ensures { (out err : Sunk) → GoesPast
             (S.gives source.old) (S.gives source.new) (S.notes source.old) (S.notes source.new)
             self.old self.new
@@ -137,7 +137,7 @@ impl Running {
         requires adds { (b : ℕ) → is_text_byte b ≡ true
             → Adds self.old.formatter.reader.reading b }
         requires none_due { due self.old.formatter.reader.reading ≡ None }
-        requires none_half { self.old.unread.input.half ≡ [] }
+        requires none_half { self.old.unread.input.escapes ≡ [] }
         ensures { (out err : Sunk) → GoesPast
             (S.gives source.old) (S.gives source.new) (S.notes source.old) (S.notes source.new)
             self.old self.new
@@ -152,7 +152,7 @@ impl Running {
         requires ignores { (b : ℕ) → is_text_byte b ≡ true
             → Ignores self.old.formatter.reader.reading b }
         requires none_due { due self.old.formatter.reader.reading ≡ None }
-        requires none_half { self.old.unread.input.half ≡ [] }
+        requires none_half { self.old.unread.input.escapes ≡ [] }
         ensures { (out err : Sunk) → GoesPast
             (S.gives source.old) (S.gives source.new) (S.notes source.old) (S.notes source.new)
             self.old self.new

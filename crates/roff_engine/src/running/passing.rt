@@ -6,7 +6,7 @@ ghost use Rattle.roff_run.specs.Reading.{Passes};
 ghost use Rattle.roff_run.specs.Reading.Calls.{behind_return};
 ghost use Rattle.roff_run.specs.Stages.{EndsLine};
 ghost use Rattle.roff_source.specs.Bytes.{is_passed};
-ghost use Rattle.roff_escape.specs.Halves.{newline_stays};
+ghost use Rattle.roff_escape.specs.OpenEscapes.{newline_stays};
 ghost use Rattle.roff_scan.specs.Unread.{IsWithin};
 ghost use Rattle.roff_scan.specs.Unread.Calls.{PassesEnd, PassesReturn};
 ghost use Rattle.roff_engine.specs.Clauses.{Sunk, seen, due};
@@ -26,7 +26,7 @@ impl Running {
             self.old self.new
             (seen (S.failures source.old) out err) (seen (S.failures source.new) out err) }
     {
-        if self.formatter.begins_control_line() && !self.unread.is_half_read() {
+        if self.formatter.begins_control_line() && !self.unread.has_open_escape() {
             self.pass_control_line(source)
         } else {
             self.pass_line(source)
@@ -39,7 +39,7 @@ impl Running {
     fn pass_control_line<S: ByteSource>(&mut self, source: &mut S) -> bool
         requires begins { BeginsControl self.old.formatter.reader.reading }
         requires none_due { due self.old.formatter.reader.reading ≡ None }
-        requires none_half { self.old.unread.input.half ≡ [] }
+        requires none_half { self.old.unread.input.escapes ≡ [] }
         ensures { (out err : Sunk) → GoesFurther result
             (S.gives source.old) (S.gives source.new) (S.notes source.old) (S.notes source.new)
             self.old self.new
@@ -79,7 +79,7 @@ impl Running {
     fn read_control_front<S: ByteSource>(&mut self, source: &mut S) -> bool
         requires begins { BeginsControl self.old.formatter.reader.reading }
         requires none_due { due self.old.formatter.reader.reading ≡ None }
-        requires none_half { self.old.unread.input.half ≡ [] }
+        requires none_half { self.old.unread.input.escapes ≡ [] }
         ensures past { result ≡ true → (out err : Sunk) → GoesPast
             (S.gives source.old) (S.gives source.new) (S.notes source.old) (S.notes source.new)
             self.old self.new
@@ -113,7 +113,7 @@ impl Running {
     #[inline(always)]
     fn pass_end(&mut self) -> bool
         ensures none_due { result ≡ true → due self.old.formatter.reader.reading ≡ None }
-        ensures stays { result ≡ true → newline_stays self.old.unread.input.half ≡ false }
+        ensures stays { result ≡ true → newline_stays self.old.unread.input.escapes ≡ false }
         ensures passes { result ≡ true → PassesEnd self.old.unread self.new.unread }
         ensures within { result ≡ true → IsWithin self.new.unread }
         ensures kept { result ≡ false → self.new ≡ self.old }
@@ -139,7 +139,7 @@ impl Running {
             (seen (S.failures source.old) out err) (seen (S.failures source.new) out err) }
     {
         self.pass_plain(source, within_block);
-        if !within_block && !self.unread.is_half_read() {
+        if !within_block && !self.unread.has_open_escape() {
             self.end_dropped(source)
         } else {
             false
@@ -171,7 +171,7 @@ impl Running {
     fn end_dropped<S: ByteSource>(&mut self, source: &mut S) -> bool
         requires ends { EndsLine self.old.formatter.reader.reading }
         requires none_due { due self.old.formatter.reader.reading ≡ None }
-        requires none_half { self.old.unread.input.half ≡ [] }
+        requires none_half { self.old.unread.input.escapes ≡ [] }
         ensures { (out err : Sunk) → GoesFurther result
             (S.gives source.old) (S.gives source.new) (S.notes source.old) (S.notes source.new)
             self.old self.new

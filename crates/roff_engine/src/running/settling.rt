@@ -9,40 +9,40 @@ use crate::sink::ByteSink;
 use roff_run::{Due, Status};
 
 impl Running {
-    ghost use Rattle.roff_engine.specs.Running.Turning.{Settles};
+    ghost use Rattle.roff_engine.specs.Running.Turning.{DoesDue};
 
     /// Does what is due before anything more is taken. An `Err` is the status of a run that ended.
     #[inline(always)]
-    pub(crate) fn settle<O: ByteSink, E: ByteSink>(
+    pub(crate) fn do_due<O: ByteSink, E: ByteSink>(
         &mut self,
         out: &mut O,
         err: &mut E,
     ) -> Result<(), Status>
-        ensures { (failures : ℕ) → Settles self.old self.new
+        ensures { (failures : ℕ) → DoesDue self.old self.new
             (seen failures (O.sunk out.old) (E.sunk err.old))
             (seen failures (O.sunk out.new) (E.sunk err.new)) result }
     {
         match self.formatter.due() {
             None => Ok(()),
-            Some(due) => self.settle_due(due, out, err),
+            Some(due) => self.carry_out(due, out, err),
         }
     }
 
     /// The same of what is due.
     #[inline(never)]
-    fn settle_due<O: ByteSink, E: ByteSink>(
+    fn carry_out<O: ByteSink, E: ByteSink>(
         &mut self,
         what: Due,
         out: &mut O,
         err: &mut E,
     ) -> Result<(), Status>
         requires { due self.old.formatter.reader.reading ≡ Some what }
-        ensures { (failures : ℕ) → Settles self.old self.new
+        ensures { (failures : ℕ) → DoesDue self.old self.new
             (seen failures (O.sunk out.old) (E.sunk err.old))
             (seen failures (O.sunk out.new) (E.sunk err.new)) result }
     {
         match what {
-            Due::Tells { aborts } => self.tell_text(aborts, err),
+            Due::Tells { aborts } => self.report_held_text(aborts, err),
             Due::Leaves => {
                 self.unread.leave();
                 Err(self.finish(out, err))
@@ -51,9 +51,9 @@ impl Running {
     }
 
     /// Tells a message, which may end the run.
-    fn tell_text<E: ByteSink>(&mut self, aborts: bool, err: &mut E) -> Result<(), Status>
+    fn report_held_text<E: ByteSink>(&mut self, aborts: bool, err: &mut E) -> Result<(), Status>
         requires { due self.old.formatter.reader.reading ≡ Some (Tells aborts) }
-        ensures { (failures : ℕ) (out : Sunk) → Settles self.old self.new
+        ensures { (failures : ℕ) (out : Sunk) → DoesDue self.old self.new
             (seen failures out (E.sunk err.old)) (seen failures out (E.sunk err.new)) result }
     {
         match report_text(self.unread.begun(), aborts, err) {

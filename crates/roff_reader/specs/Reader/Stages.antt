@@ -24,7 +24,7 @@ pub record ReadsPast (gave gives : Tape → Type 0) (old new : ReaderState) (bef
 pub record TurnsFront (front : List ℕ) (count : ℕ) (old new : ReaderState) : Type 0 where
   pub few : count ≤ length front
   pub no_newline : NoNewline (take count front)
-  pub turned : (names : Named Entry) (i : PageInput) → i.half ≡ []
+  pub turned : (names : Named Entry) (i : PageInput) → i.escapes ≡ []
       → Turned names (stage_of old.reading i) (take count front) (stage_of new.reading i)
   pub registers : new.registers ≡ old.registers
   pub requested : new.requested ≡ old.requested

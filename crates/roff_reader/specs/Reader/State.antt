@@ -3,12 +3,12 @@ use Rattle.std.specs.Prelude.{ℕ, List, []}
 use Rattle.roff_run.specs.Registers.{no_registers}
 use Rattle.roff_run.specs.Registers.Capped.{Capped}
 use Rattle.roff_run.specs.declared.event.PageEvent.{PageEvent}
-use Rattle.roff_run.specs.declared.reading.Reading.{Reading}
-use Rattle.roff_run.specs.declared.reading.Reading.TheVariants.{LineStart}
+use Rattle.roff_run.specs.declared.line_state.LineState.{LineState}
+use Rattle.roff_run.specs.declared.line_state.LineState.TheVariants.{LineStart}
 
 -- what is being read of a line, the registers, and the events of the request that was obeyed last, if it had any
 pub record ReaderState : Type 0 where
-  pub reading : Reading
+  pub reading : LineState
   pub registers : Capped
   pub requested : List PageEvent
 

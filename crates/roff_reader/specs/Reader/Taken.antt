@@ -72,6 +72,6 @@ pub record IsReady (r : Capped) (u : PageUnread) : Type 0 where
 
 -- The code took what the definition takes, by what is known of the run, wherever the environments stand for a history.
 pub record TakesAs (t : Known → Taking) (es : EnvironmentsOf) (old new : ReaderState) (before behind : PageUnread)
-  (result : Result Meaning Limit) : Type 0 where
+    (result : Result Meaning Limit) : Type 0 where
   pub takes : (l : Limits) (h : PageHistory) → StandFor l h es → IsReady old.registers before
       → Takes (t (known_at h old.registers.all before.input)) old.registers new before behind result

@@ -3,15 +3,14 @@
 ghost use Rattle.std.specs.Prelude.{◌≡◌, None, Some, false, true};
 ghost use Rattle.roff_escape.specs.declared.escapes.NameUse.TheVariants.{Register, Text as OfText};
 ghost use Rattle.roff_reader.specs.Reader.AtOnce.{GoesOnAbove, IsReadAbove, AsksAbove, PutsAbove};
-ghost use Rattle.roff_reader.specs.Clauses.{EnvironmentsOf, half_ended, taking};
+ghost use Rattle.roff_reader.specs.Clauses.{EnvironmentsOf, escape_ended, taking};
 
 use super::registers::facts;
 use super::{AtOnce, Reader};
-use roff_requests::Environments;
-use roff_run::PageEvent;
-use roff_run::Reading;
 use roff_num::Name;
-use roff_scan::{NameUse, Read, Surroundings, Unread, is_dropped};
+use roff_requests::Environments;
+use roff_run::{LineState, PageEvent};
+use roff_scan::{Found, NameUse, Surroundings, Unread, is_dropped};
 
 impl Reader {
     /// Reads a byte where a line begins, on a text line or in a condition, whatever is half read
@@ -34,7 +33,7 @@ impl Reader {
         }
         let place = self.place(environments);
         match unread.read_byte(place, byte) {
-            Read::Asks(purpose, name) => self.asks_above(purpose, name, environments, unread),
+            Found::Asks(purpose, name) => self.asks_above(purpose, name, environments, unread),
             found => goes_on_above(found, unread),
         }
     }
@@ -43,11 +42,11 @@ impl Reader {
     #[inline(always)]
     pub fn end_above(&self, unread: &mut Unread<PageEvent>) -> AtOnce
         ensures { (es : EnvironmentsOf)
-            → IsReadAbove (λ k. half_ended k self.now.reading unread.old.input)
+            → IsReadAbove (λ k. escape_ended k self.now.reading unread.old.input)
             es self.now unread.old unread.new result }
     {
         match self.reading {
-            Reading::Deciding { .. } => {
+            LineState::Deciding { .. } => {
                 let found = unread.end_reading(Surroundings::Arguments);
                 goes_on_above(found, unread)
             }
@@ -68,12 +67,12 @@ impl Reader {
         ensures { AsksAbove purpose name environments.now self.now unread.old unread.new result }
     {
         match name {
-            None => AtOnce::Found(Read::Asks(purpose, None)),
+            None => AtOnce::Unfinished(Found::Asks(purpose, None)),
             Some(name) => {
                 if self.puts_above(purpose, &name, environments, unread) {
                     AtOnce::Done
                 } else {
-                    AtOnce::Found(Read::Asks(purpose, Some(name)))
+                    AtOnce::Unfinished(Found::Asks(purpose, Some(name)))
                 }
             }
         }
@@ -137,15 +136,15 @@ impl Reader {
 
 /// Whether what was found means nothing: a unit of a text that is read is held, if no limit refuses
 /// it.
-fn goes_on_above(found: Read, unread: &mut Unread<PageEvent>) -> AtOnce
+fn goes_on_above(found: Found, unread: &mut Unread<PageEvent>) -> AtOnce
     ensures { GoesOnAbove found unread.old unread.new result }
 {
     match found {
-        Read::GoesOn => AtOnce::Done,
-        Read::Holds(unit) => match unread.hold_text(unit) {
+        Found::GoesOn => AtOnce::Done,
+        Found::Holds(unit) => match unread.hold_text(unit) {
             Ok(()) => AtOnce::Done,
-            Err(_) => AtOnce::Found(Read::Holds(unit)),
+            Err(_) => AtOnce::Unfinished(Found::Holds(unit)),
         },
-        found => AtOnce::Found(found),
+        found => AtOnce::Unfinished(found),
     }
 }

@@ -11,10 +11,8 @@ ghost use Rattle.roff_scan.specs.Unread.{IsWithin};
 
 use super::Reader;
 use super::control_lines::called_by;
-use roff_run::PageEvent;
-use roff_run::Reading;
 use roff_num::ShortName;
-use roff_run::{Called, LineReading, Request};
+use roff_run::{Called, LineReading, LineState, PageEvent, Request};
 use roff_scan::{ByteSource, Unread};
 
 /// The first three bytes of a control line: the dot or apostrophe, by whether requests break behind
@@ -35,9 +33,9 @@ impl Reader {
         ensures none_due { result ≡ true → due self.now.reading ≡ None }
     {
         match self.reading {
-            Reading::LineStart => true,
-            Reading::Branch => true,
-            Reading::Braced => true,
+            LineState::LineStart => true,
+            LineState::Branch => true,
+            LineState::Braced => true,
             _ => false,
         }
     }
@@ -53,7 +51,7 @@ impl Reader {
     ) -> bool
         requires begins { BeginsControl self.old.reading }
         requires none_due { due self.old.reading ≡ None }
-        requires none_half { unread.old.input.half ≡ [] }
+        requires none_half { unread.old.input.escapes ≡ [] }
         ensures past { result ≡ true → ReadsPast (S.gives source.old) (S.gives source.new)
             self.old self.new unread.old unread.new }
         ensures kept { result ≡ false
@@ -77,7 +75,7 @@ impl Reader {
     ) -> bool
         requires begins { BeginsControl self.old.reading }
         requires none_due { due self.old.reading ≡ None }
-        requires none_half { unread.old.input.half ≡ [] }
+        requires none_half { unread.old.input.escapes ≡ [] }
         requires ready { StandsReady (control_byte front.breaks ∷ front.first ∷ front.second ∷ [])
             (S.ready source.old) unread.old }
         ensures past { result ≡ true → ReadsPast (S.gives source.old) (S.gives source.new)
@@ -89,7 +87,7 @@ impl Reader {
     {
         if front.first == b'\\' {
             unread.pass(source, 2);
-            self.go_on(Reading::Dropped);
+            self.go_on(LineState::Dropped);
             return true;
         }
         if !belongs_to_name(front.first) || !belongs_to_name(front.second) {
@@ -141,28 +139,28 @@ fn belongs_to_name(byte: u8) -> bool
 
 /// What is read behind a name that stands for this, if nothing else changes but what is half read:
 /// of all but the other branch of a condition.
-fn behind_called(breaks: bool, called: Called) -> Option<Reading>
+fn behind_called(breaks: bool, called: Called) -> Option<LineState>
     ensures { IfSome result (λ reading. LeadsTo (λ i. behind_called i breaks called) reading) }
 {
     match called {
         Called::Request(request) => behind_request(breaks, request),
-        Called::Body(name) => Some(Reading::Calling { name }),
-        Called::Nothing => Some(Reading::Dropped),
+        Called::Body(name) => Some(LineState::Calling { name }),
+        Called::Nothing => Some(LineState::Dropped),
     }
 }
 
 /// The same of a request.
-fn behind_request(breaks: bool, request: Request) -> Option<Reading>
+fn behind_request(breaks: bool, request: Request) -> Option<LineState>
     ensures { IfSome result (λ reading.
         LeadsTo (λ i. behind_name i breaks request (row_of request).line) reading) }
 {
     match request.row().line {
-        LineReading::ByArguments => Some(Reading::Arguments { breaks, request }),
-        LineReading::ByLines(_) => Some(Reading::Arguments { breaks, request }),
-        LineReading::ByLastLine => Some(Reading::Arguments { breaks, request }),
-        LineReading::ByCondition { keeps } => Some(Reading::Deciding { keeps }),
-        LineReading::ByString { appends } => Some(Reading::StringName { appends }),
-        LineReading::ByMessage { aborts } => Some(Reading::Telling {
+        LineReading::ByArguments => Some(LineState::Arguments { breaks, request }),
+        LineReading::ByLines(_) => Some(LineState::Arguments { breaks, request }),
+        LineReading::ByLastLine => Some(LineState::Arguments { breaks, request }),
+        LineReading::ByCondition { keeps } => Some(LineState::Deciding { keeps }),
+        LineReading::ByString { appends } => Some(LineState::StringName { appends }),
+        LineReading::ByMessage { aborts } => Some(LineState::Telling {
             aborts,
             is_front: true,
         }),
@@ -171,14 +169,14 @@ fn behind_request(breaks: bool, request: Request) -> Option<Reading>
 }
 
 /// Begins to read a condition, if one is read.
-fn begin_half(reading: Reading, unread: &mut Unread<PageEvent>)
+fn begin_half(reading: LineState, unread: &mut Unread<PageEvent>)
     requires within { IsWithin unread.old }
     ensures input { unread.new
         ≡ record unread.old { input = input_begun reading unread.old.input } }
     ensures within { IsWithin unread.new }
 {
     match reading {
-        Reading::Deciding { .. } => unread.begin_condition(),
+        LineState::Deciding { .. } => unread.begin_condition(),
         _ => {}
     }
 }

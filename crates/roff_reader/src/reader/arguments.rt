@@ -6,12 +6,10 @@ ghost use Rattle.roff_reader.specs.Clauses.{row_of, no_unit_found, unit_found, a
 ghost use Rattle.roff_reader.specs.Clauses.{name_at as name_given_at};
 
 use super::{Meaning, Reader};
-use roff_requests::Environments;
-use roff_run::PageEvent;
-use roff_run::Reading;
 use roff_num::{Limit, ShortName};
-use roff_run::{LineReading, Request};
-use roff_scan::{ArgumentList, CopyUnit, Read, Unread};
+use roff_requests::Environments;
+use roff_run::{LineReading, LineState, PageEvent, Request};
+use roff_scan::{ArgumentList, CopyUnit, Found, Unread};
 
 impl Reader {
     /// Takes a newline that ends a request's line, with nothing half read: the request is obeyed, or
@@ -35,11 +33,11 @@ impl Reader {
         if byte != b'\n' {
             return None;
         }
-        if unread.is_half_read() {
+        if unread.has_open_escape() {
             return None;
         }
         match self.reading {
-            Reading::Arguments { breaks, request } => {
+            LineState::Arguments { breaks, request } => {
                 Some(self.end_arguments(breaks, request, environments, unread))
             }
             _ => None,
@@ -51,7 +49,7 @@ impl Reader {
         &mut self,
         breaks: bool,
         request: Request,
-        found: Read,
+        found: Found,
         environments: &Environments,
         unread: &mut Unread<PageEvent>,
     ) -> Result<Meaning, Limit>
@@ -59,13 +57,13 @@ impl Reader {
             environments.now self.old self.new unread.old unread.new result }
     {
         match found {
-            Read::Unit(unit) => self.read_unit(breaks, request, unit, environments, unread),
-            Read::Escape(byte) => {
+            Found::Unit(unit) => self.read_unit(breaks, request, unit, environments, unread),
+            Found::Escape(byte) => {
                 self.read_unit(breaks, request, CopyUnit::Kept(byte), environments, unread)
             }
             _ => {
                 unread.settle();
-                let reading = Reading::Arguments { breaks, request };
+                let reading = LineState::Arguments { breaks, request };
                 self.read_in_arguments(reading, found, environments, unread)
             }
         }
@@ -85,7 +83,7 @@ impl Reader {
     {
         match unit {
             CopyUnit::Byte(b'\n') => self.end_arguments(breaks, request, environments, unread),
-            _ => self.hold(unit, Reading::Arguments { breaks, request }, unread),
+            _ => self.hold(unit, LineState::Arguments { breaks, request }, unread),
         }
     }
 
@@ -111,7 +109,7 @@ impl Reader {
     fn hold(
         &mut self,
         unit: CopyUnit,
-        reading: Reading,
+        reading: LineState,
         unread: &mut Unread<PageEvent>,
     ) -> Result<Meaning, Limit>
         ensures { (es : EnvironmentsOf)
@@ -125,8 +123,8 @@ impl Reader {
     /// Something behind the name of a request that is no unit of an argument, and decides nothing.
     pub(super) fn read_in_arguments(
         &mut self,
-        reading: Reading,
-        found: Read,
+        reading: LineState,
+        found: Found,
         environments: &Environments,
         unread: &mut Unread<PageEvent>,
     ) -> Result<Meaning, Limit>
@@ -134,13 +132,13 @@ impl Reader {
             environments.now self.old self.new unread.old unread.new result }
     {
         match found {
-            Read::Holds(unit) => self.hold_text(unit, reading, unread),
-            Read::Asks(purpose, name) => {
+            Found::Holds(unit) => self.hold_text(unit, reading, unread),
+            Found::Asks(purpose, name) => {
                 self.reading = reading;
                 self.ask(purpose, name, environments, unread)
             }
-            Read::Measures(width) => self.measure(width, reading, unread),
-            Read::Tells(remark) => Ok(self.tell(remark, reading)),
+            Found::Measures(width) => self.measure(width, reading, unread),
+            Found::Tells(remark) => Ok(self.tell(remark, reading)),
             _ => Ok(self.read_on(reading)),
         }
     }

@@ -11,17 +11,17 @@ ghost use Rattle.roff_run.specs.Stages.{counts_blanks};
 ghost use Rattle.roff_reader.specs.Reader.Stages.{TurnsFront};
 ghost use Rattle.roff_reader.specs.Clauses.{LineStart, NameOf, PageUnread, TakesAs, kept_taking};
 ghost use Rattle.roff_reader.specs.Clauses.{taking};
-ghost use Rattle.roff_run.specs.declared.reading.Reading.TheVariants.{Arguments as InArguments};
-ghost use Rattle.roff_run.specs.declared.reading.Reading.TheVariants.{Calling};
+ghost use Rattle.roff_run.specs.declared.line_state.LineState.TheVariants.{Arguments as InArguments};
+ghost use Rattle.roff_run.specs.declared.line_state.LineState.TheVariants.{Calling};
 
 use super::Reader;
 use super::calls::CALL_ARGUMENTS;
 use super::control_lines::called_by;
-use roff_requests::Environments;
-use roff_run::PageEvent;
-use roff_run::{Reading, TextByte, TextLine, blanks_in_front, ends_name};
 use roff_num::ShortName;
-use roff_run::{Called, Request};
+use roff_requests::Environments;
+use roff_run::{
+    Called, LineState, PageEvent, Request, TextByte, TextLine, blanks_in_front, ends_name,
+};
 use roff_scan::{CopyUnit, Unread, is_dropped};
 
 impl Reader {
@@ -32,7 +32,7 @@ impl Reader {
         ensures { TakesAtOnce (λ k. taking k self.old.reading unread.old.input byte) []
             self.old self.new unread.old unread.new result }
     {
-        if unread.is_half_read() {
+        if unread.has_open_escape() {
             return false;
         }
         if is_dropped(byte) {
@@ -57,7 +57,7 @@ impl Reader {
             (Ok (only_events (text_byte_events byte means)))) }
         ensures kept { result ≡ None → self.new ≡ self.old }
     {
-        if unread.is_half_read() {
+        if unread.has_open_escape() {
             return None;
         }
         if is_dropped(byte) {
@@ -67,8 +67,8 @@ impl Reader {
             return None;
         }
         match self.reading {
-            Reading::LineStart => self.take_first(byte, environments),
-            Reading::Text(line) => self.take_on(line, byte),
+            LineState::LineStart => self.take_first(byte, environments),
+            LineState::Text(line) => self.take_on(line, byte),
             _ => None,
         }
     }
@@ -113,7 +113,7 @@ impl Reader {
         ensures { result ≡ counts_blanks self.now.reading }
     {
         match self.reading {
-            Reading::Text(line) => line.counts_blanks(),
+            LineState::Text(line) => line.counts_blanks(),
             _ => false,
         }
     }
@@ -124,9 +124,9 @@ impl Reader {
         ensures { TurnsFront front.now result self.old self.new }
     {
         match self.reading {
-            Reading::Text(line) => {
+            LineState::Text(line) => {
                 let count = blanks_in_front(front);
-                self.go_on(Reading::Text(line.behind_blanks(count)));
+                self.go_on(LineState::Text(line.behind_blanks(count)));
                 count
             }
             _ => 0,
@@ -136,29 +136,29 @@ impl Reader {
     /// The same as [`reads_on`](Reader::reads_on) of a byte that isn't dropped.
     #[inline(never)]
     fn reads_kept_on(&mut self, byte: u8, unread: &mut Unread<PageEvent>) -> bool
-        requires { unread.old.input.half ≡ [] }
+        requires { unread.old.input.escapes ≡ [] }
         ensures { TakesAtOnce (λ k. kept_taking k self.old.reading unread.old.input byte) []
             self.old self.new unread.old unread.new result }
     {
         match self.reading {
-            Reading::LineStart => self.begins_control(byte),
-            Reading::Control { breaks } => {
-                self.go_on(Reading::behind_control(breaks, byte));
+            LineState::LineStart => self.begins_control(byte),
+            LineState::Control { breaks } => {
+                self.go_on(LineState::behind_control(breaks, byte));
                 true
             }
-            Reading::Name { breaks, first } => self.reads_name(breaks, first, byte, unread),
-            Reading::Arguments { breaks, request } => self.holds(breaks, request, byte, unread),
-            Reading::Calling { name } => self.calls(name, byte, unread),
-            Reading::Skipping {
+            LineState::Name { breaks, first } => self.reads_name(breaks, first, byte, unread),
+            LineState::Arguments { breaks, request } => self.holds(breaks, request, byte, unread),
+            LineState::Calling { name } => self.calls(name, byte, unread),
+            LineState::Skipping {
                 opened,
                 closed,
                 behind,
             } => {
-                self.go_on(Reading::behind_skipped(opened, closed, behind, byte));
+                self.go_on(LineState::behind_skipped(opened, closed, behind, byte));
                 true
             }
-            Reading::Dropped => {
-                self.go_on(Reading::behind_dropped(byte));
+            LineState::Dropped => {
+                self.go_on(LineState::behind_dropped(byte));
                 true
             }
             _ => false,
@@ -167,15 +167,15 @@ impl Reader {
 
     /// Reads the dot or apostrophe with which a control line begins.
     fn begins_control(&mut self, byte: u8) -> bool
-        ensures { (u : PageUnread) → u.input.half ≡ []
+        ensures { (u : PageUnread) → u.input.escapes ≡ []
             → TakesAtOnce (λ k. kept_taking k LineStart u.input byte) [] self.old self.new u u result }
     {
         if byte == b'.' {
-            self.go_on(Reading::Control { breaks: true });
+            self.go_on(LineState::Control { breaks: true });
             return true;
         }
         if byte == b'\'' {
-            self.go_on(Reading::Control { breaks: false });
+            self.go_on(LineState::Control { breaks: false });
             return true;
         }
         false
@@ -206,11 +206,11 @@ impl Reader {
                 true
             }
             Called::Body(name) => {
-                self.go_on(Reading::Calling { name });
+                self.go_on(LineState::Calling { name });
                 true
             }
             Called::Nothing => {
-                self.go_on(Reading::Dropped);
+                self.go_on(LineState::Dropped);
                 true
             }
         }
@@ -225,7 +225,7 @@ impl Reader {
         byte: u8,
         unread: &mut Unread<PageEvent>,
     ) -> bool
-        requires { unread.old.input.half ≡ [] }
+        requires { unread.old.input.escapes ≡ [] }
         ensures { TakesAtOnce (λ k. kept_taking k (InArguments breaks request) unread.old.input byte)
             [] self.old self.new unread.old unread.new result }
     {
@@ -237,7 +237,7 @@ impl Reader {
         }
         match unread.hold(CopyUnit::Byte(byte)) {
             Ok(()) => {
-                self.go_on(Reading::Arguments { breaks, request });
+                self.go_on(LineState::Arguments { breaks, request });
                 true
             }
             Err(_) => false,
@@ -247,7 +247,7 @@ impl Reader {
     /// Reads a byte behind the name of a body that a line calls, if it is no backslash, and no limit
     /// refuses it: the line's end, or one of the first arguments.
     fn calls(&mut self, name: ShortName, byte: u8, unread: &mut Unread<PageEvent>) -> bool
-        requires { unread.old.input.half ≡ [] }
+        requires { unread.old.input.escapes ≡ [] }
         ensures { TakesAtOnce (λ k. kept_taking k (Calling name) unread.old.input byte) []
             self.old self.new unread.old unread.new result }
     {
@@ -262,7 +262,7 @@ impl Reader {
         }
         match unread.hold(CopyUnit::Byte(byte)) {
             Ok(()) => {
-                self.go_on(Reading::Calling { name });
+                self.go_on(LineState::Calling { name });
                 true
             }
             Err(_) => false,
@@ -272,13 +272,13 @@ impl Reader {
     /// The same at that end.
     #[inline(never)]
     fn calls_body(&mut self, name: ShortName, unread: &mut Unread<PageEvent>) -> bool
-        requires { unread.old.input.half ≡ [] }
+        requires { unread.old.input.escapes ≡ [] }
         ensures { TakesAtOnce (λ k. kept_taking k (Calling name) unread.old.input newline) []
             self.old self.new unread.old unread.new result }
     {
         match unread.call(&name.name()) {
             Ok(()) => {
-                self.go_on(Reading::LineStart);
+                self.go_on(LineState::LineStart);
                 true
             }
             Err(_) => false,
@@ -287,7 +287,7 @@ impl Reader {
 
     /// This is read on.
     #[inline(always)]
-    pub(super) fn go_on(&mut self, reading: Reading)
+    pub(super) fn go_on(&mut self, reading: LineState)
         ensures { self.new ≡ record self.old { reading = reading } }
     {
         self.reading = reading;

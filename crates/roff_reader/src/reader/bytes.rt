@@ -4,7 +4,7 @@ ghost use Rattle.std.specs.Prelude.{◌≡◌, ℕ, [], ◌∷◌, None, Some, f
 ghost use Rattle.roff_lines.specs.declared.event.Event.TheVariants.{Gap, Print, WordEnd};
 ghost use Rattle.roff_lines.specs.declared.glyph.Glyph.TheVariants.{Printed};
 ghost use Rattle.roff_run.specs.declared.event.PageEvent.TheVariants.{Text};
-ghost use Rattle.roff_run.specs.Registers.{Known as KnownOf};
+ghost use Rattle.roff_run.specs.Registers.{Known};
 ghost use Rattle.roff_reader.specs.Clauses.{Passes, TakesAs, meaning_events, is_passed, kept_taking};
 ghost use Rattle.roff_reader.specs.Clauses.{taking, due};
 ghost use Rattle.roff_run.specs.Reading.Found.{has_place};
@@ -16,21 +16,20 @@ ghost use Rattle.roff_source.specs.Bytes.{is_text_byte};
 
 use super::calls::CALL_ARGUMENTS;
 use super::{Meaning, Reader};
-use roff_requests::Environments;
-use roff_run::PageEvent;
-use roff_run::Reading;
 use roff_num::Limit;
+use roff_requests::Environments;
+use roff_run::{LineState, PageEvent};
 use roff_scan::Unread;
 
 impl Reader {
     /// Whether a byte is a glyph behind another on a text line, and does nothing else. Most are.
     #[inline(always)]
     pub fn goes_on_with(&self, byte: u8, unread: &Unread<PageEvent>) -> bool
-        ensures { result ≡ true → (k : KnownOf) → taking k self.now.reading unread.now.input byte
+        ensures { result ≡ true → (k : Known) → taking k self.now.reading unread.now.input byte
             ≡ meaning_events unread.now.input self.now.reading (Text (Print (Printed byte)) ∷ []) }
     {
         match self.reading {
-            Reading::Text(line) => line.goes_on_with(byte) && !unread.is_half_read(),
+            LineState::Text(line) => line.goes_on_with(byte) && !unread.has_open_escape(),
             _ => false,
         }
     }
@@ -38,12 +37,12 @@ impl Reader {
     /// Whether a byte is a gap behind a glyph on a text line, and does nothing else.
     #[inline(always)]
     pub fn goes_on_with_gap(&self, byte: u8, unread: &Unread<PageEvent>) -> bool
-        ensures { result ≡ true → (k : KnownOf) → taking k self.now.reading unread.now.input byte
+        ensures { result ≡ true → (k : Known) → taking k self.now.reading unread.now.input byte
             ≡ meaning_events unread.now.input self.now.reading
             (Text WordEnd ∷ Text (Gap 1) ∷ []) }
     {
         match self.reading {
-            Reading::Text(line) => line.goes_on_with_gap(byte) && !unread.is_half_read(),
+            LineState::Text(line) => line.goes_on_with_gap(byte) && !unread.has_open_escape(),
             _ => false,
         }
     }
@@ -61,8 +60,8 @@ impl Reader {
         ensures none_due { IfSome result (λ within_block. due self.now.reading ≡ None) }
     {
         match self.reading {
-            Reading::Dropped => Some(false),
-            Reading::Skipping {
+            LineState::Dropped => Some(false),
+            LineState::Skipping {
                 opened,
                 closed,
                 behind: false,
@@ -80,7 +79,7 @@ impl Reader {
         ensures none_due { result ≡ true → due self.now.reading ≡ None }
     {
         match self.reading {
-            Reading::Text(line) => line.prints(),
+            LineState::Text(line) => line.prints(),
             _ => false,
         }
     }
@@ -95,7 +94,7 @@ impl Reader {
         ensures none_due { result ≡ true → due self.now.reading ≡ None }
     {
         match self.reading {
-            Reading::Arguments { .. } => true,
+            LineState::Arguments { .. } => true,
             _ => false,
         }
     }
@@ -110,7 +109,7 @@ impl Reader {
         ensures none_due { IfSome result (λ most. due self.now.reading ≡ None) }
     {
         match self.reading {
-            Reading::Calling { .. } => Some(CALL_ARGUMENTS - 1),
+            LineState::Calling { .. } => Some(CALL_ARGUMENTS - 1),
             _ => None,
         }
     }
@@ -124,9 +123,9 @@ impl Reader {
         ensures none_due { result ≡ true → due self.now.reading ≡ None }
     {
         match self.reading {
-            Reading::LineStart => true,
-            Reading::Branch => true,
-            Reading::Text(_) => true,
+            LineState::LineStart => true,
+            LineState::Branch => true,
+            LineState::Text(_) => true,
             _ => false,
         }
     }
@@ -140,7 +139,7 @@ impl Reader {
         ensures none_due { result ≡ true → due self.now.reading ≡ None }
     {
         match self.reading {
-            Reading::Deciding { .. } => true,
+            LineState::Deciding { .. } => true,
             _ => false,
         }
     }
@@ -154,7 +153,7 @@ impl Reader {
         ensures none_due { result ≡ true → due self.now.reading ≡ None }
     {
         match self.reading {
-            Reading::Defining {
+            LineState::Defining {
                 name: Some(_),
                 matched: None,
                 ..
@@ -173,7 +172,7 @@ impl Reader {
         ensures none_due { result ≡ true → due self.now.reading ≡ None }
     {
         match self.reading {
-            Reading::Defining {
+            LineState::Defining {
                 name: None,
                 matched: None,
                 ..
@@ -193,22 +192,24 @@ impl Reader {
             environments.now self.old self.new unread.old unread.new result }
     {
         match self.reading {
-            Reading::Control { breaks } => Ok(self.read_on(Reading::behind_control(breaks, byte))),
-            Reading::Name { breaks, first } => self.end_name(
+            LineState::Control { breaks } => Ok(self.read_on(LineState::behind_control(
+                breaks, byte,
+            ))),
+            LineState::Name { breaks, first } => self.end_name(
                 breaks,
                 first,
                 byte,
                 environments,
                 unread,
             ),
-            Reading::Skipping {
+            LineState::Skipping {
                 opened,
                 closed,
                 behind,
-            } => Ok(self.read_on(Reading::behind_skipped(opened, closed, behind, byte))),
-            Reading::Dropped => Ok(self.read_on(Reading::behind_dropped(byte))),
-            Reading::Told { aborts } => Ok(self.read_on(Reading::Told { aborts })),
-            Reading::Exiting => Ok(self.read_on(Reading::Exiting)),
+            } => Ok(self.read_on(LineState::behind_skipped(opened, closed, behind, byte))),
+            LineState::Dropped => Ok(self.read_on(LineState::behind_dropped(byte))),
+            LineState::Told { aborts } => Ok(self.read_on(LineState::Told { aborts })),
+            LineState::Exiting => Ok(self.read_on(LineState::Exiting)),
             _ => self.read_placed(byte, environments, unread),
         }
     }

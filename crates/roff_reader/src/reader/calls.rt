@@ -3,11 +3,10 @@
 ghost use Rattle.roff_reader.specs.Clauses.{EnvironmentsOf, TakesAs, call_found, call_unit};
 
 use super::{Meaning, Reader};
-use roff_requests::Environments;
-use roff_run::PageEvent;
-use roff_run::Reading;
 use roff_num::{Limit, ShortName};
-use roff_scan::{CopyUnit, Read, Unread};
+use roff_requests::Environments;
+use roff_run::{LineState, PageEvent};
+use roff_scan::{CopyUnit, Found, Unread};
 
 /// How many arguments a body gets that a line calls.
 pub(super) const CALL_ARGUMENTS: usize = 9;
@@ -17,7 +16,7 @@ impl Reader {
     pub(super) fn read_call(
         &mut self,
         name: ShortName,
-        found: Read,
+        found: Found,
         environments: &Environments,
         unread: &mut Unread<PageEvent>,
     ) -> Result<Meaning, Limit>
@@ -25,11 +24,11 @@ impl Reader {
             environments.now self.old self.new unread.old unread.new result }
     {
         match found {
-            Read::Unit(unit) => self.read_unit_of_call(name, unit, unread),
-            Read::Escape(byte) => self.read_unit_of_call(name, CopyUnit::Kept(byte), unread),
+            Found::Unit(unit) => self.read_unit_of_call(name, unit, unread),
+            Found::Escape(byte) => self.read_unit_of_call(name, CopyUnit::Kept(byte), unread),
             _ => {
                 unread.settle();
-                self.read_in_arguments(Reading::Calling { name }, found, environments, unread)
+                self.read_in_arguments(LineState::Calling { name }, found, environments, unread)
             }
         }
     }
@@ -49,7 +48,7 @@ impl Reader {
         match unit {
             CopyUnit::Byte(b'\n') => {
                 unread.call(&name.name())?;
-                return Ok(self.read_on(Reading::LineStart));
+                return Ok(self.read_on(LineState::LineStart));
             }
             CopyUnit::Byte(b'"') => {}
             _ => unread.settle(),
@@ -57,6 +56,6 @@ impl Reader {
         if unread.arguments().len() < CALL_ARGUMENTS {
             unread.hold(unit)?;
         }
-        Ok(self.read_on(Reading::Calling { name }))
+        Ok(self.read_on(LineState::Calling { name }))
     }
 }

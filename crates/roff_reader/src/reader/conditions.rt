@@ -1,18 +1,17 @@
 //! Conditions: whether one is so, and its branch.
 
 ghost use Rattle.std.specs.Prelude.{◌≡◌, []};
-ghost use Rattle.roff_run.specs.Registers.{Known as KnownOf};
+ghost use Rattle.roff_run.specs.Registers.{Known};
 ghost use Rattle.roff_reader.specs.Clauses.{TakesAs, condition_found, decided, is_so, condition_begun};
-ghost use Rattle.roff_reader.specs.Clauses.{half_ended};
+ghost use Rattle.roff_reader.specs.Clauses.{escape_ended};
 ghost use Rattle.roff_reader.specs.Reader.AtOnce.{TakesAtOnce};
 
 use super::places::at_start;
 use super::{Meaning, Reader};
-use roff_requests::Environments;
-use roff_run::PageEvent;
-use roff_run::Reading;
 use roff_num::Limit;
-use roff_scan::{Decision, Read, Surroundings, Unread};
+use roff_requests::Environments;
+use roff_run::{LineState, PageEvent};
+use roff_scan::{Decision, Found, Surroundings, Unread};
 
 impl Reader {
     /// The first byte of a condition behind a name of one byte; one that isn't there is false.
@@ -27,7 +26,7 @@ impl Reader {
             environments.now self.old self.new unread.old unread.new result }
     {
         if byte == b'\n' {
-            let found = Read::Decides(Decision::Is(false), Some(byte));
+            let found = Found::Decides(Decision::Is(false), Some(byte));
             return self.read_condition(keeps, found, environments, unread);
         }
         unread.begin_condition();
@@ -39,7 +38,7 @@ impl Reader {
     pub(super) fn read_condition(
         &mut self,
         keeps: bool,
-        found: Read,
+        found: Found,
         environments: &Environments,
         unread: &mut Unread<PageEvent>,
     ) -> Result<Meaning, Limit>
@@ -47,7 +46,7 @@ impl Reader {
             environments.now self.old self.new unread.old unread.new result }
     {
         match found {
-            Read::Decides(decision, freed) => {
+            Found::Decides(decision, freed) => {
                 let so = self.is_so(decision);
                 // The limit on results is the last that is looked at.
                 let meaning = self.begin_branch(so, freed, environments, unread)?;
@@ -56,7 +55,7 @@ impl Reader {
                 }
                 Ok(meaning)
             }
-            _ => self.read_in_arguments(Reading::Deciding { keeps }, found, environments, unread),
+            _ => self.read_in_arguments(LineState::Deciding { keeps }, found, environments, unread),
         }
     }
 
@@ -64,13 +63,13 @@ impl Reader {
     /// its branch or skips it. Whether there was one; else nothing happens.
     #[inline(always)]
     pub fn decides(&mut self, unread: &mut Unread<PageEvent>) -> bool
-        ensures { TakesAtOnce (λ k. half_ended k self.old.reading unread.old.input) []
+        ensures { TakesAtOnce (λ k. escape_ended k self.old.reading unread.old.input) []
             self.old self.new unread.old unread.new result }
     {
         match self.reading {
-            Reading::Deciding { keeps: false } => match unread.end_decided() {
+            LineState::Deciding { keeps: false } => match unread.end_decided() {
                 Some(so) => {
-                    self.go_on(Reading::branch(so));
+                    self.go_on(LineState::branch(so));
                     true
                 }
                 None => false,
@@ -81,7 +80,7 @@ impl Reader {
 
     /// Whether a condition is so that asks this.
     fn is_so(&self, decision: Decision) -> bool
-        ensures { (k : KnownOf) → k.registers ≡ self.now.registers.all
+        ensures { (k : Known) → k.registers ≡ self.now.registers.all
             → result ≡ is_so k decision }
     {
         match decision {
@@ -101,14 +100,14 @@ impl Reader {
         ensures { TakesAs (λ k. decided k unread.old.input so freed)
             environments.now self.old self.new unread.old unread.new result }
     {
-        let branch = Reading::branch(so);
+        let branch = LineState::branch(so);
         match freed {
             None => Ok(self.read_on(branch)),
             Some(byte) if so => {
                 let found = unread.read_byte(at_start(environments), byte);
                 self.begin_line(branch, found, environments, unread)
             }
-            Some(byte) => Ok(self.read_on(Reading::behind_skipped(0, 0, false, byte))),
+            Some(byte) => Ok(self.read_on(LineState::behind_skipped(0, 0, false, byte))),
         }
     }
 }

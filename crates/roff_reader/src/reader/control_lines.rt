@@ -6,11 +6,9 @@ ghost use Rattle.roff_reader.specs.Clauses.{EnvironmentsOf, NameOf, TakesAs, beh
 ghost use Rattle.roff_reader.specs.Clauses.{line_taking, row_of, name_ended_taking, called_by};
 
 use super::{Meaning, Reader};
-use roff_requests::Environments;
-use roff_run::PageEvent;
-use roff_run::{Reading, ends_name};
 use roff_num::{Limit, ShortName};
-use roff_run::{Called, LineReading, Request};
+use roff_requests::Environments;
+use roff_run::{Called, LineReading, LineState, PageEvent, Request, ends_name};
 use roff_scan::{Surroundings, Unread};
 use roff_store::Kind;
 
@@ -43,8 +41,8 @@ impl Reader {
                 self.begin_request(breaks, request, unread);
                 Ok(Meaning::nothing())
             }
-            Called::Body(name) => Ok(self.read_on(Reading::Calling { name })),
-            Called::Nothing => Ok(self.read_on(Reading::Dropped)),
+            Called::Body(name) => Ok(self.read_on(LineState::Calling { name })),
+            Called::Nothing => Ok(self.read_on(LineState::Dropped)),
         }
     }
 
@@ -72,7 +70,7 @@ impl Reader {
                 let found = unread.read_byte(Surroundings::Arguments, byte);
                 self.read_call(name, found, environments, unread)
             }
-            Called::Nothing => Ok(self.read_on(Reading::behind_dropped(byte))),
+            Called::Nothing => Ok(self.read_on(LineState::behind_dropped(byte))),
         }
     }
 
@@ -135,19 +133,19 @@ impl Reader {
             es self.old self.new unread.old unread.new (Ok (only_events [])) }
     {
         let reading = match request.row().line {
-            LineReading::ByArguments => Reading::Arguments { breaks, request },
-            LineReading::ByLines(_) => Reading::Arguments { breaks, request },
+            LineReading::ByArguments => LineState::Arguments { breaks, request },
+            LineReading::ByLines(_) => LineState::Arguments { breaks, request },
             LineReading::ByCondition { keeps } => {
                 unread.begin_condition();
-                Reading::Deciding { keeps }
+                LineState::Deciding { keeps }
             }
-            LineReading::ByString { appends } => Reading::StringName { appends },
-            LineReading::ByLastLine => Reading::Arguments { breaks, request },
-            LineReading::ByMessage { aborts } => Reading::Telling {
+            LineReading::ByString { appends } => LineState::StringName { appends },
+            LineReading::ByLastLine => LineState::Arguments { breaks, request },
+            LineReading::ByMessage { aborts } => LineState::Telling {
                 aborts,
                 is_front: true,
             },
-            LineReading::ByElse => Reading::branch(unread.take_kept() == Some(false)),
+            LineReading::ByElse => LineState::branch(unread.take_kept() == Some(false)),
         };
         self.go_on(reading);
     }

@@ -9,14 +9,11 @@ ghost use Rattle.roff_reader.specs.Clauses.{definition_line, ends_mark, unit_byt
 use super::arguments::short_name_at;
 use super::strings::{begin_string, enter_string};
 use super::{Meaning, Reader};
-use roff_run::{DefinitionLine, EndMark, matched_behind};
-use roff_requests::Environments;
-use roff_run::PageEvent;
-use roff_run::Reading;
-use roff_num::{Limit, ShortName};
-use roff_run::LinesFor;
 use arrayvec::ArrayVec;
-use roff_scan::{CopyUnit, Read, Unread};
+use roff_num::{Limit, ShortName};
+use roff_requests::Environments;
+use roff_run::{DefinitionLine, EndMark, LineState, LinesFor, PageEvent, matched_behind};
+use roff_scan::{CopyUnit, Found, Unread};
 
 impl Reader {
     /// The end of the line of a request by which lines are defined, or ignored.
@@ -39,7 +36,7 @@ impl Reader {
             }
             (LinesFor::Macro { .. }, _) => {
                 unread.begin_arguments();
-                Ok(self.read_on(Reading::LineStart))
+                Ok(self.read_on(LineState::LineStart))
             }
         }
     }
@@ -57,7 +54,7 @@ impl Reader {
             es self.old self.new unread.old unread.new result }
     {
         begin_string(name, unread)?;
-        Ok(self.read_on(Reading::Defining {
+        Ok(self.read_on(LineState::Defining {
             name,
             appends,
             end,
@@ -72,7 +69,7 @@ impl Reader {
         appends: bool,
         end: Option<ShortName>,
         matched: Option<u8>,
-        found: Read,
+        found: Found,
         environments: &Environments,
         unread: &mut Unread<PageEvent>,
     ) -> Result<Meaning, Limit>
@@ -80,7 +77,7 @@ impl Reader {
             environments.now self.old self.new unread.old unread.new result }
     {
         match found {
-            Read::Unit(unit) => {
+            Found::Unit(unit) => {
                 self.read_unit_of_definition(
                     name,
                     appends,
@@ -91,7 +88,7 @@ impl Reader {
                     unread,
                 )
             }
-            Read::Escape(byte) => {
+            Found::Escape(byte) => {
                 let unit = CopyUnit::Kept(byte);
                 self.read_unit_of_definition(
                     name,
@@ -104,7 +101,7 @@ impl Reader {
                 )
             }
             _ => {
-                let reading = Reading::Defining {
+                let reading = LineState::Defining {
                     name,
                     appends,
                     end,
@@ -130,7 +127,7 @@ impl Reader {
         ensures { TakesAs (λ k. definition_line k unread.old.input name appends end matched unit)
             environments.now self.old self.new unread.old unread.new result }
     {
-        let defining = |matched| Reading::Defining {
+        let defining = |matched| LineState::Defining {
             name,
             appends,
             end,
@@ -185,7 +182,7 @@ impl Reader {
                 unread.begin_line();
                 self.read_behind_name(true, end, byte, environments, unread)
             }
-            None => Ok(self.read_on(Reading::behind_dropped(byte))),
+            None => Ok(self.read_on(LineState::behind_dropped(byte))),
         }
     }
 }

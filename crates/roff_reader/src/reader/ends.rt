@@ -2,15 +2,13 @@
 
 ghost use Rattle.std.specs.Prelude.{Ok};
 ghost use Rattle.roff_reader.specs.Clauses.{EnvironmentsOf, PageUnread, TakesAs, definition_cut};
-ghost use Rattle.roff_reader.specs.Clauses.{end_taking, half_ended, interrupted_end, meaning_events};
+ghost use Rattle.roff_reader.specs.Clauses.{end_taking, escape_ended, interrupted_end};
+ghost use Rattle.roff_reader.specs.Clauses.{meaning_events};
 
 use super::{Meaning, Reader};
-use roff_requests::Environments;
-use roff_run::PageEvent;
-use roff_requests::Events;
-use roff_run::Message;
-use roff_run::{Reading, TextStep};
 use roff_num::{Limit, ShortName};
+use roff_requests::{Environments, Events};
+use roff_run::{LineState, Message, PageEvent, TextStep};
 use roff_scan::{CopyUnit, Unread};
 
 impl Reader {
@@ -19,12 +17,12 @@ impl Reader {
     /// # Errors
     ///
     /// A limit that it would pass; what was changed then is of no more use.
-    pub fn end_half(
+    pub fn end_escape(
         &mut self,
         environments: &Environments,
         unread: &mut Unread<PageEvent>,
     ) -> Result<Meaning, Limit>
-        ensures { TakesAs (λ k. half_ended k self.old.reading unread.old.input)
+        ensures { TakesAs (λ k. escape_ended k self.old.reading unread.old.input)
             environments.now self.old self.new unread.old unread.new result }
     {
         let place = self.place(environments);
@@ -46,32 +44,38 @@ impl Reader {
             environments.now self.old self.new unread.old unread.new result }
     {
         match self.reading {
-            Reading::LineStart => Ok(self.end_interrupted(Reading::LineStart, environments)),
-            Reading::Braced => Ok(self.end_interrupted(Reading::LineStart, environments)),
-            Reading::Control { .. } => Ok(self.end_interrupted(Reading::LineStart, environments)),
-            Reading::StringName { appends } => {
+            LineState::LineStart => Ok(self.end_interrupted(LineState::LineStart, environments)),
+            LineState::Braced => Ok(self.end_interrupted(LineState::LineStart, environments)),
+            LineState::Control { .. } => Ok(self.end_interrupted(
+                LineState::LineStart,
+                environments,
+            )),
+            LineState::StringName { appends } => {
                 self.end_string_line(appends, unread)?;
-                Ok(self.end_interrupted(Reading::LineStart, environments))
+                Ok(self.end_interrupted(LineState::LineStart, environments))
             }
-            Reading::StringText {
+            LineState::StringText {
                 name,
                 appends,
                 is_front,
             } => {
                 let end = CopyUnit::Byte(b'\n');
                 self.read_unit_of_string(name, appends, is_front, end, unread)?;
-                Ok(self.end_interrupted(Reading::LineStart, environments))
+                Ok(self.end_interrupted(LineState::LineStart, environments))
             }
-            Reading::Skipping { .. } => Ok(self.end_interrupted(Reading::LineStart, environments)),
-            Reading::Dropped => Ok(self.end_interrupted(Reading::LineStart, environments)),
-            Reading::Exiting => Ok(self.end_interrupted(Reading::Exiting, environments)),
-            Reading::Defining { name, .. } => Ok(self.drop_definition(name, unread)),
+            LineState::Skipping { .. } => Ok(self.end_interrupted(
+                LineState::LineStart,
+                environments,
+            )),
+            LineState::Dropped => Ok(self.end_interrupted(LineState::LineStart, environments)),
+            LineState::Exiting => Ok(self.end_interrupted(LineState::Exiting, environments)),
+            LineState::Defining { name, .. } => Ok(self.drop_definition(name, unread)),
             _ => self.read_kept(b'\n', environments, unread),
         }
     }
 
     /// An interrupted line that no text line went on with ends, and this is read.
-    fn end_interrupted(&mut self, behind: Reading, environments: &Environments) -> Meaning
+    fn end_interrupted(&mut self, behind: LineState, environments: &Environments) -> Meaning
         ensures { (u : PageUnread) → TakesAs
             (λ k. meaning_events u.input behind (interrupted_end k.interrupted))
             environments.now self.old self.new u u (Ok result) }
@@ -103,7 +107,7 @@ impl Reader {
         if name.is_some() {
             unread.drop_text();
         }
-        self.reading = Reading::LineStart;
+        self.reading = LineState::LineStart;
         Meaning {
             message: Some(Message::DefinitionNotEnded),
             events: Events::new(),

@@ -6,13 +6,10 @@ ghost use Rattle.roff_reader.specs.Clauses.{measuring, putting_nothing, telling,
 ghost use Rattle.roff_reader.specs.Clauses.{putting_argument};
 
 use super::{Meaning, Reader};
-use roff_requests::Environments;
-use roff_run::PageEvent;
-use roff_requests::Events;
-use roff_run::Message;
-use roff_run::Reading;
 use itoa::Buffer;
 use roff_num::{Limit, Name};
+use roff_requests::{Environments, Events};
+use roff_run::{LineState, Message, PageEvent};
 use roff_scan::{CopyUnit, NameUse, Remark, Unread};
 
 impl Reader {
@@ -78,7 +75,7 @@ impl Reader {
     pub(super) fn hold_text(
         &mut self,
         unit: CopyUnit,
-        reading: Reading,
+        reading: LineState,
         unread: &mut Unread<PageEvent>,
     ) -> Result<Meaning, Limit>
         ensures { (es : EnvironmentsOf)
@@ -93,7 +90,7 @@ impl Reader {
     pub(super) fn measure(
         &mut self,
         width: u32,
-        reading: Reading,
+        reading: LineState,
         unread: &mut Unread<PageEvent>,
     ) -> Result<Meaning, Limit>
         ensures { (es : EnvironmentsOf)
@@ -106,7 +103,7 @@ impl Reader {
 
     /// This is said of something within a text that is measured or a condition, and this is read
     /// on.
-    pub(super) fn tell(&mut self, remark: Remark, reading: Reading) -> Meaning
+    pub(super) fn tell(&mut self, remark: Remark, reading: LineState) -> Meaning
         ensures { (es : EnvironmentsOf) (u : PageUnread)
             → TakesAs (λ k. telling u.input reading remark) es self.old self.new u u (Ok result) }
     {

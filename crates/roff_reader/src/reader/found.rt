@@ -8,11 +8,10 @@ ghost use Rattle.roff_reader.specs.Clauses.{known_at};
 
 use super::places::{at_start, on_line};
 use super::{Meaning, Reader};
-use roff_requests::Environments;
-use roff_run::PageEvent;
-use roff_run::Reading;
 use roff_num::Limit;
-use roff_scan::{Read, Surroundings, Unread};
+use roff_requests::Environments;
+use roff_run::{LineState, PageEvent};
+use roff_scan::{Found, Surroundings, Unread};
 
 impl Reader {
     /// How a byte is read above what is read of the line.
@@ -22,23 +21,23 @@ impl Reader {
             → result ≡ place_in (known_at h rs i) self.now.reading }
     {
         match self.reading {
-            Reading::LineStart => at_start(environments),
-            Reading::Branch => at_start(environments),
-            Reading::Braced => at_start(environments),
-            Reading::Text(line) => on_line(environments, line),
-            Reading::Arguments { .. } => Surroundings::Arguments,
-            Reading::Deciding { .. } => Surroundings::Arguments,
-            Reading::StringName { .. } => Surroundings::Arguments,
-            Reading::Calling { .. } => Surroundings::Arguments,
-            Reading::StringText { .. } => Surroundings::Copy,
-            Reading::Telling { .. } => Surroundings::Copy,
-            Reading::Defining { .. } => Surroundings::Copy,
-            Reading::Control { .. } => Surroundings::Text(0),
-            Reading::Name { .. } => Surroundings::Text(0),
-            Reading::Skipping { .. } => Surroundings::Text(0),
-            Reading::Dropped => Surroundings::Text(0),
-            Reading::Told { .. } => Surroundings::Text(0),
-            Reading::Exiting => Surroundings::Text(0),
+            LineState::LineStart => at_start(environments),
+            LineState::Branch => at_start(environments),
+            LineState::Braced => at_start(environments),
+            LineState::Text(line) => on_line(environments, line),
+            LineState::Arguments { .. } => Surroundings::Arguments,
+            LineState::Deciding { .. } => Surroundings::Arguments,
+            LineState::StringName { .. } => Surroundings::Arguments,
+            LineState::Calling { .. } => Surroundings::Arguments,
+            LineState::StringText { .. } => Surroundings::Copy,
+            LineState::Telling { .. } => Surroundings::Copy,
+            LineState::Defining { .. } => Surroundings::Copy,
+            LineState::Control { .. } => Surroundings::Text(0),
+            LineState::Name { .. } => Surroundings::Text(0),
+            LineState::Skipping { .. } => Surroundings::Text(0),
+            LineState::Dropped => Surroundings::Text(0),
+            LineState::Told { .. } => Surroundings::Text(0),
+            LineState::Exiting => Surroundings::Text(0),
         }
     }
 
@@ -49,7 +48,7 @@ impl Reader {
     /// A limit that it would pass; what was changed then is of no more use.
     pub fn read_found(
         &mut self,
-        found: Read,
+        found: Found,
         environments: &Environments,
         unread: &mut Unread<PageEvent>,
     ) -> Result<Meaning, Limit>
@@ -57,29 +56,34 @@ impl Reader {
             environments.now self.old self.new unread.old unread.new result }
     {
         match self.reading {
-            Reading::LineStart => {
-                self.begin_line(Reading::LineStart, found, environments, unread)
+            LineState::LineStart => {
+                self.begin_line(LineState::LineStart, found, environments, unread)
             }
-            Reading::Branch => self.begin_line(Reading::Branch, found, environments, unread),
-            Reading::Braced => self.begin_line(Reading::Braced, found, environments, unread),
-            Reading::Text(line) => self.read_text(line, found, environments, unread),
-            Reading::Arguments { breaks, request } => {
+            LineState::Branch => self.begin_line(LineState::Branch, found, environments, unread),
+            LineState::Braced => self.begin_line(LineState::Braced, found, environments, unread),
+            LineState::Text(line) => self.read_text(line, found, environments, unread),
+            LineState::Arguments { breaks, request } => {
                 self.read_arguments(breaks, request, found, environments, unread)
             }
-            Reading::Deciding { keeps } => self.read_condition(keeps, found, environments, unread),
-            Reading::StringName { appends } => {
+            LineState::Deciding { keeps } => self.read_condition(
+                keeps,
+                found,
+                environments,
+                unread,
+            ),
+            LineState::StringName { appends } => {
                 self.read_string_name(appends, found, environments, unread)
             }
-            Reading::StringText {
+            LineState::StringText {
                 name,
                 appends,
                 is_front,
             } => self.read_string(name, appends, is_front, found, environments, unread),
-            Reading::Telling { aborts, is_front } => {
+            LineState::Telling { aborts, is_front } => {
                 self.read_message(aborts, is_front, found, environments, unread)
             }
-            Reading::Calling { name } => self.read_call(name, found, environments, unread),
-            Reading::Defining {
+            LineState::Calling { name } => self.read_call(name, found, environments, unread),
+            LineState::Defining {
                 name,
                 appends,
                 end,

@@ -5,11 +5,10 @@ ghost use Rattle.roff_reader.specs.Clauses.{EnvironmentsOf, Telling, TakesAs, go
 ghost use Rattle.roff_reader.specs.Clauses.{message_found, message_unit};
 
 use super::{Meaning, Reader};
-use roff_requests::Environments;
-use roff_run::PageEvent;
-use roff_run::Reading;
 use roff_num::Limit;
-use roff_scan::{CopyUnit, Read, Unread};
+use roff_requests::Environments;
+use roff_run::{LineState, PageEvent};
+use roff_scan::{CopyUnit, Found, Unread};
 
 impl Reader {
     /// Something of a message's text.
@@ -17,7 +16,7 @@ impl Reader {
         &mut self,
         aborts: bool,
         is_front: bool,
-        found: Read,
+        found: Found,
         environments: &Environments,
         unread: &mut Unread<PageEvent>,
     ) -> Result<Meaning, Limit>
@@ -25,12 +24,12 @@ impl Reader {
             environments.now self.old self.new unread.old unread.new result }
     {
         match found {
-            Read::Unit(unit) => self.read_unit_of_message(aborts, is_front, unit, unread),
-            Read::Escape(byte) => {
+            Found::Unit(unit) => self.read_unit_of_message(aborts, is_front, unit, unread),
+            Found::Escape(byte) => {
                 self.read_unit_of_message(aborts, is_front, CopyUnit::Kept(byte), unread)
             }
             _ => {
-                let reading = Reading::Telling { aborts, is_front };
+                let reading = LineState::Telling { aborts, is_front };
                 self.read_in_arguments(reading, found, environments, unread)
             }
         }
@@ -49,8 +48,8 @@ impl Reader {
             es self.old self.new unread.old unread.new result }
     {
         match unit {
-            CopyUnit::Byte(b'\n') => Ok(self.read_on(Reading::Told { aborts })),
-            CopyUnit::Byte(b' ') if is_front => Ok(self.read_on(Reading::Telling {
+            CopyUnit::Byte(b'\n') => Ok(self.read_on(LineState::Told { aborts })),
+            CopyUnit::Byte(b' ') if is_front => Ok(self.read_on(LineState::Telling {
                 aborts,
                 is_front: true,
             })),
@@ -70,7 +69,7 @@ impl Reader {
             es self.old self.new unread.old unread.new result }
     {
         unread.hold_plain(unit)?;
-        Ok(self.read_on(Reading::Telling {
+        Ok(self.read_on(LineState::Telling {
             aborts,
             is_front: false,
         }))

@@ -14,14 +14,12 @@ ghost use Rattle.roff_reader.specs.Clauses.{known_at, line_ended, names_given, r
 ghost use Rattle.roff_run.specs.declared.request.Request.TheVariants.{NumberRegister};
 
 use super::{Meaning, Reader};
-use roff_requests::Environments;
-use roff_run::PageEvent;
-use roff_requests::{Events, RequestEvents, are_none};
-use roff_run::Message;
-use roff_run::Reading;
-use roff_run::Request;
-use roff_requests::{Changes, Effect, Given, Known, effect, name_given, tab_stops};
 use roff_num::{Limit, Name, Num};
+use roff_requests::{
+    Changes, Effect, Environments, Events, Given, RequestEvents, RequestFacts, are_none, effect,
+    name_given, tab_stops,
+};
+use roff_run::{LineState, Message, PageEvent, Request};
 use roff_scan::{ArgumentList, Unread};
 
 impl Reader {
@@ -40,7 +38,7 @@ impl Reader {
         let effect = self.effect(breaks, request, environments, unread);
         let meaning = self.keep(&effect, unread.arguments());
         self.change(&effect.changes, unread)?;
-        let behind = Reading::behind_line(request.row().line);
+        let behind = LineState::behind_line(request.row().line);
         unread.begin_arguments();
         self.reading = behind;
         Ok(meaning)
@@ -121,7 +119,7 @@ impl Reader {
             second: arguments.get(1),
             third: arguments.get(2),
         };
-        let known = Known {
+        let known = RequestFacts {
             settings: environments.in_force.lines.settings(),
             in_force: self.in_force_for(request, given.first, environments, unread),
             has_left: environments.has_left(),

@@ -8,12 +8,9 @@ ghost use Rattle.roff_reader.specs.Clauses.{changed_by, interpolating, known_at,
 ghost use Rattle.roff_reader.specs.Clauses.{names_given, register_named, value_in_force};
 
 use super::{Meaning, Reader};
-use roff_requests::Environments;
-use roff_run::PageEvent;
-use roff_requests::Events;
-use roff_requests::Facts;
-use roff_requests::{name_given, register_named};
 use roff_num::{Direction, Limit, Name, Num};
+use roff_requests::{Environments, Events, Facts, name_given, register_named};
+use roff_run::PageEvent;
 use roff_scan::{ArgumentList, Unread};
 
 impl Reader {

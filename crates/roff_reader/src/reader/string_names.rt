@@ -2,7 +2,7 @@
 
 ghost use Rattle.std.specs.Prelude.{◌≢◌, Some};
 ghost use Rattle.roff_arguments.specs.declared.arguments.Place.TheVariants.{BehindQuote};
-ghost use Rattle.roff_escape.specs.declared.half.CopyUnit.TheVariants.{Byte};
+ghost use Rattle.roff_escape.specs.declared.open_escape.CopyUnit.TheVariants.{Byte};
 ghost use Rattle.roff_reader.specs.Clauses.{EnvironmentsOf, TakesAs, InputBecame, arguments_given, name_read};
 ghost use Rattle.roff_reader.specs.Clauses.{string_emptied, string_line_ended, string_name_behind};
 ghost use Rattle.roff_reader.specs.Clauses.{string_name_found, string_name_or_text, string_name_unit};
@@ -11,11 +11,10 @@ ghost use Rattle.roff_reader.specs.Clauses.{name_at as name_given_at};
 use super::arguments::first_name;
 use super::strings::begin_string;
 use super::{Meaning, Reader};
-use roff_requests::Environments;
-use roff_run::PageEvent;
-use roff_run::Reading;
 use roff_num::{Limit, ShortName};
-use roff_scan::{CopyUnit, Read, Unread};
+use roff_requests::Environments;
+use roff_run::{LineState, PageEvent};
+use roff_scan::{CopyUnit, Found, Unread};
 use roff_store::{Entry, Kind};
 
 impl Reader {
@@ -23,7 +22,7 @@ impl Reader {
     pub(super) fn read_string_name(
         &mut self,
         appends: bool,
-        found: Read,
+        found: Found,
         environments: &Environments,
         unread: &mut Unread<PageEvent>,
     ) -> Result<Meaning, Limit>
@@ -31,13 +30,18 @@ impl Reader {
             environments.now self.old self.new unread.old unread.new result }
     {
         match found {
-            Read::Unit(unit) => self.read_unit_of_string_name(appends, unit, unread),
-            Read::Escape(byte) => {
+            Found::Unit(unit) => self.read_unit_of_string_name(appends, unit, unread),
+            Found::Escape(byte) => {
                 self.read_unit_of_string_name(appends, CopyUnit::Kept(byte), unread)
             }
             _ => {
                 unread.settle();
-                self.read_in_arguments(Reading::StringName { appends }, found, environments, unread)
+                self.read_in_arguments(
+                    LineState::StringName { appends },
+                    found,
+                    environments,
+                    unread,
+                )
             }
         }
     }
@@ -103,13 +107,13 @@ impl Reader {
         match first_name(unread.arguments()) {
             Some(name) => {
                 begin_string(name, unread)?;
-                Ok(self.read_on(Reading::StringText {
+                Ok(self.read_on(LineState::StringText {
                     name,
                     appends,
                     is_front: true,
                 }))
             }
-            None => Ok(self.read_on(Reading::StringName { appends })),
+            None => Ok(self.read_on(LineState::StringName { appends })),
         }
     }
 
@@ -130,7 +134,7 @@ impl Reader {
         if let Some(Some(name)) = given {
             empty_string(name, appends, unread)?;
         }
-        Ok(self.read_on(Reading::LineStart))
+        Ok(self.read_on(LineState::LineStart))
     }
 }
 

@@ -4,11 +4,10 @@ ghost use Rattle.roff_reader.specs.Clauses.{EnvironmentsOf, TakesAs, InputBecame
 ghost use Rattle.roff_reader.specs.Clauses.{string_grown, string_text_found, string_unit};
 
 use super::{Meaning, Reader};
-use roff_requests::Environments;
-use roff_run::PageEvent;
-use roff_run::Reading;
 use roff_num::{Limit, ShortName};
-use roff_scan::{CopyUnit, Read, Unread};
+use roff_requests::Environments;
+use roff_run::{LineState, PageEvent};
+use roff_scan::{CopyUnit, Found, Unread};
 
 impl Reader {
     /// Something of a string's text.
@@ -17,7 +16,7 @@ impl Reader {
         name: Option<ShortName>,
         appends: bool,
         is_front: bool,
-        found: Read,
+        found: Found,
         environments: &Environments,
         unread: &mut Unread<PageEvent>,
     ) -> Result<Meaning, Limit>
@@ -25,12 +24,12 @@ impl Reader {
             environments.now self.old self.new unread.old unread.new result }
     {
         match found {
-            Read::Unit(unit) => self.read_unit_of_string(name, appends, is_front, unit, unread),
-            Read::Escape(byte) => {
+            Found::Unit(unit) => self.read_unit_of_string(name, appends, is_front, unit, unread),
+            Found::Escape(byte) => {
                 self.read_unit_of_string(name, appends, is_front, CopyUnit::Kept(byte), unread)
             }
             _ => {
-                let reading = Reading::StringText {
+                let reading = LineState::StringText {
                     name,
                     appends,
                     is_front,
@@ -54,7 +53,7 @@ impl Reader {
             → TakesAs (λ k. string_unit unread.old.input name appends is_front unit)
             es self.old self.new unread.old unread.new result }
     {
-        let text = |is_front| Reading::StringText {
+        let text = |is_front| LineState::StringText {
             name,
             appends,
             is_front,
@@ -62,7 +61,7 @@ impl Reader {
         match unit {
             CopyUnit::Byte(b'\n') => {
                 enter_string(name, appends, unread)?;
-                Ok(self.read_on(Reading::LineStart))
+                Ok(self.read_on(LineState::LineStart))
             }
             CopyUnit::Byte(b' ') if is_front => Ok(self.read_on(text(true))),
             CopyUnit::Byte(b'"') if is_front => Ok(self.read_on(text(false))),

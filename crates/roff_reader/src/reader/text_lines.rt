@@ -7,19 +7,17 @@ ghost use Rattle.roff_reader.specs.Clauses.{PageUnread, TakesAs, beginning_found
 ghost use Rattle.roff_reader.specs.Clauses.{first_taking, going_on_told, line_begun, name_taking, text_found};
 
 use super::{Meaning, Reader};
-use roff_requests::Environments;
-use roff_run::PageEvent;
-use roff_requests::Events;
-use roff_run::{Reading, TextLine, TextStep};
 use roff_num::{Limit, Name};
-use roff_scan::{CopyUnit, NameUse, Read, Unread};
+use roff_requests::{Environments, Events};
+use roff_run::{LineState, PageEvent, TextLine, TextStep};
+use roff_scan::{CopyUnit, Found, NameUse, Unread};
 
 impl Reader {
     /// Something where a line begins, or a branch, or its rest behind its brace.
     pub(super) fn begin_line(
         &mut self,
-        at: Reading,
-        found: Read,
+        at: LineState,
+        found: Found,
         environments: &Environments,
         unread: &mut Unread<PageEvent>,
     ) -> Result<Meaning, Limit>
@@ -27,35 +25,35 @@ impl Reader {
             environments.now self.old self.new unread.old unread.new result }
     {
         match found {
-            Read::GoesOn => Ok(self.read_on(at)),
-            Read::Unit(CopyUnit::Byte(byte)) => Ok(self.begin_with(at, byte, environments)),
-            Read::Unit(CopyUnit::Kept(byte)) => Ok(self.begin_with_escape(at, byte, environments)),
-            Read::Escape(byte) => Ok(self.begin_with_escape(at, byte, environments)),
-            Read::Holds(unit) => self.hold_text(unit, at, unread),
-            Read::Motion(columns, remark) => {
+            Found::GoesOn => Ok(self.read_on(at)),
+            Found::Unit(CopyUnit::Byte(byte)) => Ok(self.begin_with(at, byte, environments)),
+            Found::Unit(CopyUnit::Kept(byte)) => Ok(self.begin_with_escape(at, byte, environments)),
+            Found::Escape(byte) => Ok(self.begin_with_escape(at, byte, environments)),
+            Found::Holds(unit) => self.hold_text(unit, at, unread),
+            Found::Motion(columns, remark) => {
                 let interrupted = environments.interrupted_line();
                 let step = TextLine::begun_as(interrupted).motion(columns, remark);
                 Ok(self.begin_text(step, interrupted))
             }
-            Read::Measures(width) => self.measure(width, at, unread),
-            Read::Tells(remark) => Ok(self.tell(remark, at)),
-            Read::Asks(purpose, name) => {
+            Found::Measures(width) => self.measure(width, at, unread),
+            Found::Tells(remark) => Ok(self.tell(remark, at)),
+            Found::Asks(purpose, name) => {
                 self.reading = at;
                 self.begin_with_name(purpose, name, environments, unread)
             }
-            Read::Decides(..) => Ok(self.read_on(at)),
+            Found::Decides(..) => Ok(self.read_on(at)),
         }
     }
 
     /// A byte where a line begins, or a branch, or its rest behind its brace.
-    fn begin_with(&mut self, at: Reading, byte: u8, environments: &Environments) -> Meaning
+    fn begin_with(&mut self, at: LineState, byte: u8, environments: &Environments) -> Meaning
         ensures { (u : PageUnread) → TakesAs (λ k. first_taking k u.input at byte)
             environments.now self.old self.new u u (Ok result) }
     {
         match (at, byte) {
-            (Reading::Branch, b' ') => self.read_on(Reading::Branch),
-            (Reading::Braced, b' ') => self.read_on(Reading::Braced),
-            (Reading::Braced, b'\n') => self.read_on(Reading::LineStart),
+            (LineState::Branch, b' ') => self.read_on(LineState::Branch),
+            (LineState::Braced, b' ') => self.read_on(LineState::Braced),
+            (LineState::Braced, b'\n') => self.read_on(LineState::LineStart),
             (_, _) => self.begin_with_any(byte, environments),
         }
     }
@@ -66,8 +64,8 @@ impl Reader {
             environments.now self.old self.new u u (Ok result) }
     {
         match byte {
-            b'.' => self.read_on(Reading::Control { breaks: true }),
-            b'\'' => self.read_on(Reading::Control { breaks: false }),
+            b'.' => self.read_on(LineState::Control { breaks: true }),
+            b'\'' => self.read_on(LineState::Control { breaks: false }),
             _ => {
                 let interrupted = environments.interrupted_line();
                 let step = TextLine::begun_as(interrupted).taking(byte);
@@ -77,13 +75,13 @@ impl Reader {
     }
 
     /// An escape where a line begins, or a branch, or its rest behind its brace.
-    fn begin_with_escape(&mut self, at: Reading, byte: u8, environments: &Environments) -> Meaning
+    fn begin_with_escape(&mut self, at: LineState, byte: u8, environments: &Environments) -> Meaning
         ensures { (u : PageUnread) → TakesAs (λ k. first_escape k u.input at byte)
             environments.now self.old self.new u u (Ok result) }
     {
         match (at, byte) {
-            (Reading::Branch, b'{') => self.read_on(Reading::Braced),
-            (Reading::Braced, b'\n') => self.read_on(Reading::LineStart),
+            (LineState::Branch, b'{') => self.read_on(LineState::Braced),
+            (LineState::Braced, b'\n') => self.read_on(LineState::LineStart),
             (_, _) => {
                 let interrupted = environments.interrupted_line();
                 let step = TextLine::begun_as(interrupted).escape(byte);
@@ -96,7 +94,7 @@ impl Reader {
     pub(super) fn read_text(
         &mut self,
         line: TextLine,
-        found: Read,
+        found: Found,
         environments: &Environments,
         unread: &mut Unread<PageEvent>,
     ) -> Result<Meaning, Limit>
@@ -104,20 +102,20 @@ impl Reader {
             environments.now self.old self.new unread.old unread.new result }
     {
         match found {
-            Read::GoesOn => Ok(self.read_on(Reading::Text(line))),
-            Read::Unit(CopyUnit::Byte(byte)) => Ok(self.step(line.taking(byte))),
-            Read::Unit(CopyUnit::Kept(byte)) | Read::Escape(byte) => {
+            Found::GoesOn => Ok(self.read_on(LineState::Text(line))),
+            Found::Unit(CopyUnit::Byte(byte)) => Ok(self.step(line.taking(byte))),
+            Found::Unit(CopyUnit::Kept(byte)) | Found::Escape(byte) => {
                 Ok(self.step(line.escape(byte)))
             }
-            Read::Holds(unit) => self.hold_text(unit, Reading::Text(line), unread),
-            Read::Motion(columns, remark) => Ok(self.step(line.motion(columns, remark))),
-            Read::Measures(width) => self.measure(width, Reading::Text(line), unread),
-            Read::Tells(remark) => Ok(self.tell(remark, Reading::Text(line))),
-            Read::Asks(purpose, name) => {
-                self.reading = Reading::Text(line);
+            Found::Holds(unit) => self.hold_text(unit, LineState::Text(line), unread),
+            Found::Motion(columns, remark) => Ok(self.step(line.motion(columns, remark))),
+            Found::Measures(width) => self.measure(width, LineState::Text(line), unread),
+            Found::Tells(remark) => Ok(self.tell(remark, LineState::Text(line))),
+            Found::Asks(purpose, name) => {
+                self.reading = LineState::Text(line);
                 self.read_name(line, purpose, name, environments, unread)
             }
-            Read::Decides(..) => Ok(self.read_on(Reading::Text(line))),
+            Found::Decides(..) => Ok(self.read_on(LineState::Text(line))),
         }
     }
 

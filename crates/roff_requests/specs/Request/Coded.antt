@@ -11,7 +11,7 @@ use Rattle.roff_requests.specs.declared.requests.effects.Changes.TheVariants.{No
 use Rattle.roff_requests.specs.declared.requests.effects.Done.{Done as CodedDone}
 use Rattle.roff_requests.specs.declared.requests.effects.Done.TheVariants.{Ignored as IgnoredWith, Does as DoesWith, SetsStops}
 use Rattle.roff_requests.specs.declared.requests.effects.Effect.{Effect as CodedEffect}
-use Rattle.roff_requests.specs.declared.requests.effects.Known.{Known as CodedKnown}
+use Rattle.roff_requests.specs.declared.requests.effects.RequestFacts.{RequestFacts}
 use Rattle.roff_requests.specs.Events.{request_events, stops_set}
 use Rattle.roff_run.specs.Registers.{Known, Change, Remove, value_in_force}
 use Rattle.roff_requests.specs.Registers.Coded.{change_of}
@@ -42,7 +42,7 @@ name_in (Some text) = name_of (name_given text)
 
 -- The code knows what a request asks for: the settings, and the value of the register that the first argument names,
 -- which one request alone asks for.
-pub record KnowsOf (k : Known) (request : Request) (as_given : List (List ℕ)) (known : CodedKnown) : Type 0 where
+pub record KnowsOf (k : Known) (request : Request) (as_given : List (List ℕ)) (known : RequestFacts) : Type 0 where
   pub settings : known.settings ≡ k.settings
   pub has_left : known.has_left ≡ k.has_left
   pub in_force : request ≡ NumberRegister → IfSome (register_named as_given) (λ name. known.in_force ≡ value_in_force k name)

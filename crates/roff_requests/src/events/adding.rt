@@ -6,9 +6,9 @@ ghost use Rattle.roff_run.specs.Events.Lines.{line_events, print_event};
 ghost use Rattle.roff_run.specs.Requests.Effects.{behind_break};
 ghost use Rattle.roff_run.specs.Reading.TextLines.{leading_glyph};
 
-use roff_run::{LineEvents, PageEvent};
 use super::{AllEvents, FewEvents, RequestEvents};
 use roff_lines::{Event, Glyph, Param};
+use roff_run::{LineEvents, PageEvent};
 
 /// The events of a break, if there is one, and these behind it.
 pub(super) fn few_behind(breaks: bool, behind: RequestEvents) -> FewEvents

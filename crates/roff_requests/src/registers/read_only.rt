@@ -7,8 +7,8 @@ ghost use Rattle.roff_requests.specs.Registers.ReadOnly.{begins_read_only};
 ghost use Rattle.roff_requests.specs.Registers.Coded.{known_of};
 
 use super::Facts;
-use roff_run::Query;
 use roff_num::Name;
+use roff_run::Query;
 
 /// A read-only register.
 #[derive(Clone, Copy, Debug, PartialEq, Eq)]

@@ -5,12 +5,12 @@ ghost use Rattle.std.specs.Option.{option_copied};
 ghost use Rattle.roff_requests.specs.Request.Coded.{done_of};
 ghost use Rattle.roff_run.specs.Requests.Adjustment.{adjust, centre, mode_named, mode_wanted};
 
-use roff_run::PageEvent;
 use crate::events::RequestEvents;
 use crate::number::value_in;
 use crate::requests::Done;
 use roff_lines::{AdjustMode, Event, Param};
 use roff_num::Scale;
+use roff_run::PageEvent;
 
 /// `ad`: adjusting on, in the mode of the argument or the one in force.
 pub(super) fn adjust(argument: Option<&[u8]>) -> Done

@@ -6,16 +6,15 @@ ghost use Rattle.roff_requests.specs.Events.{request_events};
 ghost use Rattle.roff_requests.specs.Request.Coded.{calls_of, changes_of, done_of, effect_of};
 ghost use Rattle.roff_run.specs.Requests.Effects.{Does, Ignored, bad_format, bad_number, happens, left_out, meant_by, no_such_environment, nothing, setting};
 
-use roff_run::PageEvent;
 use crate::events::RequestEvents;
-use roff_run::Message;
 use crate::registers::Change;
 use roff_lines::{Event, Param, Settings};
 use roff_num::{Name, Num};
+use roff_run::{Message, PageEvent};
 
 /// All that a request may ask of the run.
 #[derive(Clone, Copy, Debug)]
-pub struct Known {
+pub struct RequestFacts {
     /// The settings in force.
     pub settings: Settings,
     /// The value of the register that the first argument names, if it names one and the request asks

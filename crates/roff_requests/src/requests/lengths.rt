@@ -2,12 +2,12 @@
 
 ghost use Rattle.std.specs.Prelude.{◌≡◌, ℕ, List, slice_get};
 ghost use Rattle.std.specs.Option.{option_copied};
-ghost use Rattle.roff_run.specs.Registers.{Known as KnownOfRun};
+ghost use Rattle.roff_run.specs.Registers.{Known};
 ghost use Rattle.roff_requests.specs.Request.Coded.{done_of};
 ghost use Rattle.roff_run.specs.Requests.Lengths.{indent, length_set, length_wanted, line_length, temporary_indent};
 
 use crate::number::{rounded_to_columns, value_beside};
-use crate::requests::{Done, Known};
+use crate::requests::{Done, RequestFacts};
 use roff_lines::Param;
 use roff_num::{NumFault, Scale};
 
@@ -15,8 +15,8 @@ use roff_num::{NumFault, Scale};
 const COLUMN: u32 = 24;
 
 /// `ll`: the line length.
-pub(super) fn line_length(known: Known, argument: Option<&[u8]>) -> Done
-    ensures { (k : KnownOfRun) (as_given : List (List ℕ)) → known.settings ≡ k.settings
+pub(super) fn line_length(known: RequestFacts, argument: Option<&[u8]>) -> Done
+    ensures { (k : Known) (as_given : List (List ℕ)) → known.settings ≡ k.settings
         → option_copied argument.entry ≡ slice_get as_given 0
         → done_of as_given result ≡ line_length k as_given }
 {
@@ -28,8 +28,8 @@ pub(super) fn line_length(known: Known, argument: Option<&[u8]>) -> Done
 }
 
 /// `in`: the indent.
-pub(super) fn indent(known: Known, argument: Option<&[u8]>) -> Done
-    ensures { (k : KnownOfRun) (as_given : List (List ℕ)) → known.settings ≡ k.settings
+pub(super) fn indent(known: RequestFacts, argument: Option<&[u8]>) -> Done
+    ensures { (k : Known) (as_given : List (List ℕ)) → known.settings ≡ k.settings
         → option_copied argument.entry ≡ slice_get as_given 0
         → done_of as_given result ≡ indent k as_given }
 {
@@ -41,8 +41,8 @@ pub(super) fn indent(known: Known, argument: Option<&[u8]>) -> Done
 }
 
 /// `ti`: the indent of the next line that a word begins; without an argument it is ignored.
-pub(super) fn temporary_indent(known: Known, argument: Option<&[u8]>) -> Done
-    ensures { (k : KnownOfRun) (as_given : List (List ℕ)) → known.settings ≡ k.settings
+pub(super) fn temporary_indent(known: RequestFacts, argument: Option<&[u8]>) -> Done
+    ensures { (k : Known) (as_given : List (List ℕ)) → known.settings ≡ k.settings
         → option_copied argument.entry ≡ slice_get as_given 0
         → done_of as_given result ≡ temporary_indent k as_given }
 {

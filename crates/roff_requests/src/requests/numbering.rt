@@ -3,22 +3,22 @@
 ghost use Rattle.std.specs.Prelude.{◌≡◌, ℕ, List, drop, slice_get};
 ghost use Rattle.std.specs.Option.{option_copied};
 ghost use Rattle.roff_num.specs.Names.{name_of};
-ghost use Rattle.roff_run.specs.Registers.{Known as KnownOfRun};
+ghost use Rattle.roff_run.specs.Registers.{Known};
 ghost use Rattle.roff_requests.specs.Request.Coded.{GivesFirst, KnowsOf, done_of, register_named};
 ghost use Rattle.roff_run.specs.declared.request.Request.TheVariants.{NumberRegister};
 ghost use Rattle.roff_run.specs.Requests.Numbering.{assign_format, format_as, increment_given, name_given, set_register, set_to};
 
 use crate::number::{value_beside, value_in};
 use crate::registers::Change;
-use crate::requests::{Changes, Done, Given, Known};
+use crate::requests::{Changes, Done, Given, RequestFacts};
 use roff_num::{Format, Name, Num, NumFault, Scale, read_format};
 
 /// How many bytes of an argument are a register's name.
 const NAME_BYTES: usize = 2;
 
 /// `nr`: a register's value and increment.
-pub(super) fn set_register(known: Known, given: Given<'_>) -> Done
-    ensures { (k : KnownOfRun) (as_given : List (List ℕ))
+pub(super) fn set_register(known: RequestFacts, given: Given<'_>) -> Done
+    ensures { (k : Known) (as_given : List (List ℕ))
         → KnowsOf k NumberRegister as_given known → GivesFirst as_given given.entry
         → done_of as_given result ≡ set_register k as_given }
 {

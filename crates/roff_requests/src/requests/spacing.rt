@@ -4,15 +4,14 @@ ghost use Rattle.std.specs.Prelude.{◌≡◌, ℕ, List, slice_get, Ok};
 ghost use Rattle.std.specs.Option.{option_copied};
 ghost use Rattle.roff_requests.specs.Request.Coded.{done_of};
 ghost use Rattle.roff_run.specs.Requests.Spacing.{line_spacing, space_down, spaced};
-ghost use Rattle.roff_run.specs.Registers.{Known as KnownOfRun};
+ghost use Rattle.roff_run.specs.Registers.{Known};
 
-use roff_run::PageEvent;
 use crate::events::RequestEvents;
-use roff_run::Message;
 use crate::number::{rounded_to_lines, value_in};
-use crate::requests::{Done, Known};
+use crate::requests::{Done, RequestFacts};
 use roff_lines::Param;
 use roff_num::Scale;
+use roff_run::{Message, PageEvent};
 
 /// The basic units of a line.
 const LINE: u32 = 40;
@@ -46,8 +45,8 @@ fn spaced(height: i32) -> Done
 }
 
 /// `ls`: the spacing of lines, the previous one where none is given.
-pub(super) fn line_spacing(known: Known, argument: Option<&[u8]>) -> Done
-    ensures { (k : KnownOfRun) (as_given : List (List ℕ)) → known.settings ≡ k.settings
+pub(super) fn line_spacing(known: RequestFacts, argument: Option<&[u8]>) -> Done
+    ensures { (k : Known) (as_given : List (List ℕ)) → known.settings ≡ k.settings
         → option_copied argument.entry ≡ slice_get as_given 0
         → done_of as_given result ≡ line_spacing k as_given }
 {

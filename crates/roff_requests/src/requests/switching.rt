@@ -2,20 +2,19 @@
 
 ghost use Rattle.std.specs.Prelude.{◌≡◌, ℕ, List, slice_get, Ok};
 ghost use Rattle.std.specs.Option.{option_copied};
-ghost use Rattle.roff_run.specs.Registers.{Known as KnownOfRun};
+ghost use Rattle.roff_run.specs.Registers.{Known};
 ghost use Rattle.roff_requests.specs.Request.Coded.{done_of};
 ghost use Rattle.roff_run.specs.Requests.Switching.{switch, switching_by, switching_to};
 
-use roff_run::EnvironmentNumber;
-use roff_run::PageEvent;
 use crate::events::RequestEvents;
 use crate::number::value_in;
-use crate::requests::{Done, Known};
+use crate::requests::{Done, RequestFacts};
 use roff_num::Scale;
+use roff_run::{EnvironmentNumber, PageEvent};
 
 /// `ev`: another environment, or back to the one that was left last where no number is given.
-pub(super) fn switch(known: Known, argument: Option<&[u8]>) -> Done
-    ensures { (k : KnownOfRun) (as_given : List (List ℕ)) → known.has_left ≡ k.has_left
+pub(super) fn switch(known: RequestFacts, argument: Option<&[u8]>) -> Done
+    ensures { (k : Known) (as_given : List (List ℕ)) → known.has_left ≡ k.has_left
         → option_copied argument.entry ≡ slice_get as_given 0
         → done_of as_given result ≡ switch k as_given }
 {

@@ -8,8 +8,8 @@ use Rattle.roff_run.specs.declared.event.LineEvents.TheVariants.{Nothing, LineEn
 use Rattle.roff_run.specs.declared.event.PageEvent.{PageEvent}
 use Rattle.roff_run.specs.declared.event.PageEvent.TheVariants.{Text, Interrupt as PageInterrupt}
 use Rattle.roff_run.specs.Requests.{PageEvent, Text}
-use Rattle.roff_run.specs.declared.reading.TextByte.{TextByte}
-use Rattle.roff_run.specs.declared.reading.TextByte.TheVariants.{Glyph, Tab as IsTab, LeadingBlank, LineEnd as EndsLine, BlankLine}
+use Rattle.roff_run.specs.declared.line_state.TextByte.{TextByte}
+use Rattle.roff_run.specs.declared.line_state.TextByte.TheVariants.{Glyph, Tab as IsTab, LeadingBlank, LineEnd as EndsLine, BlankLine}
 
 -- the event of a byte that is printed
 abbrev pub print_event : ℕ → PageEvent

@@ -6,13 +6,13 @@ use Rattle.roff_ahead.specs.Input.Names.{calling}
 use Rattle.roff_ahead.specs.Input.Calls.{arguments_given}
 use Rattle.roff_ahead.specs.Input.Names.{calling}
 use Rattle.roff_ahead.specs.Input.Calls.{arguments_given}
-use Rattle.roff_escape.specs.declared.half.CopyUnit.{CopyUnit}
-use Rattle.roff_escape.specs.declared.half.CopyUnit.TheVariants.{Byte, Kept}
-use Rattle.roff_escape.specs.declared.half.Read.{Read}
-use Rattle.roff_escape.specs.declared.half.Read.TheVariants.{Unit, Escape}
+use Rattle.roff_escape.specs.declared.open_escape.CopyUnit.{CopyUnit}
+use Rattle.roff_escape.specs.declared.open_escape.CopyUnit.TheVariants.{Byte, Kept}
+use Rattle.roff_escape.specs.declared.open_escape.Found.{Found}
+use Rattle.roff_escape.specs.declared.open_escape.Found.TheVariants.{Unit, Escape}
 use Rattle.roff_store.specs.TextCalls.{Call}
-use Rattle.roff_run.specs.declared.reading.Reading.{Reading}
-use Rattle.roff_run.specs.declared.reading.Reading.TheVariants.{LineStart, Arguments as InArguments, Exiting}
+use Rattle.roff_run.specs.declared.line_state.LineState.{LineState}
+use Rattle.roff_run.specs.declared.line_state.LineState.TheVariants.{LineStart, Arguments as InArguments, Exiting}
 use Rattle.roff_run.specs.declared.request.Request.{Request}
 use Rattle.roff_run.specs.declared.request.LineReading.{LineReading}
 use Rattle.roff_run.specs.declared.request.LineReading.TheVariants.{ByLastLine, ByLines}
@@ -28,7 +28,7 @@ calling_all [] i = i
 calling_all (call ∷ calls) i = calling_all calls (calling call i)
 
 -- what is read behind a request's line, by how that is read: behind the last one nothing is
-abbrev pub reading_behind : LineReading → Reading
+abbrev pub reading_behind : LineReading → LineState
 reading_behind ByLastLine = Exiting
 reading_behind (_) = LineStart
 
@@ -58,7 +58,7 @@ unit_found k i breaks request (Byte b) =
 unit_found k i breaks request (Kept b) = going_on (holding (Kept b) i) (InArguments breaks request)
 
 -- what was found behind a request's name: an escape's beginning is no quote
-abbrev pub arguments_found : Known → PageInput → Bool → Request → Read → Taking
+abbrev pub arguments_found : Known → PageInput → Bool → Request → Found → Taking
 arguments_found k i breaks request (Unit unit) = unit_found k i breaks request unit
 arguments_found k i breaks request (Escape b) = unit_found k i breaks request (Kept b)
 arguments_found k i breaks request found = no_unit_found k (settling i) (InArguments breaks request) found

@@ -5,13 +5,13 @@ use Rattle.roff_source.specs.Bytes.{newline, blank, apostrophe, dot}
 use Rattle.roff_ahead.specs.Input.{holding_text}
 use Rattle.roff_escape.specs.declared.escapes.NameUse.{NameUse}
 use Rattle.roff_escape.specs.declared.escapes.NameUse.TheVariants.{Character, Font, LeftOut as NameLeftOut}
-use Rattle.roff_escape.specs.declared.half.CopyUnit.TheVariants.{Byte, Kept}
-use Rattle.roff_escape.specs.declared.half.Read.{Read}
-use Rattle.roff_escape.specs.declared.half.Read.TheVariants.{GoesOn, Unit, Holds, Escape, Asks, Motion, Measures, Tells, Decides}
-use Rattle.roff_escape.specs.declared.half.Surroundings.{Surroundings}
-use Rattle.roff_run.specs.declared.reading.Reading.{Reading}
-use Rattle.roff_run.specs.declared.reading.Reading.TheVariants.{LineStart, Branch, Braced, Control}
-use Rattle.roff_run.specs.declared.reading.TextLine.{TextLine}
+use Rattle.roff_escape.specs.declared.open_escape.CopyUnit.TheVariants.{Byte, Kept}
+use Rattle.roff_escape.specs.declared.open_escape.Found.{Found}
+use Rattle.roff_escape.specs.declared.open_escape.Found.TheVariants.{GoesOn, Unit, Holds, Escape, Asks, Motion, Measures, Tells, Decides}
+use Rattle.roff_escape.specs.declared.open_escape.Surroundings.{Surroundings}
+use Rattle.roff_run.specs.declared.line_state.LineState.{LineState}
+use Rattle.roff_run.specs.declared.line_state.LineState.TheVariants.{LineStart, Branch, Braced, Control}
+use Rattle.roff_run.specs.declared.line_state.TextLine.{TextLine}
 use Rattle.roff_run.specs.Reading.Escapes.{measuring, asking}
 use Rattle.roff_run.specs.Reading.Items.{PageInput, Taking, going_on, behind_events, telling}
 use Rattle.roff_run.specs.Reading.TextLines.{fresh_line, on_line, other_taking, motion_taking, text_taking, left_out_taking, escape_taking, character_taking}
@@ -37,7 +37,7 @@ abbrev pub at_start : Known → Surroundings
 at_start k = on_line k (line_begun_as k.interrupted)
 
 -- the same where a line begins, or a branch: what is read in the escape's place leaves it there
-abbrev pub first_name : Known → PageInput → Reading → NameUse → Option (List ℕ) → Taking
+abbrev pub first_name : Known → PageInput → LineState → NameUse → Option (List ℕ) → Taking
 first_name k i reading Character name = beginning_text k (λ line. character_taking i line name)
 first_name k i reading Font name = beginning_text k (λ line. other_taking i line)
 first_name k i reading (NameLeftOut b) name = beginning_text k (λ line. left_out_taking i line b)
@@ -52,7 +52,7 @@ line_begun k i b =
 
 -- a byte where a line begins, or a branch, or its rest behind its brace: there blanks come first, and a newline behind
 -- the brace
-abbrev pub first_taking : Known → PageInput → Reading → ℕ → Taking
+abbrev pub first_taking : Known → PageInput → LineState → ℕ → Taking
 first_taking k i Branch b = if b == blank then going_on i Branch else line_begun k i b
 first_taking k i Braced b =
     if b == blank then going_on i Braced
@@ -65,14 +65,14 @@ abbrev pub escape_begun : Known → PageInput → ℕ → Taking
 escape_begun k i b = beginning_text k (λ line. escape_taking i line b)
 
 -- an escape there: the brace of a branch, and a newline behind it
-abbrev pub first_escape : Known → PageInput → Reading → ℕ → Taking
+abbrev pub first_escape : Known → PageInput → LineState → ℕ → Taking
 first_escape k i Branch b = if b == 123 then going_on i Braced else escape_begun k i b
 first_escape k i Braced b = if b == newline then going_on i LineStart else escape_begun k i b
 first_escape k i (_) b = escape_begun k i b
 
 -- What was found where a line begins, or a branch: an interpolation leaves it at its beginning. Text gives no kept unit,
 -- and decides nothing.
-abbrev pub beginning_found : Known → PageInput → Reading → Read → Taking
+abbrev pub beginning_found : Known → PageInput → LineState → Found → Taking
 beginning_found k i reading GoesOn = going_on i reading
 beginning_found k i reading (Unit (Byte b)) = first_taking k i reading b
 beginning_found k i reading (Unit (Kept b)) = first_escape k i reading b

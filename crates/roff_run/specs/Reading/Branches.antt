@@ -1,16 +1,16 @@
 -- Conditions, and the branches that are read or skipped (manual, section 16).
 use Rattle.std.specs.Prelude.{ℕ, ◌+◌, Bool, true, false, ◌&&◌, not, nat_le, min, Some, None, Option, if◌then◌else◌, ◌==◌}
 use Rattle.roff_source.specs.Bytes.{newline, backslash}
-use Rattle.roff_escape.specs.Halves.{byte_read}
+use Rattle.roff_escape.specs.OpenEscapes.{byte_read}
 use Rattle.roff_ahead.specs.Input.{choosing}
 use Rattle.roff_ahead.specs.Input.Calls.{keeping}
-use Rattle.roff_escape.specs.declared.half.Decision.{Decision}
-use Rattle.roff_escape.specs.declared.half.Decision.TheVariants.{Is, OnPages}
-use Rattle.roff_escape.specs.declared.half.Read.{Read}
-use Rattle.roff_escape.specs.declared.half.Read.TheVariants.{Decides}
-use Rattle.roff_escape.specs.declared.half.Surroundings.TheVariants.{Arguments as AboveArguments}
-use Rattle.roff_run.specs.declared.reading.Reading.{Reading}
-use Rattle.roff_run.specs.declared.reading.Reading.TheVariants.{LineStart, Branch, Deciding, Skipping}
+use Rattle.roff_escape.specs.declared.open_escape.Decision.{Decision}
+use Rattle.roff_escape.specs.declared.open_escape.Decision.TheVariants.{Is, OnPages}
+use Rattle.roff_escape.specs.declared.open_escape.Found.{Found}
+use Rattle.roff_escape.specs.declared.open_escape.Found.TheVariants.{Decides}
+use Rattle.roff_escape.specs.declared.open_escape.Surroundings.TheVariants.{Arguments as AboveArguments}
+use Rattle.roff_run.specs.declared.line_state.LineState.{LineState}
+use Rattle.roff_run.specs.declared.line_state.LineState.TheVariants.{LineStart, Branch, Deciding, Skipping}
 use Rattle.roff_run.specs.Reading.Beginnings.{at_start, beginning_found}
 use Rattle.roff_run.specs.Reading.Items.{PageInput, Taking, going_on, read_by}
 use Rattle.roff_run.specs.Reading.Units.{no_unit_found}
@@ -34,13 +34,13 @@ skipping_taking i opened closed false b =
     else going_on i (Skipping opened closed false)
 
 -- where a branch begins that is read, or skipped
-abbrev pub branch_of : Bool → Reading
+abbrev pub branch_of : Bool → LineState
 branch_of true = Branch
 branch_of false = Skipping 0 0 false
 
 -- its first byte
 abbrev pub branch_taking : Known → PageInput → Bool → ℕ → Taking
-branch_taking k i true b = read_by (λ j. beginning_found k j Branch) i (byte_read (at_start k) i.half b)
+branch_taking k i true b = read_by (λ j. beginning_found k j Branch) i (byte_read (at_start k) i.escapes b)
 branch_taking k i false b = skipping_taking i 0 0 false b
 
 -- whether a condition is so that asks this
@@ -58,7 +58,7 @@ abbrev pub kept_if : Bool → Bool → PageInput → PageInput
 kept_if keeps so i = if keeps then keeping so i else i
 
 -- what was found of a condition
-abbrev pub condition_found : Known → PageInput → Bool → Read → Taking
+abbrev pub condition_found : Known → PageInput → Bool → Found → Taking
 condition_found k i keeps (Decides decision freed) = decided k (kept_if keeps (is_so k decision) i) (is_so k decision) freed
 condition_found k i keeps found = no_unit_found k i (Deciding keeps) found
 
@@ -66,7 +66,7 @@ condition_found k i keeps found = no_unit_found k i (Deciding keeps) found
 abbrev pub condition_begun : Known → PageInput → Bool → ℕ → Taking
 condition_begun k i keeps b =
     if b == newline then condition_found k i keeps (Decides (Is false) (Some b))
-    else read_by (λ j. condition_found k j keeps) i (byte_read AboveArguments (choosing i).half b)
+    else read_by (λ j. condition_found k j keeps) i (byte_read AboveArguments (choosing i).escapes b)
 
 -- whether the other branch is read: a result was kept, and was that it isn't so
 abbrev pub reads_else : Option Bool → Bool

@@ -5,15 +5,15 @@ use Rattle.roff_ahead.specs.Input.Names.{body_named}
 use Rattle.roff_ahead.specs.Input.Calls.{calling_body}
 use Rattle.roff_ahead.specs.Input.Names.{body_named}
 use Rattle.roff_ahead.specs.Input.Calls.{calling_body}
-use Rattle.roff_escape.specs.declared.half.CopyUnit.{CopyUnit}
-use Rattle.roff_escape.specs.declared.half.CopyUnit.TheVariants.{Byte, Kept}
-use Rattle.roff_escape.specs.declared.half.Read.{Read}
-use Rattle.roff_escape.specs.declared.half.Read.TheVariants.{Unit, Escape}
+use Rattle.roff_escape.specs.declared.open_escape.CopyUnit.{CopyUnit}
+use Rattle.roff_escape.specs.declared.open_escape.CopyUnit.TheVariants.{Byte, Kept}
+use Rattle.roff_escape.specs.declared.open_escape.Found.{Found}
+use Rattle.roff_escape.specs.declared.open_escape.Found.TheVariants.{Unit, Escape}
 use Rattle.roff_run.specs.Reading.Items.{PageInput, Taking, going_on}
 use Rattle.roff_run.specs.Reading.Units.{holding, settling, no_unit_found}
 use Rattle.roff_num.specs.ShortNames.{name_bytes}
-use Rattle.roff_run.specs.declared.reading.Reading.{Reading}
-use Rattle.roff_run.specs.declared.reading.Reading.TheVariants.{LineStart, Branch, Braced, Text as InText, Calling}
+use Rattle.roff_run.specs.declared.line_state.LineState.{LineState}
+use Rattle.roff_run.specs.declared.line_state.LineState.TheVariants.{LineStart, Branch, Braced, Text as InText, Calling}
 use Rattle.roff_num.specs.declared.short_name.ShortName.{ShortName}
 use Rattle.roff_run.specs.Registers.{Known}
 
@@ -30,13 +30,13 @@ call_unit i name (Byte b) =
 call_unit i name (Kept b) = going_on (holding_call (Kept b) (settling i)) (Calling name)
 
 -- what was found there
-abbrev pub call_found : Known → PageInput → ShortName → Read → Taking
+abbrev pub call_found : Known → PageInput → ShortName → Found → Taking
 call_found k i name (Unit unit) = call_unit i name unit
 call_found k i name (Escape b) = call_unit i name (Kept b)
 call_found k i name found = no_unit_found k (settling i) (Calling name) found
 
 -- what is read behind the end of a body that a line called: a line begins, unless a control line is being read
-abbrev pub behind_return : Reading → Reading
+abbrev pub behind_return : LineState → LineState
 behind_return Branch = LineStart
 behind_return Braced = LineStart
 behind_return (InText line) = LineStart

@@ -1,11 +1,11 @@
 -- The names of control lines, and how what is behind one is read (manual, sections 1.1 and 7.2).
 use Rattle.std.specs.Prelude.{ℕ, Bool, true, ◌||◌, if◌then◌else◌, ◌==◌, not, IsTrue}
 use Rattle.roff_source.specs.Bytes.{tab, newline, blank, backslash, is_dropped}
-use Rattle.roff_escape.specs.Halves.{byte_read}
+use Rattle.roff_escape.specs.OpenEscapes.{byte_read}
 use Rattle.roff_ahead.specs.Input.{choosing}
 use Rattle.roff_ahead.specs.Input.Calls.{kept_last, without_last}
-use Rattle.roff_escape.specs.declared.half.Surroundings.TheVariants.{Arguments as AboveArguments, Copy as AboveCopy}
-use Rattle.roff_run.specs.declared.reading.Reading.TheVariants.{LineStart, Arguments as InArguments, Deciding, StringName, Dropped, Telling, Calling}
+use Rattle.roff_escape.specs.declared.open_escape.Surroundings.TheVariants.{Arguments as AboveArguments, Copy as AboveCopy}
+use Rattle.roff_run.specs.declared.line_state.LineState.TheVariants.{LineStart, Arguments as InArguments, Deciding, StringName, Dropped, Telling, Calling}
 use Rattle.roff_num.specs.declared.short_name.ShortName.{ShortName}
 use Rattle.roff_run.specs.declared.request.Request.{Request}
 use Rattle.roff_run.specs.declared.request.LineReading.{LineReading}
@@ -32,22 +32,22 @@ ends_name b = b == blank || (b == tab || (b == newline || b == backslash))
 -- the first byte behind a request's name, by how its line is read
 abbrev pub line_taking : Known → PageInput → Bool → Request → LineReading → ℕ → Taking
 line_taking k i breaks request ByArguments b =
-    read_by (λ j. arguments_found k j breaks request) i (byte_read AboveArguments i.half b)
+    read_by (λ j. arguments_found k j breaks request) i (byte_read AboveArguments i.escapes b)
 line_taking k i breaks request (ByCondition keeps) b = condition_begun k i keeps b
 line_taking k i breaks request (ByString appends) b =
-    read_by (λ j. string_name_found k j appends) i (byte_read AboveArguments i.half b)
+    read_by (λ j. string_name_found k j appends) i (byte_read AboveArguments i.escapes b)
 line_taking k i breaks request ByLastLine b =
-    read_by (λ j. arguments_found k j breaks request) i (byte_read AboveArguments i.half b)
+    read_by (λ j. arguments_found k j breaks request) i (byte_read AboveArguments i.escapes b)
 line_taking k i breaks request (ByMessage aborts) b =
-    read_by (λ j. message_found k j aborts true) i (byte_read AboveCopy i.half b)
+    read_by (λ j. message_found k j aborts true) i (byte_read AboveCopy i.escapes b)
 line_taking k i breaks request (ByLines lines) b =
-    read_by (λ j. arguments_found k j breaks request) i (byte_read AboveArguments i.half b)
+    read_by (λ j. arguments_found k j breaks request) i (byte_read AboveArguments i.escapes b)
 line_taking k i breaks request ByElse b = branch_taking k (without_last i) (reads_else (kept_last i)) b
 
 -- a byte behind a name that stands for this: a request is read on, a body is called, and any other line is dropped
 abbrev pub called_taking : Known → PageInput → Bool → Called → ℕ → Taking
 called_taking k i breaks (ARequest request) b = line_taking k i breaks request (row_of request).line b
-called_taking k i breaks (ABody name) b = read_by (λ j. call_found k j name) i (byte_read AboveArguments i.half b)
+called_taking k i breaks (ABody name) b = read_by (λ j. call_found k j name) i (byte_read AboveArguments i.escapes b)
 called_taking k i breaks Unknown b = dropped_taking i b
 
 -- a byte behind a name that it doesn't belong to

@@ -1,15 +1,15 @@
 -- The lines of a macro's definition, and the one that ends it (manual, section 7.1).
 use Rattle.std.specs.Prelude.{ℕ, Bool, true, List, ◌++◌, Some, None, Option}
-use Rattle.roff_escape.specs.Half.{unit_bytes}
+use Rattle.roff_escape.specs.OpenEscape.{unit_bytes}
 use Rattle.roff_ahead.specs.Input.{beginning_line}
-use Rattle.roff_escape.specs.declared.half.CopyUnit.{CopyUnit}
-use Rattle.roff_escape.specs.declared.half.CopyUnit.TheVariants.{Kept}
-use Rattle.roff_escape.specs.declared.half.Read.{Read}
-use Rattle.roff_escape.specs.declared.half.Read.TheVariants.{Unit, Escape}
+use Rattle.roff_escape.specs.declared.open_escape.CopyUnit.{CopyUnit}
+use Rattle.roff_escape.specs.declared.open_escape.CopyUnit.TheVariants.{Kept}
+use Rattle.roff_escape.specs.declared.open_escape.Found.{Found}
+use Rattle.roff_escape.specs.declared.open_escape.Found.TheVariants.{Unit, Escape}
 use Rattle.roff_run.specs.Definitions.{end_mark, front_of, line_from, matched_behind}
 use Rattle.roff_run.specs.declared.definition.DefinitionLine.{DefinitionLine}
 use Rattle.roff_run.specs.declared.definition.DefinitionLine.TheVariants.{MayBeLast, IsLast, IsText}
-use Rattle.roff_run.specs.declared.reading.Reading.TheVariants.{Defining}
+use Rattle.roff_run.specs.declared.line_state.LineState.TheVariants.{Defining}
 use Rattle.roff_num.specs.declared.short_name.ShortName.{ShortName}
 use Rattle.roff_run.specs.Reading.ControlLines.{dropped_taking, name_ended_taking}
 use Rattle.roff_run.specs.Reading.Definitions.{definition_grown}
@@ -38,7 +38,7 @@ definition_line k i name appends end matched unit =
     definition_unit k i name appends end (front_of (end_mark end) matched) unit (line_from (end_mark end) matched unit)
 
 -- what was found of a definition's text
-abbrev pub definition_found : Known → PageInput → Option ShortName → Bool → Option ShortName → Option ℕ → Read → Taking
+abbrev pub definition_found : Known → PageInput → Option ShortName → Bool → Option ShortName → Option ℕ → Found → Taking
 definition_found k i name appends end matched (Unit unit) = definition_line k i name appends end matched unit
 definition_found k i name appends end matched (Escape b) = definition_line k i name appends end matched (Kept b)
 definition_found k i name appends end matched found = no_unit_found k i (Defining name appends end matched) found

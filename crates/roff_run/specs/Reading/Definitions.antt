@@ -7,7 +7,7 @@ use Rattle.roff_run.specs.Reading.Items.{PageInput, Taking, going_on}
 use Rattle.roff_run.specs.Reading.Strings.{string_begun}
 use Rattle.roff_num.specs.ShortNames.{name_at, name_or_none}
 use Rattle.roff_run.specs.declared.message.Message.TheVariants.{DefinitionNotEnded}
-use Rattle.roff_run.specs.declared.reading.Reading.TheVariants.{LineStart, Defining}
+use Rattle.roff_run.specs.declared.line_state.LineState.TheVariants.{LineStart, Defining}
 use Rattle.roff_num.specs.declared.short_name.ShortName.{ShortName}
 use Rattle.roff_run.specs.declared.request.LinesFor.{LinesFor}
 use Rattle.roff_run.specs.declared.request.LinesFor.TheVariants.{Macro, Nobody}

@@ -9,17 +9,17 @@ use Rattle.roff_run.specs.Reading.Items.{PageInput, Taking, meaning_events}
 use Rattle.roff_run.specs.Reading.Strings.{string_entered, string_line_ended}
 use Rattle.roff_run.specs.Reading.TextLines.{text_line_end}
 use Rattle.roff_num.specs.ShortNames.{name_at}
-use Rattle.roff_run.specs.declared.reading.Due.{Due}
-use Rattle.roff_run.specs.declared.reading.Due.TheVariants.{Leaves, Tells as TellsText}
-use Rattle.roff_run.specs.declared.reading.Reading.{Reading}
-use Rattle.roff_run.specs.declared.reading.Reading.TheVariants.{LineStart, Braced, Control, Name, Arguments as InArguments, StringName, StringText, Skipping, Dropped, Telling, Told, Exiting, Calling, Defining}
-use Rattle.roff_run.specs.declared.reading.TextLine.{TextLine}
+use Rattle.roff_run.specs.declared.line_state.Due.{Due}
+use Rattle.roff_run.specs.declared.line_state.Due.TheVariants.{Leaves, Tells as TellsText}
+use Rattle.roff_run.specs.declared.line_state.LineState.{LineState}
+use Rattle.roff_run.specs.declared.line_state.LineState.TheVariants.{LineStart, Braced, Control, Name, Arguments as InArguments, StringName, StringText, Skipping, Dropped, Telling, Told, Exiting, Calling, Defining}
+use Rattle.roff_run.specs.declared.line_state.TextLine.{TextLine}
 use Rattle.roff_run.specs.Registers.{Known}
 use Rattle.roff_run.specs.Requests.{PageEvent, Text}
 
 -- What is due before anything more is taken, by what is read: a message whose line has ended is told, and may abort the
 -- run; behind the line of `.ex` the input is left.
-abbrev pub due : Reading → Option Due
+abbrev pub due : LineState → Option Due
 due (Told aborts) = Some (TellsText aborts)
 due Exiting = Some Leaves
 due (_) = None
@@ -27,7 +27,7 @@ due (_) = None
 -- whether a control line is read behind whose end there may be more to do: where the input ends, that line ends first, and
 -- then a called body is read, a message is told, or a definition has begun; a definition that the input's end cuts is dropped
 -- first, and then the input ends where a line begins
-abbrev pub line_ends_first : Reading → Bool
+abbrev pub line_ends_first : LineState → Bool
 line_ends_first (Name breaks first) = true
 line_ends_first (InArguments breaks request) = true
 line_ends_first (Calling name) = true
@@ -46,7 +46,7 @@ last_line_ended k i = meaning_events i LineStart (interrupted_end k.interrupted)
 
 -- The end of the input: an unfinished line ends as by a newline, and so does an interrupted one that no text line went on with;
 -- a definition is dropped.
-abbrev pub end_taking : Known → Reading → PageInput → Taking
+abbrev pub end_taking : Known → LineState → PageInput → Taking
 end_taking k LineStart i = last_line_ended k i
 end_taking k Braced i = last_line_ended k i
 end_taking k (Control breaks) i = last_line_ended k i

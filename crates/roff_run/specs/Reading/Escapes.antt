@@ -8,12 +8,12 @@ use Rattle.roff_ahead.specs.Input.Calls.{arguments_live}
 use Rattle.roff_escape.specs.declared.escapes.NameUse.{NameUse}
 use Rattle.roff_escape.specs.declared.escapes.NameUse.TheVariants.{Register, Text as OfText, Argument as OfArgument}
 use Rattle.roff_num.specs.declared.direction.Direction.{Direction}
-use Rattle.roff_run.specs.declared.reading.Reading.{Reading}
+use Rattle.roff_run.specs.declared.line_state.LineState.{LineState}
 use Rattle.roff_run.specs.Reading.Items.{PageInput, Taking, going_on}
 use Rattle.roff_run.specs.Registers.{Known, known_behind, step_changes, step_messages, text_of_register}
 
 -- a register is read in the place of its escape: it is stepped first, and its text is put in front
-abbrev pub interpolating : Known → PageInput → Reading → Option Direction → List ℕ → Taking
+abbrev pub interpolating : Known → PageInput → LineState → Option Direction → List ℕ → Taking
 interpolating k i reading step name = record {
   input = pushing (text_of_register (known_behind (step_changes step name) k) name) i;
   reading = reading;
@@ -21,11 +21,11 @@ interpolating k i reading step name = record {
 }
 
 -- a string is read in the place of its escape
-abbrev pub putting_string : PageInput → Reading → List ℕ → Taking
+abbrev pub putting_string : PageInput → LineState → List ℕ → Taking
 putting_string i reading name = going_on (pushing (body_named name i) i) reading
 
 -- nothing is read in the place of an escape
-abbrev pub putting_nothing : PageInput → Reading → Taking
+abbrev pub putting_nothing : PageInput → LineState → Taking
 putting_nothing i reading = going_on (pushing [] i) reading
 
 -- the one of these arguments that a name of one digit above 0 stands for; another name stands for an empty one
@@ -35,15 +35,15 @@ argument_named (digit ∷ []) arguments = if nat_le 49 digit && nat_le digit 57 
 argument_named (first ∷ second ∷ others) arguments = []
 
 -- an argument of the innermost body that a line called is read in the place of its escape
-abbrev pub putting_argument : PageInput → Reading → List ℕ → Taking
+abbrev pub putting_argument : PageInput → LineState → List ℕ → Taking
 putting_argument i reading name = going_on (pushing (argument_named name (arguments_live i)) i) reading
 
 -- the width of a text is read in its place, in digits
-abbrev pub measuring : PageInput → Reading → ℕ → Taking
+abbrev pub measuring : PageInput → LineState → ℕ → Taking
 measuring i reading width = going_on (pushing (decimal width) i) reading
 
 -- what the name behind an escape asks for is read in the escape's place; without a byte it is no name
-abbrev pub asking : Known → PageInput → Reading → NameUse → Option (List ℕ) → Taking
+abbrev pub asking : Known → PageInput → LineState → NameUse → Option (List ℕ) → Taking
 asking k i reading purpose None = going_on i reading
 asking k i reading (Register step) (Some name) = interpolating k i reading step name
 asking k i reading OfText (Some name) = putting_string i reading name

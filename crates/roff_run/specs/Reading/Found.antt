@@ -1,9 +1,9 @@
 -- How a byte is read above what is read, and what does that which was found there.
 use Rattle.std.specs.Prelude.{Bool, true, false, pos}
-use Rattle.roff_escape.specs.Halves.{Reads}
-use Rattle.roff_escape.specs.declared.half.Read.{Read}
-use Rattle.roff_escape.specs.declared.half.Surroundings.{Surroundings}
-use Rattle.roff_escape.specs.declared.half.Surroundings.TheVariants.{Text as AboveText, Arguments as AboveArguments, Copy as AboveCopy}
+use Rattle.roff_escape.specs.OpenEscapes.{Reads}
+use Rattle.roff_escape.specs.declared.open_escape.Found.{Found}
+use Rattle.roff_escape.specs.declared.open_escape.Surroundings.{Surroundings}
+use Rattle.roff_escape.specs.declared.open_escape.Surroundings.TheVariants.{Text as AboveText, Arguments as AboveArguments, Copy as AboveCopy}
 use Rattle.roff_run.specs.Reading.Arguments.{arguments_found}
 use Rattle.roff_run.specs.Reading.Beginnings.{at_start, beginning_found}
 use Rattle.roff_run.specs.Reading.Branches.{condition_found}
@@ -14,11 +14,11 @@ use Rattle.roff_run.specs.Reading.Messages.{message_found}
 use Rattle.roff_run.specs.Reading.Strings.{string_name_found, string_text_found}
 use Rattle.roff_run.specs.Reading.TextLines.{on_line, text_found}
 use Rattle.roff_run.specs.Registers.{Known}
-use Rattle.roff_run.specs.declared.reading.Reading.{Reading}
-use Rattle.roff_run.specs.declared.reading.Reading.TheVariants.{StringName, StringText, LineStart, Branch, Braced, Text as InText, Control, Name, Arguments as InArguments, Deciding, Skipping, Dropped, Telling, Told, Exiting, Calling, Defining}
+use Rattle.roff_run.specs.declared.line_state.LineState.{LineState}
+use Rattle.roff_run.specs.declared.line_state.LineState.TheVariants.{StringName, StringText, LineStart, Branch, Braced, Text as InText, Control, Name, Arguments as InArguments, Deciding, Skipping, Dropped, Telling, Told, Exiting, Calling, Defining}
 
 -- whether a byte may be read by what is half read
-abbrev pub has_place : Reading → Bool
+abbrev pub has_place : LineState → Bool
 has_place (Control breaks) = false
 has_place (Name breaks first) = false
 has_place (Skipping opened closed behind) = false
@@ -28,7 +28,7 @@ has_place Exiting = false
 has_place (_) = true
 
 -- how a byte is read above what is read
-abbrev pub place_in : Known → Reading → Surroundings
+abbrev pub place_in : Known → LineState → Surroundings
 place_in k LineStart = at_start k
 place_in k Branch = at_start k
 place_in k Braced = at_start k
@@ -43,7 +43,7 @@ place_in k (Defining name appends end matched) = AboveCopy
 place_in k (_) = AboveText (pos 0)
 
 -- what does that which was found there
-abbrev pub found_in : Known → PageInput → Reading → Read → Taking
+abbrev pub found_in : Known → PageInput → LineState → Found → Taking
 found_in k i LineStart found = beginning_found k i LineStart found
 found_in k i Branch found = beginning_found k i Branch found
 found_in k i Braced found = beginning_found k i Braced found
@@ -58,5 +58,5 @@ found_in k i (Defining name appends end matched) found = definition_found k i na
 found_in k i reading found = going_on i reading
 
 -- what something reads there does, with what is half read then
-abbrev pub read_in : Known → Reading → PageInput → Reads → Taking
+abbrev pub read_in : Known → LineState → PageInput → Reads → Taking
 read_in k reading i r = read_by (λ j. found_in k j reading) i r

@@ -1,14 +1,14 @@
 -- What one item of the input does: what is read behind it, and what it means (manual, section 1.1).
 use Rattle.std.specs.Prelude.{List, [], ◌∷◌, ◌++◌, Bool, true, false}
-use Rattle.roff_escape.specs.Halves.{Reads}
+use Rattle.roff_escape.specs.OpenEscapes.{Reads}
 use Rattle.roff_ahead.specs.Input.{Input}
-use Rattle.roff_escape.specs.declared.half.Read.{Read}
-use Rattle.roff_escape.specs.declared.half.Remark.{Remark}
+use Rattle.roff_escape.specs.declared.open_escape.Found.{Found}
+use Rattle.roff_escape.specs.declared.open_escape.Remark.{Remark}
 use Rattle.roff_run.specs.Messages.{remark_message}
-use Rattle.roff_run.specs.declared.reading.Reading.{Reading}
+use Rattle.roff_run.specs.declared.line_state.LineState.{LineState}
 use Rattle.roff_run.specs.Requests.{PageEvent, Effect, doing, saying}
 use Rattle.roff_scan.specs.Unread.{Unread}
-use Rattle.roff_run.specs.declared.reading.Reading.TheVariants.{Deciding, LineStart, Text as InText}
+use Rattle.roff_run.specs.declared.line_state.LineState.TheVariants.{Deciding, LineStart, Text as InText}
 
 -- the input, as a run of the formatter has it
 abbrev pub PageInput : Type 0
@@ -17,15 +17,15 @@ PageInput = Input PageEvent
 -- what one item does: the input and what is read behind it, and what it means
 pub record Taking : Type 0 where
   pub input : PageInput
-  pub reading : Reading
+  pub reading : LineState
   pub effect : Effect
 
 -- this is read on, and nothing is meant yet
-abbrev pub going_on : PageInput → Reading → Taking
+abbrev pub going_on : PageInput → LineState → Taking
 going_on i reading = record { input = i; reading = reading; effect = doing [] }
 
 -- this is read on behind some events
-abbrev pub meaning_events : PageInput → Reading → List PageEvent → Taking
+abbrev pub meaning_events : PageInput → LineState → List PageEvent → Taking
 meaning_events i reading events = record { input = i; reading = reading; effect = doing events }
 
 -- what is meant behind some events
@@ -33,7 +33,7 @@ abbrev pub behind_events : List PageEvent → Taking → Taking
 behind_events events t = record t { effect = record t.effect { events = events ++ t.effect.events } }
 
 -- something that was read within a text that is measured, or a condition, and of which this is said
-abbrev pub telling : PageInput → Reading → Remark → Taking
+abbrev pub telling : PageInput → LineState → Remark → Taking
 telling i reading remark = record {
   input = i;
   reading = reading;
@@ -41,15 +41,15 @@ telling i reading remark = record {
 }
 
 -- what something read does this, with what is half read then
-abbrev pub read_by : (PageInput → Read → Taking) → PageInput → Reads → Taking
-read_by does i r = does (record i { half = r.1 }) r.0
+abbrev pub read_by : (PageInput → Found → Taking) → PageInput → Reads → Taking
+read_by does i r = does (record i { escapes = r.1 }) r.0
 
 -- the unread input of a run
 abbrev pub PageUnread : Type 0
 PageUnread = Unread PageEvent
 
 -- whether what was found there means nothing where nothing was, or a unit of a text that is read
-abbrev pub reads_above : Reading → Bool
+abbrev pub reads_above : LineState → Bool
 reads_above LineStart = true
 reads_above (InText line) = true
 reads_above (Deciding keeps) = true

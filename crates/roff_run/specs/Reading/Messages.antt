@@ -2,11 +2,11 @@
 use Rattle.std.specs.Prelude.{ℕ, Bool, true, false, ◌&&◌, List, reverse, if◌then◌else◌, ◌==◌}
 use Rattle.roff_source.specs.Bytes.{newline, blank}
 use Rattle.roff_ahead.specs.Input.{holding_plain}
-use Rattle.roff_escape.specs.declared.half.CopyUnit.{CopyUnit}
-use Rattle.roff_escape.specs.declared.half.CopyUnit.TheVariants.{Byte, Kept}
-use Rattle.roff_escape.specs.declared.half.Read.{Read}
-use Rattle.roff_escape.specs.declared.half.Read.TheVariants.{Unit, Escape}
-use Rattle.roff_run.specs.declared.reading.Reading.TheVariants.{Telling, Told}
+use Rattle.roff_escape.specs.declared.open_escape.CopyUnit.{CopyUnit}
+use Rattle.roff_escape.specs.declared.open_escape.CopyUnit.TheVariants.{Byte, Kept}
+use Rattle.roff_escape.specs.declared.open_escape.Found.{Found}
+use Rattle.roff_escape.specs.declared.open_escape.Found.TheVariants.{Unit, Escape}
+use Rattle.roff_run.specs.declared.line_state.LineState.TheVariants.{Telling, Told}
 use Rattle.roff_run.specs.Reading.Items.{PageInput, Taking, going_on}
 use Rattle.roff_run.specs.Reading.Units.{no_unit_found}
 use Rattle.roff_run.specs.Registers.{Known}
@@ -20,7 +20,7 @@ message_unit i aborts is_front (Byte b) =
 message_unit i aborts is_front (Kept b) = going_on (holding_plain (Kept b) i) (Telling aborts false)
 
 -- what was found of it
-abbrev pub message_found : Known → PageInput → Bool → Bool → Read → Taking
+abbrev pub message_found : Known → PageInput → Bool → Bool → Found → Taking
 message_found k i aborts is_front (Unit unit) = message_unit i aborts is_front unit
 message_found k i aborts is_front (Escape b) = message_unit i aborts is_front (Kept b)
 message_found k i aborts is_front found = no_unit_found k i (Telling aborts is_front) found

@@ -12,18 +12,18 @@ use Rattle.roff_escape.specs.declared.escapes.Escape.TheVariants.{Prints, Blank,
 use Rattle.roff_escape.specs.declared.escapes.NameUse.{NameUse}
 use Rattle.roff_escape.specs.declared.escapes.NameUse.TheVariants.{Character, Font, LeftOut as NameLeftOut}
 use Rattle.roff_escape.specs.declared.escapes.TextUse.TheVariants.{LeftOut as LeftOutText}
-use Rattle.roff_escape.specs.declared.half.CopyUnit.TheVariants.{Byte, Kept}
-use Rattle.roff_escape.specs.declared.half.Read.{Read}
-use Rattle.roff_escape.specs.declared.half.Read.TheVariants.{GoesOn, Unit, Holds, Escape, Asks, Motion, Measures, Tells, Decides}
-use Rattle.roff_escape.specs.declared.half.Remark.{Remark}
-use Rattle.roff_escape.specs.declared.half.Surroundings.{Surroundings}
-use Rattle.roff_escape.specs.declared.half.Surroundings.TheVariants.{Text as AboveText}
+use Rattle.roff_escape.specs.declared.open_escape.CopyUnit.TheVariants.{Byte, Kept}
+use Rattle.roff_escape.specs.declared.open_escape.Found.{Found}
+use Rattle.roff_escape.specs.declared.open_escape.Found.TheVariants.{GoesOn, Unit, Holds, Escape, Asks, Motion, Measures, Tells, Decides}
+use Rattle.roff_escape.specs.declared.open_escape.Remark.{Remark}
+use Rattle.roff_escape.specs.declared.open_escape.Surroundings.{Surroundings}
+use Rattle.roff_escape.specs.declared.open_escape.Surroundings.TheVariants.{Text as AboveText}
 use Rattle.roff_run.specs.Messages.{character_name, remark_messages}
 use Rattle.roff_run.specs.declared.message.Message.{Message}
 use Rattle.roff_run.specs.declared.message.Message.TheVariants.{LeftOut, UnknownCharacter}
-use Rattle.roff_run.specs.declared.reading.Reading.{Reading}
-use Rattle.roff_run.specs.declared.reading.Reading.TheVariants.{LineStart, Text as InText, Dropped}
-use Rattle.roff_run.specs.declared.reading.TextLine.{TextLine}
+use Rattle.roff_run.specs.declared.line_state.LineState.{LineState}
+use Rattle.roff_run.specs.declared.line_state.LineState.TheVariants.{LineStart, Text as InText, Dropped}
+use Rattle.roff_run.specs.declared.line_state.TextLine.{TextLine}
 use Rattle.roff_run.specs.Reading.Escapes.{measuring, asking}
 use Rattle.roff_run.specs.Reading.Items.{PageInput, Taking, going_on, meaning_events, telling}
 use Rattle.roff_run.specs.Registers.{Known, in_units, greatest_number}
@@ -113,8 +113,8 @@ abbrev pub blank_taking : PageInput → TextLine → Taking
 blank_taking i line =
     if line.has_glyph then meaning_events i (InText line) (Text WordEnd ∷ Text (Gap 1) ∷ [])
     else
-      meaning_events i (InText (record line { leading = min (line.leading + 1) most_leading }))
-      (leading_blank_events line.leading)
+    meaning_events i (InText (record line { leading = min (line.leading + 1) most_leading }))
+    (leading_blank_events line.leading)
 
 -- a byte of a text line
 abbrev pub text_taking : PageInput → TextLine → ℕ → Taking
@@ -156,14 +156,14 @@ character_taking i line (Some name) = character_printed i line (Some name) (char
 character_taking i line None = character_printed i line None None
 
 -- the name behind an escape of a text line; where something is read in the escape's place this is read on
-abbrev pub name_taking : Known → PageInput → Reading → TextLine → NameUse → Option (List ℕ) → Taking
+abbrev pub name_taking : Known → PageInput → LineState → TextLine → NameUse → Option (List ℕ) → Taking
 name_taking k i reading line Character name = character_taking i line name
 name_taking k i reading line Font name = other_taking i line
 name_taking k i reading line (NameLeftOut b) name = left_out_taking i line b
 name_taking k i reading line purpose name = asking k i reading purpose name
 
 -- what was found of a text line
-abbrev pub text_found : Known → PageInput → TextLine → Read → Taking
+abbrev pub text_found : Known → PageInput → TextLine → Found → Taking
 text_found k i line GoesOn = going_on i (InText line)
 text_found k i line (Unit (Byte b)) = text_taking i line b
 text_found k i line (Unit (Kept b)) = escape_taking i line b

@@ -3,7 +3,7 @@ use Rattle.std.specs.Option.{option_to_list}
 use Rattle.roff_run.specs.Events.Lines.{line_events}
 use Rattle.roff_run.specs.Reading.Items.{PageInput, Taking}
 use Rattle.roff_run.specs.Requests.{saying}
-use Rattle.roff_run.specs.declared.reading.TextStep.{TextStep}
+use Rattle.roff_run.specs.declared.line_state.TextStep.{TextStep}
 
 -- what something of a text line does: what is read behind it, and what it means
 abbrev pub step_at : PageInput → TextStep → Taking

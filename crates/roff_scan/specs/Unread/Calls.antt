@@ -5,7 +5,7 @@ use Rattle.roff_arguments.specs.Arguments.{HeldFewer, bytes_held}
 use Rattle.roff_source.specs.Bytes.{is_argument_byte}
 use Rattle.roff_source.specs.Bytes.{is_passed, is_text_byte, newline}
 use Rattle.roff_escape.specs.ConditionFronts.{HalvesTaken}
-use Rattle.roff_escape.specs.HalfFronts.{HalvesRead}
+use Rattle.roff_escape.specs.EscapeFronts.{HalvesRead}
 use Rattle.roff_ahead.specs.Input.{Ahead, ByteAhead, EndAhead, ReturnAhead, bytes_taken, item_taken, leading, lines_taken}
 use Rattle.roff_ahead.specs.Input.Names.{adding}
 use Rattle.roff_source.specs.Tape.{Tape, Answer, OneByte, items_then}
@@ -27,7 +27,7 @@ pub record Looks {E : Type 0} (old new : Tape → Type 0) (before after : Unread
 -- the source's next byte is the next one
 pub record IsBare {E : Type 0} (u : Unread E) : Type 0 where
   pub ahead : u.input.ahead ≡ []
-  pub half : u.input.half ≡ []
+  pub escapes : u.input.escapes ≡ []
   pub looked : u.looked ≡ None
 
 -- These bytes of the source were passed over at once, of those that stood ready. What it may give behind them, it might
@@ -50,7 +50,7 @@ pub record PassesAhead {E : Type 0} (before after : Unread E) (within_block : Bo
   pub behind : List (Ahead E)
   pub in_front : before.input.ahead ≡ map ByteAhead bytes ++ behind
   pub plain : AllByRecursion (λ b. is_passed within_block b ≡ true) bytes
-  pub none_half : (bytes ≡ []) ⊎ (before.input.half ≡ [])
+  pub none_half : (bytes ≡ []) ⊎ (before.input.escapes ≡ [])
   pub input : after ≡ record before { input = bytes_taken bytes behind before.input }
   pub within : before.input.charge + length bytes ≤ before.limits.bytes
 
@@ -145,15 +145,15 @@ pub record AddsFront {E : Type 0} (old new : Tape → Type 0) (before after : Un
 -- Bytes that came next were taken at once, and changed only what is half read; nothing else changed but what is counted.
 pub record ReadsNames {E : Type 0} (old new : Tape → Type 0) (before after : Unread E) : Type 0 where
   pub bytes : List ℕ
-  pub read : HalvesRead before.input.half bytes after.input.half
-  pub passes : PassesFront old new bytes before (record after { input = record after.input { half = before.input.half } })
+  pub read : HalvesRead before.input.escapes bytes after.input.escapes
+  pub passes : PassesFront old new bytes before (record after { input = record after.input { escapes = before.input.escapes } })
 
 -- Bytes that came next were taken at once where a condition is half read, and changed only what is half read, in which some
 -- are held; nothing else changed but what is counted.
 pub record TakesHalves {E : Type 0} (old new : Tape → Type 0) (before after : Unread E) : Type 0 where
   pub bytes : List ℕ
-  pub taken : HalvesTaken before.input.half bytes after.input.half
-  pub passes : PassesFront old new bytes before (record after { input = record after.input { half = before.input.half } })
+  pub taken : HalvesTaken before.input.escapes bytes after.input.escapes
+  pub passes : PassesFront old new bytes before (record after { input = record after.input { escapes = before.input.escapes } })
 
 -- Bytes of a pushed text were taken at once where a condition is half read, each at its cost, and changed only what is half
 -- read, in which some are held; the source wasn't asked.
@@ -161,6 +161,6 @@ pub record TakesPushed {E : Type 0} (before after : Unread E) : Type 0 where
   pub bytes : List ℕ
   pub behind : List (Ahead E)
   pub in_front : before.input.ahead ≡ map ByteAhead bytes ++ behind
-  pub taken : HalvesTaken before.input.half bytes after.input.half
-  pub input : after ≡ record before { input = record before.input { ahead = behind; charge = before.input.charge + length bytes; half = after.input.half } }
+  pub taken : HalvesTaken before.input.escapes bytes after.input.escapes
+  pub input : after ≡ record before { input = record before.input { ahead = behind; charge = before.input.charge + length bytes; escapes = after.input.escapes } }
   pub within : before.input.charge + length bytes ≤ before.limits.bytes

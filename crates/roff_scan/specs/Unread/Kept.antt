@@ -14,7 +14,7 @@ kept_by a = record {
     ahead = a.frames.ahead;
     arguments = a.arguments.arguments;
     calls = a.calls.calls;
-    half = a.half.half;
+    escapes = a.escapes.escapes;
     kept = reverse a.kept.items;
     charge = a.charge;
     newlines = a.newlines;
@@ -42,7 +42,7 @@ pub record IsSound {E : Type 0} (a : Inside E) : Type 0 where
   pub call_bytes : a.calls.most_bytes ≡ a.limits.stack
   pub most_calls : a.calls.most_calls ≡ a.limits.depth
   pub calls : returns_ahead a.frames.ahead ≡ length a.calls.calls
-  pub held : a.half.room ≡ a.limits.stack
+  pub held : a.escapes.room ≡ a.limits.stack
   pub small : a.limits.stack < 2 ^ 32
   pub results : a.limits.conditions ≤ vec_capacity a.kept
   pub within : IsWithin (kept_by a)

@@ -10,8 +10,8 @@ use super::Unread;
 use super::fronts::front_of;
 use roff_arguments::{ArgumentList, bytes_of};
 use roff_escape::CopyUnit;
-use roff_source::ByteSource;
 use roff_num::Limit;
+use roff_source::ByteSource;
 
 impl<E: Copy> Unread<E> {
     ghost use Rattle.roff_scan.specs.Unread.{IsWithin, changing};
@@ -23,7 +23,7 @@ impl<E: Copy> Unread<E> {
         ensures within { IsWithin self.new }
     {
         self.arguments.clear();
-        self.half.clear();
+        self.escapes.clear();
     }
 
     /// Drops the arguments of the line before.

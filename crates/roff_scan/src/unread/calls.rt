@@ -8,8 +8,7 @@ ghost use Rattle.roff_ahead.specs.Input.Names.{body_named};
 
 use super::Unread;
 use super::results::drop_kept;
-use roff_arguments::ArgumentList;
-use roff_arguments::Calls;
+use roff_arguments::{ArgumentList, Calls};
 use roff_num::{Limit, Name};
 
 impl<E: Copy> Unread<E> {

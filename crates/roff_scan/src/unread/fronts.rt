@@ -5,9 +5,8 @@ ghost use Rattle.roff_scan.specs.Unread.Calls.{next_bytes};
 ghost use Rattle.roff_ahead.specs.Input.{is_none_ahead};
 
 use super::Unread;
-use roff_source::at_most;
 use roff_ahead::Frames;
-use roff_source::ByteSource;
+use roff_source::{ByteSource, at_most};
 
 impl<E: Copy> Unread<E> {
     ghost use Rattle.roff_scan.specs.Unread.{IsWithin};

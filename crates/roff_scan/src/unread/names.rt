@@ -9,9 +9,8 @@ ghost use Rattle.roff_ahead.specs.Input.{is_none_ahead};
 ghost use Rattle.roff_ahead.specs.Input.Names.{adding, calling, dropping, entering};
 
 use super::Unread;
-use roff_source::{at_most, text_in_front};
-use roff_source::ByteSource;
 use roff_num::{Limit, Name};
+use roff_source::{ByteSource, at_most, text_in_front};
 use roff_store::{Entry, Kind};
 
 impl<E: Copy> Unread<E> {

@@ -6,8 +6,7 @@ ghost use Rattle.roff_ahead.specs.Input.{is_none_ahead};
 
 use super::Unread;
 use super::calls::end_call;
-use roff_source::{newlines_among, passed_len};
-use roff_source::ByteSource;
+use roff_source::{ByteSource, newlines_among, passed_len};
 
 impl<E: Copy> Unread<E> {
     ghost use Rattle.roff_scan.specs.Unread.{is_bare, IsWithin};
@@ -20,7 +19,7 @@ impl<E: Copy> Unread<E> {
     fn is_bare(&self) -> bool
         ensures { result ≡ is_bare self.now }
     {
-        self.frames.is_empty() && self.looked.is_none() && self.half.is_empty()
+        self.frames.is_empty() && self.looked.is_none() && self.escapes.is_empty()
     }
 
     /// Takes at once the bytes of the source that stand ready, up to the first backslash and,
@@ -70,7 +69,7 @@ impl<E: Copy> Unread<E> {
         ensures passes { PassesAhead self.old self.new within_block }
         ensures within { IsWithin self.new }
     {
-        if self.half.is_empty() {
+        if self.escapes.is_empty() {
             let most = (self.limits.bytes - self.charge) as usize;
             let passed = self.frames.pass_over(within_block, most);
             self.charge += passed as u32;

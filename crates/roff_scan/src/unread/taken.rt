@@ -6,11 +6,11 @@ ghost use Rattle.roff_source.specs.Tape.{Answer, OneByte, Gives, Failed};
 ghost use Rattle.roff_num.specs.Faults.{Rises};
 ghost use Rattle.roff_ahead.specs.Input.{is_none_ahead, counting};
 
-use super::calls::end_call;
 use super::Unread;
+use super::calls::end_call;
 use roff_ahead::{Item, Sight};
-use roff_source::{ByteSource, Taken};
 use roff_num::Limit;
+use roff_source::{ByteSource, Taken};
 
 impl<E: Copy> Unread<E> {
     ghost use Rattle.roff_scan.specs.Unread.{IsWithin};
@@ -107,7 +107,7 @@ impl<E: Copy> Unread<E> {
     pub fn take_waiting<S: ByteSource>(&mut self, source: &mut S) -> Option<u8>
         ensures takes { IfSome result (λ b.
             Takes (S.gives source.old) (S.gives source.new) self.old self.new (ShowsByte b)) }
-        ensures waits { IfSome result (λ b. WaitsFor self.old.input.half b) }
+        ensures waits { IfSome result (λ b. WaitsFor self.old.input.escapes b) }
         ensures kept { result ≡ None → (self.new ≡ self.old) × (source.new ≡ source.old) }
         ensures notes { S.notes source.new ≤ S.notes source.old }
         ensures failures { S.failures source.old ≤ S.failures source.new }
@@ -129,11 +129,11 @@ impl<E: Copy> Unread<E> {
         requires some { is_none_ahead self.old.input.ahead ≡ false }
         ensures takes { IfSome result (λ b.
             (a : Answer) → (ShowsByte b, self.new) ≡ taking a self.old) }
-        ensures waits { IfSome result (λ b. WaitsFor self.old.input.half b) }
+        ensures waits { IfSome result (λ b. WaitsFor self.old.input.escapes b) }
         ensures kept { result ≡ None → self.new ≡ self.old }
         ensures within { IsWithin self.new }
     {
-        match self.frames.take_waiting(&self.half) {
+        match self.frames.take_waiting(&self.escapes) {
             None => None,
             Some(byte) => {
                 self.charge += 1;
@@ -149,7 +149,7 @@ impl<E: Copy> Unread<E> {
         requires none_ahead { is_none_ahead self.old.input.ahead ≡ true }
         ensures takes { IfSome result (λ b.
             Takes (S.gives source.old) (S.gives source.new) self.old self.new (ShowsByte b)) }
-        ensures waits { IfSome result (λ b. WaitsFor self.old.input.half b) }
+        ensures waits { IfSome result (λ b. WaitsFor self.old.input.escapes b) }
         ensures kept { result ≡ None → (self.new ≡ self.old) × (source.new ≡ source.old) }
         ensures notes { S.notes source.new ≡ S.notes source.old }
         ensures failures { S.failures source.new ≡ S.failures source.old }
@@ -161,7 +161,7 @@ impl<E: Copy> Unread<E> {
         match source.buffered() {
             [first, ..] => {
                 let byte = *first;
-                if !self.half.waits_for(byte) {
+                if !self.escapes.waits_for(byte) {
                     return None;
                 }
                 self.count(byte);

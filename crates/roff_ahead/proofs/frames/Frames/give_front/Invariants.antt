@@ -4,7 +4,7 @@ use Rattle.roff_ahead.proofs.frames.Frames.give_front.Given as goal
 
 abbrev pub invariant-loop-count : goal.invariant-loop-count
 invariant-loop-count g l = record {
-  gives : GivesFront l.initial.self l.self l.initial.half l.half l.count;
+  gives : GivesFront l.initial.self l.self l.initial.escapes l.escapes l.count;
   few : l.count ≤ l.most;
 }
 

@@ -1,6 +1,6 @@
 use Rattle.std.proofs.Common.{[], ◌∙◌, arith}
 use Rattle.roff_engine.proofs.Passing.{come-past}
-use Rattle.roff_engine.proofs.WholeRuns.{HasTape-fresh, fewer_to_come, goes_on, has_ended, settled, settled_end, starts}
+use Rattle.roff_engine.proofs.WholeRuns.{HasTape-fresh, fewer_to_come, goes_on, has_ended, due_done, due_done_end, starts}
 use Rattle.roff_engine.proofs.engine.Engine.format.Goals as goal
 
 pub loop-running-init : goal.loop-running-init
@@ -18,14 +18,14 @@ pub returns-in-Err : goal.returns-in-Err
 returns-in-Err g c =
     let before = c.loop-running.invariant in
     let past = (c.pass_over.ensures _ _).past in
-    settled_end _ _ _ _ _ (come-past _ _ _ _ _ _ _ before.come past) _ c.in-Err.status (past.limits ∙ before.limits) (c.in-Err.ensures _)
+    due_done_end _ _ _ _ _ (come-past _ _ _ _ _ _ _ before.come past) _ c.in-Err.status (past.limits ∙ before.limits) (c.in-Err.ensures _)
 
 pub returns-in-Err-turn : goal.returns-in-Err-turn
 returns-in-Err-turn g c =
     let before = c.loop-running.invariant in
     let past = (c.pass_over.ensures _ _).past in
-    let settles = c.in_default.ensures _ in
-    has_ended _ _ _ _ _ _ _ (settled _ _ _ _ _ (come-past _ _ _ _ _ _ _ before.come past) settles) _ c.in-Err-turn.status (settles.limits ∙ (past.limits ∙ before.limits)) c.in-Err-turn.ensures
+    let does_due = c.in_default.ensures _ in
+    has_ended _ _ _ _ _ _ _ (due_done _ _ _ _ _ (come-past _ _ _ _ _ _ _ before.come past) does_due) _ c.in-Err-turn.status (does_due.limits ∙ (past.limits ∙ before.limits)) c.in-Err-turn.ensures
 
 pub turn-requires : goal.turn-requires
 turn-requires g c = (c.in_default.ensures 0).none_due
@@ -34,17 +34,17 @@ pub loop-running-preserved : goal.loop-running-preserved
 loop-running-preserved g c =
     let before = c.loop-running.invariant in
     let past = (c.pass_over.ensures _ _).past in
-    let settles = c.in_default.ensures _ in record {
-      come = goes_on _ _ _ _ _ _ _ (settled _ _ _ _ _ (come-past _ _ _ _ _ _ _ before.come past) settles) c.in_default-turn.ensures;
-      limits = c.in_default-turn.ensures.limits ∙ (settles.limits ∙ (past.limits ∙ before.limits));
+    let does_due = c.in_default.ensures _ in record {
+      come = goes_on _ _ _ _ _ _ _ (due_done _ _ _ _ _ (come-past _ _ _ _ _ _ _ before.come past) does_due) c.in_default-turn.ensures;
+      limits = c.in_default-turn.ensures.limits ∙ (does_due.limits ∙ (past.limits ∙ before.limits));
     }
 
 pub loop-running-smaller : goal.loop-running-smaller
 loop-running-smaller g c =
     let past = (c.pass_over.ensures _ _).past in
-    let settles = c.in_default.ensures _ in
-    let fewer = fewer_to_come _ _ _ _ _ _ _ (settled _ _ _ _ _ (come-past _ _ _ _ _ _ _ c.loop-running.invariant.come past) settles) c.in_default-turn.ensures in
-    omega (arith, fewer, settles.turns, past.turns)
+    let does_due = c.in_default.ensures _ in
+    let fewer = fewer_to_come _ _ _ _ _ _ _ (due_done _ _ _ _ _ (come-past _ _ _ _ _ _ _ c.loop-running.invariant.come past) does_due) c.in_default-turn.ensures in
+    omega (arith, fewer, does_due.turns, past.turns)
 
 pub loop-running-preserved-then-pass_over : goal.loop-running-preserved-then-pass_over
 loop-running-preserved-then-pass_over g c =

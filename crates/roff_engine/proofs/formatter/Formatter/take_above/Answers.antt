@@ -12,11 +12,11 @@ returns-in-Done g c =
     let t : Known → Taking = λ k. taking k old.reader.reading u.input c.args.byte in
     at_once_done t [] old old old u c.read_above.new.unread _ _ _ (Ok tt) c.in-Done.ensures refl (performs_nothing old _)
 
-pub returns-in-Found : goal.returns-in-Found
-returns-in-Found g c =
+pub returns-in-Unfinished : goal.returns-in-Unfinished
+returns-in-Unfinished g c =
     let old = c.args.self.now in
     let u = c.args.unread.now in
-    c.take_found.ensures (λ k. taking k old.reader.reading u.input c.args.byte) u c.in-Found.ensures
+    c.take_found.ensures (λ k. taking k old.reader.reading u.input c.args.byte) u c.in-Unfinished.ensures
 
 pub returns-in-Not : goal.returns-in-Not
 returns-in-Not g c =

@@ -12,8 +12,8 @@ end_dropped-requires-clause-ends g c =
 pub end_dropped-requires-clause-none_due : goal.end_dropped-requires-clause-none_due
 end_dropped-requires-clause-none_due g c = ap (λ (f : Formatter). due f.reader.reading) c.pass_plain.ensures.kept ∙ c.requires.none_due
 
-pub returns-then-not-is_half_read : goal.returns-then-not-is_half_read
-returns-then-not-is_half_read g c = λ out err.
+pub returns-then-not-has_open_escape : goal.returns-then-not-has_open_escape
+returns-then-not-has_open_escape g c = λ out err.
     goes_further_both _ _ _ _ _ _ _ _ _ _ _ _ _ (c.pass_plain.ensures.past out err) (c.end_dropped.ensures out err)
 
 pub returns-else-not-within_block : goal.returns-else-not-within_block

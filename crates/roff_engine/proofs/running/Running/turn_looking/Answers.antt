@@ -7,7 +7,7 @@ use Rattle.roff_engine.proofs.running.Running.turn_looking.Goals.{in-Byte, in-No
 pub returns-in-Note : goal.returns-in-Note
 returns-in-Note g c =
     let shown = c.in-Note.ensures in
-    waiting_note c.args.self.now _ _ _ _ _ _ shown.failures shown.notes _ _ _ shown.looks (shown.note _ refl) c.tell_note.ensures.puts c.tell_note.ensures.status
+    waiting_note c.args.self.now _ _ _ _ _ _ shown.failures shown.notes _ _ _ shown.looks (shown.note _ refl) c.report_note.ensures.puts c.report_note.ensures.status
 
 pub returns-in-Fault : goal.returns-in-Fault
 returns-in-Fault g c =
@@ -20,16 +20,16 @@ returns-in-Stop g c =
     let shown = c.in-Stop.ensures in
     waiting_stopped c.args.self.now _ _ _ _ _ _ shown.failures shown.notes c.in-Stop.limit shown.looks
 
-pub returns-then-seen_stays : goal.returns-then-seen_stays
-returns-then-seen_stays g c =
+pub returns-then-is_ended_by : goal.returns-then-is_ended_by
+returns-then-is_ended_by g c =
     let is_front : ShowsFront c.match-look.seen (sighted c.look.result) = elim c.match-look.branch [
       | in-Byte w ↦ rw w.in-Byte.is w.seen-is
       | in-Nothing w ↦ rw w.in-Nothing.is w.seen-is
       | in-SourceEnd w ↦ rw w.in-SourceEnd.is w.seen-is
     ] in
     let look = c.look.ensures in
-    waiting_ends c.args.self.now _ _ _ _ _ _ look.failures look.notes c.match-look.seen (sighted c.look.result) c.end_half.new.self _ _ is_front look.looks
-    (sym c.seen_stays.ensures ∙ c.if-seen_stays.true) c.requires (c.end_half.ensures _)
+    waiting_ends c.args.self.now _ _ _ _ _ _ look.failures look.notes c.match-look.seen (sighted c.look.result) c.end_escape.new.self _ _ is_front look.looks
+    (sym c.is_ended_by.ensures ∙ c.if-is_ended_by.true) c.requires (c.end_escape.ensures _)
 
 pub returns : goal.returns
 returns g c =
@@ -39,5 +39,5 @@ returns g c =
       | in-SourceEnd w ↦ rw w.in-SourceEnd.is w.seen-is
     ] in
     let look = c.look.ensures in
-    waiting_in_front c.args.self.now look.looks c.match-look.seen is_front (sym c.seen_stays.ensures ∙ c.if-seen_stays.false) _ _ _ _ _ _ _ c.turn_above.new.self _ _
+    waiting_in_front c.args.self.now look.looks c.match-look.seen is_front (sym c.is_ended_by.ensures ∙ c.if-is_ended_by.false) _ _ _ _ _ _ _ c.turn_above.new.self _ _
     look.failures look.notes c.turn_above.ensures

@@ -1,8 +1,8 @@
 use Rattle.std.proofs.Common.{◌≡◌, rules, subst}
 use Rattle.roff_reader.specs.Reader.Taken.{TakesAs}
 use Rattle.roff_run.specs.Reading.Beginnings.{at_start, beginning_found}
-use Rattle.roff_run.specs.declared.reading.Reading.{Reading}
-use Rattle.roff_run.specs.declared.reading.Reading.TheVariants.{Branch}
+use Rattle.roff_run.specs.declared.line_state.LineState.{LineState}
+use Rattle.roff_run.specs.declared.line_state.LineState.TheVariants.{Branch}
 use Rattle.roff_reader.proofs.TakesAs.{TakesAs-read_at}
 use Rattle.roff_reader.proofs.reader.Reader.begin_branch.Goals as goal
 
@@ -15,7 +15,7 @@ returns-in-Some c =
     let read = c.read_byte-found in
     let done = c.begin_line in
     let at : c.branch-branch.result ≡ Branch = search rules in
-    let begun = subst (λ (r : Reading). TakesAs (λ k. beginning_found k read.new.self.input r read.result) es old done.new.self read.new.self done.new.unread done.result)
+    let begun = subst (λ (r : LineState). TakesAs (λ k. beginning_found k read.new.self.input r read.result) es old done.new.self read.new.self done.new.unread done.result)
     at done.ensures in
     rw (c.in-Some.is, c.if-so.true)
     (TakesAs-read_at (λ k i found. beginning_found k i Branch found) at_start c.at_start.result es c.at_start.ensures old done.new.self u read.new.self done.new.unread

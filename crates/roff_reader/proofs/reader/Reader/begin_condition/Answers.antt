@@ -1,16 +1,16 @@
 use Rattle.std.proofs.Common.{◌≡◌, true, false, Some, refl, rules, subst, ◌==◌}
 use Rattle.roff_source.specs.Bytes.{newline}
-use Rattle.roff_escape.specs.Halves.{byte_read}
-use Rattle.roff_ahead.specs.Input.{choosing, with_half}
-use Rattle.roff_escape.specs.declared.half.Decision.TheVariants.{Is}
-use Rattle.roff_escape.specs.declared.half.Read.TheVariants.{Decides}
-use Rattle.roff_escape.specs.declared.half.Surroundings.TheVariants.{Arguments as AboveArguments}
+use Rattle.roff_escape.specs.OpenEscapes.{byte_read}
+use Rattle.roff_ahead.specs.Input.{choosing, with_escapes}
+use Rattle.roff_escape.specs.declared.open_escape.Decision.TheVariants.{Is}
+use Rattle.roff_escape.specs.declared.open_escape.Found.TheVariants.{Decides}
+use Rattle.roff_escape.specs.declared.open_escape.Surroundings.TheVariants.{Arguments as AboveArguments}
 use Rattle.roff_escape.proofs.TextsHeld.{texts_held-byte_read}
 use Rattle.roff_reader.specs.Reader.Taken.{TakesAs}
 use Rattle.roff_run.specs.Reading.Items.{PageUnread}
 use Rattle.roff_run.specs.Reading.Branches.{condition_begun, condition_found}
 use Rattle.roff_run.specs.Reading.Found.{read_in}
-use Rattle.roff_run.specs.declared.reading.Reading.TheVariants.{Deciding}
+use Rattle.roff_run.specs.declared.line_state.LineState.TheVariants.{Deciding}
 use Rattle.roff_reader.proofs.TakesAs.{NoMore-choosing, TakesAs-as, TakesAs-less, TakesAs-read}
 use Rattle.roff_reader.proofs.reader.Reader.begin_condition.Goals as goal
 
@@ -35,12 +35,12 @@ returns c =
     let read = c.read_byte-found in
     let done = c.read_condition-2 in
     let goes_on : (b == newline) ≡ false = search rules in
-    let took = TakesAs-read (λ k i found. condition_found k i keeps found) (byte_read AboveArguments begun.input.half b) es old done.new.self begun read.new.self done.new.unread
-    read.result done.result read.ensures.reading (texts_held-byte_read AboveArguments b begun.input.half) done.ensures in
+    let took = TakesAs-read (λ k i found. condition_found k i keeps found) (byte_read AboveArguments begun.input.escapes b) es old done.new.self begun read.new.self done.new.unread
+    read.result done.result read.ensures.reading (texts_held-byte_read AboveArguments b begun.input.escapes) done.ensures in
     let At : PageUnread → Type 0 = λ v. TakesAs (λ k.
-    condition_found k (with_half (byte_read AboveArguments v.input.half b).1 v.input) keeps (byte_read AboveArguments v.input.half b).0)
+    condition_found k (with_escapes (byte_read AboveArguments v.input.escapes b).1 v.input) keeps (byte_read AboveArguments v.input.escapes b).0)
     es old done.new.self v done.new.unread done.result in
-    TakesAs-as (λ k. read_in k (Deciding keeps) u.input (byte_read AboveArguments (choosing u.input).half b)) (λ k. condition_begun k u.input keeps b) es old done.new.self
+    TakesAs-as (λ k. read_in k (Deciding keeps) u.input (byte_read AboveArguments (choosing u.input).escapes b)) (λ k. condition_begun k u.input keeps b) es old done.new.self
     u done.new.unread done.result (λ k. rw goes_on refl)
-    (TakesAs-less (choosing u.input) (λ k. read_in k (Deciding keeps) u.input (byte_read AboveArguments (choosing u.input).half b)) es old done.new.self u done.new.unread done.result
+    (TakesAs-less (choosing u.input) (λ k. read_in k (Deciding keeps) u.input (byte_read AboveArguments (choosing u.input).escapes b)) es old done.new.self u done.new.unread done.result
     (NoMore-choosing u.input) refl refl (subst At c.begin_condition.ensures.change took))

@@ -2,8 +2,8 @@ use Rattle.std.proofs.Common.{◌≡◌, rules, ap}
 use Rattle.roff_reader.specs.Reader.State.{ReaderState}
 use Rattle.roff_run.specs.Reading.Beginnings.{first_name}
 use Rattle.roff_run.specs.Reading.TextLines.{motion_taking}
-use Rattle.roff_escape.specs.declared.half.CopyUnit.TheVariants.{Byte, Kept}
-use Rattle.roff_escape.specs.declared.half.Read.TheVariants.{Unit}
+use Rattle.roff_escape.specs.declared.open_escape.CopyUnit.TheVariants.{Byte, Kept}
+use Rattle.roff_escape.specs.declared.open_escape.Found.TheVariants.{Unit}
 use Rattle.roff_reader.proofs.TakesAs.{TakesAs-begun, TakesAs-set}
 use Rattle.roff_reader.proofs.reader.Reader.begin_line.Goals as goal
 

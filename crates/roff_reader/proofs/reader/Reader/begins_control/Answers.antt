@@ -1,7 +1,7 @@
 use Rattle.std.proofs.Common.{◌≡◌, ◌==◌, [], false, rules, true}
 use Rattle.std.proofs.lemmas.Bool.{eqb-true}
 use Rattle.roff_run.specs.Reading.{kept_taking}
-use Rattle.roff_run.specs.declared.reading.Reading.TheVariants.{Control, LineStart}
+use Rattle.roff_run.specs.declared.line_state.LineState.TheVariants.{Control, LineStart}
 use Rattle.roff_reader.proofs.ReadAtOnce.{at_once-meant, begins-apostrophe, begins-dot}
 use Rattle.roff_reader.proofs.reader.Reader.begins_control.Goals as goal
 

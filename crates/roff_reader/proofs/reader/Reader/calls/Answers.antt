@@ -1,11 +1,11 @@
 use Rattle.std.proofs.Common.{◌≡◌, ◌∙◌, ◌==◌, ◌<◌, length, ap, arith, false, refl, rules, true}
 use Rattle.std.proofs.lemmas.Bool.{eqb-true}
 use Rattle.std.proofs.lemmas.List.{length-reverse}
-use Rattle.roff_escape.specs.declared.half.CopyUnit.TheVariants.{Byte}
+use Rattle.roff_escape.specs.declared.open_escape.CopyUnit.TheVariants.{Byte}
 use Rattle.roff_run.specs.Reading.{kept_taking}
 use Rattle.roff_run.specs.Reading.Units.{holding}
-use Rattle.roff_run.specs.declared.reading.Reading.{Reading}
-use Rattle.roff_run.specs.declared.reading.Reading.TheVariants.{Calling}
+use Rattle.roff_run.specs.declared.line_state.LineState.{LineState}
+use Rattle.roff_run.specs.declared.line_state.LineState.TheVariants.{Calling}
 use Rattle.roff_reader.proofs.CalledArguments.{call-byte}
 use Rattle.roff_reader.proofs.ReadAtOnce.{at_once-changed, refused-stays}
 use Rattle.roff_reader.proofs.reader.Reader.calls.Goals as goal
@@ -20,7 +20,7 @@ pub returns-in-Ok : goal.returns-in-Ok
 returns-in-Ok c =
     let u = c.args.unread.now in
     let b = c.args.byte in
-    let place : Reading = Calling c.args.name in
+    let place : LineState = Calling c.args.name in
     let no_newline : (b == 10) ≡ false = search rules in
     let no_escape : (b == 92) ≡ false = search rules in
     let count = ap length c.arguments.ensures ∙ length-reverse u.input.arguments.whole in

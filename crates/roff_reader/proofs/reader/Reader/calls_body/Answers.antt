@@ -4,7 +4,7 @@ use Rattle.roff_ahead.specs.Input.Names.{body_named}
 use Rattle.roff_scan.specs.Unread.{changing}
 use Rattle.roff_run.specs.Reading.{kept_taking}
 use Rattle.roff_num.specs.ShortNames.{name_bytes}
-use Rattle.roff_run.specs.declared.reading.Reading.TheVariants.{Calling, LineStart}
+use Rattle.roff_run.specs.declared.line_state.LineState.TheVariants.{Calling, LineStart}
 use Rattle.roff_reader.proofs.ReadAtOnce.{at_once-changed, ends-call, refused-stays}
 use Rattle.roff_reader.proofs.reader.Reader.calls_body.Goals as goal
 

@@ -1,5 +1,5 @@
 use Rattle.std.proofs.Common.{◌≡◌, false, rules}
-use Rattle.roff_run.specs.declared.reading.Reading.TheVariants.{Deciding}
+use Rattle.roff_run.specs.declared.line_state.LineState.TheVariants.{Deciding}
 use Rattle.roff_reader.proofs.ReadAtOnce.{decided-alone}
 use Rattle.roff_reader.proofs.reader.Reader.decides.Goals as goal
 

@@ -6,7 +6,7 @@ use Rattle.roff_run.specs.Reading.Ends.{interrupted_end}
 use Rattle.roff_run.specs.Reading.Items.{going_on, meaning_events}
 use Rattle.roff_run.specs.declared.event.PageEvent.{PageEvent}
 use Rattle.roff_run.specs.declared.event.PageEvent.TheVariants.{Text}
-use Rattle.roff_run.specs.declared.reading.TextLine.{TextLine}
+use Rattle.roff_run.specs.declared.line_state.TextLine.{TextLine}
 use Rattle.roff_reader.proofs.TakesAs.{TakesAs-asked, TakesAs-meant}
 use Rattle.roff_reader.proofs.reader.Reader.end_interrupted.Goals as goal
 

@@ -7,7 +7,7 @@ use Rattle.roff_run.specs.Reading.Ends.{end_taking}
 use Rattle.roff_run.specs.Reading.Items.{going_on}
 use Rattle.roff_run.specs.Reading.Strings.{string_entered, string_line_ended}
 use Rattle.roff_num.specs.ShortNames.{name_at}
-use Rattle.roff_run.specs.declared.reading.Reading.TheVariants.{Braced, Control, Defining, Dropped, Exiting, LineStart, Skipping, StringName, StringText}
+use Rattle.roff_run.specs.declared.line_state.LineState.TheVariants.{Braced, Control, Defining, Dropped, Exiting, LineStart, Skipping, StringName, StringText}
 use Rattle.roff_reader.proofs.TakesAs.{TakesAs-as, TakesAs-last_line, TakesAs-no_last_line, TakesAs-where, end_taking-newline, string_line_ended-going}
 use Rattle.roff_reader.proofs.reader.Reader.end_line_of_input.Goals as goal
 

@@ -4,7 +4,7 @@ use Rattle.roff_run.specs.Reading.{kept_taking}
 use Rattle.roff_run.specs.Reading.ControlLines.{behind_called, behind_name, ends_name, name_ended_taking}
 use Rattle.roff_run.specs.Reading.Items.{Taking}
 use Rattle.roff_run.specs.Requests.{row_of}
-use Rattle.roff_run.specs.declared.reading.Reading.TheVariants.{Calling, Dropped, Name}
+use Rattle.roff_run.specs.declared.line_state.LineState.TheVariants.{Calling, Dropped, Name}
 use Rattle.roff_num.specs.declared.short_name.ShortName.{ShortName}
 use Rattle.roff_reader.proofs.ReadAtOnce.{TakesAs-nothing}
 use Rattle.roff_reader.proofs.TakesAs.{TakesAs-as, TakesAs-meant}

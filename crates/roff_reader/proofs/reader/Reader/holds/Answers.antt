@@ -1,9 +1,9 @@
 use Rattle.std.proofs.Common.{◌≡◌, ◌==◌, false, refl, rules}
-use Rattle.roff_escape.specs.declared.half.CopyUnit.TheVariants.{Byte}
+use Rattle.roff_escape.specs.declared.open_escape.CopyUnit.TheVariants.{Byte}
 use Rattle.roff_run.specs.Reading.{kept_taking}
 use Rattle.roff_run.specs.Reading.Units.{holding}
-use Rattle.roff_run.specs.declared.reading.Reading.{Reading}
-use Rattle.roff_run.specs.declared.reading.Reading.TheVariants.{Arguments as InArguments}
+use Rattle.roff_run.specs.declared.line_state.LineState.{LineState}
+use Rattle.roff_run.specs.declared.line_state.LineState.TheVariants.{Arguments as InArguments}
 use Rattle.roff_reader.proofs.ReadAtOnce.{at_once-changed, holds-byte, refused-stays}
 use Rattle.roff_reader.proofs.reader.Reader.holds.Goals as goal
 
@@ -11,7 +11,7 @@ pub returns-in-Ok : goal.returns-in-Ok
 returns-in-Ok c =
     let u = c.args.unread.now in
     let b = c.args.byte in
-    let place : Reading = InArguments c.args.breaks c.args.request in
+    let place : LineState = InArguments c.args.breaks c.args.request in
     let no_newline : (b == 10) ≡ false = search rules in
     let no_escape : (b == 92) ≡ false = search rules in
     at_once-changed (λ k. kept_taking k place u.input b) (holding (Byte b) u.input) place c.args.self.now c.go_on.new.self u c.hold.new.self _

@@ -1,7 +1,7 @@
 use Rattle.roff_run.specs.Reading.Arguments.{arguments_found}
 use Rattle.roff_run.specs.Reading.Units.{no_unit_found, settling}
-use Rattle.roff_run.specs.declared.reading.Reading.{Reading}
-use Rattle.roff_run.specs.declared.reading.Reading.TheVariants.{Arguments as InArguments}
+use Rattle.roff_run.specs.declared.line_state.LineState.{LineState}
+use Rattle.roff_run.specs.declared.line_state.LineState.TheVariants.{Arguments as InArguments}
 use Rattle.roff_reader.proofs.TakesAs.{TakesAs-as, TakesAs-settled, arguments_found-no_unit}
 use Rattle.roff_reader.proofs.reader.Reader.read_arguments.Goals as goal
 
@@ -18,7 +18,7 @@ returns-in_default c =
     let u = c.args.unread.now in
     let breaks = c.args.breaks in
     let request = c.args.request in
-    let place : Reading = InArguments breaks request in
+    let place : LineState = InArguments breaks request in
     let found = c.args.found in
     let done = c.read_in_arguments in
     TakesAs-as (λ k. no_unit_found k (settling u.input) place found) (λ k. arguments_found k u.input breaks request found) es old done.new.self u done.new.unread done.result

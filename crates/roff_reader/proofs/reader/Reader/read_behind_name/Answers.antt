@@ -1,12 +1,12 @@
 use Rattle.std.proofs.Common.{[], sym, ap, ◌∙◌}
-use Rattle.roff_escape.specs.Halves.{byte_read}
-use Rattle.roff_escape.specs.declared.half.Surroundings.TheVariants.{Arguments as AboveArguments}
+use Rattle.roff_escape.specs.OpenEscapes.{byte_read}
+use Rattle.roff_escape.specs.declared.open_escape.Surroundings.TheVariants.{Arguments as AboveArguments}
 use Rattle.roff_escape.proofs.TextsHeld.{texts_held-byte_read}
 use Rattle.roff_run.specs.Reading.Calls.{call_found}
 use Rattle.roff_run.specs.Reading.ControlLines.{called_taking, line_taking, name_ended_taking}
 use Rattle.roff_run.specs.Reading.Found.{read_in}
 use Rattle.roff_run.specs.Requests.{row_of}
-use Rattle.roff_run.specs.declared.reading.Reading.TheVariants.{Calling}
+use Rattle.roff_run.specs.declared.line_state.LineState.TheVariants.{Calling}
 use Rattle.roff_run.specs.declared.request.Called.{Called}
 use Rattle.roff_reader.proofs.TakesAs.{TakesAs-as, TakesAs-meant, TakesAs-read}
 use Rattle.roff_reader.proofs.reader.Reader.read_behind_name.Goals as goal
@@ -31,10 +31,10 @@ returns-in-Body c =
     let name = c.in-Body.name in
     let read = c.read_byte-found in
     let done = c.read_call in
-    TakesAs-as (λ k. read_in k (Calling name) u.input (byte_read AboveArguments u.input.half b)) (λ k. name_ended_taking k u.input breaks c.args.name b) es old done.new.self
+    TakesAs-as (λ k. read_in k (Calling name) u.input (byte_read AboveArguments u.input.escapes b)) (λ k. name_ended_taking k u.input breaks c.args.name b) es old done.new.self
     u done.new.unread done.result (λ k. ap (λ (called : Called). called_taking k u.input breaks called b) c.in-Body.ensures)
-    (TakesAs-read (λ k i found. call_found k i name found) (byte_read AboveArguments u.input.half b) es old done.new.self u read.new.self done.new.unread
-    read.result done.result read.ensures.reading (texts_held-byte_read AboveArguments b u.input.half) done.ensures)
+    (TakesAs-read (λ k i found. call_found k i name found) (byte_read AboveArguments u.input.escapes b) es old done.new.self u read.new.self done.new.unread
+    read.result done.result read.ensures.reading (texts_held-byte_read AboveArguments b u.input.escapes) done.ensures)
 
 pub returns-in-Nothing : goal.returns-in-Nothing
 returns-in-Nothing c =

@@ -1,7 +1,7 @@
 use Rattle.roff_run.specs.Reading.Calls.{call_found}
 use Rattle.roff_run.specs.Reading.Units.{no_unit_found, settling}
-use Rattle.roff_run.specs.declared.reading.Reading.{Reading}
-use Rattle.roff_run.specs.declared.reading.Reading.TheVariants.{Calling}
+use Rattle.roff_run.specs.declared.line_state.LineState.{LineState}
+use Rattle.roff_run.specs.declared.line_state.LineState.TheVariants.{Calling}
 use Rattle.roff_reader.proofs.CalledBodies.{call_found-no_unit}
 use Rattle.roff_reader.proofs.TakesAs.{TakesAs-as, TakesAs-settled}
 use Rattle.roff_reader.proofs.reader.Reader.read_call.Goals as goal
@@ -17,7 +17,7 @@ returns-in_default c =
     let es = c.args.environments.now in
     let old = c.args.self.now in
     let u = c.args.unread.now in
-    let place : Reading = Calling c.args.name in
+    let place : LineState = Calling c.args.name in
     let found = c.args.found in
     let done = c.read_in_arguments in
     TakesAs-as (λ k. no_unit_found k (settling u.input) place found) (λ k. call_found k u.input c.args.name found) es old done.new.self u done.new.unread done.result

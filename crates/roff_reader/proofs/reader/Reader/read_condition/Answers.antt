@@ -1,7 +1,7 @@
 use Rattle.std.proofs.Common.{◌≡◌, true, false, Ok, Err, rules}
 use Rattle.roff_run.specs.Reading.Branches.{condition_found}
 use Rattle.roff_run.specs.Reading.Units.{no_unit_found}
-use Rattle.roff_run.specs.declared.reading.Reading.TheVariants.{Deciding}
+use Rattle.roff_run.specs.declared.line_state.LineState.TheVariants.{Deciding}
 use Rattle.roff_reader.proofs.Deciding.{TakesAs-decides, TakesAs-kept, TakesAs-not_begun, TakesAs-not_kept, condition_found-undecided}
 use Rattle.roff_reader.proofs.TakesAs.{TakesAs-as}
 use Rattle.roff_reader.proofs.reader.Reader.read_condition.Goals.{then-keeps+in_ok-keep-in-Decides, else-keeps}

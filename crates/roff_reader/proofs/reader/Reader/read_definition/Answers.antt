@@ -1,7 +1,7 @@
 use Rattle.roff_run.specs.Reading.DefinedLines.{definition_found}
 use Rattle.roff_run.specs.Reading.Units.{no_unit_found}
-use Rattle.roff_run.specs.declared.reading.Reading.{Reading}
-use Rattle.roff_run.specs.declared.reading.Reading.TheVariants.{Defining}
+use Rattle.roff_run.specs.declared.line_state.LineState.{LineState}
+use Rattle.roff_run.specs.declared.line_state.LineState.TheVariants.{Defining}
 use Rattle.roff_reader.proofs.EndedDefinitions.{definition_found-no_unit}
 use Rattle.roff_reader.proofs.TakesAs.{TakesAs-as}
 use Rattle.roff_reader.proofs.reader.Reader.read_definition.Goals as goal
@@ -20,7 +20,7 @@ returns-in_default c =
     let end = c.args.end in
     let matched = c.args.matched in
     let found = c.args.found in
-    let place : Reading = Defining name appends end matched in
+    let place : LineState = Defining name appends end matched in
     let done = c.read_in_arguments in
     TakesAs-as (λ k. no_unit_found k u.input place found) (λ k. definition_found k u.input name appends end matched found) c.args.environments.now c.args.self.now
     done.new.self u done.new.unread done.result

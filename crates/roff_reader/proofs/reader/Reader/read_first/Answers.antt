@@ -1,7 +1,7 @@
 use Rattle.std.proofs.Common.{◌≡◌, Bool, true, rules, refl, subst}
-use Rattle.roff_escape.specs.Halves.{byte_read}
+use Rattle.roff_escape.specs.OpenEscapes.{byte_read}
 use Rattle.roff_ahead.specs.Input.Calls.{kept_last, without_last}
-use Rattle.roff_escape.specs.declared.half.Surroundings.TheVariants.{Arguments as AboveArguments, Copy as AboveCopy}
+use Rattle.roff_escape.specs.declared.open_escape.Surroundings.TheVariants.{Arguments as AboveArguments, Copy as AboveCopy}
 use Rattle.roff_escape.proofs.TextsHeld.{texts_held-byte_read}
 use Rattle.roff_reader.specs.Reader.Taken.{TakesAs}
 use Rattle.roff_run.specs.Reading.Items.{PageUnread}
@@ -27,8 +27,8 @@ returns-in-ByArguments c =
     let done = c.read_arguments in
     let line : (row_of request).line ≡ ByArguments = search rules in
     TakesAs-line ByArguments breaks request b es old done.new.self u done.new.unread done.result line
-    (TakesAs-read (λ k i found. arguments_found k i breaks request found) (byte_read AboveArguments u.input.half b) es old done.new.self u read.new.self done.new.unread
-    read.result done.result read.ensures.reading (texts_held-byte_read AboveArguments b u.input.half) done.ensures)
+    (TakesAs-read (λ k i found. arguments_found k i breaks request found) (byte_read AboveArguments u.input.escapes b) es old done.new.self u read.new.self done.new.unread
+    read.result done.result read.ensures.reading (texts_held-byte_read AboveArguments b u.input.escapes) done.ensures)
 
 pub returns-in-ByString : goal.returns-in-ByString
 returns-in-ByString c =
@@ -43,8 +43,8 @@ returns-in-ByString c =
     let done = c.read_string_name in
     let line : (row_of request).line ≡ ByString appends = search rules in
     TakesAs-line (ByString appends) breaks request b es old done.new.self u done.new.unread done.result line
-    (TakesAs-read (λ k i found. string_name_found k i appends found) (byte_read AboveArguments u.input.half b) es old done.new.self u read.new.self done.new.unread
-    read.result done.result read.ensures.reading (texts_held-byte_read AboveArguments b u.input.half) done.ensures)
+    (TakesAs-read (λ k i found. string_name_found k i appends found) (byte_read AboveArguments u.input.escapes b) es old done.new.self u read.new.self done.new.unread
+    read.result done.result read.ensures.reading (texts_held-byte_read AboveArguments b u.input.escapes) done.ensures)
 
 pub returns-in-ByLastLine : goal.returns-in-ByLastLine
 returns-in-ByLastLine c =
@@ -58,8 +58,8 @@ returns-in-ByLastLine c =
     let done = c.read_arguments-in-ByLastLine in
     let line : (row_of request).line ≡ ByLastLine = search rules in
     TakesAs-line ByLastLine breaks request b es old done.new.self u done.new.unread done.result line
-    (TakesAs-read (λ k i found. arguments_found k i breaks request found) (byte_read AboveArguments u.input.half b) es old done.new.self u read.new.self done.new.unread
-    read.result done.result read.ensures.reading (texts_held-byte_read AboveArguments b u.input.half) done.ensures)
+    (TakesAs-read (λ k i found. arguments_found k i breaks request found) (byte_read AboveArguments u.input.escapes b) es old done.new.self u read.new.self done.new.unread
+    read.result done.result read.ensures.reading (texts_held-byte_read AboveArguments b u.input.escapes) done.ensures)
 
 pub returns-in-ByLines : goal.returns-in-ByLines
 returns-in-ByLines c =
@@ -74,8 +74,8 @@ returns-in-ByLines c =
     let done = c.read_arguments-in-ByLines in
     let line : (row_of request).line ≡ ByLines lines = search rules in
     TakesAs-line (ByLines lines) breaks request b es old done.new.self u done.new.unread done.result line
-    (TakesAs-read (λ k i found. arguments_found k i breaks request found) (byte_read AboveArguments u.input.half b) es old done.new.self u read.new.self done.new.unread
-    read.result done.result read.ensures.reading (texts_held-byte_read AboveArguments b u.input.half) done.ensures)
+    (TakesAs-read (λ k i found. arguments_found k i breaks request found) (byte_read AboveArguments u.input.escapes b) es old done.new.self u read.new.self done.new.unread
+    read.result done.result read.ensures.reading (texts_held-byte_read AboveArguments b u.input.escapes) done.ensures)
 
 pub returns-in-ByMessage : goal.returns-in-ByMessage
 returns-in-ByMessage c =
@@ -90,8 +90,8 @@ returns-in-ByMessage c =
     let done = c.read_message in
     let line : (row_of request).line ≡ ByMessage aborts = search rules in
     TakesAs-line (ByMessage aborts) breaks request b es old done.new.self u done.new.unread done.result line
-    (TakesAs-read (λ k i found. message_found k i aborts true found) (byte_read AboveCopy u.input.half b) es old done.new.self u read.new.self done.new.unread
-    read.result done.result read.ensures.reading (texts_held-byte_read AboveCopy b u.input.half) done.ensures)
+    (TakesAs-read (λ k i found. message_found k i aborts true found) (byte_read AboveCopy u.input.escapes b) es old done.new.self u read.new.self done.new.unread
+    read.result done.result read.ensures.reading (texts_held-byte_read AboveCopy b u.input.escapes) done.ensures)
 
 pub returns-in-ByCondition : goal.returns-in-ByCondition
 returns-in-ByCondition c =

@@ -1,8 +1,8 @@
 use Rattle.std.proofs.Common.{◌≡◌, ◌∙◌, [], ap, refl, rules}
 use Rattle.roff_run.specs.Reading.Found.{found_in}
 use Rattle.roff_reader.specs.Reader.State.{ReaderState}
-use Rattle.roff_run.specs.declared.reading.Reading.{Reading}
-use Rattle.roff_run.specs.declared.reading.Reading.TheVariants.{StringName, StringText, LineStart, Branch, Braced, Text as InText, Arguments as InArguments, Deciding, Telling, Calling, Defining}
+use Rattle.roff_run.specs.declared.line_state.LineState.{LineState}
+use Rattle.roff_run.specs.declared.line_state.LineState.TheVariants.{StringName, StringText, LineStart, Branch, Braced, Text as InText, Arguments as InArguments, Deciding, Telling, Calling, Defining}
 use Rattle.roff_reader.proofs.Placed.{found-elsewhere}
 use Rattle.roff_reader.proofs.TakesAs.{TakesAs-meant, TakesAs-where}
 use Rattle.roff_reader.proofs.reader.Reader.read_found.Goals as goal
@@ -11,7 +11,7 @@ pub returns-in-LineStart : goal.returns-in-LineStart
 returns-in-LineStart c =
     let u = c.args.unread.now in
     let done = c.begin_line in
-    let place : Reading = LineStart in
+    let place : LineState = LineStart in
     let is : c.args.self.now.reading ≡ place = search rules in
     TakesAs-where (λ k r. found_in k u.input r c.args.found) place c.args.environments.now c.args.self.now done.new.self u done.new.unread done.result is done.ensures
 
@@ -19,7 +19,7 @@ pub returns-in-Branch : goal.returns-in-Branch
 returns-in-Branch c =
     let u = c.args.unread.now in
     let done = c.begin_line-in-Branch in
-    let place : Reading = Branch in
+    let place : LineState = Branch in
     let is : c.args.self.now.reading ≡ place = search rules in
     TakesAs-where (λ k r. found_in k u.input r c.args.found) place c.args.environments.now c.args.self.now done.new.self u done.new.unread done.result is done.ensures
 
@@ -27,7 +27,7 @@ pub returns-in-Braced : goal.returns-in-Braced
 returns-in-Braced c =
     let u = c.args.unread.now in
     let done = c.begin_line-in-Braced in
-    let place : Reading = Braced in
+    let place : LineState = Braced in
     let is : c.args.self.now.reading ≡ place = search rules in
     TakesAs-where (λ k r. found_in k u.input r c.args.found) place c.args.environments.now c.args.self.now done.new.self u done.new.unread done.result is done.ensures
 
@@ -35,7 +35,7 @@ pub returns-in-Text : goal.returns-in-Text
 returns-in-Text c =
     let u = c.args.unread.now in
     let done = c.read_text in
-    let place : Reading = InText c.in-Text.line in
+    let place : LineState = InText c.in-Text.line in
     let is : c.args.self.now.reading ≡ place = search rules in
     TakesAs-where (λ k r. found_in k u.input r c.args.found) place c.args.environments.now c.args.self.now done.new.self u done.new.unread done.result is done.ensures
 
@@ -43,7 +43,7 @@ pub returns-in-Arguments : goal.returns-in-Arguments
 returns-in-Arguments c =
     let u = c.args.unread.now in
     let done = c.read_arguments in
-    let place : Reading = InArguments c.in-Arguments.breaks c.in-Arguments.request in
+    let place : LineState = InArguments c.in-Arguments.breaks c.in-Arguments.request in
     let is : c.args.self.now.reading ≡ place = search rules in
     TakesAs-where (λ k r. found_in k u.input r c.args.found) place c.args.environments.now c.args.self.now done.new.self u done.new.unread done.result is done.ensures
 
@@ -51,7 +51,7 @@ pub returns-in-Deciding : goal.returns-in-Deciding
 returns-in-Deciding c =
     let u = c.args.unread.now in
     let done = c.read_condition in
-    let place : Reading = Deciding c.in-Deciding.keeps in
+    let place : LineState = Deciding c.in-Deciding.keeps in
     let is : c.args.self.now.reading ≡ place = search rules in
     TakesAs-where (λ k r. found_in k u.input r c.args.found) place c.args.environments.now c.args.self.now done.new.self u done.new.unread done.result is done.ensures
 
@@ -59,7 +59,7 @@ pub returns-in-StringName : goal.returns-in-StringName
 returns-in-StringName c =
     let u = c.args.unread.now in
     let done = c.read_string_name in
-    let place : Reading = StringName c.in-StringName.appends in
+    let place : LineState = StringName c.in-StringName.appends in
     let is : c.args.self.now.reading ≡ place = search rules in
     TakesAs-where (λ k r. found_in k u.input r c.args.found) place c.args.environments.now c.args.self.now done.new.self u done.new.unread done.result is done.ensures
 
@@ -67,7 +67,7 @@ pub returns-in-StringText : goal.returns-in-StringText
 returns-in-StringText c =
     let u = c.args.unread.now in
     let done = c.read_string in
-    let place : Reading = StringText c.in-StringText.name c.in-StringText.appends c.in-StringText.is_front in
+    let place : LineState = StringText c.in-StringText.name c.in-StringText.appends c.in-StringText.is_front in
     let is : c.args.self.now.reading ≡ place = search rules in
     TakesAs-where (λ k r. found_in k u.input r c.args.found) place c.args.environments.now c.args.self.now done.new.self u done.new.unread done.result is done.ensures
 
@@ -75,7 +75,7 @@ pub returns-in-Telling : goal.returns-in-Telling
 returns-in-Telling c =
     let u = c.args.unread.now in
     let done = c.read_message in
-    let place : Reading = Telling c.in-Telling.aborts c.in-Telling.is_front in
+    let place : LineState = Telling c.in-Telling.aborts c.in-Telling.is_front in
     let is : c.args.self.now.reading ≡ place = search rules in
     TakesAs-where (λ k r. found_in k u.input r c.args.found) place c.args.environments.now c.args.self.now done.new.self u done.new.unread done.result is done.ensures
 
@@ -83,7 +83,7 @@ pub returns-in-Calling : goal.returns-in-Calling
 returns-in-Calling c =
     let u = c.args.unread.now in
     let done = c.read_call in
-    let place : Reading = Calling c.in-Calling.name in
+    let place : LineState = Calling c.in-Calling.name in
     let is : c.args.self.now.reading ≡ place = search rules in
     TakesAs-where (λ k r. found_in k u.input r c.args.found) place c.args.environments.now c.args.self.now done.new.self u done.new.unread done.result is done.ensures
 
@@ -91,7 +91,7 @@ pub returns-in-Defining : goal.returns-in-Defining
 returns-in-Defining c =
     let u = c.args.unread.now in
     let done = c.read_definition in
-    let place : Reading = Defining c.in-Defining.name c.in-Defining.appends c.in-Defining.end c.in-Defining.matched in
+    let place : LineState = Defining c.in-Defining.name c.in-Defining.appends c.in-Defining.end c.in-Defining.matched in
     let is : c.args.self.now.reading ≡ place = search rules in
     TakesAs-where (λ k r. found_in k u.input r c.args.found) place c.args.environments.now c.args.self.now done.new.self u done.new.unread done.result is done.ensures
 

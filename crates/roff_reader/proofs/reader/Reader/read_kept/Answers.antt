@@ -1,7 +1,7 @@
 use Rattle.std.proofs.Common.{◌≡◌, ◌∙◌, [], Ok, ap, refl, rules}
 use Rattle.roff_reader.specs.Reader.State.{ReaderState}
 use Rattle.roff_run.specs.Reading.{kept_taking}
-use Rattle.roff_run.specs.declared.reading.Reading.TheVariants.{Control, Dropped, Name, Skipping, Told, Exiting}
+use Rattle.roff_run.specs.declared.line_state.LineState.TheVariants.{Control, Dropped, Name, Skipping, Told, Exiting}
 use Rattle.roff_reader.proofs.Placed.{placed}
 use Rattle.roff_reader.proofs.TakesAs.{TakesAs-meant, TakesAs-where}
 use Rattle.roff_reader.proofs.reader.Reader.read_kept.Goals as goal

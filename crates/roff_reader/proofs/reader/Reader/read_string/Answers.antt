@@ -1,7 +1,7 @@
 use Rattle.roff_run.specs.Reading.Strings.{string_text_found}
 use Rattle.roff_run.specs.Reading.Units.{no_unit_found}
-use Rattle.roff_run.specs.declared.reading.Reading.{Reading}
-use Rattle.roff_run.specs.declared.reading.Reading.TheVariants.{StringText}
+use Rattle.roff_run.specs.declared.line_state.LineState.{LineState}
+use Rattle.roff_run.specs.declared.line_state.LineState.TheVariants.{StringText}
 use Rattle.roff_reader.proofs.TakesAs.{TakesAs-as}
 use Rattle.roff_reader.proofs.Strings.{string_text_found-no_unit}
 use Rattle.roff_reader.proofs.reader.Reader.read_string.Goals as goal
@@ -17,7 +17,7 @@ returns-in_default c =
     let es = c.args.environments.now in
     let old = c.args.self.now in
     let u = c.args.unread.now in
-    let place : Reading = StringText c.args.name c.args.appends c.args.is_front in
+    let place : LineState = StringText c.args.name c.args.appends c.args.is_front in
     let found = c.args.found in
     let done = c.read_in_arguments in
     TakesAs-as (λ k. no_unit_found k u.input place found) (λ k. string_text_found k u.input c.args.name c.args.appends c.args.is_front found) es old done.new.self u done.new.unread done.result

@@ -1,7 +1,7 @@
 use Rattle.roff_run.specs.Reading.Strings.{string_name_found}
 use Rattle.roff_run.specs.Reading.Units.{no_unit_found, settling}
-use Rattle.roff_run.specs.declared.reading.Reading.{Reading}
-use Rattle.roff_run.specs.declared.reading.Reading.TheVariants.{StringName}
+use Rattle.roff_run.specs.declared.line_state.LineState.{LineState}
+use Rattle.roff_run.specs.declared.line_state.LineState.TheVariants.{StringName}
 use Rattle.roff_reader.proofs.TakesAs.{TakesAs-as, TakesAs-settled}
 use Rattle.roff_reader.proofs.Strings.{string_name_found-no_unit}
 use Rattle.roff_reader.proofs.reader.Reader.read_string_name.Goals as goal
@@ -17,7 +17,7 @@ returns-in_default c =
     let es = c.args.environments.now in
     let old = c.args.self.now in
     let u = c.args.unread.now in
-    let place : Reading = StringName c.args.appends in
+    let place : LineState = StringName c.args.appends in
     let found = c.args.found in
     let done = c.read_in_arguments in
     TakesAs-as (λ k. no_unit_found k (settling u.input) place found) (λ k. string_name_found k u.input c.args.appends found) es old done.new.self u done.new.unread done.result

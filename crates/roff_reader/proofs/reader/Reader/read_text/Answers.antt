@@ -1,7 +1,7 @@
 use Rattle.std.proofs.Common.{ap}
 use Rattle.roff_reader.specs.Reader.State.{ReaderState}
 use Rattle.roff_run.specs.Reading.TextLines.{motion_taking, name_taking}
-use Rattle.roff_run.specs.declared.reading.Reading.TheVariants.{Text}
+use Rattle.roff_run.specs.declared.line_state.LineState.TheVariants.{Text}
 use Rattle.roff_reader.proofs.TakesAs.{TakesAs-set, TakesAs-stepped}
 use Rattle.roff_reader.proofs.reader.Reader.read_text.Goals as goal
 

@@ -1,5 +1,5 @@
 use Rattle.std.proofs.Common.{◌≡◌, ◌==◌, false, rules}
-use Rattle.roff_escape.specs.declared.half.CopyUnit.TheVariants.{Byte}
+use Rattle.roff_escape.specs.declared.open_escape.CopyUnit.TheVariants.{Byte}
 use Rattle.roff_reader.proofs.reader.Reader.read_unit.Goals.{in_default-via-in-Byte+in_default, in_default-via-in_default}
 use Rattle.roff_reader.proofs.reader.Reader.read_unit.Goals as goal
 

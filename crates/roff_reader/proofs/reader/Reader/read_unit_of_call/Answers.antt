@@ -4,7 +4,7 @@ use Rattle.roff_reader.specs.Reader.Taken.{TakesAs}
 use Rattle.roff_run.specs.Reading.Items.{PageUnread}
 use Rattle.roff_run.specs.Reading.Calls.{call_unit, holding_call}
 use Rattle.roff_run.specs.Reading.Items.{going_on}
-use Rattle.roff_run.specs.declared.reading.Reading.TheVariants.{Calling}
+use Rattle.roff_run.specs.declared.line_state.LineState.TheVariants.{Calling}
 use Rattle.roff_reader.proofs.CalledBodies.{TakesAs-call_full, TakesAs-call_held, TakesAs-call_not_held, TakesAs-call_other, TakesAs-call_quote}
 use Rattle.roff_reader.proofs.reader.Reader.read_unit_of_call.Goals.{in-Byte-eq34, in_default, then-len-lt-CALL_ARGUMENTS+in_ok-hold, else-len-lt-CALL_ARGUMENTS}
 use Rattle.roff_reader.proofs.reader.Reader.read_unit_of_call.Goals as goal

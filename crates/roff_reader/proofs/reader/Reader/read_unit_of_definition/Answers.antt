@@ -1,12 +1,12 @@
 use Rattle.std.proofs.Common.{◌≡◌, [], Err, Ok, Some, ap, refl, rules, sym, ◌++◌}
-use Rattle.roff_escape.specs.Half.{unit_bytes}
+use Rattle.roff_escape.specs.OpenEscape.{unit_bytes}
 use Rattle.roff_run.specs.Definitions.{end_mark, front_of, line_from, matched_behind}
 use Rattle.roff_run.specs.Reading.DefinedLines.{behind_definition, definition_line, definition_unit}
 use Rattle.roff_run.specs.Reading.Definitions.{definition_grown}
 use Rattle.roff_run.specs.Reading.Items.{going_on}
 use Rattle.roff_run.specs.Reading.Strings.{string_entered}
 use Rattle.roff_run.specs.declared.definition.DefinitionLine.TheVariants.{IsLast, IsText, MayBeLast}
-use Rattle.roff_run.specs.declared.reading.Reading.TheVariants.{Defining}
+use Rattle.roff_run.specs.declared.line_state.LineState.TheVariants.{Defining}
 use Rattle.roff_reader.proofs.BegunDefinitions.{front_of-few}
 use Rattle.roff_run.proofs.MarkEnds.{ends-line_from}
 use Rattle.roff_reader.proofs.EndedDefinitions.{definition_line-text}

@@ -2,7 +2,7 @@ use Rattle.std.proofs.Common.{◌≡◌, false, rules}
 use Rattle.roff_ahead.specs.Input.{holding_plain}
 use Rattle.roff_run.specs.Reading.Items.{going_on}
 use Rattle.roff_run.specs.Reading.Messages.{message_unit}
-use Rattle.roff_run.specs.declared.reading.Reading.TheVariants.{Telling}
+use Rattle.roff_run.specs.declared.line_state.LineState.TheVariants.{Telling}
 use Rattle.roff_reader.proofs.Strings.{message_unit-held}
 use Rattle.roff_reader.proofs.TakesAs.{TakesAs-as}
 use Rattle.roff_reader.proofs.reader.Reader.read_unit_of_message.Goals.{in_default-via-in-Byte-eq32+else-is_front, in_default-via-in-Byte+in_default, in_default-via-in_default}

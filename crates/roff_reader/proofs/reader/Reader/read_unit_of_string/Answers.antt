@@ -1,7 +1,7 @@
 use Rattle.std.proofs.Common.{◌≡◌, Ok, Err, false, rules}
 use Rattle.roff_run.specs.Reading.Items.{going_on}
 use Rattle.roff_run.specs.Reading.Strings.{string_grown, string_unit}
-use Rattle.roff_run.specs.declared.reading.Reading.TheVariants.{StringText}
+use Rattle.roff_run.specs.declared.line_state.LineState.TheVariants.{StringText}
 use Rattle.roff_reader.proofs.Strings.{TakesAs-became, TakesAs-not_became, string_unit-grown}
 use Rattle.roff_reader.proofs.TakesAs.{TakesAs-as}
 use Rattle.roff_reader.proofs.reader.Reader.read_unit_of_string.Goals.{in_default-via-in-Byte-eq32+else-is_front, in_default-via-in-Byte-eq34+else-is_front-2, in_default-via-in-Byte+in_default, in_default-via-in_default}

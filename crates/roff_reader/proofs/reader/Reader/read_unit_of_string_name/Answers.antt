@@ -1,5 +1,5 @@
 use Rattle.std.proofs.Common.{◌≡◌, rules}
-use Rattle.roff_escape.specs.declared.half.CopyUnit.TheVariants.{Byte}
+use Rattle.roff_escape.specs.declared.open_escape.CopyUnit.TheVariants.{Byte}
 use Rattle.roff_run.specs.Reading.Strings.{name_read, string_name_or_text, string_name_unit}
 use Rattle.roff_run.specs.Reading.Units.{settling}
 use Rattle.roff_reader.proofs.Strings.{string_name_unit-other, string_name_unit-quote}

@@ -1,7 +1,7 @@
 use Rattle.std.proofs.Common.{◌≡◌, [], rules, true}
 use Rattle.roff_run.specs.Reading.{kept_taking}
-use Rattle.roff_run.specs.declared.reading.Reading.{Reading}
-use Rattle.roff_run.specs.declared.reading.Reading.TheVariants.{Arguments as InArguments, Calling, Control, Dropped, LineStart, Name, Skipping}
+use Rattle.roff_run.specs.declared.line_state.LineState.{LineState}
+use Rattle.roff_run.specs.declared.line_state.LineState.TheVariants.{Arguments as InArguments, Calling, Control, Dropped, LineStart, Name, Skipping}
 use Rattle.roff_reader.proofs.ReadAtOnce.{at_once-meant, at_once-where}
 use Rattle.roff_reader.proofs.reader.Reader.reads_kept_on.Goals as goal
 
@@ -16,7 +16,7 @@ pub returns-in-Control : goal.returns-in-Control
 returns-in-Control c =
     let old = c.args.self.now in
     let u = c.args.unread.now in
-    let place : Reading = Control c.in-Control.breaks in
+    let place : LineState = Control c.in-Control.breaks in
     let is : old.reading ≡ place = search rules in
     at_once-where c.args.byte place old c.go_on.new.self u u true is
     (at_once-meant (λ k. kept_taking k place u.input c.args.byte) c.behind_control.result [] old c.go_on.new.self u
@@ -25,21 +25,21 @@ returns-in-Control c =
 pub returns-in-Name : goal.returns-in-Name
 returns-in-Name c =
     let done = c.reads_name in
-    let place : Reading = Name c.in-Name.breaks c.in-Name.first in
+    let place : LineState = Name c.in-Name.breaks c.in-Name.first in
     let is : c.args.self.now.reading ≡ place = search rules in
     at_once-where c.args.byte place c.args.self.now done.new.self c.args.unread.now done.new.unread done.result is done.ensures
 
 pub returns-in-Arguments : goal.returns-in-Arguments
 returns-in-Arguments c =
     let done = c.holds in
-    let place : Reading = InArguments c.in-Arguments.breaks c.in-Arguments.request in
+    let place : LineState = InArguments c.in-Arguments.breaks c.in-Arguments.request in
     let is : c.args.self.now.reading ≡ place = search rules in
     at_once-where c.args.byte place c.args.self.now done.new.self c.args.unread.now done.new.unread done.result is done.ensures
 
 pub returns-in-Calling : goal.returns-in-Calling
 returns-in-Calling c =
     let done = c.calls in
-    let place : Reading = Calling c.in-Calling.name in
+    let place : LineState = Calling c.in-Calling.name in
     let is : c.args.self.now.reading ≡ place = search rules in
     at_once-where c.args.byte place c.args.self.now done.new.self c.args.unread.now done.new.unread done.result is done.ensures
 
@@ -58,7 +58,7 @@ returns-in-Skipping c =
     let old = c.args.self.now in
     let u = c.args.unread.now in
     let done = c.go_on-in-Skipping in
-    let place : Reading = Skipping c.in-Skipping.opened c.in-Skipping.closed c.in-Skipping.behind in
+    let place : LineState = Skipping c.in-Skipping.opened c.in-Skipping.closed c.in-Skipping.behind in
     let is : old.reading ≡ place = search rules in
     at_once-where c.args.byte place old done.new.self u u true is
     (at_once-meant (λ k. kept_taking k place u.input c.args.byte) c.behind_skipped.result [] old done.new.self u

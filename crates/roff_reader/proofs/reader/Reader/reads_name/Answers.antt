@@ -3,7 +3,7 @@ use Rattle.roff_reader.specs.Reader.AtOnce.{only_events}
 use Rattle.roff_run.specs.Reading.{kept_taking}
 use Rattle.roff_run.specs.Reading.ControlLines.{behind_called, behind_name, ends_name}
 use Rattle.roff_run.specs.Requests.{row_of}
-use Rattle.roff_run.specs.declared.reading.Reading.TheVariants.{Calling, Dropped, Name}
+use Rattle.roff_run.specs.declared.line_state.LineState.TheVariants.{Calling, Dropped, Name}
 use Rattle.roff_reader.proofs.ReadAtOnce.{at_once-meant}
 use Rattle.roff_reader.proofs.TakesAs.{TakesAs-as}
 use Rattle.roff_reader.proofs.reader.Reader.reads_name.Goals as goal

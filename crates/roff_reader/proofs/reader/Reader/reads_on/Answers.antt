@@ -4,7 +4,7 @@ use Rattle.roff_reader.proofs.ReadAtOnce.{at_once-kept, none_half}
 use Rattle.roff_reader.proofs.reader.Reader.reads_on.Goals as goal
 
 pub reads_kept_on-requires : goal.reads_kept_on-requires
-reads_kept_on-requires c = none_half c.args.unread.now.input.half (sym c.is_half_read.ensures ∙ c.if-is_half_read.false)
+reads_kept_on-requires c = none_half c.args.unread.now.input.escapes (sym c.has_open_escape.ensures ∙ c.if-has_open_escape.false)
 
 pub returns : goal.returns
 returns c =

@@ -3,7 +3,7 @@ use Rattle.std.proofs.lemmas.Option.{IfSome_then}
 use Rattle.roff_run.specs.Events.Lines.{text_byte_events}
 use Rattle.roff_run.specs.Reading.Beginnings.{line_begun}
 use Rattle.roff_run.specs.Reading.TextLines.{text_taking}
-use Rattle.roff_run.specs.declared.reading.TextLine.{TextLine}
+use Rattle.roff_run.specs.declared.line_state.TextLine.{TextLine}
 use Rattle.roff_reader.proofs.ReadAtOnce.{meant-uninterrupted}
 use Rattle.roff_reader.proofs.TextTaken.{begins-fresh}
 use Rattle.roff_reader.proofs.reader.Reader.take_first.Goals as goal

@@ -5,8 +5,8 @@ use Rattle.roff_reader.specs.Reader.AtOnce.{only_events}
 use Rattle.roff_run.specs.Events.Lines.{text_byte_events}
 use Rattle.roff_run.specs.Reading.{taking}
 use Rattle.roff_run.specs.Reading.Beginnings.{line_begun}
-use Rattle.roff_run.specs.declared.reading.Reading.{Reading}
-use Rattle.roff_run.specs.declared.reading.Reading.TheVariants.{LineStart, Text as InText}
+use Rattle.roff_run.specs.declared.line_state.LineState.{LineState}
+use Rattle.roff_run.specs.declared.line_state.LineState.TheVariants.{LineStart, Text as InText}
 use Rattle.roff_reader.proofs.ReadAtOnce.{none_half}
 use Rattle.roff_reader.proofs.TakesAs.{TakesAs-as, TakesAs-meant, TakesAs-where}
 use Rattle.roff_reader.proofs.TextTaken.{line_start-reads, text_line-reads}
@@ -22,7 +22,7 @@ returns-in-LineStart-clause-takes c =
     let is : old.reading ≡ LineStart = search rules in
     let kept : is_dropped b ≡ false = search rules in
     let no_escape : (b == 92) ≡ false = search rules in
-    let none = none_half u.input.half (sym c.is_half_read.ensures ∙ c.if-is_half_read.false) in
+    let none = none_half u.input.escapes (sym c.has_open_escape.ensures ∙ c.if-has_open_escape.false) in
     IfSome_then done.result done.ensures.takes
     (λ means does.
     TakesAs-where (λ k r. taking k r u.input b) LineStart es old done.new.self u u (Ok (only_events (text_byte_events b means))) is
@@ -36,11 +36,11 @@ returns-in-Text-clause-takes c =
     let es = c.args.environments.now in
     let old = c.args.self.now in
     let done = c.take_on in
-    let place : Reading = InText c.in-Text.line in
+    let place : LineState = InText c.in-Text.line in
     let is : old.reading ≡ place = search rules in
     let kept : is_dropped b ≡ false = search rules in
     let no_escape : (b == 92) ≡ false = search rules in
-    let none = none_half u.input.half (sym c.is_half_read.ensures ∙ c.if-is_half_read.false) in
+    let none = none_half u.input.escapes (sym c.has_open_escape.ensures ∙ c.if-has_open_escape.false) in
     IfSome_then done.result done.ensures.takes
     (λ means does.
     TakesAs-where (λ k r. taking k r u.input b) place es old done.new.self u u (Ok (only_events (text_byte_events b means))) is

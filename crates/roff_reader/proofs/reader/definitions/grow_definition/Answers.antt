@@ -1,6 +1,6 @@
 use Rattle.std.proofs.Common.{◌≡◌, ℕ, List, ◌++◌, true, rules, subst}
 use Rattle.std.specs.Prelude.{is_some}
-use Rattle.roff_escape.specs.Half.{unit_bytes}
+use Rattle.roff_escape.specs.OpenEscape.{unit_bytes}
 use Rattle.roff_ahead.specs.Input.Names.{adding}
 use Rattle.roff_scan.specs.Unread.{changing}
 use Rattle.roff_reader.proofs.BegunDefinitions.{InputBecame-defined}

@@ -53,8 +53,8 @@ returns-then-is_empty-clause-passes g c =
     let taken : c.self.inside.frames ≡ record new { ahead = map ByteAhead passed.bytes ++ new.ahead } = passed.taken in
     let front : kept.input.ahead ≡ map ByteAhead passed.bytes ++ new.ahead = ap (λ (f : Framed _). f.ahead) taken in
     let allowed : kept.input.charge + length passed.bytes ≤ kept.limits.bytes = omega (arith, passed.length_is, passed.few, c.self.invariant.within.charge) in
-    let none_half : kept.input.half ≡ [] =
-    nil_from_length kept.input.half (none_at_all (length kept.input.half) (sym c.is_empty.ensures ∙ c.if-is_empty.true)) in
+    let none_half : kept.input.escapes ≡ [] =
+    nil_from_length kept.input.escapes (none_at_all (length kept.input.escapes) (sym c.is_empty.ensures ∙ c.if-is_empty.true)) in
     rw passed.length_is
     (subst (λ (f : Framed _). PassesAhead c.args.self.now (record kept {
       input = record (behind_bytes (length passed.bytes) new.ahead kept.input) {

@@ -1,7 +1,7 @@
 use Rattle.std.proofs.Common.{ap}
-use Rattle.roff_escape.specs.Halves.{byte_read}
+use Rattle.roff_escape.specs.OpenEscapes.{byte_read}
 use Rattle.roff_scan.specs.Unread.Kept.{kept_by}
-use Rattle.roff_scan.proofs.Changing.{IsWithin-with_half}
+use Rattle.roff_scan.proofs.Changing.{IsWithin-with_escapes}
 use Rattle.roff_escape.proofs.TextsHeld.{texts_held-byte_read}
 use Rattle.roff_scan.proofs.unread.Unread.read_byte.Goals as goal
 
@@ -21,7 +21,7 @@ invariant_of-self g c =
       store = c.self.invariant.store;
       once = c.self.invariant.once;
       results = c.self.invariant.results;
-      within = rw left (IsWithin-with_half (kept_by c.self.inside) (byte_read c.args.base c.self.inside.half.half c.args.byte).1 c.self.invariant.within (texts_held-byte_read c.args.base c.args.byte c.self.inside.half.half));
+      within = rw left (IsWithin-with_escapes (kept_by c.self.inside) (byte_read c.args.base c.self.inside.escapes.escapes c.args.byte).1 c.self.invariant.within (texts_held-byte_read c.args.base c.args.byte c.self.inside.escapes.escapes));
     }
 
 pub returns-clause-within : goal.returns-clause-within

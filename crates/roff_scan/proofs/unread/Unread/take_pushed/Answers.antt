@@ -26,7 +26,7 @@ invariant_of-self g c =
       results = c.self.invariant.results;
       within =
           rw given.taken
-          (IsWithin-given kept c.give_front-given.new.half.half given.bytes given.behind given.in_front given.takes count given.length_is allowed c.self.invariant.within);
+          (IsWithin-given kept c.give_front-given.new.escapes.escapes given.bytes given.behind given.in_front given.takes count given.length_is allowed c.self.invariant.within);
     }
 
 pub returns-clause-within : goal.returns-clause-within

@@ -1,0 +1,199 @@
+//! What is being read of a line, and what stands on it.
+
+ghost use Rattle.std.specs.Prelude.{◌≡◌, length, ◌==◌, take_while};
+ghost use Rattle.roff_run.specs.Reading.Ends.{due, line_ends_first};
+ghost use Rattle.roff_num.specs.ShortNames.{name_bytes};
+ghost use Rattle.roff_num.specs.ShortNames.{short_name};
+ghost use Rattle.roff_run.specs.Reading.ControlLines.{ends_name};
+ghost use Rattle.roff_source.specs.Bytes.{blank};
+ghost use Rattle.roff_run.specs.Reading.Items.{reads_above};
+
+mod behind;
+mod text_line;
+mod text_steps;
+
+use crate::event::LineEvents;
+use crate::message::Message;
+use crate::request::Request;
+use roff_lines::Glyph;
+use roff_num::{Name, ShortName};
+
+/// What is being read of a line.
+#[derive(Clone, Copy, Debug, PartialEq, Eq)]
+pub enum LineState {
+    /// A line begins.
+    LineStart,
+    /// A branch of a condition begins.
+    Branch,
+    /// Behind the brace with which a branch began.
+    Braced,
+    /// A text line.
+    Text(TextLine),
+    /// Behind the dot or apostrophe of a control line; requests break behind a dot.
+    Control {
+        breaks: bool,
+    },
+    /// Behind the first byte of a name.
+    Name {
+        breaks: bool,
+        first: u8,
+    },
+    /// Behind a request's name.
+    Arguments {
+        breaks: bool,
+        request: Request,
+    },
+    /// A condition, whose result may be kept.
+    Deciding {
+        keeps: bool,
+    },
+    /// The name of a string, which may be appended to.
+    StringName {
+        appends: bool,
+    },
+    /// A string's text, of a string with this name, and whether it is in front of it.
+    StringText {
+        name: Option<ShortName>,
+        appends: bool,
+        is_front: bool,
+    },
+    /// The arguments of a line that calls the body of this name.
+    Calling {
+        name: ShortName,
+    },
+    /// The text of a definition: what gets it, if anything does, whether it is put behind that, the
+    /// name that its last line has, and how many bytes of that line's mark stand in front of a line
+    /// that may be the last one.
+    Defining {
+        name: Option<ShortName>,
+        appends: bool,
+        end: Option<ShortName>,
+        matched: Option<u8>,
+    },
+    /// A branch that is skipped: how many braces were opened and closed in it, and whether a
+    /// backslash stands in front.
+    Skipping {
+        opened: u32,
+        closed: u32,
+        behind: bool,
+    },
+    /// A line that is dropped.
+    Dropped,
+    /// The text of a message, which may abort the run, and whether it is in front of it.
+    Telling {
+        aborts: bool,
+        is_front: bool,
+    },
+    /// The line of a message has ended; its text is held still.
+    Told {
+        aborts: bool,
+    },
+    /// The line behind which nothing is read has ended.
+    Exiting,
+}
+
+/// What is due before anything more is taken.
+#[derive(Clone, Copy, Debug, PartialEq, Eq)]
+pub enum Due {
+    /// The text of a message is told.
+    Tells {
+        /// Whether that ends the run.
+        aborts: bool,
+    },
+    /// The input is left.
+    Leaves,
+}
+
+/// What a byte of a text line is, of those that are taken at once.
+#[derive(Clone, Copy, Debug, PartialEq, Eq)]
+pub enum TextByte {
+    /// A glyph behind so many leading blanks.
+    Glyph(u32),
+    /// A tab behind so many leading blanks.
+    Tab(u32),
+    /// A leading blank behind so many others.
+    LeadingBlank(u32),
+    /// The end of a line that isn't blank.
+    LineEnd,
+    /// The end of a blank line.
+    BlankLine,
+}
+
+/// What stands on a text line so far.
+#[derive(Clone, Copy, Debug, PartialEq, Eq)]
+pub struct TextLine {
+    /// Whether a glyph does.
+    pub has_glyph: bool,
+    /// Whether something else does that prints nothing.
+    pub has_other: bool,
+    /// Whether a brace does.
+    pub has_brace: bool,
+    /// The blanks before its first glyph.
+    pub leading: u32,
+}
+
+/// What something of a text line does: what is read behind it, what it says, and the events that it
+/// means.
+#[derive(Drop)]
+pub struct TextStep {
+    pub reading: LineState,
+    pub message: Option<Message>,
+    pub events: LineEvents,
+}
+
+impl LineState {
+    /// What is due before anything more is taken.
+    #[inline(always)]
+    pub fn due(self) -> Option<Due>
+        ensures { result ≡ due self }
+    {
+        match self {
+            LineState::Told { aborts } => Some(Due::Tells { aborts }),
+            LineState::Exiting => Some(Due::Leaves),
+            _ => None,
+        }
+    }
+
+    /// Whether a control line is read that ends where the input does, or a definition that is dropped
+    /// there, before the input's end is met.
+    pub fn line_ends_first(self) -> bool
+        ensures { result ≡ line_ends_first self }
+    {
+        match self {
+            LineState::Name { .. } => true,
+            LineState::Arguments { .. } => true,
+            LineState::Calling { .. } => true,
+            LineState::Telling { .. } => true,
+            LineState::Defining { .. } => true,
+            _ => false,
+        }
+    }
+
+    /// Whether what is found above it means nothing where nothing is found, or a unit of a text that
+    /// is being read: where a line begins, on a text line and in a condition.
+    pub fn reads_above(self) -> bool
+        ensures { result ≡ reads_above self }
+    {
+        match self {
+            LineState::LineStart => true,
+            LineState::Text(_) => true,
+            LineState::Deciding { .. } => true,
+            _ => false,
+        }
+    }
+}
+
+/// How many blanks these bytes begin with.
+#[inline(always)]
+pub fn blanks_in_front(bytes: &[u8]) -> usize
+    ensures { result ≡ length (take_while (λ b. b == blank) bytes.now) }
+{
+    bytes.iter().take_while(|byte| **byte == b' ').count()
+}
+
+/// Whether a byte ends a name, and doesn't belong to it.
+pub fn ends_name(byte: u8) -> bool
+    ensures { result ≡ ends_name byte }
+{
+    matches!(byte, b' ' | b'\t' | b'\n' | b'\\')
+}

@@ -1,0 +1,160 @@
+//! A text line, and its bytes that are taken at once.
+
+ghost use Rattle.std.specs.Prelude.{◌≡◌, ℕ, ◌∷◌, [], true, IfSome};
+ghost use Rattle.roff_lines.specs.declared.event.Event.TheVariants.{Gap, Print, WordEnd};
+ghost use Rattle.roff_lines.specs.declared.glyph.Glyph.TheVariants.{Printed};
+ghost use Rattle.roff_run.specs.Reading.Items.{PageInput, meaning_events};
+ghost use Rattle.roff_run.specs.Reading.TextLines.{fresh_line, blank_taking};
+ghost use Rattle.roff_run.specs.Reading.{taking};
+ghost use Rattle.roff_run.specs.Reading.TextLines.{text_line_end, text_taking};
+ghost use Rattle.roff_run.specs.Reading.Beginnings.{line_begun_as};
+ghost use Rattle.roff_run.specs.Requests.{Text};
+ghost use Rattle.roff_run.specs.Stages.{blanks_counted, counts_blanks};
+ghost use Rattle.roff_run.specs.Telling.{Prints};
+ghost use Rattle.roff_source.specs.Bytes.{is_text_byte};
+ghost use Rattle.roff_run.specs.Registers.{Known};
+ghost use Rattle.roff_run.specs.Events.Lines.{text_byte_events};
+ghost use Rattle.roff_run.specs.declared.line_state.LineState.TheVariants.{LineStart};
+ghost use Rattle.roff_run.specs.declared.line_state.LineState.TheVariants.{Text as InText};
+
+use super::{LineState, TextByte, TextLine};
+use roff_scan::is_silent;
+
+/// A count of leading blanks above this reads as this.
+pub(super) const MOST_LEADING: u32 = 2_147_483_647;
+
+impl TextLine {
+    /// Nothing yet.
+    pub fn new() -> Self
+        ensures { result ≡ fresh_line }
+    {
+        TextLine {
+            has_glyph: false,
+            has_other: false,
+            has_brace: false,
+            leading: 0,
+        }
+    }
+
+    /// The line that begins: the interrupted one, if one is to go on.
+    pub fn begun_as(interrupted: Option<TextLine>) -> Self
+        ensures { result ≡ line_begun_as interrupted }
+    {
+        match interrupted {
+            Some(line) => line,
+            None => TextLine::new(),
+        }
+    }
+
+    /// Whether a byte is a glyph behind another on the line, and does nothing else. Most are.
+    pub fn goes_on_with(self, byte: u8) -> bool
+        ensures { result ≡ true → (k : Known) (i : PageInput) → i.escapes ≡ []
+            → taking k (InText self) i byte
+            ≡ meaning_events i (InText self) (Text (Print (Printed byte)) ∷ []) }
+    {
+        self.has_glyph && self.leading == 0 && byte > b' ' && byte != 127 && byte != b'\\'
+    }
+
+    /// Whether a byte is a gap behind a glyph on the line, and does nothing else.
+    pub fn goes_on_with_gap(self, byte: u8) -> bool
+        ensures { result ≡ true → (k : Known) (i : PageInput) → i.escapes ≡ []
+            → taking k (InText self) i byte
+            ≡ meaning_events i (InText self) (Text WordEnd ∷ Text (Gap 1) ∷ []) }
+    {
+        self.has_glyph && byte == b' '
+    }
+
+    /// Whether bytes of plain text are told, each as a glyph or a gap, and the line stays as it is.
+    #[tactic(auto, using(crate::proofs::TextBytes::prints_text))]
+    pub fn prints(self) -> bool
+        ensures { result ≡ true → (b : ℕ) → is_text_byte b ≡ true → Prints (InText self) b }
+    {
+        self.leading == 0 && self.has_glyph
+    }
+
+    /// What a byte that isn't dropped does, if it is one of those that most often stand at the
+    /// beginning of a line, or at its end: what is read behind it, and what it is.
+    #[inline(always)]
+    pub fn at_once(self, byte: u8) -> Option<(LineState, TextByte)>
+        ensures { IfSome result (λ taken. (i : PageInput) → text_taking i self byte
+            ≡ meaning_events i taken.0 (text_byte_events byte taken.1)) }
+    {
+        if byte == b'\n' {
+            self.end_at_once()
+        } else if byte == b'\t' {
+            Some((self.behind_glyph(), TextByte::Tab(self.leading)))
+        } else if is_silent(byte) {
+            None
+        } else if byte == b' ' {
+            self.blank_at_once()
+        } else {
+            Some((self.behind_glyph(), TextByte::Glyph(self.leading)))
+        }
+    }
+
+    /// The same of a newline.
+    #[inline(always)]
+    fn end_at_once(self) -> Option<(LineState, TextByte)>
+        ensures { IfSome result (λ taken. (b : ℕ) (i : PageInput)
+            → meaning_events i LineStart (text_line_end self)
+            ≡ meaning_events i taken.0 (text_byte_events b taken.1)) }
+    {
+        if self.has_glyph || self.has_other {
+            Some((LineState::LineStart, TextByte::LineEnd))
+        } else if self.has_brace {
+            None
+        } else {
+            Some((LineState::LineStart, TextByte::BlankLine))
+        }
+    }
+
+    /// The same of a blank in front of the first glyph.
+    #[inline(always)]
+    fn blank_at_once(self) -> Option<(LineState, TextByte)>
+        ensures { IfSome result (λ taken. (b : ℕ) (i : PageInput) → blank_taking i self
+            ≡ meaning_events i taken.0 (text_byte_events b taken.1)) }
+    {
+        if self.has_glyph {
+            return None;
+        }
+        let mut behind = self;
+        behind.leading = self.leading.saturating_add(1).min(MOST_LEADING);
+        Some((
+            LineState::Text(behind),
+            TextByte::LeadingBlank(self.leading),
+        ))
+    }
+
+    /// What is read behind a glyph, or a tab.
+    #[inline(always)]
+    pub(super) fn behind_glyph(self) -> LineState
+        ensures { result ≡ InText (record self { has_glyph = true; leading = 0 }) }
+    {
+        let mut behind = self;
+        behind.has_glyph = true;
+        behind.leading = 0;
+        LineState::Text(behind)
+    }
+
+    /// Whether blanks only count: in front of the first glyph, behind another blank.
+    #[inline(always)]
+    pub fn counts_blanks(self) -> bool
+        ensures { result ≡ counts_blanks (InText self) }
+    {
+        !self.has_glyph && self.leading > 0
+    }
+
+    /// The same line behind so many blanks more.
+    #[inline(always)]
+    pub fn behind_blanks(self, count: usize) -> Self
+        ensures { result ≡ record self { leading = blanks_counted count self.leading } }
+    {
+        if count == 0 {
+            return self;
+        }
+        let counted = (self.leading as usize).saturating_add(count);
+        let mut behind = self;
+        behind.leading = counted.min(MOST_LEADING as usize) as u32;
+        behind
+    }
+}

@@ -1,0 +1,253 @@
+//! What the bytes and escapes of a text line do.
+
+ghost use Rattle.std.specs.Prelude.{◌≡◌, ◌≤◌, ◌++◌, length, map, true};
+ghost use Rattle.roff_lines.specs.declared.glyph.Glyph.TheVariants.{Printed};
+ghost use Rattle.roff_run.specs.Reading.Items.{PageInput};
+ghost use Rattle.roff_run.specs.Reading.TextLines.{brace_taking, character_taking, escape_taking};
+ghost use Rattle.roff_run.specs.Reading.TextLines.{glyph_taking, glyphs_taking, blank_taking};
+ghost use Rattle.roff_run.specs.Reading.TextLines.{leading_blank_events, leading_glyph, left_out_taking};
+ghost use Rattle.roff_run.specs.Reading.Items.{meaning_events};
+ghost use Rattle.roff_run.specs.Reading.TextLines.{motion_taking, other_taking, told_taking};
+ghost use Rattle.roff_run.specs.Reading.TextLines.{text_line_end, text_taking, interrupt_taking, tab_taking};
+ghost use Rattle.std.specs.Option.{option_to_list};
+ghost use Rattle.roff_run.specs.Messages.{remark_messages};
+ghost use Rattle.roff_run.specs.Events.Lines.{line_events, print_event};
+ghost use Rattle.roff_run.specs.TextLine.Stepping.{step_at};
+ghost use Rattle.roff_run.specs.declared.line_state.LineState.TheVariants.{Text as InText};
+
+use super::text_line::MOST_LEADING;
+use super::{LineState, TextLine, TextStep};
+use crate::event::LineEvents;
+use crate::message::{CharacterName, Message};
+use roff_lines::Glyph;
+use roff_num::Name;
+use roff_scan::{Escape, Remark, TextUse, character, escape_of, is_silent};
+
+impl TextLine {
+    /// The events of the line's end: a line of blanks alone is a break and a blank line, and one of
+    /// braces and blanks nothing.
+    pub fn end(self) -> LineEvents
+        ensures { line_events result ≡ text_line_end self }
+    {
+        if self.has_glyph || self.has_other {
+            LineEvents::LineEnd
+        } else if self.has_brace {
+            LineEvents::Nothing
+        } else {
+            LineEvents::BlankLine
+        }
+    }
+
+    /// What a byte does that isn't dropped.
+    pub fn taking(self, byte: u8) -> TextStep
+        ensures { (i : PageInput) → step_at i result ≡ text_taking i self byte }
+    {
+        if byte == b'\n' {
+            TextStep {
+                reading: LineState::LineStart,
+                message: None,
+                events: self.end(),
+            }
+        } else if byte == b'\t' {
+            self.tab()
+        } else if is_silent(byte) {
+            self.other()
+        } else if byte == b' ' {
+            self.blank()
+        } else {
+            self.glyph(Glyph::Printed(byte))
+        }
+    }
+
+    /// What an escape without a name does, by the byte behind its backslash.
+    pub fn escape(self, byte: u8) -> TextStep
+        ensures { (i : PageInput) → step_at i result ≡ escape_taking i self byte }
+    {
+        match escape_of(byte) {
+            Escape::Prints(printed) => self.glyph(Glyph::Printed(printed)),
+            Escape::Blank => self.glyph(Glyph::Blanks(1)),
+            Escape::NoWidth => self.glyph(Glyph::Blanks(0)),
+            Escape::Tab => self.tab(),
+            Escape::Interrupts => self.interrupt(),
+            Escape::Brace => self.brace(),
+            Escape::LeftOut => self.left_out(byte),
+            Escape::Nothing => self.other(),
+            Escape::Comment => self.other(),
+            Escape::Size => self.other(),
+            Escape::Name(_) => self.other(),
+            Escape::Text(TextUse::LeftOut(left_out)) => self.left_out(left_out),
+            Escape::Text(TextUse::Motion) => self.other(),
+            Escape::Width => self.other(),
+        }
+    }
+
+    /// What a character does, by its name, if there is one.
+    pub fn character(self, name: Option<Name>) -> TextStep
+        ensures { (i : PageInput) → step_at i result ≡ character_taking i self name }
+    {
+        match name {
+            None => self.say(Message::UnknownCharacter(CharacterName::Nothing)),
+            Some(name) => match character(name.as_bytes()) {
+                None => self.say(Message::UnknownCharacter(CharacterName::of(&name))),
+                Some(text) => self.print(text),
+            },
+        }
+    }
+
+    /// An escape that is left out, by the byte behind its backslash.
+    pub fn left_out(self, byte: u8) -> TextStep
+        ensures { (i : PageInput) → step_at i result ≡ left_out_taking i self byte }
+    {
+        self.say(Message::LeftOut([b'\\', byte]))
+    }
+
+    /// A motion of so many columns, and what is said of it.
+    pub fn motion(self, columns: u32, remark: Option<Remark>) -> TextStep
+        ensures { (i : PageInput) → step_at i result ≡ motion_taking i self columns remark }
+    {
+        let mut step = self.glyph(Glyph::Blanks(columns));
+        step.message = message_of(remark);
+        step
+    }
+
+    /// Something that prints nothing, and of which this is said.
+    fn say(self, message: Message) -> TextStep
+        ensures { (i : PageInput) → step_at i result ≡ told_taking i self message }
+    {
+        let mut behind = self;
+        behind.has_other = true;
+        TextStep {
+            reading: LineState::Text(behind),
+            message: Some(message),
+            events: LineEvents::Nothing,
+        }
+    }
+
+    /// A tab, behind the leading blanks.
+    fn tab(self) -> TextStep
+        ensures { (i : PageInput) → step_at i result ≡ tab_taking i self }
+    {
+        self.printed(LineEvents::Tab(self.leading))
+    }
+
+    /// The line is interrupted: the rest of it is dropped.
+    fn interrupt(self) -> TextStep
+        ensures { (i : PageInput) → step_at i result ≡ interrupt_taking i self }
+    {
+        TextStep {
+            reading: LineState::Dropped,
+            message: None,
+            events: LineEvents::Interrupt(self.leading),
+        }
+    }
+
+    /// A brace: it prints nothing.
+    fn brace(self) -> TextStep
+        ensures { (i : PageInput) → step_at i result ≡ brace_taking i self }
+    {
+        let mut behind = self;
+        behind.has_brace = true;
+        TextStep {
+            reading: LineState::Text(behind),
+            message: None,
+            events: LineEvents::Nothing,
+        }
+    }
+
+    /// Something that prints nothing.
+    pub fn other(self) -> TextStep
+        ensures { (i : PageInput) → step_at i result ≡ other_taking i self }
+    {
+        let mut behind = self;
+        behind.has_other = true;
+        TextStep {
+            reading: LineState::Text(behind),
+            message: None,
+            events: LineEvents::Nothing,
+        }
+    }
+
+    /// A glyph, behind the leading blanks.
+    fn glyph(self, glyph: Glyph) -> TextStep
+        ensures { (i : PageInput) → step_at i result ≡ glyph_taking i self glyph }
+    {
+        self.printed(LineEvents::Print(self.leading, glyph))
+    }
+
+    /// Bytes that are printed, behind the leading blanks.
+    fn print(self, text: &[u8]) -> TextStep
+        requires { length text.now ≤ 4 }
+        ensures { (i : PageInput) → step_at i result ≡ glyphs_taking i self (map Printed text.now) }
+    {
+        self.printed(bytes_printed(self.leading, text))
+    }
+
+    /// Glyphs of the line: these are their events.
+    fn printed(self, events: LineEvents) -> TextStep
+        ensures { (i : PageInput) → step_at i result
+            ≡ meaning_events i (InText (record self { has_glyph = true; leading = 0 }))
+            (line_events events) }
+    {
+        TextStep {
+            reading: self.behind_glyph(),
+            message: None,
+            events,
+        }
+    }
+
+    /// A blank.
+    fn blank(self) -> TextStep
+        ensures { (i : PageInput) → step_at i result ≡ blank_taking i self }
+    {
+        if self.has_glyph {
+            return TextStep {
+                reading: LineState::Text(self),
+                message: None,
+                events: LineEvents::Gap,
+            };
+        }
+        let mut behind = self;
+        behind.leading = self.leading.saturating_add(1).min(MOST_LEADING);
+        TextStep {
+            reading: LineState::Text(behind),
+            message: None,
+            events: leading_blank(self.leading),
+        }
+    }
+}
+
+/// The events of bytes that are printed behind so many leading blanks.
+fn bytes_printed(leading: u32, text: &[u8]) -> LineEvents
+    requires { length text.now ≤ 4 }
+    ensures { line_events result ≡ leading_glyph leading ++ map print_event text.now }
+{
+    match text {
+        [] => LineEvents::Leading(leading),
+        [a] => LineEvents::Print(leading, Glyph::Printed(*a)),
+        [a, b] => LineEvents::Two(leading, [*a, *b]),
+        [a, b, c] => LineEvents::Three(leading, [*a, *b, *c]),
+        [a, b, c, d] => LineEvents::Four(leading, [*a, *b, *c, *d]),
+        _ => unreachable!(),
+    }
+}
+
+/// The events of a blank behind so many others at a line's beginning.
+fn leading_blank(before: u32) -> LineEvents
+    ensures { line_events result ≡ leading_blank_events before }
+{
+    if before == 0 {
+        LineEvents::Break
+    } else {
+        LineEvents::Nothing
+    }
+}
+
+/// What is said, if something is.
+fn message_of(remark: Option<Remark>) -> Option<Message>
+    ensures { option_to_list result ≡ remark_messages remark }
+{
+    match remark {
+        None => None,
+        Some(remark) => Some(Message::of_remark(remark)),
+    }
+}

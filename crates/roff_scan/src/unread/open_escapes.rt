@@ -1,0 +1,166 @@
+//! What is half read.
+
+ghost use Rattle.roff_escape.specs.OpenEscapes.{byte_read, decides_now, reading_ended};
+ghost use Rattle.roff_escape.specs.OpenEscapes.{newline_stays};
+ghost use Rattle.roff_escape.specs.OpenEscapes.{is_ended_by};
+ghost use Rattle.std.specs.Prelude.{false, not, ◌≡◌, ◌==◌, length};
+ghost use Rattle.roff_ahead.specs.Input.{choosing, holding_text};
+
+use super::Unread;
+use super::fronts::front_of;
+use roff_escape::{CopyUnit, Found, Surroundings};
+use roff_num::Limit;
+use roff_source::ByteSource;
+
+impl<E: Copy> Unread<E> {
+    ghost use Rattle.roff_scan.specs.Unread.{IsWithin, changing, reading, EndsDecided};
+    ghost use Rattle.roff_scan.specs.Unread.Calls.{ReadsNames, TakesHalves, TakesPushed};
+
+    /// Whether something is half read.
+    #[inline(always)]
+    pub fn has_open_escape(&self) -> bool
+        ensures { result ≡ not (length self.now.input.escapes == 0) }
+    {
+        !self.escapes.is_empty()
+    }
+
+    /// Whether a condition decides, before anything is taken or seen.
+    pub fn decides_now(&self) -> bool
+        ensures { result ≡ decides_now self.now.input.escapes }
+    {
+        self.escapes.decides_now()
+    }
+
+    /// Whether the reading on top looks at what stands in front before it is taken: a newline stays
+    /// then, and ends most.
+    pub fn newline_stays(&self) -> bool
+        ensures { result ≡ newline_stays self.now.input.escapes }
+    {
+        self.escapes.newline_stays()
+    }
+
+    /// Whether what it sees there stays, and ends it: a byte, or nothing that can be read.
+    pub fn is_ended_by(&self, seen: Option<u8>) -> bool
+        ensures { result ≡ is_ended_by self.now.input.escapes seen }
+    {
+        self.escapes.is_ended_by(seen)
+    }
+
+    /// Reads a byte that was taken and isn't dropped; above a text line, above arguments, or in
+    /// copy mode.
+    pub fn read_byte(&mut self, base: Surroundings, byte: u8) -> Found
+        ensures reading { (result, self.new)
+            ≡ reading (byte_read base self.old.input.escapes byte) self.old }
+        ensures within { IsWithin self.new }
+    {
+        self.escapes.read_byte(base, byte)
+    }
+
+    /// Ends the reading on top, before what stays.
+    pub fn end_reading(&mut self, base: Surroundings) -> Found
+        ensures reading { (result, self.new)
+            ≡ reading (reading_ended base self.old.input.escapes) self.old }
+        ensures within { IsWithin self.new }
+    {
+        self.escapes.end_reading(base)
+    }
+
+    /// Ends the condition on top, if it is read and asks nothing more, and no byte ended it that
+    /// may be the first of what follows: whether it is so. Else nothing happens.
+    #[inline(always)]
+    pub fn end_decided(&mut self) -> Option<bool>
+        ensures ended { EndsDecided result self.old self.new }
+        ensures within { IsWithin self.new }
+    {
+        self.escapes.end_decided()
+    }
+
+    /// Holds one unit more of the text that is being read.
+    ///
+    /// # Errors
+    ///
+    /// [`Limit::Stack`] if its bytes don't fit.
+    pub fn hold_text(&mut self, unit: CopyUnit) -> Result<(), Limit>
+        ensures change { (result, self.new)
+            ≡ changing (holding_text unit self.old.input) self.old }
+        ensures within { IsWithin self.new }
+    {
+        if self.escapes.bytes_more(unit) > self.limits.stack as usize - self.pushed() {
+            return Err(Limit::Stack);
+        }
+        self.escapes.hold(unit);
+        Ok(())
+    }
+
+    /// Takes at once bytes that stand in front, as they lie together, as long as they are in the
+    /// front of an escape that reads a name, and no more than the limit on bytes allows.
+    #[inline(never)]
+    pub fn read_front<S: ByteSource>(&mut self, source: &mut S)
+        ensures reads { ReadsNames (S.gives source.old) (S.gives source.new) self.old self.new }
+        ensures notes { S.notes source.new ≡ S.notes source.old }
+        ensures failures { S.failures source.new ≡ S.failures source.old }
+        ensures within { IsWithin self.new }
+    {
+        let most = (self.limits.bytes - self.charge) as usize;
+        let front = front_of(&self.frames, self.looked, source, most);
+        if front.is_empty() {
+            return;
+        }
+        let count = self.escapes.read_front(front);
+        self.pass(source, count);
+    }
+
+    /// Takes at once bytes that stand in front where a condition is half read: those that its
+    /// expression holds, and the fronts of names in it, and no more than the limits have room for.
+    /// They are of a pushed text, or lie together.
+    #[inline(never)]
+    pub fn take_front<S: ByteSource>(&mut self, source: &mut S)
+        ensures takes { TakesHalves (S.gives source.old) (S.gives source.new) self.old self.new }
+        ensures notes { S.notes source.new ≡ S.notes source.old }
+        ensures failures { S.failures source.new ≡ S.failures source.old }
+        ensures within { IsWithin self.new }
+    {
+        if !self.take_pushed() {
+            self.take_lying(source);
+        }
+    }
+
+    /// The same of bytes of a pushed text. Returns whether any were taken.
+    #[inline(always)]
+    fn take_pushed(&mut self) -> bool
+        ensures takes { TakesPushed self.old self.new }
+        ensures kept { result ≡ false → self.new ≡ self.old }
+        ensures within { IsWithin self.new }
+    {
+        let allowed = (self.limits.bytes - self.charge) as usize;
+        let given = self.frames.give_front(&mut self.escapes, allowed);
+        self.charge += given as u32;
+        given > 0
+    }
+
+    /// The same of bytes of a body or of the source, as they lie together.
+    #[inline(always)]
+    fn take_lying<S: ByteSource>(&mut self, source: &mut S)
+        ensures takes { TakesHalves (S.gives source.old) (S.gives source.new) self.old self.new }
+        ensures notes { S.notes source.new ≡ S.notes source.old }
+        ensures failures { S.failures source.new ≡ S.failures source.old }
+        ensures within { IsWithin self.new }
+    {
+        let allowed = (self.limits.bytes - self.charge) as usize;
+        let most = allowed.min(self.limits.stack as usize - self.pushed());
+        let front = front_of(&self.frames, self.looked, source, most);
+        if front.is_empty() {
+            return;
+        }
+        let count = self.escapes.take_front(front);
+        self.pass(source, count);
+    }
+
+    /// Begins to read a condition; nothing else is half read then.
+    pub fn begin_condition(&mut self)
+        ensures change { self.new ≡ record self.old { input = choosing self.old.input } }
+        ensures within { IsWithin self.new }
+    {
+        self.escapes.begin_condition();
+    }
+}
