@@ -3,8 +3,8 @@
 ghost use Rattle.std.specs.Prelude.{◌≡◌, ◌≤◌, [], ◌∷◌, ◌++◌, length, replicate, vec_capacity, OnOk};
 ghost use Rattle.std.specs.Prelude.{OnErr};
 ghost use Rattle.roff_lines.specs.Columns.{finished_of, line_bytes};
-ghost use Rattle.roff_engine.specs.Blocks.{Moves};
-ghost use Rattle.roff_engine.specs.Sinks.{Fails, HoldsBack, Puts};
+ghost use Rattle.roff_lines.specs.LineBytes.Fronts.{Moves};
+ghost use Rattle.roff_pages.specs.Sinks.{Fails, HoldsBack, Puts};
 
 use crate::sink::{ByteSink, SinkFault};
 use roff_lines::{Line, LineBytes};
@@ -16,7 +16,7 @@ const BLOCK: usize = 8_192;
 /// A block of bytes, reserved from the start, and empty between two lines. A line that it has room
 /// for is put in one piece.
 #[derive(Drop)]
-pub(crate) struct Block {
+pub struct Block {
     bytes: Vec<u8>,
     ghost reserved: { 8192 ≤ vec_capacity bytes },
     ghost empty: { bytes.items ≡ [] },
@@ -24,19 +24,23 @@ pub(crate) struct Block {
 
 impl Block {
     /// An empty block.
-    pub(crate) fn new(alloc: Global) -> Result<Self, AllocError> {
+    ///
+    /// # Errors
+    ///
+    /// [`AllocError`] if its memory can't be had.
+    pub fn new(alloc: Global) -> Result<Self, AllocError> {
         Ok(Block {
             bytes: Vec::with_capacity(alloc, BLOCK)?,
         })
     }
 
-    /// Writes a line.
+    /// Writes a line, and behind it its blank lines.
+    ///
+    /// # Errors
+    ///
+    /// [`SinkFault`] if the sink failed; a beginning of the bytes was written.
     #[inline(always)]
-    pub(crate) fn put_line<O: ByteSink>(
-        &mut self,
-        line: Line<'_>,
-        out: &mut O,
-    ) -> Result<(), SinkFault>
+    pub fn put_line<O: ByteSink>(&mut self, line: Line<'_>, out: &mut O) -> Result<(), SinkFault>
         ensures { Puts (O.sunk out.old) (O.sunk out.new)
             (line_bytes (finished_of line.entry)) result }
     {
@@ -75,11 +79,11 @@ impl Block {
     }
 
     /// Writes so many blank lines.
-    pub(crate) fn put_blank_lines<O: ByteSink>(
-        &mut self,
-        lines: u32,
-        out: &mut O,
-    ) -> Result<(), SinkFault>
+    ///
+    /// # Errors
+    ///
+    /// [`SinkFault`] if the sink failed; a beginning of the bytes was written.
+    pub fn put_blank_lines<O: ByteSink>(&mut self, lines: u32, out: &mut O) -> Result<(), SinkFault>
         ensures { Puts (O.sunk out.old) (O.sunk out.new) (replicate lines 10) result }
     {
         self.put_newlines(u64::from(lines), out)

@@ -1,7 +1,7 @@
 use Rattle.std.proofs.Common.{◌≡◌, ◌≤◌, ◌++◌, ℕ, List, length, vec_capacity}
 use Rattle.roff_lines.specs.Columns.{finished_of, line_bytes}
-use Rattle.roff_engine.specs.Sinks.{Sunk, HoldsBack}
-use Rattle.roff_engine.proofs.block.Block.put_pieces.Given as goal
+use Rattle.roff_pages.specs.Sinks.{Sunk, HoldsBack}
+use Rattle.roff_pages.proofs.block.Block.put_pieces.Given as goal
 
 -- a beginning of a line was written but its end, which is held back, and the rest is to come
 pub record Begun (line to_come held : List ℕ) (old new : Sunk) : Type 0 where

@@ -1,8 +1,8 @@
 use Rattle.std.proofs.Common.{◌≡◌, ◌++◌, ◌∷◌, [], List, ℕ, append_assoc, replicate, subst}
 use Rattle.roff_lines.specs.Columns.{finished_of, line_bytes}
-use Rattle.roff_engine.specs.Sinks.{Fails, Puts}
-use Rattle.roff_engine.proofs.Appending.{Fails-front, Puts-behind}
-use Rattle.roff_engine.proofs.block.Block.put_line.Goals as goal
+use Rattle.roff_pages.specs.Sinks.{Fails, Puts}
+use Rattle.roff_pages.proofs.Appending.{Fails-front, Puts-behind}
+use Rattle.roff_pages.proofs.block.Block.put_line.Goals as goal
 
 pub returns-in-Ok : goal.returns-in-Ok
 returns-in-Ok g c =

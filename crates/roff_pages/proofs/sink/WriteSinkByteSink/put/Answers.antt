@@ -1,7 +1,7 @@
 use Rattle.std.proofs.Common.{◌++◌, take, append_assoc}
 use Rattle.std.proofs.lemmas.List.{take-append-drop}
-use Rattle.roff_engine.proofs.Appending.{Writes-append}
-use Rattle.roff_engine.proofs.sink.WriteSinkByteSink.put.Goals as goal
+use Rattle.roff_pages.proofs.Appending.{Writes-append}
+use Rattle.roff_pages.proofs.sink.WriteSinkByteSink.put.Goals as goal
 
 pub loop-rest-preserved : goal.loop-rest-preserved
 loop-rest-preserved g c = record {

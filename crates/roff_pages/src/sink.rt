@@ -3,7 +3,7 @@
 ghost use Rattle.std.specs.Prelude.{◌≡◌, ◌+◌, ◌<◌, ◌≤◌, OnOk, OnErr, IfSome, IfNone, OnSome};
 ghost use Rattle.std.specs.Prelude.{length, min, take};
 ghost use Rattle.std.specs.Io.KnownBytes.{Appends, Keeps};
-ghost use Rattle.roff_engine.specs.Sinks.{Puts, Sunk};
+ghost use Rattle.roff_pages.specs.Sinks.{Puts, Sunk};
 ghost use Rattle.roff_num.specs.Faults.{last_count};
 
 use std::io::Write;

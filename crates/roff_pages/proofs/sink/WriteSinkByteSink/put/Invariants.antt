@@ -1,6 +1,6 @@
 use Rattle.std.proofs.Common.{◌≡◌, ℕ, ◌++◌, List, length}
-use Rattle.roff_engine.specs.Sinks.{Writes}
-use Rattle.roff_engine.proofs.sink.WriteSinkByteSink.put.Given as goal
+use Rattle.roff_pages.specs.Sinks.{Writes}
+use Rattle.roff_pages.proofs.sink.WriteSinkByteSink.put.Given as goal
 
 abbrev pub invariant-loop-rest : goal.invariant-loop-rest
 invariant-loop-rest g l = record {

@@ -1,7 +1,7 @@
 use Rattle.std.proofs.Common.{◌≡◌, ◌+◌, ◌-◌, ◌++◌, [], List, ℕ, length, take, replicate, arith, append_assoc, append-nil, refl, sym, ap, ◌∙◌, rules, vec_len}
 use Rattle.std.proofs.lemmas.List.{take_all, length-append, length-replicate}
-use Rattle.roff_engine.specs.Blocks.{Moves}
-use Rattle.roff_engine.proofs.block.add_pieces.Goals as goal
+use Rattle.roff_lines.specs.LineBytes.Fronts.{Moves}
+use Rattle.roff_pages.proofs.block.add_pieces.Goals as goal
 
 -- blanks behind what is held
 resized : (held : List ℕ) (blanks end long : ℕ) → end ≡ length held + blanks → long ≡ length held

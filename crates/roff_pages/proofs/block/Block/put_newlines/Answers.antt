@@ -1,9 +1,9 @@
 use Rattle.std.proofs.Common.{◌≡◌, ◌≤◌, ◌+◌, ◌-◌, ◌*◌, ◌%◌, ◌++◌, [], List, ℕ, Err, length, take, replicate, arith, refl, ap, subst, rules, vec_len}
 use Rattle.std.proofs.lemmas.List.{replicate-append-replicate, take_all}
 use Rattle.std.proofs.lemmas.Result.{err_from_is_err_and}
-use Rattle.roff_engine.specs.Sinks.{Sunk, Writes, Fails, Puts}
-use Rattle.roff_engine.proofs.Appending.{Writes-nothing, Writes-append, Fails-front, Puts-behind}
-use Rattle.roff_engine.proofs.block.Block.put_newlines.Goals as goal
+use Rattle.roff_pages.specs.Sinks.{Sunk, Writes, Fails, Puts}
+use Rattle.roff_pages.proofs.Appending.{Writes-nothing, Writes-append, Fails-front, Puts-behind}
+use Rattle.roff_pages.proofs.block.Block.put_newlines.Goals as goal
 
 -- so many newlines in place of nothing
 filled : (held : List ℕ) (n long : ℕ) → held ≡ [] → long ≡ length held → take n held ++ replicate (n - long) 10 ≡ replicate n 10

@@ -2,11 +2,11 @@ use Rattle.std.proofs.Common.{◌≡◌, ◌++◌, ◌∷◌, [], List, ℕ, len
 use Rattle.std.proofs.lemmas.List.{length-append}
 use Rattle.std.proofs.lemmas.Result.{err_from_is_err_and, on_ok_weaker, on_err_weaker}
 use Rattle.roff_lines.specs.Columns.{finished_of, line_bytes}
-use Rattle.roff_engine.specs.Blocks.{Moves}
-use Rattle.roff_engine.specs.Sinks.{Sunk}
-use Rattle.roff_engine.proofs.Appending.{Writes-nothing, HoldsBack-push, HoldsBack-keep, HoldsBack-put, Fails-held}
-use Rattle.roff_engine.proofs.block.Block.put_pieces.Invariants.{Begun}
-use Rattle.roff_engine.proofs.block.Block.put_pieces.Goals as goal
+use Rattle.roff_lines.specs.LineBytes.Fronts.{Moves}
+use Rattle.roff_pages.specs.Sinks.{Sunk}
+use Rattle.roff_pages.proofs.Appending.{Writes-nothing, HoldsBack-push, HoldsBack-keep, HoldsBack-put, Fails-held}
+use Rattle.roff_pages.proofs.block.Block.put_pieces.Invariants.{Begun}
+use Rattle.roff_pages.proofs.block.Block.put_pieces.Goals as goal
 
 -- the first of the bytes to come are held back too
 behind_pieces : {line to_come to_come_then held held_then : List ℕ} {old new : Sunk}

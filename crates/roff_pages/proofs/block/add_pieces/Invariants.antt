@@ -1,6 +1,6 @@
 use Rattle.std.proofs.Common.{◌-◌, ◌≤◌, length, vec_capacity}
-use Rattle.roff_engine.specs.Blocks.{Moves}
-use Rattle.roff_engine.proofs.block.add_pieces.Given as goal
+use Rattle.roff_lines.specs.LineBytes.Fronts.{Moves}
+use Rattle.roff_pages.proofs.block.add_pieces.Given as goal
 
 abbrev pub invariant-loop-piece : goal.invariant-loop-piece
 invariant-loop-piece l = record {

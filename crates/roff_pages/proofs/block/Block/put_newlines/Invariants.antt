@@ -1,6 +1,6 @@
 use Rattle.std.proofs.Common.{◌≡◌, ◌≤◌, ◌*◌, [], replicate, vec_capacity}
-use Rattle.roff_engine.specs.Sinks.{Writes}
-use Rattle.roff_engine.proofs.block.Block.put_newlines.Given as goal
+use Rattle.roff_pages.specs.Sinks.{Writes}
+use Rattle.roff_pages.proofs.block.Block.put_newlines.Given as goal
 
 abbrev pub invariant-loop : goal.invariant-loop
 invariant-loop g l = record {

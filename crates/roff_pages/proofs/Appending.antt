@@ -1,7 +1,7 @@
 -- What is written to sinks, piece by piece.
 use Rattle.std.proofs.Common.{ℕ, Option, Some, None, List, [], ◌∷◌, ◌++◌, Result, Ok, Err, refl, append_assoc, append-nil, arith, sym}
 use Rattle.std.specs.Io.KnownBytes.{Appends}
-use Rattle.roff_engine.specs.Sinks.{Sunk, Writes, HoldsBack, Fails, Puts}
+use Rattle.roff_pages.specs.Sinks.{Sunk, Writes, HoldsBack, Fails, Puts}
 
 -- two pieces one after the other are one
 pub Appends-append : (old mid new : Option (List ℕ)) (front back : List ℕ) → Appends old mid front → Appends mid new back → Appends old new (front ++ back)
