@@ -97,6 +97,7 @@ impl Running {
         let front = self.unread.front(source);
         let blanks = self.formatter.count_blanks(front);
         self.unread.pass(source, blanks);
+        self.unread.stays_within();
     }
 
     /// Takes bytes of a line at once that stand in front, and holds them in its arguments: up to the
@@ -113,6 +114,7 @@ impl Running {
             (seen (S.failures source.old) out err) (seen (S.failures source.new) out err) }
     {
         self.unread.hold_front(source);
+        self.unread.stays_within();
     }
 
     /// The same as long as fewer than so many arguments are whole.
@@ -128,6 +130,7 @@ impl Running {
             (seen (S.failures source.old) out err) (seen (S.failures source.new) out err) }
     {
         self.unread.hold_fewer(source, most);
+        self.unread.stays_within();
     }
 
     /// Takes bytes of plain text at once that stand in front, and puts them behind the newest text in
@@ -144,6 +147,7 @@ impl Running {
             (seen (S.failures source.old) out err) (seen (S.failures source.new) out err) }
     {
         self.unread.add_front(source);
+        self.unread.stays_within();
     }
 
     /// Takes bytes of plain text at once that stand in front and change nothing.
@@ -161,6 +165,7 @@ impl Running {
         let front = self.unread.front(source);
         let ignored = self.formatter.ignored_front(front);
         self.unread.pass(source, ignored);
+        self.unread.stays_within();
     }
 
     /// Takes bytes at once that stand in front and change only what is half read, as long as they are
@@ -175,6 +180,7 @@ impl Running {
             (seen (S.failures source.old) out err) (seen (S.failures source.new) out err) }
     {
         self.unread.read_front(source);
+        self.unread.stays_within();
     }
 
     /// Takes bytes of a condition at once that stand in front and change only what is half read, in
@@ -192,6 +198,7 @@ impl Running {
             return;
         }
         self.unread.take_front(source);
+        self.unread.stays_within();
     }
 }
 

@@ -70,6 +70,7 @@ impl Running {
         if !self.unread.pass_return() {
             return false;
         }
+        self.unread.stays_within();
         self.formatter.end_call();
         true
     }
@@ -122,7 +123,9 @@ impl Running {
         if self.unread.newline_stays() || self.formatter.due().is_some() {
             return false;
         }
-        self.unread.pass_end()
+        let is_passed = self.unread.pass_end();
+        self.unread.stays_within();
+        is_passed
     }
 
     /// Passes over bytes that change nothing, and takes the newline behind them if it ends the line.
@@ -180,6 +183,7 @@ impl Running {
         if !self.unread.pass_newline(source) {
             return false;
         }
+        self.unread.stays_within();
         self.formatter.begin_next_line();
         true
     }

@@ -7,7 +7,6 @@ ghost use Rattle.roff_reader.specs.ControlFronts.{BeginsControl, Fronts, LeadsTo
 ghost use Rattle.roff_reader.specs.ControlFronts.{control_byte, input_begun};
 ghost use Rattle.roff_run.specs.Reading.ControlLines.{behind_called};
 ghost use Rattle.roff_reader.specs.Reader.Stages.{ReadsPast};
-ghost use Rattle.roff_scan.specs.Unread.{IsWithin};
 
 use super::Reader;
 use super::control_lines::called_by;
@@ -87,6 +86,7 @@ impl Reader {
     {
         if front.first == b'\\' {
             unread.pass(source, 2);
+            unread.stays_within();
             self.go_on(LineState::Dropped);
             return true;
         }
@@ -102,6 +102,7 @@ impl Reader {
             Some(reading) => {
                 unread.pass(source, 3);
                 begin_half(reading, unread);
+                unread.stays_within();
                 self.go_on(reading);
                 true
             }
@@ -170,10 +171,8 @@ fn behind_request(breaks: bool, request: Request) -> Option<LineState>
 
 /// Begins to read a condition, if one is read.
 fn begin_half(reading: LineState, unread: &mut Unread<PageEvent>)
-    requires within { IsWithin unread.old }
-    ensures input { unread.new
+    ensures { unread.new
         ≡ record unread.old { input = input_begun reading unread.old.input } }
-    ensures within { IsWithin unread.new }
 {
     match reading {
         LineState::Deciding { .. } => unread.begin_condition(),

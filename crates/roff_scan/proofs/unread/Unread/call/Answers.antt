@@ -91,6 +91,3 @@ returns-clause-change g c =
     rw (← c.self.view_is) at (c.is_deep.ensures.shallow c.if-is_deep.false) in
     rw (← c.self.view_is, put, c.push.ensures, c.clear.ensures.value, c.list.ensures.value, c.finish.ensures.value)
     (sym (call_within kept body c.self.invariant.within c.self.invariant.begun c.pushed.result counted short shallow))
-
-pub returns-clause-within : goal.returns-clause-within
-returns-clause-within g c = (invariant_of-self-2 g c).within

@@ -45,6 +45,3 @@ returns-in-Some-clause-change g c =
     rw (← c.self.view_is, c.enter.ensures.texts, c.enter.ensures.answer, c.self.invariant.store)
     (sym (ap (λ (id : Option ℕ). changing (calling_on (λ id. Enter id c.args.name.now c.args.append) id kept.input) kept) last
     ∙ changing_called kept call c.self.invariant.within refl (answered-enter c.in-Some.id.0 c.args.name.now c.args.append t (counted_within kept c.self.invariant.within once)) few))
-
-pub returns-in-Some-clause-within : goal.returns-in-Some-clause-within
-returns-in-Some-clause-within g c = (invariant_of-self g c).within

@@ -42,6 +42,3 @@ returns-clause-change g c =
     rw c.take.ensures.value
     (subst (λ (u : Unread _). (Ok tt, record kept { input = with_arguments (with_unit kept.input.arguments c.args.unit) kept.input }) ≡ changing (with_arguments (with_unit u.input.arguments c.args.unit) u.input) u) c.self.view_is
     (sym (hold_within kept (with_unit kept.input.arguments c.args.unit) c.self.invariant.within c.pushed.result c.bytes_more.result counted c.bytes_more.ensures.value c.if-bytes_more-self.false)))
-
-pub returns-clause-within : goal.returns-clause-within
-returns-clause-within g c = (invariant_of-self g c).within

@@ -54,6 +54,3 @@ returns-clause-change g c =
     ≡ changing (holding_plain c.args.unit u.input) u) c.self.view_is
     (sym (plain_within kept holding c.self.invariant.within c.pushed.result c.bytes_of.result counted longer
     c.if-bytes_of-self.false)))
-
-pub returns-clause-within : goal.returns-clause-within
-returns-clause-within g c = (invariant_of-self g c).within

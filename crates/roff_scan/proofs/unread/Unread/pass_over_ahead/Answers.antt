@@ -63,6 +63,3 @@ returns-then-is_empty-clause-passes g c =
       };
     }) c.args.within_block) taken
     (passes_ahead passed.bytes new.ahead kept front allowed c.args.self.now c.self.view_is none_half c.args.within_block passed.plain))
-
-pub returns-then-is_empty-clause-within : goal.returns-then-is_empty-clause-within
-returns-then-is_empty-clause-within g c = (invariant_of-self g c).within

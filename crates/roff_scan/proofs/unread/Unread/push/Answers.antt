@@ -45,6 +45,3 @@ returns-clause-change g c =
     let counted = rw (← c.self.view_is) at c.pushed.ensures in
     let shallow : depth kept.input < kept.limits.depth = rw (← c.self.view_is) at (c.is_deep.ensures.shallow c.if-is_deep.false) in
     rw (← c.self.view_is, c.push.ensures) (sym (push_within kept c.args.text.now c.self.invariant.within c.pushed.result counted c.if-text-self.false shallow))
-
-pub returns-clause-within : goal.returns-clause-within
-returns-clause-within g c = (invariant_of-self g c).within

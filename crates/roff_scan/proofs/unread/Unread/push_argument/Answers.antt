@@ -77,6 +77,3 @@ returns-clause-change g c =
     rw (← c.self.view_is) at (c.is_deep-is_deep.ensures.shallow c.if-is_deep.false) in
     rw (← c.self.view_is, c.push.ensures, same)
     (sym (push_within kept text c.self.invariant.within c.pushed-pushed.result counted short shallow))
-
-pub returns-clause-within : goal.returns-clause-within
-returns-clause-within g c = (invariant_of-self g c).within

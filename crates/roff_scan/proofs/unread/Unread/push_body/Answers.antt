@@ -65,6 +65,3 @@ returns-clause-change g c =
     let short : length body ≤ kept.limits.stack - c.pushed.result = c.push_body.ensures.short c.if-not-push_body.false in
     let shallow : depth kept.input < kept.limits.depth = rw (← c.self.view_is) at (c.is_deep.ensures.shallow c.if-is_deep.false) in
     rw (← c.self.view_is, put) (sym (push_within kept body c.self.invariant.within c.pushed.result counted short shallow))
-
-pub returns-clause-within : goal.returns-clause-within
-returns-clause-within g c = (invariant_of-self-2 g c).within

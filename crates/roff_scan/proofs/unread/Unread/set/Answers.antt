@@ -39,6 +39,3 @@ returns-clause-change g c =
     let once = rw c.self.invariant.store at c.self.invariant.once in
     rw (← c.self.view_is, c.set.ensures.texts, c.set.ensures.answer, c.self.invariant.store)
     (sym (changing_called kept call c.self.invariant.within refl (answered-set c.args.name.now (entry_given c.args.entry) t (counted_within kept c.self.invariant.within once)) c.self.invariant.within.making))
-
-pub returns-clause-within : goal.returns-clause-within
-returns-clause-within g c = (invariant_of-self g c).within
