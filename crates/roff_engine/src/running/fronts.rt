@@ -6,22 +6,19 @@ ghost use Rattle.roff_run.specs.Stages.{counts_blanks};
 ghost use Rattle.roff_run.specs.Telling.{Prints};
 ghost use Rattle.roff_source.specs.Bytes.{is_argument_byte};
 ghost use Rattle.roff_source.specs.Bytes.{is_text_byte};
-ghost use Rattle.roff_engine.specs.Clauses.{Sunk, seen, due};
+ghost use Rattle.roff_engine.specs.Clauses.{due};
 
 use super::Running;
 use roff_scan::ByteSource;
 
 impl Running {
-    ghost use Rattle.roff_engine.specs.Running.Turning.{GoesPast};
+    ghost use Rattle.roff_engine.specs.Running.Turning.{GoesPastOver};
 
     /// Tells bytes of a text line that stand in front, or counts its leading blanks, or holds those
     /// of arguments, or reads a name or a condition.
     #[inline(always)]
     pub(super) fn pass_front<S: ByteSource>(&mut self, source: &mut S)
-        ensures { (out err : Sunk) → GoesPast
-            (S.gives source.old) (S.gives source.new) (S.notes source.old) (S.notes source.new)
-            self.old self.new
-            (seen (S.failures source.old) out err) (seen (S.failures source.new) out err) }
+        ensures { GoesPastOver S.ByteSource source.old source.new self.old self.new }
     {
         if self.formatter.prints() && !self.unread.has_open_escape() {
             self.tell_line(source);
@@ -52,10 +49,7 @@ impl Running {
             → Prints self.old.formatter.reader.reading b }
         requires none_due { due self.old.formatter.reader.reading ≡ None }
         requires none_half { self.old.unread.input.escapes ≡ [] }
-        ensures { (out err : Sunk) → GoesPast
-            (S.gives source.old) (S.gives source.new) (S.notes source.old) (S.notes source.new)
-            self.old self.new
-            (seen (S.failures source.old) out err) (seen (S.failures source.new) out err) }
+        ensures { GoesPastOver S.ByteSource source.old source.new self.old self.new }
     {
         let meets_escape = self.tell_front(source);
         if meets_escape && self.formatter.reads_names() {
@@ -72,10 +66,7 @@ impl Running {
             → Prints self.old.formatter.reader.reading b }
         requires none_due { due self.old.formatter.reader.reading ≡ None }
         requires none_half { self.old.unread.input.escapes ≡ [] }
-        ensures { (out err : Sunk) → GoesPast
-            (S.gives source.old) (S.gives source.new) (S.notes source.old) (S.notes source.new)
-            self.old self.new
-            (seen (S.failures source.old) out err) (seen (S.failures source.new) out err) }
+        ensures { GoesPastOver S.ByteSource source.old source.new self.old self.new }
     {
         let front = self.unread.front(source);
         let count = self.formatter.text_front(front);
@@ -89,10 +80,7 @@ impl Running {
     fn count_blanks<S: ByteSource>(&mut self, source: &mut S)
         requires counts { counts_blanks self.old.formatter.reader.reading ≡ true }
         requires none_half { self.old.unread.input.escapes ≡ [] }
-        ensures { (out err : Sunk) → GoesPast
-            (S.gives source.old) (S.gives source.new) (S.notes source.old) (S.notes source.new)
-            self.old self.new
-            (seen (S.failures source.old) out err) (seen (S.failures source.new) out err) }
+        ensures { GoesPastOver S.ByteSource source.old source.new self.old self.new }
     {
         let front = self.unread.front(source);
         let blanks = self.formatter.count_blanks(front);
@@ -108,10 +96,7 @@ impl Running {
             → Holds self.old.formatter.reader.reading b }
         requires none_due { due self.old.formatter.reader.reading ≡ None }
         requires none_half { self.old.unread.input.escapes ≡ [] }
-        ensures { (out err : Sunk) → GoesPast
-            (S.gives source.old) (S.gives source.new) (S.notes source.old) (S.notes source.new)
-            self.old self.new
-            (seen (S.failures source.old) out err) (seen (S.failures source.new) out err) }
+        ensures { GoesPastOver S.ByteSource source.old source.new self.old self.new }
     {
         self.unread.hold_front(source);
         self.unread.stays_within();
@@ -124,10 +109,7 @@ impl Running {
             → HoldsIfFewer (Some most) self.old.formatter.reader.reading b }
         requires none_due { due self.old.formatter.reader.reading ≡ None }
         requires none_half { self.old.unread.input.escapes ≡ [] }
-        ensures { (out err : Sunk) → GoesPast
-            (S.gives source.old) (S.gives source.new) (S.notes source.old) (S.notes source.new)
-            self.old self.new
-            (seen (S.failures source.old) out err) (seen (S.failures source.new) out err) }
+        ensures { GoesPastOver S.ByteSource source.old source.new self.old self.new }
     {
         self.unread.hold_fewer(source, most);
         self.unread.stays_within();
@@ -141,10 +123,7 @@ impl Running {
             → Adds self.old.formatter.reader.reading b }
         requires none_due { due self.old.formatter.reader.reading ≡ None }
         requires none_half { self.old.unread.input.escapes ≡ [] }
-        ensures { (out err : Sunk) → GoesPast
-            (S.gives source.old) (S.gives source.new) (S.notes source.old) (S.notes source.new)
-            self.old self.new
-            (seen (S.failures source.old) out err) (seen (S.failures source.new) out err) }
+        ensures { GoesPastOver S.ByteSource source.old source.new self.old self.new }
     {
         self.unread.add_front(source);
         self.unread.stays_within();
@@ -157,10 +136,7 @@ impl Running {
             → Ignores self.old.formatter.reader.reading b }
         requires none_due { due self.old.formatter.reader.reading ≡ None }
         requires none_half { self.old.unread.input.escapes ≡ [] }
-        ensures { (out err : Sunk) → GoesPast
-            (S.gives source.old) (S.gives source.new) (S.notes source.old) (S.notes source.new)
-            self.old self.new
-            (seen (S.failures source.old) out err) (seen (S.failures source.new) out err) }
+        ensures { GoesPastOver S.ByteSource source.old source.new self.old self.new }
     {
         let front = self.unread.front(source);
         let ignored = self.formatter.ignored_front(front);
@@ -174,10 +150,7 @@ impl Running {
     fn read_name<S: ByteSource>(&mut self, source: &mut S)
         requires reads { ReadsHalves self.old.formatter.reader.reading }
         requires none_due { due self.old.formatter.reader.reading ≡ None }
-        ensures { (out err : Sunk) → GoesPast
-            (S.gives source.old) (S.gives source.new) (S.notes source.old) (S.notes source.new)
-            self.old self.new
-            (seen (S.failures source.old) out err) (seen (S.failures source.new) out err) }
+        ensures { GoesPastOver S.ByteSource source.old source.new self.old self.new }
     {
         self.unread.read_front(source);
         self.unread.stays_within();
@@ -189,10 +162,7 @@ impl Running {
     fn read_condition<S: ByteSource>(&mut self, source: &mut S)
         requires takes { TakesHalf self.old.formatter.reader.reading }
         requires none_due { due self.old.formatter.reader.reading ≡ None }
-        ensures { (out err : Sunk) → GoesPast
-            (S.gives source.old) (S.gives source.new) (S.notes source.old) (S.notes source.new)
-            self.old self.new
-            (seen (S.failures source.old) out err) (seen (S.failures source.new) out err) }
+        ensures { GoesPastOver S.ByteSource source.old source.new self.old self.new }
     {
         if self.unread.decides_now() {
             return;
