@@ -29,4 +29,4 @@ returns-in-None c = λ es.
     TakesAs-as (λ k. going_on (without_last i) (branch_of (reads_else (kept_last i)))) (λ k. behind_called i c.args.breaks c.args.called) es c.args.self.now done.new.self
     c.args.unread.now taken.new.self (Ok (only_events [])) (λ k. sym (c.in-None.ensures.other refl i))
     (TakesAs-gone_on (without_last i) (branch_of (reads_else (kept_last i))) es c.args.self.now done.new.self c.args.unread.now taken.new.self (NoMore-without_last i)
-    taken.ensures.change (rw (c.branch.ensures ∙ ap branch_of so) at done.ensures))
+    taken.ensures.change (rw (c.branch-eq.ensures ∙ ap branch_of so) at done.ensures))
