@@ -59,6 +59,7 @@ use Rattle.roff_run.specs.declared.line_state.TextLine.{TextLine}
 use Rattle.roff_run.specs.declared.request.Request.{Request}
 use Rattle.roff_reader.proofs.Placed.{above-placed, kept-placed}
 use Rattle.roff_reader.proofs.TakesAs.{TakesAs-as, TakesAs-changed, TakesAs-ended_at, TakesAs-meant, TakesAs-read_at, TakesAs-where, taking-of}
+use Rattle.roff_run.proofs.InputCounts.{NoMore, first_passed-no_more}
 
 -- what is taken as one of two that are equal is taken as the other
 pub at_once-as : (s t : Known → Taking) (events : List PageEvent) (old new : ReaderState) (before behind : PageUnread) (on : Bool)
@@ -132,6 +133,22 @@ pub at_once-changed : (t : Known → Taking) (i : PageInput) (place : LineState)
 at_once-changed t i place old new before behind done as_defined changes came = λ es.
     TakesAs-as (λ k. going_on i place) t es old new before behind (Ok (only_events [])) as_defined
     (TakesAs-changed i place es old new before behind (only_events []) done changes came refl refl)
+
+-- the input changes so that no more is counted, and this is read on
+pub TakesAs-gone_on : (i : PageInput) (place : LineState) (es : EnvironmentsOf) (old new : ReaderState) (before behind : PageUnread) → NoMore i before.input
+    → behind ≡ record before { input = i } → new ≡ record old { reading = place } → TakesAs (λ k. going_on i place) es old new before behind (Ok (only_events []))
+TakesAs-gone_on i place es old new before behind less is came = record {
+  takes = λ l h stands ready. record {
+    became = record {
+      input = is;
+      reading = ap (λ (s : ReaderState). s.reading) came;
+      registers = ap (λ (s : ReaderState). s.registers) came;
+      within = first_passed-no_more before.limits old.registers.all i before.input less ready.within;
+    };
+    messages = refl;
+    events = refl;
+  };
+}
 
 -- where a limit refuses the change the input stays
 stays_if : (refusal : Option Limit) (i : PageInput) (u behind : PageUnread) (limit : Limit) → (Err limit, behind) ≡ unless_passed refusal i u → behind ≡ u

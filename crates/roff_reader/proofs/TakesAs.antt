@@ -59,7 +59,8 @@ use Rattle.roff_requests.specs.declared.registers.Facts.{Facts}
 use Rattle.roff_run.specs.declared.request.LineReading.{LineReading}
 use Rattle.roff_run.specs.declared.request.Request.{Request}
 use Rattle.roff_run.specs.TextLine.Stepping.{step_at}
-use Rattle.roff_run.proofs.InputCounts.{NoMore, NoMore-interrupted, NoMore-settling, first_passed-few_names, first_passed-no_more, one_of}
+use Rattle.roff_reader.specs.ControlFronts.{half_begun}
+use Rattle.roff_run.proofs.InputCounts.{NoMore, NoMore-interrupted, NoMore-same, NoMore-settling, first_passed-few_names, first_passed-no_more, one_of}
 
 -- what is taken where other units are half read, and something else was read of the line
 pub Takes-elsewhere : (t : Taking) (old : Capped) (new : ReaderState) (before behind : PageUnread) (i : PageInput) (result : Result Meaning Limit)
@@ -84,6 +85,11 @@ NoMore-with_escapes half i fewer = record { bytes = omega (arith, fewer); texts 
 -- where a condition begins
 pub NoMore-choosing : (i : PageInput) → NoMore (choosing i) i
 NoMore-choosing i = NoMore-with_escapes (choosing i).escapes i (omega arith)
+
+-- where a condition begins, if it does
+pub NoMore-half_begun : (begins : Bool) (i : PageInput) → NoMore (record i { escapes = half_begun begins i.escapes }) i
+NoMore-half_begun true i = NoMore-choosing i
+NoMore-half_begun false i = NoMore-same i
 
 -- where the newest result is taken
 fewer_kept : (kept : List (Bool × ℕ)) → length (drop 1 kept) ≤ length kept

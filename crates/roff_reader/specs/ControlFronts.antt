@@ -3,9 +3,11 @@ use Rattle.std.specs.Prelude.{◌≡◌, ℕ, Bool, true, false, if◌then◌els
 use Rattle.roff_source.specs.Bytes.{apostrophe, dot}
 use Rattle.roff_escape.specs.OpenEscape.{OpenEscape, Condition}
 use Rattle.roff_escape.specs.declared.open_escape.ConditionPart.TheVariants.{Choice}
+use Rattle.roff_ahead.specs.Input.Calls.{kept_last, without_last}
 use Rattle.roff_scan.specs.Unread.Calls.{IsFront, front_bytes}
 use Rattle.roff_run.specs.Reading.Items.{PageUnread}
 use Rattle.roff_run.specs.Reading.{taking}
+use Rattle.roff_run.specs.Reading.Branches.{branch_of, reads_else}
 use Rattle.roff_run.specs.Reading.Items.{PageInput, Taking, going_on}
 use Rattle.roff_run.specs.Registers.{Known}
 use Rattle.roff_reader.specs.declared.reader.ahead.ControlFront.{ControlFront}
@@ -39,6 +41,10 @@ input_begun reading i = record i { escapes = half_begun (is_deciding reading) i.
 -- behind something only what is half read changes, and this is read
 abbrev pub LeadsTo : (PageInput → Taking) → LineState → Type 0
 LeadsTo behind reading = (i : PageInput) → behind i ≡ going_on (input_begun reading i) reading
+
+-- behind something the other branch is read of the last condition whose result was kept
+abbrev pub LeadsToElse : (PageInput → Taking) → Type 0
+LeadsToElse behind = (i : PageInput) → behind i ≡ going_on (without_last i) (branch_of (reads_else (kept_last i)))
 
 -- these bytes begin with those of a control line's front
 abbrev pub Fronts : List ℕ → ControlFront → Type 0

@@ -4,6 +4,7 @@ use Rattle.std.specs.Io.KnownBytes.{Appends}
 use Rattle.roff_num.specs.declared.limit.Limit.{Limit}
 use Rattle.roff_num.specs.declared.limits.Limits.{Limits}
 use Rattle.roff_source.specs.Tape.{Tape, Item, items_then}
+use Rattle.roff_source.specs.declared.source.ByteSource as byte_source
 use Rattle.roff_scan.specs.Unread.{asks_to_take, looked_then}
 use Rattle.roff_requests.specs.Environments.Standing.{StandFor}
 use Rattle.roff_engine.specs.declared.formatter.Formatter.{Formatter}
@@ -12,7 +13,8 @@ use Rattle.roff_run.specs.declared.status.Status.{Status}
 use Rattle.roff_run.specs.declared.status.Status.TheVariants.{Device}
 use Rattle.roff_engine.specs.declared.halt.Halt.{Halt}
 use Rattle.roff_engine.specs.declared.halt.Halt.TheVariants.{Limit as Limited, Refused, Output, Messages}
-use Rattle.roff_engine.specs.Engine.Outcome.{Seen, NoFewerFaults, IsLeftOf, Reaches, OutputStops, MessagesFail, Outcome}
+use Rattle.roff_engine.specs.Engine.Outcome.{Seen, seen, NoFewerFaults, IsLeftOf, Reaches, OutputStops, MessagesFail, Outcome}
+use Rattle.roff_engine.specs.Sinks.{Sunk}
 use Rattle.roff_engine.specs.Formatter.Performing.{Opens, going}
 use Rattle.roff_reader.specs.Reader.State.{fresh_reader}
 use Rattle.roff_reader.specs.Reader.Taken.{IsReady}
@@ -164,6 +166,15 @@ pub record GoesPast (gave gives : Tape → Type 0) (noted notes : ℕ) (old new 
 pub record GoesFurther (begins : Bool) (gave gives : Tape → Type 0) (noted notes : ℕ) (old new : Coded) (now behind : Seen) : Type 0 where
   pub past : GoesPast gave gives noted notes old new now behind
   pub fewer : begins ≡ true → turns_left new + notes < turns_left old + noted
+
+-- the same over a source that was at one state and is at another, whatever was written
+abbrev pub GoesPastOver : {S : Type 0} → byte_source.Ghosts S → S → S → Coded → Coded → Type 0
+GoesPastOver g was is old new =
+    (out err : Sunk) → GoesPast (g.gives was) (g.gives is) (g.notes was) (g.notes is) old new (seen (g.failures was) out err) (seen (g.failures is) out err)
+
+abbrev pub GoesFurtherOver : {S : Type 0} → Bool → byte_source.Ghosts S → S → S → Coded → Coded → Type 0
+GoesFurtherOver begins g was is old new =
+    (out err : Sunk) → GoesFurther begins (g.gives was) (g.gives is) (g.notes was) (g.notes is) old new (seen (g.failures was) out err) (seen (g.failures is) out err)
 
 -- The run of the code has come so far, over a source that might have given the tapes `old` and may now give
 -- the tapes `new`: it took items, and whatever may still come, it is at its place in the run over all of these.

@@ -6,22 +6,19 @@ ghost use Rattle.roff_run.specs.Stages.{counts_blanks};
 ghost use Rattle.roff_run.specs.Telling.{Prints};
 ghost use Rattle.roff_source.specs.Bytes.{is_argument_byte};
 ghost use Rattle.roff_source.specs.Bytes.{is_text_byte};
-ghost use Rattle.roff_engine.specs.Clauses.{Sunk, seen, due};
+ghost use Rattle.roff_engine.specs.Clauses.{due};
 
 use super::Running;
 use roff_scan::ByteSource;
 
 impl Running {
-    ghost use Rattle.roff_engine.specs.Running.Turning.{GoesPast};
+    ghost use Rattle.roff_engine.specs.Running.Turning.{GoesPastOver};
 
     /// Tells bytes of a text line that stand in front, or counts its leading blanks, or holds those
     /// of arguments, or reads a name or a condition.
     #[inline(always)]
     pub(super) fn pass_front<S: ByteSource>(&mut self, source: &mut S)
-        ensures { (out err : Sunk) → GoesPast
-            (S.gives source.old) (S.gives source.new) (S.notes source.old) (S.notes source.new)
-            self.old self.new
-            (seen (S.failures source.old) out err) (seen (S.failures source.new) out err) }
+        ensures { GoesPastOver S.ByteSource source.old source.new self.old self.new }
     {
         if self.formatter.prints() && !self.unread.has_open_escape() {
             self.tell_line(source);
@@ -52,10 +49,7 @@ impl Running {
             → Prints self.old.formatter.reader.reading b }
         requires none_due { due self.old.formatter.reader.reading ≡ None }
         requires none_half { self.old.unread.input.escapes ≡ [] }
-        ensures { (out err : Sunk) → GoesPast
-            (S.gives source.old) (S.gives source.new) (S.notes source.old) (S.notes source.new)
-            self.old self.new
-            (seen (S.failures source.old) out err) (seen (S.failures source.new) out err) }
+        ensures { GoesPastOver S.ByteSource source.old source.new self.old self.new }
     {
         let meets_escape = self.tell_front(source);
         if meets_escape && self.formatter.reads_names() {
@@ -72,10 +66,7 @@ impl Running {
             → Prints self.old.formatter.reader.reading b }
         requires none_due { due self.old.formatter.reader.reading ≡ None }
         requires none_half { self.old.unread.input.escapes ≡ [] }
-        ensures { (out err : Sunk) → GoesPast
-            (S.gives source.old) (S.gives source.new) (S.notes source.old) (S.notes source.new)
-            self.old self.new
-            (seen (S.failures source.old) out err) (seen (S.failures source.new) out err) }
+        ensures { GoesPastOver S.ByteSource source.old source.new self.old self.new }
     {
         let front = self.unread.front(source);
         let count = self.formatter.text_front(front);
@@ -89,14 +80,12 @@ impl Running {
     fn count_blanks<S: ByteSource>(&mut self, source: &mut S)
         requires counts { counts_blanks self.old.formatter.reader.reading ≡ true }
         requires none_half { self.old.unread.input.escapes ≡ [] }
-        ensures { (out err : Sunk) → GoesPast
-            (S.gives source.old) (S.gives source.new) (S.notes source.old) (S.notes source.new)
-            self.old self.new
-            (seen (S.failures source.old) out err) (seen (S.failures source.new) out err) }
+        ensures { GoesPastOver S.ByteSource source.old source.new self.old self.new }
     {
         let front = self.unread.front(source);
         let blanks = self.formatter.count_blanks(front);
         self.unread.pass(source, blanks);
+        self.unread.stays_within();
     }
 
     /// Takes bytes of a line at once that stand in front, and holds them in its arguments: up to the
@@ -107,12 +96,10 @@ impl Running {
             → Holds self.old.formatter.reader.reading b }
         requires none_due { due self.old.formatter.reader.reading ≡ None }
         requires none_half { self.old.unread.input.escapes ≡ [] }
-        ensures { (out err : Sunk) → GoesPast
-            (S.gives source.old) (S.gives source.new) (S.notes source.old) (S.notes source.new)
-            self.old self.new
-            (seen (S.failures source.old) out err) (seen (S.failures source.new) out err) }
+        ensures { GoesPastOver S.ByteSource source.old source.new self.old self.new }
     {
         self.unread.hold_front(source);
+        self.unread.stays_within();
     }
 
     /// The same as long as fewer than so many arguments are whole.
@@ -122,12 +109,10 @@ impl Running {
             → HoldsIfFewer (Some most) self.old.formatter.reader.reading b }
         requires none_due { due self.old.formatter.reader.reading ≡ None }
         requires none_half { self.old.unread.input.escapes ≡ [] }
-        ensures { (out err : Sunk) → GoesPast
-            (S.gives source.old) (S.gives source.new) (S.notes source.old) (S.notes source.new)
-            self.old self.new
-            (seen (S.failures source.old) out err) (seen (S.failures source.new) out err) }
+        ensures { GoesPastOver S.ByteSource source.old source.new self.old self.new }
     {
         self.unread.hold_fewer(source, most);
+        self.unread.stays_within();
     }
 
     /// Takes bytes of plain text at once that stand in front, and puts them behind the newest text in
@@ -138,12 +123,10 @@ impl Running {
             → Adds self.old.formatter.reader.reading b }
         requires none_due { due self.old.formatter.reader.reading ≡ None }
         requires none_half { self.old.unread.input.escapes ≡ [] }
-        ensures { (out err : Sunk) → GoesPast
-            (S.gives source.old) (S.gives source.new) (S.notes source.old) (S.notes source.new)
-            self.old self.new
-            (seen (S.failures source.old) out err) (seen (S.failures source.new) out err) }
+        ensures { GoesPastOver S.ByteSource source.old source.new self.old self.new }
     {
         self.unread.add_front(source);
+        self.unread.stays_within();
     }
 
     /// Takes bytes of plain text at once that stand in front and change nothing.
@@ -153,14 +136,12 @@ impl Running {
             → Ignores self.old.formatter.reader.reading b }
         requires none_due { due self.old.formatter.reader.reading ≡ None }
         requires none_half { self.old.unread.input.escapes ≡ [] }
-        ensures { (out err : Sunk) → GoesPast
-            (S.gives source.old) (S.gives source.new) (S.notes source.old) (S.notes source.new)
-            self.old self.new
-            (seen (S.failures source.old) out err) (seen (S.failures source.new) out err) }
+        ensures { GoesPastOver S.ByteSource source.old source.new self.old self.new }
     {
         let front = self.unread.front(source);
         let ignored = self.formatter.ignored_front(front);
         self.unread.pass(source, ignored);
+        self.unread.stays_within();
     }
 
     /// Takes bytes at once that stand in front and change only what is half read, as long as they are
@@ -169,12 +150,10 @@ impl Running {
     fn read_name<S: ByteSource>(&mut self, source: &mut S)
         requires reads { ReadsHalves self.old.formatter.reader.reading }
         requires none_due { due self.old.formatter.reader.reading ≡ None }
-        ensures { (out err : Sunk) → GoesPast
-            (S.gives source.old) (S.gives source.new) (S.notes source.old) (S.notes source.new)
-            self.old self.new
-            (seen (S.failures source.old) out err) (seen (S.failures source.new) out err) }
+        ensures { GoesPastOver S.ByteSource source.old source.new self.old self.new }
     {
         self.unread.read_front(source);
+        self.unread.stays_within();
     }
 
     /// Takes bytes of a condition at once that stand in front and change only what is half read, in
@@ -183,15 +162,13 @@ impl Running {
     fn read_condition<S: ByteSource>(&mut self, source: &mut S)
         requires takes { TakesHalf self.old.formatter.reader.reading }
         requires none_due { due self.old.formatter.reader.reading ≡ None }
-        ensures { (out err : Sunk) → GoesPast
-            (S.gives source.old) (S.gives source.new) (S.notes source.old) (S.notes source.new)
-            self.old self.new
-            (seen (S.failures source.old) out err) (seen (S.failures source.new) out err) }
+        ensures { GoesPastOver S.ByteSource source.old source.new self.old self.new }
     {
         if self.unread.decides_now() {
             return;
         }
         self.unread.take_front(source);
+        self.unread.stays_within();
     }
 }
 

@@ -9,22 +9,19 @@ ghost use Rattle.roff_source.specs.Bytes.{is_passed};
 ghost use Rattle.roff_escape.specs.OpenEscapes.{newline_stays};
 ghost use Rattle.roff_scan.specs.Unread.{IsWithin};
 ghost use Rattle.roff_scan.specs.Unread.Calls.{PassesEnd, PassesReturn};
-ghost use Rattle.roff_engine.specs.Clauses.{Sunk, seen, due};
+ghost use Rattle.roff_engine.specs.Clauses.{due};
 
 use super::Running;
 use roff_scan::ByteSource;
 
 impl Running {
-    ghost use Rattle.roff_engine.specs.Running.Turning.{GoesFurther, GoesPast};
+    ghost use Rattle.roff_engine.specs.Running.Turning.{GoesFurtherOver, GoesPastOver};
 
     /// Takes bytes at once that stand in front: those of a control line's front, and those that
     /// [`pass_line`](Running::pass_line) takes. Returns whether a line begins behind them.
     #[inline(always)]
     pub(crate) fn pass_over<S: ByteSource>(&mut self, source: &mut S) -> bool
-        ensures { (out err : Sunk) → GoesFurther result
-            (S.gives source.old) (S.gives source.new) (S.notes source.old) (S.notes source.new)
-            self.old self.new
-            (seen (S.failures source.old) out err) (seen (S.failures source.new) out err) }
+        ensures { GoesFurtherOver result S.ByteSource source.old source.new self.old self.new }
     {
         if self.formatter.begins_control_line() && !self.unread.has_open_escape() {
             self.pass_control_line(source)
@@ -40,10 +37,7 @@ impl Running {
         requires begins { BeginsControl self.old.formatter.reader.reading }
         requires none_due { due self.old.formatter.reader.reading ≡ None }
         requires none_half { self.old.unread.input.escapes ≡ [] }
-        ensures { (out err : Sunk) → GoesFurther result
-            (S.gives source.old) (S.gives source.new) (S.notes source.old) (S.notes source.new)
-            self.old self.new
-            (seen (S.failures source.old) out err) (seen (S.failures source.new) out err) }
+        ensures { GoesFurtherOver result S.ByteSource source.old source.new self.old self.new }
     {
         if self.read_control_front(source) {
             self.pass_line(source)
@@ -70,6 +64,7 @@ impl Running {
         if !self.unread.pass_return() {
             return false;
         }
+        self.unread.stays_within();
         self.formatter.end_call();
         true
     }
@@ -80,10 +75,8 @@ impl Running {
         requires begins { BeginsControl self.old.formatter.reader.reading }
         requires none_due { due self.old.formatter.reader.reading ≡ None }
         requires none_half { self.old.unread.input.escapes ≡ [] }
-        ensures past { result ≡ true → (out err : Sunk) → GoesPast
-            (S.gives source.old) (S.gives source.new) (S.notes source.old) (S.notes source.new)
-            self.old self.new
-            (seen (S.failures source.old) out err) (seen (S.failures source.new) out err) }
+        ensures past { result ≡ true
+            → GoesPastOver S.ByteSource source.old source.new self.old self.new }
         ensures kept { result ≡ false → (self.new ≡ self.old) × (source.new ≡ source.old) }
     {
         self.formatter.read_control_front(&mut self.unread, source)
@@ -94,10 +87,7 @@ impl Running {
     /// behind them.
     #[inline(always)]
     fn pass_line<S: ByteSource>(&mut self, source: &mut S) -> bool
-        ensures { (out err : Sunk) → GoesFurther result
-            (S.gives source.old) (S.gives source.new) (S.notes source.old) (S.notes source.new)
-            self.old self.new
-            (seen (S.failures source.old) out err) (seen (S.failures source.new) out err) }
+        ensures { GoesFurtherOver result S.ByteSource source.old source.new self.old self.new }
     {
         match self.formatter.passes_over() {
             Some(within_block) => self.pass_dropped(source, within_block),
@@ -122,7 +112,9 @@ impl Running {
         if self.unread.newline_stays() || self.formatter.due().is_some() {
             return false;
         }
-        self.unread.pass_end()
+        let is_passed = self.unread.pass_end();
+        self.unread.stays_within();
+        is_passed
     }
 
     /// Passes over bytes that change nothing, and takes the newline behind them if it ends the line.
@@ -133,10 +125,7 @@ impl Running {
             → Passes self.old.formatter.reader.reading b }
         requires ends { within_block ≡ false → EndsLine self.old.formatter.reader.reading }
         requires none_due { due self.old.formatter.reader.reading ≡ None }
-        ensures { (out err : Sunk) → GoesFurther result
-            (S.gives source.old) (S.gives source.new) (S.notes source.old) (S.notes source.new)
-            self.old self.new
-            (seen (S.failures source.old) out err) (seen (S.failures source.new) out err) }
+        ensures { GoesFurtherOver result S.ByteSource source.old source.new self.old self.new }
     {
         self.pass_plain(source, within_block);
         if !within_block && !self.unread.has_open_escape() {
@@ -153,10 +142,7 @@ impl Running {
         requires passes { (b : ℕ) → is_passed within_block b ≡ true
             → Passes self.old.formatter.reader.reading b }
         requires none_due { due self.old.formatter.reader.reading ≡ None }
-        ensures past { (out err : Sunk) → GoesPast
-            (S.gives source.old) (S.gives source.new) (S.notes source.old) (S.notes source.new)
-            self.old self.new
-            (seen (S.failures source.old) out err) (seen (S.failures source.new) out err) }
+        ensures past { GoesPastOver S.ByteSource source.old source.new self.old self.new }
         ensures kept { self.new.formatter ≡ self.old.formatter }
     {
         if self.unread.is_none_ahead() {
@@ -172,14 +158,12 @@ impl Running {
         requires ends { EndsLine self.old.formatter.reader.reading }
         requires none_due { due self.old.formatter.reader.reading ≡ None }
         requires none_half { self.old.unread.input.escapes ≡ [] }
-        ensures { (out err : Sunk) → GoesFurther result
-            (S.gives source.old) (S.gives source.new) (S.notes source.old) (S.notes source.new)
-            self.old self.new
-            (seen (S.failures source.old) out err) (seen (S.failures source.new) out err) }
+        ensures { GoesFurtherOver result S.ByteSource source.old source.new self.old self.new }
     {
         if !self.unread.pass_newline(source) {
             return false;
         }
+        self.unread.stays_within();
         self.formatter.begin_next_line();
         true
     }

@@ -2,17 +2,14 @@
 
 ghost use Rattle.std.specs.Prelude.{◌≡◌, ◌∷◌, [], None, Some, true, false, IfSome};
 ghost use Rattle.roff_run.specs.Reading.ControlLines.{BelongsToName};
-ghost use Rattle.roff_reader.specs.Clauses.{PageUnread, behind_name, called_by, due, row_of};
-ghost use Rattle.roff_reader.specs.ControlFronts.{BeginsControl, Fronts, LeadsTo, StandsReady};
-ghost use Rattle.roff_reader.specs.ControlFronts.{control_byte, input_begun};
-ghost use Rattle.roff_run.specs.Reading.ControlLines.{behind_called};
+ghost use Rattle.roff_reader.specs.Clauses.{due};
+ghost use Rattle.roff_reader.specs.ControlFronts.{BeginsControl, Fronts, StandsReady, control_byte};
 ghost use Rattle.roff_reader.specs.Reader.Stages.{ReadsPast};
-ghost use Rattle.roff_scan.specs.Unread.{IsWithin};
 
 use super::Reader;
-use super::control_lines::called_by;
+use super::control_lines::{begin_deciding, behind_called, called_by};
 use roff_num::ShortName;
-use roff_run::{Called, LineReading, LineState, PageEvent, Request};
+use roff_run::{LineState, PageEvent};
 use roff_scan::{ByteSource, Unread};
 
 /// The first three bytes of a control line: the dot or apostrophe, by whether requests break behind
@@ -87,6 +84,7 @@ impl Reader {
     {
         if front.first == b'\\' {
             unread.pass(source, 2);
+            unread.stays_within();
             self.go_on(LineState::Dropped);
             return true;
         }
@@ -101,7 +99,8 @@ impl Reader {
             None => false,
             Some(reading) => {
                 unread.pass(source, 3);
-                begin_half(reading, unread);
+                begin_deciding(reading, unread);
+                unread.stays_within();
                 self.go_on(reading);
                 true
             }
@@ -135,48 +134,4 @@ fn belongs_to_name(byte: u8) -> bool
     ensures { result ≡ true → BelongsToName byte }
 {
     byte > b' ' && byte != 127 && byte != b'\\'
-}
-
-/// What is read behind a name that stands for this, if nothing else changes but what is half read:
-/// of all but the other branch of a condition.
-fn behind_called(breaks: bool, called: Called) -> Option<LineState>
-    ensures { IfSome result (λ reading. LeadsTo (λ i. behind_called i breaks called) reading) }
-{
-    match called {
-        Called::Request(request) => behind_request(breaks, request),
-        Called::Body(name) => Some(LineState::Calling { name }),
-        Called::Nothing => Some(LineState::Dropped),
-    }
-}
-
-/// The same of a request.
-fn behind_request(breaks: bool, request: Request) -> Option<LineState>
-    ensures { IfSome result (λ reading.
-        LeadsTo (λ i. behind_name i breaks request (row_of request).line) reading) }
-{
-    match request.row().line {
-        LineReading::ByArguments => Some(LineState::Arguments { breaks, request }),
-        LineReading::ByLines(_) => Some(LineState::Arguments { breaks, request }),
-        LineReading::ByLastLine => Some(LineState::Arguments { breaks, request }),
-        LineReading::ByCondition { keeps } => Some(LineState::Deciding { keeps }),
-        LineReading::ByString { appends } => Some(LineState::StringName { appends }),
-        LineReading::ByMessage { aborts } => Some(LineState::Telling {
-            aborts,
-            is_front: true,
-        }),
-        LineReading::ByElse => None,
-    }
-}
-
-/// Begins to read a condition, if one is read.
-fn begin_half(reading: LineState, unread: &mut Unread<PageEvent>)
-    requires within { IsWithin unread.old }
-    ensures input { unread.new
-        ≡ record unread.old { input = input_begun reading unread.old.input } }
-    ensures within { IsWithin unread.new }
-{
-    match reading {
-        LineState::Deciding { .. } => unread.begin_condition(),
-        _ => {}
-    }
 }

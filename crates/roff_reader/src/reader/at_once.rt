@@ -19,9 +19,7 @@ use super::calls::CALL_ARGUMENTS;
 use super::control_lines::called_by;
 use roff_num::ShortName;
 use roff_requests::Environments;
-use roff_run::{
-    Called, LineState, PageEvent, Request, TextByte, TextLine, blanks_in_front, ends_name,
-};
+use roff_run::{LineState, PageEvent, Request, TextByte, TextLine, blanks_in_front, ends_name};
 use roff_scan::{CopyUnit, Unread, is_dropped};
 
 impl Reader {
@@ -200,20 +198,8 @@ impl Reader {
             first,
             second: Some(byte),
         };
-        match called_by(name, unread) {
-            Called::Request(request) => {
-                self.begin_request(breaks, request, unread);
-                true
-            }
-            Called::Body(name) => {
-                self.go_on(LineState::Calling { name });
-                true
-            }
-            Called::Nothing => {
-                self.go_on(LineState::Dropped);
-                true
-            }
-        }
+        self.begin_called(breaks, called_by(name, unread), unread);
+        true
     }
 
     /// Holds a byte behind a request's name, if it is no newline and no backslash, and no limit

@@ -1,7 +1,9 @@
 //! The names of control lines, and how what is behind one is read.
 
-ghost use Rattle.std.specs.Prelude.{◌≡◌, [], Ok};
+ghost use Rattle.std.specs.Prelude.{◌≡◌, [], None, Ok, IfSome};
+ghost use Rattle.roff_run.specs.Reading.ControlLines.{behind_called};
 ghost use Rattle.roff_reader.specs.Reader.AtOnce.{only_events};
+ghost use Rattle.roff_reader.specs.ControlFronts.{LeadsTo, LeadsToElse, input_begun};
 ghost use Rattle.roff_reader.specs.Clauses.{EnvironmentsOf, NameOf, TakesAs, behind_name, kept_taking};
 ghost use Rattle.roff_reader.specs.Clauses.{line_taking, row_of, name_ended_taking, called_by};
 
@@ -36,14 +38,8 @@ impl Reader {
             first,
             second: Some(byte),
         };
-        match called_by(name, unread) {
-            Called::Request(request) => {
-                self.begin_request(breaks, request, unread);
-                Ok(Meaning::nothing())
-            }
-            Called::Body(name) => Ok(self.read_on(LineState::Calling { name })),
-            Called::Nothing => Ok(self.read_on(LineState::Dropped)),
-        }
+        self.begin_called(breaks, called_by(name, unread), unread);
+        Ok(Meaning::nothing())
     }
 
     /// The first byte behind a name, which doesn't belong to it.
@@ -121,33 +117,69 @@ impl Reader {
         }
     }
 
-    /// What is read behind a request's name; nothing is meant.
-    pub(super) fn begin_request(
+    /// What is read behind a name that stands for this; nothing is meant.
+    pub(super) fn begin_called(
         &mut self,
         breaks: bool,
-        request: Request,
+        called: Called,
         unread: &mut Unread<PageEvent>,
     )
         ensures { (es : EnvironmentsOf)
-            → TakesAs (λ k. behind_name unread.old.input breaks request (row_of request).line)
+            → TakesAs (λ k. behind_called unread.old.input breaks called)
             es self.old self.new unread.old unread.new (Ok (only_events [])) }
     {
-        let reading = match request.row().line {
-            LineReading::ByArguments => LineState::Arguments { breaks, request },
-            LineReading::ByLines(_) => LineState::Arguments { breaks, request },
-            LineReading::ByCondition { keeps } => {
-                unread.begin_condition();
-                LineState::Deciding { keeps }
+        match behind_called(breaks, called) {
+            Some(reading) => {
+                begin_deciding(reading, unread);
+                self.go_on(reading);
             }
-            LineReading::ByString { appends } => LineState::StringName { appends },
-            LineReading::ByLastLine => LineState::Arguments { breaks, request },
-            LineReading::ByMessage { aborts } => LineState::Telling {
-                aborts,
-                is_front: true,
-            },
-            LineReading::ByElse => LineState::branch(unread.take_kept() == Some(false)),
-        };
-        self.go_on(reading);
+            None => self.go_on(LineState::branch(unread.take_kept() == Some(false))),
+        }
+    }
+}
+
+/// What is read behind a name that stands for this, if nothing else changes but what is half read:
+/// of all but the other branch of a condition.
+pub(super) fn behind_called(breaks: bool, called: Called) -> Option<LineState>
+    ensures leads { IfSome result (λ reading. LeadsTo (λ i. behind_called i breaks called) reading) }
+    ensures other { result ≡ None → LeadsToElse (λ i. behind_called i breaks called) }
+{
+    match called {
+        Called::Request(request) => behind_request(breaks, request),
+        Called::Body(name) => Some(LineState::Calling { name }),
+        Called::Nothing => Some(LineState::Dropped),
+    }
+}
+
+/// The same of a request.
+fn behind_request(breaks: bool, request: Request) -> Option<LineState>
+    ensures leads { IfSome result (λ reading.
+        LeadsTo (λ i. behind_name i breaks request (row_of request).line) reading) }
+    ensures other { result ≡ None
+        → LeadsToElse (λ i. behind_name i breaks request (row_of request).line) }
+{
+    match request.row().line {
+        LineReading::ByArguments => Some(LineState::Arguments { breaks, request }),
+        LineReading::ByLines(_) => Some(LineState::Arguments { breaks, request }),
+        LineReading::ByLastLine => Some(LineState::Arguments { breaks, request }),
+        LineReading::ByCondition { keeps } => Some(LineState::Deciding { keeps }),
+        LineReading::ByString { appends } => Some(LineState::StringName { appends }),
+        LineReading::ByMessage { aborts } => Some(LineState::Telling {
+            aborts,
+            is_front: true,
+        }),
+        LineReading::ByElse => None,
+    }
+}
+
+/// Begins to read a condition, if one is read.
+pub(super) fn begin_deciding(reading: LineState, unread: &mut Unread<PageEvent>)
+    ensures { unread.new
+        ≡ record unread.old { input = input_begun reading unread.old.input } }
+{
+    match reading {
+        LineState::Deciding { .. } => unread.begin_condition(),
+        _ => {}
     }
 }
 

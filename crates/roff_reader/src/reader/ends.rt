@@ -106,6 +106,7 @@ impl Reader {
     {
         if name.is_some() {
             unread.drop_text();
+            unread.stays_within();
         }
         self.reading = LineState::LineStart;
         Meaning {

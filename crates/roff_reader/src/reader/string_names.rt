@@ -131,6 +131,7 @@ impl Reader {
         unread.finish_arguments();
         let given = first_name(unread.arguments());
         unread.begin_arguments();
+        unread.stays_within();
         if let Some(Some(name)) = given {
             empty_string(name, appends, unread)?;
         }

@@ -14,13 +14,12 @@ use roff_num::Limit;
 use roff_source::ByteSource;
 
 impl<E: Copy> Unread<E> {
-    ghost use Rattle.roff_scan.specs.Unread.{IsWithin, changing};
+    ghost use Rattle.roff_scan.specs.Unread.{changing};
     ghost use Rattle.roff_scan.specs.Unread.Calls.{HoldsFewer, HoldsFront};
 
     /// A line is read of which nothing was read.
     pub fn begin_line(&mut self)
         ensures change { self.new ≡ record self.old { input = beginning_line self.old.input } }
-        ensures within { IsWithin self.new }
     {
         self.arguments.clear();
         self.escapes.clear();
@@ -29,7 +28,6 @@ impl<E: Copy> Unread<E> {
     /// Drops the arguments of the line before.
     pub fn begin_arguments(&mut self)
         ensures change { self.new ≡ record self.old { input = without_arguments self.old.input } }
-        ensures within { IsWithin self.new }
     {
         self.arguments.clear();
     }
@@ -43,7 +41,6 @@ impl<E: Copy> Unread<E> {
         ensures change { (result, self.new)
             ≡ changing (with_arguments (with_unit self.old.input.arguments unit) self.old.input)
             self.old }
-        ensures within { IsWithin self.new }
     {
         if self.arguments.bytes_more(unit) > self.limits.stack as usize - self.pushed() {
             return Err(Limit::Stack);
@@ -60,7 +57,6 @@ impl<E: Copy> Unread<E> {
     pub fn hold_plain(&mut self, unit: CopyUnit) -> Result<(), Limit>
         ensures change { (result, self.new)
             ≡ changing (holding_plain unit self.old.input) self.old }
-        ensures within { IsWithin self.new }
     {
         if bytes_of(unit) > self.limits.stack as usize - self.pushed() {
             return Err(Limit::Stack);
@@ -81,7 +77,6 @@ impl<E: Copy> Unread<E> {
         ensures change { self.new ≡ record self.old {
           input = with_arguments (settled self.old.input.arguments) self.old.input;
         } }
-        ensures within { IsWithin self.new }
     {
         self.arguments.settle();
     }
@@ -91,7 +86,6 @@ impl<E: Copy> Unread<E> {
         ensures change { self.new ≡ record self.old {
           input = with_arguments (finished self.old.input.arguments) self.old.input;
         } }
-        ensures within { IsWithin self.new }
     {
         self.arguments.finish();
     }
@@ -111,7 +105,6 @@ impl<E: Copy> Unread<E> {
         ensures holds { HoldsFront (S.gives source.old) (S.gives source.new) self.old self.new }
         ensures notes { S.notes source.new ≡ S.notes source.old }
         ensures failures { S.failures source.new ≡ S.failures source.old }
-        ensures within { IsWithin self.new }
     {
         self.hold_bounded(source, None);
     }
@@ -124,7 +117,6 @@ impl<E: Copy> Unread<E> {
             (S.gives source.old) (S.gives source.new) self.old self.new }
         ensures notes { S.notes source.new ≡ S.notes source.old }
         ensures failures { S.failures source.new ≡ S.failures source.old }
-        ensures within { IsWithin self.new }
     {
         self.hold_bounded(source, Some(most));
     }
@@ -136,7 +128,6 @@ impl<E: Copy> Unread<E> {
             (S.gives source.old) (S.gives source.new) self.old self.new }
         ensures notes { S.notes source.new ≡ S.notes source.old }
         ensures failures { S.failures source.new ≡ S.failures source.old }
-        ensures within { IsWithin self.new }
     {
         let room = self.limits.stack as usize - self.pushed();
         let allowed = room.min((self.limits.bytes - self.charge) as usize);

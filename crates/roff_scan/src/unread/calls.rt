@@ -12,7 +12,7 @@ use roff_arguments::{ArgumentList, Calls};
 use roff_num::{Limit, Name};
 
 impl<E: Copy> Unread<E> {
-    ghost use Rattle.roff_scan.specs.Unread.{IsWithin, changing};
+    ghost use Rattle.roff_scan.specs.Unread.{changing};
 
     /// A line calls the body of a name: it is put in front, as it is now, with a newline behind it
     /// if it has bytes and none at its end, and the end of the call. The arguments of the line are
@@ -24,7 +24,6 @@ impl<E: Copy> Unread<E> {
     pub fn call(&mut self, name: &Name) -> Result<(), Limit>
         ensures change { (result, self.new)
             ≡ changing (calling_body (body_named name.now self.old.input) self.old.input) self.old }
-        ensures within { IsWithin self.new }
     {
         let room = self.limits.stack as usize - self.pushed();
         if self.is_deep() {
@@ -58,7 +57,6 @@ impl<E: Copy> Unread<E> {
     pub fn push_argument(&mut self, index: usize) -> Result<(), Limit>
         ensures change { (result, self.new)
             ≡ changing (pushing (argument_live index self.old.input) self.old.input) self.old }
-        ensures within { IsWithin self.new }
     {
         let pushed = self.pushed();
         let is_deep = self.is_deep();

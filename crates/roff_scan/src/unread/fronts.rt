@@ -9,7 +9,6 @@ use roff_ahead::Frames;
 use roff_source::{ByteSource, at_most};
 
 impl<E: Copy> Unread<E> {
-    ghost use Rattle.roff_scan.specs.Unread.{IsWithin};
     ghost use Rattle.roff_scan.specs.Unread.Calls.{front_bytes, IsFront, NoNewline, PassesFront};
     ghost use Rattle.roff_scan.specs.Unread.Calls.{PassesSource};
 
@@ -35,7 +34,6 @@ impl<E: Copy> Unread<E> {
             (front_bytes count (S.ready source.old) self.old) self.old self.new }
         ensures notes { S.notes source.new ≡ S.notes source.old }
         ensures failures { S.failures source.new ≡ S.failures source.old }
-        ensures within { IsWithin self.new }
     {
         // the invariant is known where a field is named
         let _ = &self.limits;
@@ -61,7 +59,6 @@ impl<E: Copy> Unread<E> {
             (front_bytes count (S.ready source.old) self.old) self.old self.new }
         ensures notes { S.notes source.new ≡ S.notes source.old }
         ensures failures { S.failures source.new ≡ S.failures source.old }
-        ensures within { IsWithin self.new }
     {
         let line = self.newlines + 1;
         self.line = line;

@@ -14,7 +14,7 @@ use roff_source::{ByteSource, at_most, text_in_front};
 use roff_store::{Entry, Kind};
 
 impl<E: Copy> Unread<E> {
-    ghost use Rattle.roff_scan.specs.Unread.{IsWithin, changing};
+    ghost use Rattle.roff_scan.specs.Unread.{changing};
     ghost use Rattle.roff_scan.specs.Unread.Calls.{AddsFront};
     ghost use Rattle.roff_store.specs.TextCalls.{Open, Remove, Rename, Set};
 
@@ -36,7 +36,6 @@ impl<E: Copy> Unread<E> {
     pub fn set(&mut self, name: &Name, entry: Entry<'_>) -> Result<(), Limit>
         ensures change { (result, self.new)
             ≡ changing (calling (Set name.now (entry_given entry.entry)) self.old.input) self.old }
-        ensures within { IsWithin self.new }
     {
         self.frames.set(name, entry)
     }
@@ -45,7 +44,6 @@ impl<E: Copy> Unread<E> {
     pub fn remove(&mut self, name: &Name)
         ensures change { self.new
             ≡ record self.old { input = calling (Remove name.now) self.old.input } }
-        ensures within { IsWithin self.new }
     {
         self.frames.remove(name);
     }
@@ -55,7 +53,6 @@ impl<E: Copy> Unread<E> {
     pub fn rename(&mut self, from: &Name, to: &Name)
         ensures change { self.new
             ≡ record self.old { input = calling (Rename from.now to.now) self.old.input } }
-        ensures within { IsWithin self.new }
     {
         self.frames.rename(from, to);
     }
@@ -67,7 +64,6 @@ impl<E: Copy> Unread<E> {
     /// [`Limit::Diversions`] if as many are in the making as may be.
     pub fn begin_text(&mut self) -> Result<(), Limit>
         ensures change { (result, self.new) ≡ changing (calling Open self.old.input) self.old }
-        ensures within { IsWithin self.new }
     {
         if !self.frames.can_open() {
             return Err(Limit::Diversions);
@@ -83,7 +79,6 @@ impl<E: Copy> Unread<E> {
     /// [`Limit::Store`] if there would be too many bytes.
     pub fn add(&mut self, text: &[u8]) -> Result<(), Limit>
         ensures change { (result, self.new) ≡ changing (adding text.now self.old.input) self.old }
-        ensures within { IsWithin self.new }
     {
         match self.frames.newest() {
             Some(id) => self.frames.push_open(id, text),
@@ -100,7 +95,6 @@ impl<E: Copy> Unread<E> {
         ensures adds { AddsFront (S.gives source.old) (S.gives source.new) self.old self.new }
         ensures notes { S.notes source.new ≡ S.notes source.old }
         ensures failures { S.failures source.new ≡ S.failures source.old }
-        ensures within { IsWithin self.new }
     {
         if self.frames.is_empty() && self.looked.is_none() {
             self.add_ready(source);
@@ -115,7 +109,6 @@ impl<E: Copy> Unread<E> {
         ensures adds { AddsFront (S.gives source.old) (S.gives source.new) self.old self.new }
         ensures notes { S.notes source.new ≡ S.notes source.old }
         ensures failures { S.failures source.new ≡ S.failures source.old }
-        ensures within { IsWithin self.new }
     {
         let room = self.limits.store as usize - self.frames.stored();
         let allowed = self.limits.bytes - self.charge;
@@ -126,7 +119,7 @@ impl<E: Copy> Unread<E> {
         }
         match self.add(text) {
             Ok(()) => self.pass_source(source, count),
-            Err(_) => {}
+            Err(_) => self.stays_within(),
         }
     }
 
@@ -139,7 +132,6 @@ impl<E: Copy> Unread<E> {
     pub fn enter(&mut self, name: &Name, append: bool) -> Result<(), Limit>
         ensures change { (result, self.new)
             ≡ changing (entering name.now append self.old.input) self.old }
-        ensures within { IsWithin self.new }
     {
         match self.frames.newest() {
             Some(id) => self.frames.enter(id, name, append),
@@ -150,7 +142,6 @@ impl<E: Copy> Unread<E> {
     /// Drops the newest text in the making, if there is one.
     pub fn drop_text(&mut self)
         ensures change { self.new ≡ record self.old { input = dropping self.old.input } }
-        ensures within { IsWithin self.new }
     {
         if let Some(id) = self.frames.newest() {
             self.frames.drop_open(id);

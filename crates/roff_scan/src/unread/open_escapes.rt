@@ -13,7 +13,7 @@ use roff_num::Limit;
 use roff_source::ByteSource;
 
 impl<E: Copy> Unread<E> {
-    ghost use Rattle.roff_scan.specs.Unread.{IsWithin, changing, reading, EndsDecided};
+    ghost use Rattle.roff_scan.specs.Unread.{changing, reading, EndsDecided};
     ghost use Rattle.roff_scan.specs.Unread.Calls.{ReadsNames, TakesHalves, TakesPushed};
 
     /// Whether something is half read.
@@ -51,7 +51,6 @@ impl<E: Copy> Unread<E> {
     pub fn read_byte(&mut self, base: Surroundings, byte: u8) -> Found
         ensures reading { (result, self.new)
             ≡ reading (byte_read base self.old.input.escapes byte) self.old }
-        ensures within { IsWithin self.new }
     {
         self.escapes.read_byte(base, byte)
     }
@@ -60,7 +59,6 @@ impl<E: Copy> Unread<E> {
     pub fn end_reading(&mut self, base: Surroundings) -> Found
         ensures reading { (result, self.new)
             ≡ reading (reading_ended base self.old.input.escapes) self.old }
-        ensures within { IsWithin self.new }
     {
         self.escapes.end_reading(base)
     }
@@ -70,7 +68,6 @@ impl<E: Copy> Unread<E> {
     #[inline(always)]
     pub fn end_decided(&mut self) -> Option<bool>
         ensures ended { EndsDecided result self.old self.new }
-        ensures within { IsWithin self.new }
     {
         self.escapes.end_decided()
     }
@@ -83,7 +80,6 @@ impl<E: Copy> Unread<E> {
     pub fn hold_text(&mut self, unit: CopyUnit) -> Result<(), Limit>
         ensures change { (result, self.new)
             ≡ changing (holding_text unit self.old.input) self.old }
-        ensures within { IsWithin self.new }
     {
         if self.escapes.bytes_more(unit) > self.limits.stack as usize - self.pushed() {
             return Err(Limit::Stack);
@@ -99,7 +95,6 @@ impl<E: Copy> Unread<E> {
         ensures reads { ReadsNames (S.gives source.old) (S.gives source.new) self.old self.new }
         ensures notes { S.notes source.new ≡ S.notes source.old }
         ensures failures { S.failures source.new ≡ S.failures source.old }
-        ensures within { IsWithin self.new }
     {
         let most = (self.limits.bytes - self.charge) as usize;
         let front = front_of(&self.frames, self.looked, source, most);
@@ -118,7 +113,6 @@ impl<E: Copy> Unread<E> {
         ensures takes { TakesHalves (S.gives source.old) (S.gives source.new) self.old self.new }
         ensures notes { S.notes source.new ≡ S.notes source.old }
         ensures failures { S.failures source.new ≡ S.failures source.old }
-        ensures within { IsWithin self.new }
     {
         if !self.take_pushed() {
             self.take_lying(source);
@@ -130,7 +124,6 @@ impl<E: Copy> Unread<E> {
     fn take_pushed(&mut self) -> bool
         ensures takes { TakesPushed self.old self.new }
         ensures kept { result ≡ false → self.new ≡ self.old }
-        ensures within { IsWithin self.new }
     {
         let allowed = (self.limits.bytes - self.charge) as usize;
         let given = self.frames.give_front(&mut self.escapes, allowed);
@@ -144,7 +137,6 @@ impl<E: Copy> Unread<E> {
         ensures takes { TakesHalves (S.gives source.old) (S.gives source.new) self.old self.new }
         ensures notes { S.notes source.new ≡ S.notes source.old }
         ensures failures { S.failures source.new ≡ S.failures source.old }
-        ensures within { IsWithin self.new }
     {
         let allowed = (self.limits.bytes - self.charge) as usize;
         let most = allowed.min(self.limits.stack as usize - self.pushed());
@@ -159,7 +151,6 @@ impl<E: Copy> Unread<E> {
     /// Begins to read a condition; nothing else is half read then.
     pub fn begin_condition(&mut self)
         ensures change { self.new ≡ record self.old { input = choosing self.old.input } }
-        ensures within { IsWithin self.new }
     {
         self.escapes.begin_condition();
     }

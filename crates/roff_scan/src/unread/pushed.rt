@@ -10,7 +10,7 @@ use super::results::drop_kept;
 use roff_num::{Limit, Name};
 
 impl<E: Copy> Unread<E> {
-    ghost use Rattle.roff_scan.specs.Unread.{IsWithin, changing};
+    ghost use Rattle.roff_scan.specs.Unread.{changing};
 
     /// Whether as many pushed texts haven't ended as may be.
     pub(super) fn is_deep(&self) -> bool
@@ -27,7 +27,6 @@ impl<E: Copy> Unread<E> {
     /// [`Limit::Stack`] if its bytes don't fit, and then [`Limit::Depth`] if its end doesn't.
     pub fn push(&mut self, text: &[u8]) -> Result<(), Limit>
         ensures change { (result, self.new) ≡ changing (pushing text.now self.old.input) self.old }
-        ensures within { IsWithin self.new }
     {
         if text.len() > self.limits.stack as usize - self.pushed() {
             return Err(Limit::Stack);
@@ -48,7 +47,6 @@ impl<E: Copy> Unread<E> {
     pub fn push_body(&mut self, name: &Name) -> Result<(), Limit>
         ensures change { (result, self.new)
             ≡ changing (pushing (body_named name.now self.old.input) self.old.input) self.old }
-        ensures within { IsWithin self.new }
     {
         let room = self.limits.stack as usize - self.pushed();
         if self.is_deep() {
@@ -67,7 +65,6 @@ impl<E: Copy> Unread<E> {
     pub fn put_back(&mut self, event: E)
         requires { events_ahead self.old.input.ahead < most_events self.old.limits.depth }
         ensures change { self.new ≡ record self.old { input = putting_back event self.old.input } }
-        ensures within { IsWithin self.new }
     {
         self.frames.put_back(event);
     }
@@ -76,7 +73,6 @@ impl<E: Copy> Unread<E> {
     pub fn free(&mut self, bytes: &[u8])
         requires { frees_ahead self.old.input.ahead + length bytes.now ≤ most_frees }
         ensures change { self.new ≡ record self.old { input = freeing bytes.now self.old.input } }
-        ensures within { IsWithin self.new }
     {
         self.frames.free(bytes);
     }
@@ -84,7 +80,6 @@ impl<E: Copy> Unread<E> {
     /// Drops all that stands ahead of the source. That costs nothing.
     pub fn leave(&mut self)
         ensures change { self.new ≡ record self.old { input = leaving self.old.input } }
-        ensures within { IsWithin self.new }
     {
         self.frames.clear();
         self.calls.clear();

@@ -8,7 +8,7 @@ use super::Unread;
 use roff_num::Limit;
 
 impl<E: Copy> Unread<E> {
-    ghost use Rattle.roff_scan.specs.Unread.{IsWithin, changing};
+    ghost use Rattle.roff_scan.specs.Unread.{changing};
 
     /// Keeps the result of a condition for its other branch.
     ///
@@ -17,7 +17,6 @@ impl<E: Copy> Unread<E> {
     /// [`Limit::Conditions`] if as many are kept as may be.
     pub fn keep(&mut self, so: bool) -> Result<(), Limit>
         ensures change { (result, self.new) ≡ changing (keeping so self.old.input) self.old }
-        ensures within { IsWithin self.new }
     {
         if self.kept.len() >= self.limits.conditions as usize {
             return Err(Limit::Conditions);
@@ -30,7 +29,6 @@ impl<E: Copy> Unread<E> {
     pub fn take_kept(&mut self) -> Option<bool>
         ensures last { result ≡ kept_last self.old.input }
         ensures change { self.new ≡ record self.old { input = without_last self.old.input } }
-        ensures within { IsWithin self.new }
     {
         match self.kept.pop() {
             Some(kept) => Some(kept.0),

@@ -9,7 +9,7 @@ use super::calls::end_call;
 use roff_source::{ByteSource, newlines_among, passed_len};
 
 impl<E: Copy> Unread<E> {
-    ghost use Rattle.roff_scan.specs.Unread.{is_bare, IsWithin};
+    ghost use Rattle.roff_scan.specs.Unread.{is_bare};
     ghost use Rattle.roff_scan.specs.Unread.Calls.{PassesAhead, PassesOver, PassesFront, PassesEnd};
     ghost use Rattle.roff_scan.specs.Unread.Calls.{PassesNewline, PassesReturn};
 
@@ -31,7 +31,6 @@ impl<E: Copy> Unread<E> {
             self.old self.new within_block }
         ensures notes { S.notes source.new ≡ S.notes source.old }
         ensures failures { S.failures source.new ≡ S.failures source.old }
-        ensures within { IsWithin self.new }
     {
         if self.charge < self.limits.bytes && self.is_bare() {
             self.pass_over_ready(source, within_block);
@@ -46,7 +45,6 @@ impl<E: Copy> Unread<E> {
             self.old self.new within_block }
         ensures notes { S.notes source.new ≡ S.notes source.old }
         ensures failures { S.failures source.new ≡ S.failures source.old }
-        ensures within { IsWithin self.new }
     {
         let ready = source.buffered();
         let most = (self.limits.bytes - self.charge) as usize;
@@ -67,7 +65,6 @@ impl<E: Copy> Unread<E> {
     #[inline(never)]
     pub fn pass_over_ahead(&mut self, within_block: bool)
         ensures passes { PassesAhead self.old self.new within_block }
-        ensures within { IsWithin self.new }
     {
         if self.escapes.is_empty() {
             let most = (self.limits.bytes - self.charge) as usize;
@@ -86,7 +83,6 @@ impl<E: Copy> Unread<E> {
         ensures kept { result ≡ false → (self.new ≡ self.old) × (source.new ≡ source.old) }
         ensures notes { S.notes source.new ≡ S.notes source.old }
         ensures failures { S.failures source.new ≡ S.failures source.old }
-        ensures within { IsWithin self.new }
     {
         if self.limits.bytes == self.charge {
             return false;
@@ -103,7 +99,6 @@ impl<E: Copy> Unread<E> {
         requires room { self.old.input.charge < self.old.limits.bytes }
         ensures passes { result ≡ true → PassesNewline self.old self.new }
         ensures kept { result ≡ false → self.new ≡ self.old }
-        ensures within { IsWithin self.new }
     {
         if !self.frames.pass_newline() {
             return false;
@@ -122,7 +117,6 @@ impl<E: Copy> Unread<E> {
         ensures kept { result ≡ false → (self.new ≡ self.old) × (source.new ≡ source.old) }
         ensures notes { S.notes source.new ≡ S.notes source.old }
         ensures failures { S.failures source.new ≡ S.failures source.old }
-        ensures within { IsWithin self.new }
     {
         if self.looked.is_some() {
             return false;
@@ -143,7 +137,6 @@ impl<E: Copy> Unread<E> {
     pub fn pass_end(&mut self) -> bool
         ensures passes { result ≡ true → PassesEnd self.old self.new }
         ensures kept { result ≡ false → self.new ≡ self.old }
-        ensures within { IsWithin self.new }
     {
         if self.limits.bytes == self.charge {
             return false;
@@ -161,7 +154,6 @@ impl<E: Copy> Unread<E> {
     pub fn pass_return(&mut self) -> bool
         ensures passes { result ≡ true → PassesReturn self.old self.new }
         ensures kept { result ≡ false → self.new ≡ self.old }
-        ensures within { IsWithin self.new }
     {
         if self.limits.bytes == self.charge {
             return false;

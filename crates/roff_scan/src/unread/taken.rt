@@ -13,7 +13,6 @@ use roff_num::Limit;
 use roff_source::{ByteSource, Taken};
 
 impl<E: Copy> Unread<E> {
-    ghost use Rattle.roff_scan.specs.Unread.{IsWithin};
     ghost use Rattle.roff_ahead.specs.Shown.{shown, ShowsByte, ShowsNote, ShowsEnding};
     ghost use Rattle.roff_scan.specs.Unread.{taking, taking_answer};
     ghost use Rattle.roff_ahead.specs.Shown.{sighted, SeesNote, SeesEnding};
@@ -31,7 +30,6 @@ impl<E: Copy> Unread<E> {
         ensures failures { S.failures source.old ≤ S.failures source.new }
         ensures fault { shown result ≡ ShowsEnding Failed
             → Rises (S.failures source.old) (S.failures source.new) }
-        ensures within { IsWithin self.new }
     {
         if !self.frames.is_empty() {
             return self.take_ahead();
@@ -58,7 +56,6 @@ impl<E: Copy> Unread<E> {
         ensures kept { result ≡ None → (self.new ≡ self.old) × (source.new ≡ source.old) }
         ensures notes { S.notes source.new ≤ S.notes source.old }
         ensures failures { S.failures source.old ≤ S.failures source.new }
-        ensures within { IsWithin self.new }
     {
         if !self.frames.is_empty() {
             return self.take_ready_ahead();
@@ -86,7 +83,6 @@ impl<E: Copy> Unread<E> {
         ensures takes { IfSome result (λ b.
             (a : Answer) → (ShowsByte b, self.new) ≡ taking a self.old) }
         ensures kept { result ≡ None → self.new ≡ self.old }
-        ensures within { IsWithin self.new }
     {
         if self.limits.bytes - self.charge == 0 {
             return None;
@@ -111,7 +107,6 @@ impl<E: Copy> Unread<E> {
         ensures kept { result ≡ None → (self.new ≡ self.old) × (source.new ≡ source.old) }
         ensures notes { S.notes source.new ≤ S.notes source.old }
         ensures failures { S.failures source.old ≤ S.failures source.new }
-        ensures within { IsWithin self.new }
     {
         if self.limits.bytes == self.charge {
             return None;
@@ -131,7 +126,6 @@ impl<E: Copy> Unread<E> {
             (a : Answer) → (ShowsByte b, self.new) ≡ taking a self.old) }
         ensures waits { IfSome result (λ b. WaitsFor self.old.input.escapes b) }
         ensures kept { result ≡ None → self.new ≡ self.old }
-        ensures within { IsWithin self.new }
     {
         match self.frames.take_waiting(&self.escapes) {
             None => None,
@@ -153,7 +147,6 @@ impl<E: Copy> Unread<E> {
         ensures kept { result ≡ None → (self.new ≡ self.old) × (source.new ≡ source.old) }
         ensures notes { S.notes source.new ≡ S.notes source.old }
         ensures failures { S.failures source.new ≡ S.failures source.old }
-        ensures within { IsWithin self.new }
     {
         if self.looked.is_some() {
             return None;
@@ -176,7 +169,6 @@ impl<E: Copy> Unread<E> {
     #[inline(always)]
     fn take_byte(&mut self, byte: u8) -> Item<E>
         ensures takes { (shown result, self.new) ≡ taking_answer (Gives (OneByte byte)) self.old }
-        ensures within { IsWithin self.new }
     {
         if self.charge >= self.limits.bytes {
             self.looked = Some(byte);
@@ -192,7 +184,6 @@ impl<E: Copy> Unread<E> {
         requires { self.old.input.charge < self.old.limits.bytes }
         ensures counts { self.new
             ≡ record self.old { input = counting byte self.old.input; looked = None } }
-        ensures within { IsWithin self.new }
     {
         self.looked = None;
         self.line = self.newlines + 1;
@@ -209,7 +200,6 @@ impl<E: Copy> Unread<E> {
         ensures takes { (a : Answer) → (shown result, self.new) ≡ taking a self.old }
         ensures note { (m : _) → shown result ≡ ShowsNote m → ⊥ }
         ensures ending { (e : _) → shown result ≡ ShowsEnding e → ⊥ }
-        ensures within { IsWithin self.new }
     {
         let cost = self.frames.cost();
         if cost > self.limits.bytes - self.charge {
@@ -237,7 +227,6 @@ impl<E: Copy> Unread<E> {
         ensures failures { S.failures source.old ≤ S.failures source.new }
         ensures fault { sighted result ≡ SeesEnding Failed
             → Rises (S.failures source.old) (S.failures source.new) }
-        ensures within { IsWithin self.new }
     {
         if let Some(sight) = self.frames.seen() {
             return sight;

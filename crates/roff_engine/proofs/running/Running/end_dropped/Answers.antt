@@ -14,4 +14,4 @@ pub returns : goal.returns
 returns g c = λ out err.
     let taken = c.pass_newline.ensures in
     goes_further_ended _ _ _ _ _ _ out err c.args.self.now _ _ c.begin_next_line.ensures c.requires.none_due c.requires.ends c.requires.none_half
-    (taken.passes c.if-not-pass_newline.false) taken.within taken.notes taken.failures
+    (taken.passes c.if-not-pass_newline.false) c.stays_within.ensures taken.notes taken.failures

@@ -8,5 +8,5 @@ returns g c = λ out err.
     let held = c.hold_fewer.ensures in
     let old = c.args.self.now in
     goes_past_turned _ _ _ _ _ _ out err old _ old.formatter.reader
-    (reads-fewer (Some c.args.most) _ _ old.formatter.reader old.unread _ c.requires.none_half c.requires.none_due c.requires.holds held.holds held.within)
+    (reads-fewer (Some c.args.most) _ _ old.formatter.reader old.unread _ c.requires.none_half c.requires.none_due c.requires.holds held.holds c.stays_within.ensures)
     held.notes held.failures

@@ -11,5 +11,5 @@ returns g c = λ out err.
     let took = c.take_front.ensures in
     let old = c.args.self.now in
     goes_past_turned _ _ _ _ _ _ out err old _ old.formatter.reader
-    (reads-condition _ _ old.formatter.reader old.unread _ c.requires.none_due c.requires.takes took.takes took.within)
+    (reads-condition _ _ old.formatter.reader old.unread _ c.requires.none_due c.requires.takes took.takes c.stays_within.ensures)
     took.notes took.failures

@@ -7,5 +7,5 @@ returns g c = λ out err.
     let read = c.read_front.ensures in
     let old = c.args.self.now in
     goes_past_turned _ _ _ _ _ _ out err old _ old.formatter.reader
-    (reads-names _ _ old.formatter.reader old.unread _ c.requires.none_due c.requires.reads read.reads read.within)
+    (reads-names _ _ old.formatter.reader old.unread _ c.requires.none_due c.requires.reads read.reads c.stays_within.ensures)
     read.notes read.failures

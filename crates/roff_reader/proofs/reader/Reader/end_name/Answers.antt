@@ -1,13 +1,12 @@
-use Rattle.std.proofs.Common.{◌≡◌, true, false, rules, refl, [], sym, ap, None, Ok}
+use Rattle.std.proofs.Common.{◌≡◌, true, false, rules, refl, ap, None, Ok}
 use Rattle.roff_run.specs.Registers.{Known}
 use Rattle.roff_run.specs.Reading.{kept_taking}
-use Rattle.roff_run.specs.Reading.ControlLines.{behind_called, behind_name, ends_name, name_ended_taking}
+use Rattle.roff_run.specs.Reading.ControlLines.{behind_called, ends_name, name_ended_taking}
 use Rattle.roff_run.specs.Reading.Items.{Taking}
-use Rattle.roff_run.specs.Requests.{row_of}
-use Rattle.roff_run.specs.declared.line_state.LineState.TheVariants.{Calling, Dropped, Name}
+use Rattle.roff_run.specs.declared.line_state.LineState.TheVariants.{Name}
 use Rattle.roff_num.specs.declared.short_name.ShortName.{ShortName}
 use Rattle.roff_reader.proofs.ReadAtOnce.{TakesAs-nothing}
-use Rattle.roff_reader.proofs.TakesAs.{TakesAs-as, TakesAs-meant}
+use Rattle.roff_reader.proofs.TakesAs.{TakesAs-as}
 use Rattle.roff_reader.proofs.reader.Reader.end_name.Goals as goal
 
 pub returns-then-ends_name : goal.returns-then-ends_name
@@ -20,36 +19,15 @@ returns-then-ends_name c =
     TakesAs-as (λ k. name_ended_taking k i c.args.breaks name b) (λ k. kept_taking k (Name c.args.breaks c.args.first) i b) c.args.environments.now c.args.self.now done.new.self
     c.args.unread.now done.new.unread done.result (λ k. rw ends refl) done.ensures
 
-pub returns-in-Request : goal.returns-in-Request
-returns-in-Request c =
+pub returns : goal.returns
+returns c =
     let es = c.args.environments.now in
     let old = c.args.self.now in
     let u = c.args.unread.now in
     let breaks = c.args.breaks in
-    let request = c.in-Request.request in
-    let begun = c.begin_request in
-    let behind : Known → Taking = λ k. behind_name u.input breaks request (row_of request).line in
+    let begun = c.begin_called in
+    let behind : Known → Taking = λ k. behind_called u.input breaks c.called_by.result in
     let goes_on : ends_name c.args.byte ≡ false = search rules in
     TakesAs-as behind (λ k. kept_taking k (Name breaks c.args.first) u.input c.args.byte) es old begun.new.self u begun.new.unread (Ok c.nothing.result)
-    (λ k. rw goes_on (ap (behind_called u.input breaks) c.in-Request.ensures))
+    (λ k. rw goes_on (ap (behind_called u.input breaks) c.called_by.ensures))
     (TakesAs-nothing behind es old begun.new.self u begun.new.unread c.nothing.result c.nothing.ensures.message c.nothing.ensures.events (begun.ensures es))
-
-pub returns-in-Body : goal.returns-in-Body
-returns-in-Body c =
-    let i = c.args.unread.now.input in
-    let breaks = c.args.breaks in
-    let done = c.read_on in
-    let goes_on : ends_name c.args.byte ≡ false = search rules in
-    TakesAs-meant (λ k. kept_taking k (Name breaks c.args.first) i c.args.byte) (Calling c.in-Body.name) [] c.args.environments.now c.args.self.now done.new.self
-    c.args.unread.now done.result (λ k. rw goes_on (sym (ap (behind_called i breaks) c.in-Body.ensures)))
-    done.ensures.reading done.ensures.message done.ensures.events
-
-pub returns-in-Nothing : goal.returns-in-Nothing
-returns-in-Nothing c =
-    let i = c.args.unread.now.input in
-    let breaks = c.args.breaks in
-    let done = c.read_on-in-Nothing in
-    let goes_on : ends_name c.args.byte ≡ false = search rules in
-    TakesAs-meant (λ k. kept_taking k (Name breaks c.args.first) i c.args.byte) Dropped [] c.args.environments.now c.args.self.now done.new.self
-    c.args.unread.now done.result (λ k. rw goes_on (sym (ap (behind_called i breaks) c.in-Nothing.ensures)))
-    done.ensures.reading done.ensures.message done.ensures.events

@@ -9,14 +9,14 @@ returns-then-front-eq92-clause-past g c = λ so.
     let u = c.args.unread.now in
     let passed = c.pass.ensures in
     reads-dropped _ _ c.args.self.now c.go_on.new.self front.breaks _ u c.pass.new.self c.requires.none_due c.requires.begins c.requires.none_half
-    (ready-two front.breaks front.first front.second _ u c.if-front-eq92.true c.requires.ready) passed.passes passed.within c.go_on.ensures
+    (ready-two front.breaks front.first front.second _ u c.if-front-eq92.true c.requires.ready) passed.passes c.stays_within.ensures c.go_on.ensures
 
 pub returns-in-Some-clause-past : goal.returns-in-Some-clause-past
 returns-in-Some-clause-past g c = λ so.
     let front = c.args.front in
     let passed = c.pass-in-Some in
-    let begun = c.begin_half in
+    let begun = c.begin_deciding in
     reads-named _ _ c.args.self.now c.go_on-in-Some.new.self c.in-Some.reading front.breaks front.first front.second _ c.args.unread.now passed.new.self begun.new.unread
     c.requires.none_due c.requires.begins c.requires.none_half (c.if-not-belongs_to_name.ensures refl) (c.if-not-belongs_to_name-2.ensures refl)
-    (λ i. sym (ap (behind_called i front.breaks) c.called_by.ensures) ∙ c.in-Some.ensures i)
-    c.requires.ready passed.ensures.passes begun.ensures.input begun.ensures.within c.go_on-in-Some.ensures
+    (λ i. sym (ap (behind_called i front.breaks) c.called_by.ensures) ∙ c.in-Some.ensures.leads i)
+    c.requires.ready passed.ensures.passes begun.ensures c.stays_within-in-Some.ensures c.go_on-in-Some.ensures

@@ -20,4 +20,4 @@ returns-in-Err-clause-adds g c =
     let gives = g.S.ByteSource.gives c.args.source.now in
     subst (λ (u : Unread _). AddsFront gives gives u c.add.new.self)
     (added-refused c.args.self.now c.add.new.self c.text_ready-text.result.now c.add.result c.add.ensures.change c.in-Err.field-0 c.in-Err.is)
-    (adds_nothing gives c.add.new.self c.add.ensures.within.charge)
+    (adds_nothing gives c.add.new.self c.stays_within.ensures.charge)

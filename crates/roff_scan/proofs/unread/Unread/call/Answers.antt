@@ -8,18 +8,21 @@ use Rattle.roff_ahead.proofs.Counts.{returns-few}
 use Rattle.roff_scan.proofs.LineCalls.{IsWithin-calling, call_past_depth, call_past_stack, call_within, length-given, returns-calling}
 use Rattle.roff_scan.proofs.unread.Unread.call.Goals as goal
 
-pub returns-then-called-room-clause-change : goal.returns-then-called-room-clause-change
-returns-then-called-room-clause-change g c =
+pub returns-then-called-room : goal.returns-then-called-room
+returns-then-called-room g c =
     let kept = kept_by c.self.inside in
     let body = body_named c.args.name.now kept.input in
     let counted = rw (← c.self.view_is) at c.pushed.ensures in
     let long : kept.limits.stack - c.pushed.result < length (called_text body) =
     rw (← c.called.ensures.len) c.if-called-room.true in
-    rw (← c.self.view_is)
-    (sym (call_past_stack kept body c.self.invariant.within c.self.invariant.begun c.pushed.result counted long))
+    record {
+      change =
+          rw (← c.self.view_is)
+          (sym (call_past_stack kept body c.self.invariant.within c.self.invariant.begun c.pushed.result counted long));
+    }
 
-pub returns-then-is_deep-clause-change : goal.returns-then-is_deep-clause-change
-returns-then-is_deep-clause-change g c =
+pub returns-then-is_deep : goal.returns-then-is_deep
+returns-then-is_deep g c =
     let kept = kept_by c.self.inside in
     let body = body_named c.args.name.now kept.input in
     let counted = rw (← c.self.view_is) at c.pushed.ensures in
@@ -27,17 +30,23 @@ returns-then-is_deep-clause-change g c =
     rw (← c.called.ensures.len) c.if-called-room.false in
     let deep : kept.limits.depth ≤ depth kept.input =
     rw (← c.self.view_is) at (c.is_deep.ensures.deep c.if-is_deep.true) in
-    rw (← c.self.view_is)
-    (sym (call_past_depth kept body c.self.invariant.within c.self.invariant.begun c.pushed.result counted short deep))
+    record {
+      change =
+          rw (← c.self.view_is)
+          (sym (call_past_depth kept body c.self.invariant.within c.self.invariant.begun c.pushed.result counted short deep));
+    }
 
-pub returns-then-not-call-clause-change : goal.returns-then-not-call-clause-change
-returns-then-not-call-clause-change g c =
+pub returns-then-not-call : goal.returns-then-not-call
+returns-then-not-call g c =
     let kept = kept_by c.self.inside in
     let body = body_named c.args.name.now kept.input in
     let counted = rw (← c.self.view_is) at c.pushed.ensures in
     let long : kept.limits.stack - c.pushed.result < length (called_text body) = c.call.ensures.long c.if-not-call.true in
-    rw (← c.self.view_is, c.call.ensures.kept c.if-not-call.true)
-    (sym (call_past_stack kept body c.self.invariant.within c.self.invariant.begun c.pushed.result counted long))
+    record {
+      change =
+          rw (← c.self.view_is, c.call.ensures.kept c.if-not-call.true)
+          (sym (call_past_stack kept body c.self.invariant.within c.self.invariant.begun c.pushed.result counted long));
+    }
 
 pub push-requires-clause-bytes : goal.push-requires-clause-bytes
 push-requires-clause-bytes g c =
@@ -80,8 +89,8 @@ invariant_of-self-2 g c =
           (IsWithin-calling kept body c.self.invariant.within c.self.invariant.begun c.pushed.result counted short shallow);
     }
 
-pub returns-clause-change : goal.returns-clause-change
-returns-clause-change g c =
+pub returns : goal.returns
+returns g c =
     let kept = kept_by c.self.inside in
     let body = body_named c.args.name.now kept.input in
     let counted = rw (← c.self.view_is) at c.pushed.ensures in
@@ -89,8 +98,8 @@ returns-clause-change g c =
     let short : length (called_text body) ≤ kept.limits.stack - c.pushed.result = c.call.ensures.short c.if-not-call.false in
     let shallow : depth kept.input < kept.limits.depth =
     rw (← c.self.view_is) at (c.is_deep.ensures.shallow c.if-is_deep.false) in
-    rw (← c.self.view_is, put, c.push.ensures, c.clear.ensures.value, c.list.ensures.value, c.finish.ensures.value)
-    (sym (call_within kept body c.self.invariant.within c.self.invariant.begun c.pushed.result counted short shallow))
-
-pub returns-clause-within : goal.returns-clause-within
-returns-clause-within g c = (invariant_of-self-2 g c).within
+    record {
+      change =
+          rw (← c.self.view_is, put, c.push.ensures, c.clear.ensures.value, c.list.ensures.value, c.finish.ensures.value)
+          (sym (call_within kept body c.self.invariant.within c.self.invariant.begun c.pushed.result counted short shallow));
+    }

@@ -43,6 +43,3 @@ invariant_of-self g c =
       results = c.self.invariant.results;
       within = rw left.room (IsWithin-with_escapes (kept_by c.self.inside) done.new.self.escapes c.self.invariant.within left.fewer);
     }
-
-pub returns-clause-within : goal.returns-clause-within
-returns-clause-within g c = (invariant_of-self g c).within

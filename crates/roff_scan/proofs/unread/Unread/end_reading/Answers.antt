@@ -23,6 +23,3 @@ invariant_of-self g c =
       results = c.self.invariant.results;
       within = rw left (IsWithin-with_escapes (kept_by c.self.inside) (reading_ended c.args.base c.self.inside.escapes.escapes).1 c.self.invariant.within (texts_held-reading_ended c.args.base c.self.inside.escapes.escapes));
     }
-
-pub returns-clause-within : goal.returns-clause-within
-returns-clause-within g c = (invariant_of-self g c).within

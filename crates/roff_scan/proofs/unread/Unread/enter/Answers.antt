@@ -34,17 +34,17 @@ invariant_of-self g c =
       within = rw (c.enter.ensures.texts, c.self.invariant.store) (IsWithin-called kept call c.self.invariant.within once making);
     }
 
-pub returns-in-Some-clause-change : goal.returns-in-Some-clause-change
-returns-in-Some-clause-change g c =
+pub returns-in-Some : goal.returns-in-Some
+returns-in-Some g c =
     let kept = kept_by c.self.inside in
     let t = texts_within kept.limits kept.input in
     let call = Enter c.in-Some.id.0 c.args.name.now c.args.append in
     let once = rw c.self.invariant.store at c.self.invariant.once in
     let few = removed_few kept.input.open_texts c.in-Some.id.0 (kept.limits.diversions + 1) c.self.invariant.within.making in
     let last : newest kept.input.open_texts ≡ Some c.in-Some.id.0 = rw (c.in-Some.is) at (sym c.newest.ensures) in
-    rw (← c.self.view_is, c.enter.ensures.texts, c.enter.ensures.answer, c.self.invariant.store)
-    (sym (ap (λ (id : Option ℕ). changing (calling_on (λ id. Enter id c.args.name.now c.args.append) id kept.input) kept) last
-    ∙ changing_called kept call c.self.invariant.within refl (answered-enter c.in-Some.id.0 c.args.name.now c.args.append t (counted_within kept c.self.invariant.within once)) few))
-
-pub returns-in-Some-clause-within : goal.returns-in-Some-clause-within
-returns-in-Some-clause-within g c = (invariant_of-self g c).within
+    record {
+      change =
+          rw (← c.self.view_is, c.enter.ensures.texts, c.enter.ensures.answer, c.self.invariant.store)
+          (sym (ap (λ (id : Option ℕ). changing (calling_on (λ id. Enter id c.args.name.now c.args.append) id kept.input) kept) last
+          ∙ changing_called kept call c.self.invariant.within refl (answered-enter c.in-Some.id.0 c.args.name.now c.args.append t (counted_within kept c.self.invariant.within once)) few));
+    }

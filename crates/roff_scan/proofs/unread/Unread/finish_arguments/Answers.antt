@@ -23,6 +23,3 @@ invariant_of-self g c =
       results = c.self.invariant.results;
       within = rw c.finish.ensures.value (IsWithin-same_held (kept_by c.self.inside) (finished old) c.self.invariant.within (held-finished old));
     }
-
-pub returns-clause-within : goal.returns-clause-within
-returns-clause-within g c = (invariant_of-self g c).within

@@ -20,6 +20,3 @@ invariant_of-self g c = record {
   results = c.self.invariant.results;
   within = rw c.free.ensures (IsWithin-freeing (kept_by c.self.inside) c.args.bytes.now c.self.invariant.within);
 }
-
-pub returns-clause-within : goal.returns-clause-within
-returns-clause-within g c = (invariant_of-self g c).within

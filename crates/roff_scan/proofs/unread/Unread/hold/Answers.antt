@@ -8,12 +8,15 @@ use Rattle.roff_scan.proofs.Changing.{hold_past_stack, hold_within, IsWithin-hol
 use Rattle.roff_scan.proofs.LineCalls.{NoneBegun-with_unit}
 use Rattle.roff_scan.proofs.unread.Unread.hold.Goals as goal
 
-pub returns-then-bytes_more-self-clause-change : goal.returns-then-bytes_more-self-clause-change
-returns-then-bytes_more-self-clause-change g c =
+pub returns-then-bytes_more-self : goal.returns-then-bytes_more-self
+returns-then-bytes_more-self g c =
     let kept = kept_by c.self.inside in
     let counted = rw (← c.self.view_is) at c.pushed.ensures in
-    subst (λ (u : Unread _). (Err Stack, u) ≡ changing (with_arguments (with_unit u.input.arguments c.args.unit) u.input) u) c.self.view_is
-    (sym (hold_past_stack kept (with_unit kept.input.arguments c.args.unit) c.self.invariant.within c.pushed.result c.bytes_more.result counted c.bytes_more.ensures.value c.if-bytes_more-self.true))
+    record {
+      change =
+          subst (λ (u : Unread _). (Err Stack, u) ≡ changing (with_arguments (with_unit u.input.arguments c.args.unit) u.input) u) c.self.view_is
+          (sym (hold_past_stack kept (with_unit kept.input.arguments c.args.unit) c.self.invariant.within c.pushed.result c.bytes_more.result counted c.bytes_more.ensures.value c.if-bytes_more-self.true));
+    }
 
 pub invariant_of-self : goal.invariant_of-self
 invariant_of-self g c =
@@ -35,13 +38,13 @@ invariant_of-self g c =
       within = rw c.take.ensures.value (IsWithin-holding kept (with_unit kept.input.arguments c.args.unit) c.self.invariant.within c.pushed.result c.bytes_more.result counted c.bytes_more.ensures.value c.if-bytes_more-self.false);
     }
 
-pub returns-clause-change : goal.returns-clause-change
-returns-clause-change g c =
+pub returns : goal.returns
+returns g c =
     let kept = kept_by c.self.inside in
     let counted = rw (← c.self.view_is) at c.pushed.ensures in
-    rw c.take.ensures.value
-    (subst (λ (u : Unread _). (Ok tt, record kept { input = with_arguments (with_unit kept.input.arguments c.args.unit) kept.input }) ≡ changing (with_arguments (with_unit u.input.arguments c.args.unit) u.input) u) c.self.view_is
-    (sym (hold_within kept (with_unit kept.input.arguments c.args.unit) c.self.invariant.within c.pushed.result c.bytes_more.result counted c.bytes_more.ensures.value c.if-bytes_more-self.false)))
-
-pub returns-clause-within : goal.returns-clause-within
-returns-clause-within g c = (invariant_of-self g c).within
+    record {
+      change =
+          rw c.take.ensures.value
+          (subst (λ (u : Unread _). (Ok tt, record kept { input = with_arguments (with_unit kept.input.arguments c.args.unit) kept.input }) ≡ changing (with_arguments (with_unit u.input.arguments c.args.unit) u.input) u) c.self.view_is
+          (sym (hold_within kept (with_unit kept.input.arguments c.args.unit) c.self.invariant.within c.pushed.result c.bytes_more.result counted c.bytes_more.ensures.value c.if-bytes_more-self.false)));
+    }

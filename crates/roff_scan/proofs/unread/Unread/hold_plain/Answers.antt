@@ -8,15 +8,18 @@ use Rattle.roff_scan.proofs.Changing.{plain_past_stack, plain_within, IsWithin-p
 use Rattle.roff_scan.proofs.LineCalls.{NoneBegun-with_plain}
 use Rattle.roff_scan.proofs.unread.Unread.hold_plain.Goals as goal
 
-pub returns-then-bytes_of-self-clause-change : goal.returns-then-bytes_of-self-clause-change
-returns-then-bytes_of-self-clause-change g c =
+pub returns-then-bytes_of-self : goal.returns-then-bytes_of-self
+returns-then-bytes_of-self g c =
     let kept = kept_by c.self.inside in
     let counted = rw (← c.self.view_is) at c.pushed.ensures in
     let holding = with_plain kept.input.arguments c.args.unit in
     let longer = c.bytes_of.ensures kept.input.arguments in
-    subst (λ (u : Unread _). (Err Stack, u) ≡ changing (holding_plain c.args.unit u.input) u) c.self.view_is
-    (sym (plain_past_stack kept holding c.self.invariant.within c.pushed.result c.bytes_of.result counted longer
-    c.if-bytes_of-self.true))
+    record {
+      change =
+          subst (λ (u : Unread _). (Err Stack, u) ≡ changing (holding_plain c.args.unit u.input) u) c.self.view_is
+          (sym (plain_past_stack kept holding c.self.invariant.within c.pushed.result c.bytes_of.result counted longer
+          c.if-bytes_of-self.true));
+    }
 
 pub invariant_of-self : goal.invariant_of-self
 invariant_of-self g c =
@@ -43,17 +46,17 @@ invariant_of-self g c =
           c.if-bytes_of-self.false);
     }
 
-pub returns-clause-change : goal.returns-clause-change
-returns-clause-change g c =
+pub returns : goal.returns
+returns g c =
     let kept = kept_by c.self.inside in
     let counted = rw (← c.self.view_is) at c.pushed.ensures in
     let holding = with_plain kept.input.arguments c.args.unit in
     let longer = c.bytes_of.ensures kept.input.arguments in
-    rw c.take_plain.ensures
-    (subst (λ (u : Unread _). (Ok tt, record kept { input = holding_plain c.args.unit kept.input })
-    ≡ changing (holding_plain c.args.unit u.input) u) c.self.view_is
-    (sym (plain_within kept holding c.self.invariant.within c.pushed.result c.bytes_of.result counted longer
-    c.if-bytes_of-self.false)))
-
-pub returns-clause-within : goal.returns-clause-within
-returns-clause-within g c = (invariant_of-self g c).within
+    record {
+      change =
+          rw c.take_plain.ensures
+          (subst (λ (u : Unread _). (Ok tt, record kept { input = holding_plain c.args.unit kept.input })
+          ≡ changing (holding_plain c.args.unit u.input) u) c.self.view_is
+          (sym (plain_within kept holding c.self.invariant.within c.pushed.result c.bytes_of.result counted longer
+          c.if-bytes_of-self.false)));
+    }

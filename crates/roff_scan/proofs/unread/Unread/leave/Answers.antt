@@ -22,6 +22,3 @@ invariant_of-self g c =
           rw (c.clear.ensures, c.clear-2.ensures, c.drop_kept.ensures.results)
           (IsWithin-leaving (kept_by c.self.inside) c.self.invariant.within);
     }
-
-pub returns-clause-within : goal.returns-clause-within
-returns-clause-within g c = (invariant_of-self g c).within

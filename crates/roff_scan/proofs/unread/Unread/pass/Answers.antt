@@ -48,8 +48,5 @@ returns-then-not-is_empty-clause-passes g c =
     let some : is_none_ahead kept.input.ahead ≡ false = sym c.is_empty.ensures ∙ c.if-not-is_empty.true in
     rw (← c.self.view_is, c.pass.ensures) (passes_texts ready kept c.args.count front some (g.S.ByteSource.gives c.args.source.now))
 
-pub returns-then-not-is_empty-clause-within : goal.returns-then-not-is_empty-clause-within
-returns-then-not-is_empty-clause-within g c = (invariant_of-self g c).within
-
 pub returns-clause-passes : goal.returns-clause-passes
 returns-clause-passes g c = OfSource c.pass_source.ensures.passes

@@ -45,8 +45,8 @@ invariant_of-self g c =
           (IsWithin-behind passed.bytes new.ahead kept front allowed c.self.invariant.within));
     }
 
-pub returns-then-is_empty-clause-passes : goal.returns-then-is_empty-clause-passes
-returns-then-is_empty-clause-passes g c =
+pub returns-then-is_empty : goal.returns-then-is_empty
+returns-then-is_empty g c =
     let kept = kept_by c.self.inside in
     let new = c.pass_over-passed.new.self in
     let passed = c.pass_over-passed.ensures in
@@ -55,14 +55,14 @@ returns-then-is_empty-clause-passes g c =
     let allowed : kept.input.charge + length passed.bytes ≤ kept.limits.bytes = omega (arith, passed.length_is, passed.few, c.self.invariant.within.charge) in
     let none_half : kept.input.escapes ≡ [] =
     nil_from_length kept.input.escapes (none_at_all (length kept.input.escapes) (sym c.is_empty.ensures ∙ c.if-is_empty.true)) in
-    rw passed.length_is
-    (subst (λ (f : Framed _). PassesAhead c.args.self.now (record kept {
-      input = record (behind_bytes (length passed.bytes) new.ahead kept.input) {
-        names = f.texts.names.entries;
-        open_texts = f.texts.open_texts;
-      };
-    }) c.args.within_block) taken
-    (passes_ahead passed.bytes new.ahead kept front allowed c.args.self.now c.self.view_is none_half c.args.within_block passed.plain))
-
-pub returns-then-is_empty-clause-within : goal.returns-then-is_empty-clause-within
-returns-then-is_empty-clause-within g c = (invariant_of-self g c).within
+    record {
+      passes =
+          rw passed.length_is
+          (subst (λ (f : Framed _). PassesAhead c.args.self.now (record kept {
+            input = record (behind_bytes (length passed.bytes) new.ahead kept.input) {
+              names = f.texts.names.entries;
+              open_texts = f.texts.open_texts;
+            };
+          }) c.args.within_block) taken
+          (passes_ahead passed.bytes new.ahead kept front allowed c.args.self.now c.self.view_is none_half c.args.within_block passed.plain));
+    }

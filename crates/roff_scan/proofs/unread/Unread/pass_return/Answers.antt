@@ -44,9 +44,6 @@ invariant_of-self-2 g c =
           (IsWithin-over kept new.ahead first c.self.invariant.within room));
     }
 
-pub returns-clause-within : goal.returns-clause-within
-returns-clause-within g c = (invariant_of-self-2 g c).within
-
 pub returns-clause-passes : goal.returns-clause-passes
 returns-clause-passes g c = λ did.
     let kept = kept_by c.self.inside in

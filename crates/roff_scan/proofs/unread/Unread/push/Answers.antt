@@ -5,18 +5,24 @@ use Rattle.roff_scan.proofs.Changing.{push_past_stack, push_past_depth, push_wit
 use Rattle.roff_ahead.proofs.Counts.{returns_ahead-bytes}
 use Rattle.roff_scan.proofs.unread.Unread.push.Goals as goal
 
-pub returns-then-text-self-clause-change : goal.returns-then-text-self-clause-change
-returns-then-text-self-clause-change g c =
+pub returns-then-text-self : goal.returns-then-text-self
+returns-then-text-self g c =
     let kept = kept_by c.self.inside in
     let counted = rw (← c.self.view_is) at c.pushed.ensures in
-    rw (← c.self.view_is) (sym (push_past_stack kept c.args.text.now c.self.invariant.within c.pushed.result counted c.if-text-self.true))
+    record {
+      change =
+          rw (← c.self.view_is) (sym (push_past_stack kept c.args.text.now c.self.invariant.within c.pushed.result counted c.if-text-self.true));
+    }
 
-pub returns-then-is_deep-clause-change : goal.returns-then-is_deep-clause-change
-returns-then-is_deep-clause-change g c =
+pub returns-then-is_deep : goal.returns-then-is_deep
+returns-then-is_deep g c =
     let kept = kept_by c.self.inside in
     let counted = rw (← c.self.view_is) at c.pushed.ensures in
     let deep : kept.limits.depth ≤ depth kept.input = rw (← c.self.view_is) at (c.is_deep.ensures.deep c.if-is_deep.true) in
-    rw (← c.self.view_is) (sym (push_past_depth kept c.args.text.now c.self.invariant.within c.pushed.result counted c.if-text-self.false deep))
+    record {
+      change =
+          rw (← c.self.view_is) (sym (push_past_depth kept c.args.text.now c.self.invariant.within c.pushed.result counted c.if-text-self.false deep));
+    }
 
 pub invariant_of-self : goal.invariant_of-self
 invariant_of-self g c =
@@ -39,12 +45,12 @@ invariant_of-self g c =
       within = rw c.push.ensures (IsWithin-pushing kept c.args.text.now c.self.invariant.within c.pushed.result counted c.if-text-self.false shallow);
     }
 
-pub returns-clause-change : goal.returns-clause-change
-returns-clause-change g c =
+pub returns : goal.returns
+returns g c =
     let kept = kept_by c.self.inside in
     let counted = rw (← c.self.view_is) at c.pushed.ensures in
     let shallow : depth kept.input < kept.limits.depth = rw (← c.self.view_is) at (c.is_deep.ensures.shallow c.if-is_deep.false) in
-    rw (← c.self.view_is, c.push.ensures) (sym (push_within kept c.args.text.now c.self.invariant.within c.pushed.result counted c.if-text-self.false shallow))
-
-pub returns-clause-within : goal.returns-clause-within
-returns-clause-within g c = (invariant_of-self g c).within
+    record {
+      change =
+          rw (← c.self.view_is, c.push.ensures) (sym (push_within kept c.args.text.now c.self.invariant.within c.pushed.result counted c.if-text-self.false shallow));
+    }

@@ -7,8 +7,8 @@ use Rattle.roff_ahead.proofs.Counts.{returns_ahead-bytes}
 use Rattle.roff_scan.proofs.LineCalls.{is_argument_live}
 use Rattle.roff_scan.proofs.unread.Unread.push_argument.Goals as goal
 
-pub returns-then-text-self-clause-change : goal.returns-then-text-self-clause-change
-returns-then-text-self-clause-change g c =
+pub returns-then-text-self : goal.returns-then-text-self
+returns-then-text-self g c =
     let kept = kept_by c.self.inside in
     let text = argument_live c.args.index kept.input in
     let same =
@@ -16,11 +16,14 @@ returns-then-text-self-clause-change g c =
     c.argument_at-text.ensures in
     let counted = rw (← c.self.view_is) at c.pushed-pushed.ensures in
     let long : kept.limits.stack - c.pushed-pushed.result < length text = rw (← same) c.if-text-self.true in
-    rw (← c.self.view_is)
-    (sym (push_past_stack kept text c.self.invariant.within c.pushed-pushed.result counted long))
+    record {
+      change =
+          rw (← c.self.view_is)
+          (sym (push_past_stack kept text c.self.invariant.within c.pushed-pushed.result counted long));
+    }
 
-pub returns-then-is_deep-clause-change : goal.returns-then-is_deep-clause-change
-returns-then-is_deep-clause-change g c =
+pub returns-then-is_deep : goal.returns-then-is_deep
+returns-then-is_deep g c =
     let kept = kept_by c.self.inside in
     let text = argument_live c.args.index kept.input in
     let same =
@@ -30,8 +33,11 @@ returns-then-is_deep-clause-change g c =
     let short : length text ≤ kept.limits.stack - c.pushed-pushed.result = rw (← same) c.if-text-self.false in
     let deep : kept.limits.depth ≤ depth kept.input =
     rw (← c.self.view_is) at (c.is_deep-is_deep.ensures.deep c.if-is_deep.true) in
-    rw (← c.self.view_is)
-    (sym (push_past_depth kept text c.self.invariant.within c.pushed-pushed.result counted short deep))
+    record {
+      change =
+          rw (← c.self.view_is)
+          (sym (push_past_depth kept text c.self.invariant.within c.pushed-pushed.result counted short deep));
+    }
 
 pub invariant_of-self : goal.invariant_of-self
 invariant_of-self g c =
@@ -64,8 +70,8 @@ invariant_of-self g c =
           (IsWithin-pushing kept text c.self.invariant.within c.pushed-pushed.result counted short shallow);
     }
 
-pub returns-clause-change : goal.returns-clause-change
-returns-clause-change g c =
+pub returns : goal.returns
+returns g c =
     let kept = kept_by c.self.inside in
     let text = argument_live c.args.index kept.input in
     let same =
@@ -75,8 +81,8 @@ returns-clause-change g c =
     let short : length text ≤ kept.limits.stack - c.pushed-pushed.result = rw (← same) c.if-text-self.false in
     let shallow : depth kept.input < kept.limits.depth =
     rw (← c.self.view_is) at (c.is_deep-is_deep.ensures.shallow c.if-is_deep.false) in
-    rw (← c.self.view_is, c.push.ensures, same)
-    (sym (push_within kept text c.self.invariant.within c.pushed-pushed.result counted short shallow))
-
-pub returns-clause-within : goal.returns-clause-within
-returns-clause-within g c = (invariant_of-self g c).within
+    record {
+      change =
+          rw (← c.self.view_is, c.push.ensures, same)
+          (sym (push_within kept text c.self.invariant.within c.pushed-pushed.result counted short shallow));
+    }

@@ -6,31 +6,40 @@ use Rattle.roff_scan.proofs.Changing.{push_past_stack, push_past_depth, push_wit
 use Rattle.roff_ahead.proofs.Counts.{returns_ahead-bytes}
 use Rattle.roff_scan.proofs.unread.Unread.push_body.Goals as goal
 
-pub returns-then-body_len-room-clause-change : goal.returns-then-body_len-room-clause-change
-returns-then-body_len-room-clause-change g c =
+pub returns-then-body_len-room : goal.returns-then-body_len-room
+returns-then-body_len-room g c =
     let kept = kept_by c.self.inside in
     let body = body_named c.args.name.now kept.input in
     let counted = rw (← c.self.view_is) at c.pushed.ensures in
     let long : kept.limits.stack - c.pushed.result < length body = rw (← c.body_len.ensures) c.if-body_len-room.true in
-    rw (← c.self.view_is) (sym (push_past_stack kept body c.self.invariant.within c.pushed.result counted long))
+    record {
+      change =
+          rw (← c.self.view_is) (sym (push_past_stack kept body c.self.invariant.within c.pushed.result counted long));
+    }
 
-pub returns-then-is_deep-clause-change : goal.returns-then-is_deep-clause-change
-returns-then-is_deep-clause-change g c =
+pub returns-then-is_deep : goal.returns-then-is_deep
+returns-then-is_deep g c =
     let kept = kept_by c.self.inside in
     let body = body_named c.args.name.now kept.input in
     let counted = rw (← c.self.view_is) at c.pushed.ensures in
     let short : length body ≤ kept.limits.stack - c.pushed.result = rw (← c.body_len.ensures) c.if-body_len-room.false in
     let deep : kept.limits.depth ≤ depth kept.input = rw (← c.self.view_is) at (c.is_deep.ensures.deep c.if-is_deep.true) in
-    rw (← c.self.view_is) (sym (push_past_depth kept body c.self.invariant.within c.pushed.result counted short deep))
+    record {
+      change =
+          rw (← c.self.view_is) (sym (push_past_depth kept body c.self.invariant.within c.pushed.result counted short deep));
+    }
 
-pub returns-then-not-push_body-clause-change : goal.returns-then-not-push_body-clause-change
-returns-then-not-push_body-clause-change g c =
+pub returns-then-not-push_body : goal.returns-then-not-push_body
+returns-then-not-push_body g c =
     let kept = kept_by c.self.inside in
     let body = body_named c.args.name.now kept.input in
     let counted = rw (← c.self.view_is) at c.pushed.ensures in
     let long : kept.limits.stack - c.pushed.result < length body = c.push_body.ensures.long c.if-not-push_body.true in
-    rw (← c.self.view_is, c.push_body.ensures.kept c.if-not-push_body.true)
-    (sym (push_past_stack kept body c.self.invariant.within c.pushed.result counted long))
+    record {
+      change =
+          rw (← c.self.view_is, c.push_body.ensures.kept c.if-not-push_body.true)
+          (sym (push_past_stack kept body c.self.invariant.within c.pushed.result counted long));
+    }
 
 pub invariant_of-self-2 : goal.invariant_of-self-2
 invariant_of-self-2 g c =
@@ -56,15 +65,15 @@ invariant_of-self-2 g c =
       within = rw put (IsWithin-pushing kept body c.self.invariant.within c.pushed.result counted short shallow);
     }
 
-pub returns-clause-change : goal.returns-clause-change
-returns-clause-change g c =
+pub returns : goal.returns
+returns g c =
     let kept = kept_by c.self.inside in
     let body = body_named c.args.name.now kept.input in
     let counted = rw (← c.self.view_is) at c.pushed.ensures in
     let put = c.push_body.ensures.put c.if-not-push_body.false in
     let short : length body ≤ kept.limits.stack - c.pushed.result = c.push_body.ensures.short c.if-not-push_body.false in
     let shallow : depth kept.input < kept.limits.depth = rw (← c.self.view_is) at (c.is_deep.ensures.shallow c.if-is_deep.false) in
-    rw (← c.self.view_is, put) (sym (push_within kept body c.self.invariant.within c.pushed.result counted short shallow))
-
-pub returns-clause-within : goal.returns-clause-within
-returns-clause-within g c = (invariant_of-self-2 g c).within
+    record {
+      change =
+          rw (← c.self.view_is, put) (sym (push_within kept body c.self.invariant.within c.pushed.result counted short shallow));
+    }

@@ -26,6 +26,3 @@ invariant_of-self g c =
       results = c.self.invariant.results;
       within = rw (c.rename.ensures, c.self.invariant.store) (IsWithin-called kept call c.self.invariant.within once c.self.invariant.within.making);
     }
-
-pub returns-clause-within : goal.returns-clause-within
-returns-clause-within g c = (invariant_of-self g c).within

@@ -31,14 +31,14 @@ invariant_of-self g c =
       within = rw (c.set.ensures.texts, c.self.invariant.store) (IsWithin-called kept call c.self.invariant.within once making);
     }
 
-pub returns-clause-change : goal.returns-clause-change
-returns-clause-change g c =
+pub returns : goal.returns
+returns g c =
     let kept = kept_by c.self.inside in
     let t = texts_within kept.limits kept.input in
     let call = Set c.args.name.now (entry_given c.args.entry) in
     let once = rw c.self.invariant.store at c.self.invariant.once in
-    rw (← c.self.view_is, c.set.ensures.texts, c.set.ensures.answer, c.self.invariant.store)
-    (sym (changing_called kept call c.self.invariant.within refl (answered-set c.args.name.now (entry_given c.args.entry) t (counted_within kept c.self.invariant.within once)) c.self.invariant.within.making))
-
-pub returns-clause-within : goal.returns-clause-within
-returns-clause-within g c = (invariant_of-self g c).within
+    record {
+      change =
+          rw (← c.self.view_is, c.set.ensures.texts, c.set.ensures.answer, c.self.invariant.store)
+          (sym (changing_called kept call c.self.invariant.within refl (answered-set c.args.name.now (entry_given c.args.entry) t (counted_within kept c.self.invariant.within once)) c.self.invariant.within.making));
+    }

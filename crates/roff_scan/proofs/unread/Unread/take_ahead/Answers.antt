@@ -44,6 +44,3 @@ invariant_of-self g c =
           (IsWithin-over kept new.ahead first c.self.invariant.within
           (omega (arith, one, c.if-cost-self.false, c.self.invariant.within.charge))));
     }
-
-pub returns-in-Return-clause-within : goal.returns-in-Return-clause-within
-returns-in-Return-clause-within g c = (invariant_of-self g c).within

@@ -28,6 +28,3 @@ invariant_of-self g c =
           rw given.taken
           (IsWithin-given kept c.give_front-given.new.escapes.escapes given.bytes given.behind given.in_front given.takes count given.length_is allowed c.self.invariant.within);
     }
-
-pub returns-clause-within : goal.returns-clause-within
-returns-clause-within g c = (invariant_of-self g c).within
