@@ -14,7 +14,7 @@ use Rattle.roff_run.specs.declared.status.Status.TheVariants.{Device}
 use Rattle.roff_engine.specs.declared.halt.Halt.{Halt}
 use Rattle.roff_engine.specs.declared.halt.Halt.TheVariants.{Limit as Limited, Refused, Output, Messages}
 use Rattle.roff_engine.specs.Engine.Outcome.{Seen, seen, NoFewerFaults, IsLeftOf, Reaches, OutputStops, MessagesFail, Outcome}
-use Rattle.roff_engine.specs.Sinks.{Sunk}
+use Rattle.roff_pages.specs.Sinks.{Sunk}
 use Rattle.roff_engine.specs.Formatter.Performing.{Opens, going}
 use Rattle.roff_reader.specs.Reader.State.{fresh_reader}
 use Rattle.roff_reader.specs.Reader.Taken.{IsReady}
