@@ -4,13 +4,13 @@ use Rattle.std.proofs.lemmas.List.{drop_all, take-append-drop, take-append-le}
 use Rattle.std.proofs.lemmas.List.Elements.{All-cons, All-tail}
 use Rattle.std.proofs.lemmas.List.Sums.{sum_by-cons}
 use Rattle.roff_ahead.specs.Input.{Ahead, ByteAhead, DoAhead, bytes_ahead, ends_ahead, events_ahead, first, frees_ahead}
-use Rattle.roff_ahead.specs.Frames.Bodies.{leases_in, with_bodies}
-use Rattle.roff_ahead.specs.Frames.Calls.{TakesFront}
-use Rattle.roff_ahead.specs.Frames.Kept.{Framed, Gives, IsSound, kept_by}
-use Rattle.roff_ahead.specs.Slots.Held.{Held}
+use Rattle.roff_ahead.specs.InputAhead.Bodies.{leases_in, with_bodies}
+use Rattle.roff_ahead.specs.InputAhead.Calls.{TakesFront}
+use Rattle.roff_ahead.specs.InputAhead.Kept.{AheadAndTexts, Gives, IsSound, kept_by}
+use Rattle.roff_ahead.specs.PushedTexts.Held.{Held}
 use Rattle.roff_ahead.specs.Shown.{ShowsByte}
-use Rattle.roff_ahead.specs.declared.frames.Frame.{Frame}
-use Rattle.roff_ahead.specs.declared.frames.Frame.TheVariants.{Body}
+use Rattle.roff_ahead.specs.declared.input_ahead.EventOrBody.{EventOrBody}
+use Rattle.roff_ahead.specs.declared.input_ahead.EventOrBody.TheVariants.{Body}
 use Rattle.roff_ahead.proofs.Bodies.{rest_is}
 use Rattle.roff_ahead.proofs.Counts.{bytes_ahead-bytes, ends_ahead-bytes, events_ahead-bytes, frees_ahead-bytes}
 use Rattle.roff_ahead.proofs.Leased.{some-giving, given-bytes, given-rest, with_bodies-same, others-behind, once-behind, other-passed, other-released, lease-passed, kept-passed, kept-released, live-passed, live-released}
@@ -47,28 +47,28 @@ bytes-parted [] left items = refl
 bytes-parted {E} (b ∷ bytes) left items = ap (λ (rest : List (Ahead E)). ByteAhead b ∷ rest) (bytes-parted bytes left items)
 
 -- a body in front of what slots hold
-abbrev pub with_body : {E : Type 0} → LeaseId → Held (Frame E) → Held (Frame E)
+abbrev pub with_body : {E : Type 0} → LeaseId → Held (EventOrBody E) → Held (EventOrBody E)
 with_body id s = record s { ahead = DoAhead (Body id) ∷ s.ahead }
 
-module _ {E : Type 0} (full s : Held (Frame E)) (id : LeaseId) where
+module _ {E : Type 0} (full s : Held (EventOrBody E)) (id : LeaseId) where
   -- where an item was taken off, and a body was in front, it was that body
-  pub with_body-taken : (item : Ahead (Frame E)) → Some (DoAhead (Body id)) ≡ first full.ahead
+  pub with_body-taken : (item : Ahead (EventOrBody E)) → Some (DoAhead (Body id)) ≡ first full.ahead
       → full ≡ record s { ahead = item ∷ s.ahead } → full ≡ with_body id s
   with_body-taken item front taken =
-      let is : Some (DoAhead (Body id)) ≡ Some item = front ∙ ap (λ (h : Held (Frame E)). first h.ahead) taken in
-      taken ∙ ap (λ (x : Ahead (Frame E)). record s { ahead = x ∷ s.ahead }) (cc)
+      let is : Some (DoAhead (Body id)) ≡ Some item = front ∙ ap (λ (h : Held (EventOrBody E)). first h.ahead) taken in
+      taken ∙ ap (λ (x : Ahead (EventOrBody E)). record s { ahead = x ∷ s.ahead }) (cc)
 
 -- nothing was taken off, and it is in front of what is behind it
-pub with_body-first : {E : Type 0} (full : Held (Frame E)) (id : LeaseId) → Some (DoAhead (Body id)) ≡ first full.ahead
+pub with_body-first : {E : Type 0} (full : Held (EventOrBody E)) (id : LeaseId) → Some (DoAhead (Body id)) ≡ first full.ahead
     → full ≡ with_body id (record full { ahead = drop 1 full.ahead })
 with_body-first {E} full id front =
-    ap (λ (items : List (Ahead (Frame E))). record full { ahead = items }) (headed full.ahead (DoAhead (Body id)) front)
+    ap (λ (items : List (Ahead (EventOrBody E))). record full { ahead = items }) (headed full.ahead (DoAhead (Body id)) front)
 
-module _ {E : Type 0} (t : Texts) (full s : Held (Frame E)) (id : LeaseId) (whole : full ≡ with_body id s)
-    (stands : IsSound {E = E} (record { slots = full; texts = t })) where
+module _ {E : Type 0} (t : Texts) (full s : Held (EventOrBody E)) (id : LeaseId) (whole : full ≡ with_body id s)
+    (stands : IsSound {E = E} (record { pushed_texts = full; texts = t })) where
   -- frames, as the body in front is named
-  sound : IsSound {E = E} (record { slots = with_body id s; texts = t })
-  sound = subst (λ (h : Held (Frame E)). IsSound {E = E} (record { slots = h; texts = t })) whole stands
+  sound : IsSound {E = E} (record { pushed_texts = with_body id s; texts = t })
+  sound = subst (λ (h : Held (EventOrBody E)). IsSound {E = E} (record { pushed_texts = h; texts = t })) whole stands
 
   -- the lease gives something, and so lives
   pub gives : 0 < rest_of (lease_of id.0 t)
@@ -102,7 +102,7 @@ module _ {E : Type 0} (t : Texts) (full s : Held (Frame E)) (id : LeaseId) (whol
 
     -- frames stay sound
     pub IsSound-passed : count < rest_of (lease_of id.0 t)
-        → IsSound {E = E} (record { slots = full; texts = after (Take id.0 count) t })
+        → IsSound {E = E} (record { pushed_texts = full; texts = after (Take id.0 count) t })
     IsSound-passed more =
         let u = after (Take id.0 count) t in
         let ids = leases_in s.ahead in
@@ -114,7 +114,7 @@ module _ {E : Type 0} (t : Texts) (full s : Held (Frame E)) (id : LeaseId) (whol
         let before = sum_by-cons (λ other. rest_of (lease_of other t)) id.0 ids in
         let behind = sum_by-cons (λ other. rest_of (lease_of other u)) id.0 ids in
         let items = with_bodies u (with_body id s).ahead in
-        let passed : IsSound {E = E} (record { slots = with_body id s; texts = u }) = record {
+        let passed : IsSound {E = E} (record { pushed_texts = with_body id s; texts = u }) = record {
           ended = sound.ended;
           give = All-cons (Gives u) id.0 ids (omega (arith, more, rest, less))
               (λ k d within. rw (others-passed count k d within) (All-tail (Gives t) id.0 ids sound.give k d within));
@@ -130,19 +130,19 @@ module _ {E : Type 0} (t : Texts) (full s : Held (Frame E)) (id : LeaseId) (whol
           small = sound.small;
           store = sound.store;
         } in
-        subst (λ (h : Held (Frame E)). IsSound {E = E} (record { slots = h; texts = u })) (sym whole) passed
+        subst (λ (h : Held (EventOrBody E)). IsSound {E = E} (record { pushed_texts = h; texts = u })) (sym whole) passed
 
     -- and the bytes were in front
-    pub taken-passed : (old : Framed E) → kept_by (record { slots = full; texts = t }) ≡ old
-        → old ≡ record (kept_by (record { slots = full; texts = after (Take id.0 count) t })) {
+    pub taken-passed : (old : AheadAndTexts E) → kept_by (record { pushed_texts = full; texts = t }) ≡ old
+        → old ≡ record (kept_by (record { pushed_texts = full; texts = after (Take id.0 count) t })) {
           ahead = map ByteAhead bytes ++ with_bodies (after (Take id.0 count) t) full.ahead;
         }
     taken-passed old is =
         let u = after (Take id.0 count) t in
-        let kept : Held (Frame E) → Framed E = λ h. kept_by (record { slots = h; texts = u }) in
-        let before = ap (λ (h : Held (Frame E)). kept_by (record { slots = h; texts = t })) whole in
+        let kept : Held (EventOrBody E) → AheadAndTexts E = λ h. kept_by (record { pushed_texts = h; texts = u }) in
+        let before = ap (λ (h : Held (EventOrBody E)). kept_by (record { pushed_texts = h; texts = t })) whole in
         let taken = ap (λ (items : List (Ahead E)). record (kept (with_body id s)) { ahead = items }) ahead-passed in
-        let behind = ap (λ (h : Held (Frame E)). record (kept h) { ahead = map ByteAhead bytes ++ (kept h).ahead }) (sym whole) in
+        let behind = ap (λ (h : Held (EventOrBody E)). record (kept h) { ahead = map ByteAhead bytes ++ (kept h).ahead }) (sym whole) in
         sym is ∙ before ∙ taken ∙ behind
 
   module _ (front : List ℕ) (is_front : front ≡ take (length front) (lease_bytes (lease_of id.0 t)))
@@ -160,11 +160,11 @@ module _ {E : Type 0} (t : Texts) (full s : Held (Frame E)) (id : LeaseId) (whol
     parted = ap (λ (bytes : List ℕ). map ByteAhead bytes ++ with_bodies t s.ahead) given-byte
 
     -- where the lease gives more than the byte, the body stays
-    pub IsSound-passed_byte : rest_of (lease_of id.0 t) ≢ 1 → IsSound {E = E} (record { slots = full; texts = after (Take id.0 1) t })
+    pub IsSound-passed_byte : rest_of (lease_of id.0 t) ≢ 1 → IsSound {E = E} (record { pushed_texts = full; texts = after (Take id.0 1) t })
     IsSound-passed_byte more = IsSound-passed 1 (b ∷ []) given-byte (omega (arith, gives, more))
 
-    pub TakesFront-passed : (old : Framed E) → kept_by (record { slots = full; texts = t }) ≡ old
-        → TakesFront old (kept_by (record { slots = full; texts = after (Take id.0 1) t })) (ShowsByte (slice_index_or front 0 0))
+    pub TakesFront-passed : (old : AheadAndTexts E) → kept_by (record { pushed_texts = full; texts = t }) ≡ old
+        → TakesFront old (kept_by (record { pushed_texts = full; texts = after (Take id.0 1) t })) (ShowsByte (slice_index_or front 0 0))
     TakesFront-passed old is = record { front = ByteAhead b; taken = taken-passed 1 (b ∷ []) given-byte old is; shows = refl }
 
     -- the last byte is taken of what stands ahead, and the body goes
@@ -180,7 +180,7 @@ module _ {E : Type 0} (t : Texts) (full s : Held (Frame E)) (id : LeaseId) (whol
 
     -- frames stay sound
     pub IsSound-released : rest_of (lease_of id.0 t) ≡ 1
-        → IsSound {E = E} (record { slots = s; texts = after (Release id.0) t })
+        → IsSound {E = E} (record { pushed_texts = s; texts = after (Release id.0) t })
     IsSound-released one =
         let u = after (Release id.0) t in
         let ids = leases_in s.ahead in
@@ -205,18 +205,18 @@ module _ {E : Type 0} (t : Texts) (full s : Held (Frame E)) (id : LeaseId) (whol
 
     -- and the byte was in front
     pub taken-released : rest_of (lease_of id.0 t) ≡ 1
-        → (old : Framed E) → kept_by (record { slots = full; texts = t }) ≡ old
-        → old ≡ record (kept_by (record { slots = s; texts = after (Release id.0) t })) {
+        → (old : AheadAndTexts E) → kept_by (record { pushed_texts = full; texts = t }) ≡ old
+        → old ≡ record (kept_by (record { pushed_texts = s; texts = after (Release id.0) t })) {
           ahead = ByteAhead (slice_index_or front 0 0) ∷ with_bodies (after (Release id.0) t) s.ahead;
         }
     taken-released one old is =
-        let kept : Framed E = kept_by (record { slots = s; texts = after (Release id.0) t }) in
-        let before = ap (λ (h : Held (Frame E)). kept_by (record { slots = h; texts = t })) whole in
+        let kept : AheadAndTexts E = kept_by (record { pushed_texts = s; texts = after (Release id.0) t }) in
+        let before = ap (λ (h : Held (EventOrBody E)). kept_by (record { pushed_texts = h; texts = t })) whole in
         let taken = ap (λ (items : List (Ahead E)). record kept { ahead = items }) (ahead-released one) in
         sym is ∙ before ∙ taken
 
     -- which is the front item
     pub TakesFront-released : rest_of (lease_of id.0 t) ≡ 1
-        → (old : Framed E) → kept_by (record { slots = full; texts = t }) ≡ old
-        → TakesFront old (kept_by (record { slots = s; texts = after (Release id.0) t })) (ShowsByte (slice_index_or front 0 0))
+        → (old : AheadAndTexts E) → kept_by (record { pushed_texts = full; texts = t }) ≡ old
+        → TakesFront old (kept_by (record { pushed_texts = s; texts = after (Release id.0) t })) (ShowsByte (slice_index_or front 0 0))
     TakesFront-released one old is = record { front = ByteAhead b; taken = taken-released one old is; shows = refl }

@@ -3,10 +3,10 @@ use Rattle.std.proofs.Common.{◌≡◌, ◌<◌, ◌≤◌, ◌+◌, ℕ, zero,
 use Rattle.std.specs.Prelude.{reverse, replicate}
 use Rattle.std.proofs.lemmas.List.{length-reverse, length-take-le}
 use Rattle.roff_ahead.specs.Input.{Ahead, ByteAhead, FreeAhead, EndAhead, ReturnAhead, DoAhead, bytes_ahead, ends_ahead, events_ahead, frees_ahead, returns_ahead}
-use Rattle.roff_ahead.specs.Slots.Standing.{standing, items_of, IsStacked}
-use Rattle.roff_ahead.specs.declared.slots.Slot.{Slot}
-use Rattle.roff_ahead.specs.declared.slots.Mark.{Mark}
-use Rattle.roff_ahead.specs.declared.slots.Mark.TheVariants.{Ends, Return, Free, Do}
+use Rattle.roff_ahead.specs.PushedTexts.Standing.{standing, items_of, IsStacked}
+use Rattle.roff_ahead.specs.declared.pushed_texts.MarkAt.{MarkAt}
+use Rattle.roff_ahead.specs.declared.pushed_texts.Mark.{Mark}
+use Rattle.roff_ahead.specs.declared.pushed_texts.Mark.TheVariants.{Ends, Return, Free, Do}
 
 module _ {E : Type 0} where
   -- bytes of texts, in front of other items
@@ -73,12 +73,12 @@ module _ {E : Type 0} where
   bytes_ahead-mark (Do event) items = refl
 
   -- the unread bytes are those of the stack
-  pub bytes_ahead-standing : (slots : List (Slot E)) (bytes : List ℕ) → IsStacked slots (length bytes) → bytes_ahead (standing slots bytes) ≡ length bytes
+  pub bytes_ahead-standing : (pushed_texts : List (MarkAt E)) (bytes : List ℕ) → IsStacked pushed_texts (length bytes) → bytes_ahead (standing pushed_texts bytes) ≡ length bytes
   bytes_ahead-standing [] bytes stacked = sym stacked
-  bytes_ahead-standing (slot ∷ slots) bytes stacked =
+  bytes_ahead-standing (slot ∷ pushed_texts) bytes stacked =
       let below = take slot.height bytes in
       let len : length below ≡ slot.height = length-take-le slot.height bytes stacked.0 in
-      let rest : bytes_ahead (standing slots below) ≡ length below = bytes_ahead-standing slots below (rw len stacked.1) in
+      let rest : bytes_ahead (standing pushed_texts below) ≡ length below = bytes_ahead-standing pushed_texts below (rw len stacked.1) in
       rw (bytes_ahead-bytes (reverse (drop slot.height bytes)), bytes_ahead-mark slot.mark, rest, len, length-reverse, length-drop) (omega (arith, stacked.0))
 
   -- each end counts
@@ -106,21 +106,21 @@ module _ {E : Type 0} where
   marks-mark (Free b) items = omega arith
   marks-mark (Do event) items = omega arith
 
-  marks-standing : (slots : List (Slot E)) (bytes : List ℕ) → length slots ≤ marks (standing slots bytes)
+  marks-standing : (pushed_texts : List (MarkAt E)) (bytes : List ℕ) → length pushed_texts ≤ marks (standing pushed_texts bytes)
   unfolding marks
   marks-standing [] bytes = omega arith
-  marks-standing (slot ∷ slots) bytes =
+  marks-standing (slot ∷ pushed_texts) bytes =
       let below = take slot.height bytes in
       let above = reverse (drop slot.height bytes) in
-      let items = items_of slot.mark ++ standing slots below in
-      let own : marks (standing slots below) + 1 ≤ marks items = marks-mark slot.mark (standing slots below) in
-      omega (arith, marks-standing slots below, own, ends_ahead-bytes above items, events_ahead-bytes above items, frees_ahead-bytes above items)
+      let items = items_of slot.mark ++ standing pushed_texts below in
+      let own : marks (standing pushed_texts below) + 1 ≤ marks items = marks-mark slot.mark (standing pushed_texts below) in
+      omega (arith, marks-standing pushed_texts below, own, ends_ahead-bytes above items, events_ahead-bytes above items, frees_ahead-bytes above items)
 
   -- no more slots are used than items stand ahead that are no bytes of texts
-  pub length-slots : (slots : List (Slot E)) (bytes : List ℕ)
-      → length slots ≤ ends_ahead (standing slots bytes) + events_ahead (standing slots bytes) + frees_ahead (standing slots bytes)
+  pub length-pushed_texts : (pushed_texts : List (MarkAt E)) (bytes : List ℕ)
+      → length pushed_texts ≤ ends_ahead (standing pushed_texts bytes) + events_ahead (standing pushed_texts bytes) + frees_ahead (standing pushed_texts bytes)
   unfolding marks
-  length-slots slots bytes = marks-standing slots bytes
+  length-pushed_texts pushed_texts bytes = marks-standing pushed_texts bytes
 
   -- ends in front are counted
   pub ends_ahead-more : (n : ℕ) (items : List (Ahead E)) → n ≤ ends_ahead (replicate n EndAhead ++ items)
@@ -128,7 +128,7 @@ module _ {E : Type 0} where
   ends_ahead-more (suc n) items = omega (arith, ends_ahead-more n items)
 
   -- where the slots stand for no more than there is room for, one more can be used
-  pub has_slot : (slots : List (Slot E)) (bytes : List ℕ) (texts events frees capacity : ℕ)
-      → ends_ahead (standing slots bytes) + events_ahead (standing slots bytes) + frees_ahead (standing slots bytes) < texts + events + frees
-      → texts + events + frees ≤ capacity → length slots < capacity
-  has_slot slots bytes texts events frees capacity few room = omega (arith, length-slots slots bytes)
+  pub has_slot : (pushed_texts : List (MarkAt E)) (bytes : List ℕ) (texts events frees capacity : ℕ)
+      → ends_ahead (standing pushed_texts bytes) + events_ahead (standing pushed_texts bytes) + frees_ahead (standing pushed_texts bytes) < texts + events + frees
+      → texts + events + frees ≤ capacity → length pushed_texts < capacity
+  has_slot pushed_texts bytes texts events frees capacity few room = omega (arith, length-pushed_texts pushed_texts bytes)

@@ -5,11 +5,11 @@ use Rattle.std.proofs.lemmas.List.{map-append}
 use Rattle.roff_source.specs.Bytes.{newline}
 use Rattle.roff_ahead.specs.Input.{Ahead, ByteAhead, FreeAhead, EndAhead, ReturnAhead, DoAhead, bytes_ahead, ends_ahead, frees_ahead, most_frees, cost, first, front_cost}
 use Rattle.roff_ahead.specs.Input.Calls.{called_text, lacks_newline}
-use Rattle.roff_ahead.specs.Frames.Bodies.{leases_in, with_bodies}
-use Rattle.roff_ahead.specs.Frames.Kept.{Gives, IsSound, kept_by}
-use Rattle.roff_ahead.specs.declared.frames.Frame.{Frame}
-use Rattle.roff_ahead.specs.declared.frames.Frame.TheVariants.{Event, Body}
-use Rattle.roff_ahead.specs.declared.frames.Frames.TheInside.{Inside}
+use Rattle.roff_ahead.specs.InputAhead.Bodies.{leases_in, with_bodies}
+use Rattle.roff_ahead.specs.InputAhead.Kept.{Gives, IsSound, kept_by}
+use Rattle.roff_ahead.specs.declared.input_ahead.EventOrBody.{EventOrBody}
+use Rattle.roff_ahead.specs.declared.input_ahead.EventOrBody.TheVariants.{Event, Body}
+use Rattle.roff_ahead.specs.declared.input_ahead.InputAhead.TheInside.{Inside}
 use Rattle.roff_ahead.proofs.Bodies.{rest_is, with_bodies-bytes, with_bodies-frees, leases-bytes, leases-frees, ended-bytes, ended-frees}
 use Rattle.roff_ahead.proofs.Counts.{bytes_ahead-bytes, ends_ahead-bytes, events_ahead-bytes, frees_ahead-bytes, bytes_ahead-frees, ends_ahead-frees, events_ahead-frees, frees_ahead-frees}
 use Rattle.roff_store.specs.Texts.{Texts, lease_bytes, lease_of, rest_of}
@@ -18,7 +18,7 @@ module _ {E : Type 0} where
   -- nothing stands ahead
   pub IsSound-none : (most_bytes most_texts names open_texts store : ℕ) → most_bytes < 2 ^ 32 → store < 2 ^ 32
       → IsSound {E = E} (record {
-        slots = record { ahead = []; most_bytes = most_bytes; most_texts = most_texts };
+        pushed_texts = record { ahead = []; most_bytes = most_bytes; most_texts = most_texts };
         texts = record {
           names = record { entries = []; cap = names };
           open_texts = [];
@@ -47,11 +47,11 @@ module _ {E : Type 0} where
 
   -- a text and its end are put in front
   pub IsSound-pushing : (a : Inside E) (text : List ℕ) → IsSound a
-      → length text + bytes_ahead (kept_by a).ahead ≤ a.slots.most_bytes → ends_ahead (kept_by a).ahead < a.slots.most_texts
-      → IsSound (record a { slots = record a.slots { ahead = map ByteAhead text ++ EndAhead ∷ a.slots.ahead } })
+      → length text + bytes_ahead (kept_by a).ahead ≤ a.pushed_texts.most_bytes → ends_ahead (kept_by a).ahead < a.pushed_texts.most_texts
+      → IsSound (record a { pushed_texts = record a.pushed_texts { ahead = map ByteAhead text ++ EndAhead ∷ a.pushed_texts.ahead } })
   IsSound-pushing a text sound fits few =
-      let items = EndAhead ∷ a.slots.ahead in
-      let ahead = EndAhead ∷ with_bodies a.texts a.slots.ahead in
+      let items = EndAhead ∷ a.pushed_texts.ahead in
+      let ahead = EndAhead ∷ with_bodies a.texts a.pushed_texts.ahead in
       let stands = with_bodies-bytes a.texts text items in
       let same = leases-bytes text items in
       record {
@@ -71,8 +71,8 @@ module _ {E : Type 0} where
       }
 
   -- the end of a called body is put in front
-  pub IsSound-returning : (a : Inside E) → IsSound a → ends_ahead (kept_by a).ahead < a.slots.most_texts
-      → IsSound (record a { slots = record a.slots { ahead = ReturnAhead ∷ a.slots.ahead } })
+  pub IsSound-returning : (a : Inside E) → IsSound a → ends_ahead (kept_by a).ahead < a.pushed_texts.most_texts
+      → IsSound (record a { pushed_texts = record a.pushed_texts { ahead = ReturnAhead ∷ a.pushed_texts.ahead } })
   IsSound-returning a sound few = record {
     ended = sound.ended;
     give = sound.give;
@@ -90,8 +90,8 @@ module _ {E : Type 0} where
   }
 
   -- a byte is put in front
-  pub IsSound-byte : (a : Inside E) (b : ℕ) → IsSound a → bytes_ahead (kept_by a).ahead < a.slots.most_bytes
-      → IsSound (record a { slots = record a.slots { ahead = ByteAhead b ∷ a.slots.ahead } })
+  pub IsSound-byte : (a : Inside E) (b : ℕ) → IsSound a → bytes_ahead (kept_by a).ahead < a.pushed_texts.most_bytes
+      → IsSound (record a { pushed_texts = record a.pushed_texts { ahead = ByteAhead b ∷ a.pushed_texts.ahead } })
   IsSound-byte a b sound fits = record {
     ended = sound.ended;
     give = sound.give;
@@ -111,13 +111,13 @@ module _ {E : Type 0} where
   -- bytes are put in front again
   pub IsSound-freeing : (a : Inside E) (bytes : List ℕ) → IsSound a
       → frees_ahead (kept_by a).ahead + length bytes ≤ most_frees
-      → IsSound (record a { slots = record a.slots { ahead = map FreeAhead bytes ++ a.slots.ahead } })
+      → IsSound (record a { pushed_texts = record a.pushed_texts { ahead = map FreeAhead bytes ++ a.pushed_texts.ahead } })
   IsSound-freeing a bytes sound few =
-      let ahead = with_bodies a.texts a.slots.ahead in
-      let stands = with_bodies-frees a.texts bytes a.slots.ahead in
-      let same = leases-frees bytes a.slots.ahead in
+      let ahead = with_bodies a.texts a.pushed_texts.ahead in
+      let stands = with_bodies-frees a.texts bytes a.pushed_texts.ahead in
+      let same = leases-frees bytes a.pushed_texts.ahead in
       record {
-        ended = ended-frees bytes a.slots.ahead sound.ended;
+        ended = ended-frees bytes a.pushed_texts.ahead sound.ended;
         give = rw same sound.give;
         once = rw same sound.once;
         live = rw same sound.live;
@@ -140,7 +140,7 @@ module _ {E : Type 0} where
     byte_cost (b ∷ bytes) items some = refl
 
     -- a body in front costs as much as its byte
-    pub cost-with_bodies : (items : List (Ahead (Frame E))) → All (Gives t) (leases_in items)
+    pub cost-with_bodies : (items : List (Ahead (EventOrBody E))) → All (Gives t) (leases_in items)
         → front_cost (with_bodies t items) ≡ front_cost items
     cost-with_bodies [] give = refl
     cost-with_bodies (ByteAhead b ∷ items) give = refl

@@ -2,8 +2,8 @@
 use Rattle.std.proofs.Common.{◌≡◌, ℕ, ◌+◌, ◌≤◌, Bool, true, List, [], ◌∷◌, ◌++◌, length, map, refl, sym, ap, ◌∙◌, arith, length-append, append_assoc}
 use Rattle.std.proofs.lemmas.List.{map-append}
 use Rattle.roff_escape.specs.ConditionFronts.{ByteTaken, HalvesTaken, NothingTaken}
-use Rattle.roff_ahead.specs.Frames.Calls.{GivesByte, GivesFront, GivesOne}
-use Rattle.roff_ahead.specs.Frames.Kept.{Framed}
+use Rattle.roff_ahead.specs.InputAhead.Calls.{GivesByte, GivesFront, GivesOne}
+use Rattle.roff_ahead.specs.InputAhead.Kept.{AheadAndTexts}
 use Rattle.roff_escape.specs.OpenEscape.{OpenEscape, texts_held}
 use Rattle.roff_escape.specs.EscapeTexts.{KeptEscapes}
 use Rattle.roff_ahead.specs.Input.{Ahead, ByteAhead, bytes_ahead}
@@ -18,7 +18,7 @@ HalvesTaken-held half _ _ (ByteTaken _ next last b bytes takes others) =
 
 module _ {E : Type 0} where
   -- none was given yet
-  pub GivesFront-none : (f : Framed E) (k : KeptEscapes) → GivesFront f f k k 0
+  pub GivesFront-none : (f : AheadAndTexts E) (k : KeptEscapes) → GivesFront f f k k 0
   GivesFront-none f k = record {
     bytes = [];
     behind = f.ahead;
@@ -29,10 +29,10 @@ module _ {E : Type 0} where
     room = refl;
   }
 
-  module _ (old now new : Framed E) (before held after : KeptEscapes) (count : ℕ) (gives : GivesFront old now before held count) where
+  module _ (old now new : AheadAndTexts E) (before held after : KeptEscapes) (count : ℕ) (gives : GivesFront old now before held count) where
     -- what stands ahead behind those that were given
     ahead-behind : now.ahead ≡ gives.behind
-    ahead-behind = ap (λ (f : Framed E). f.ahead) gives.taken
+    ahead-behind = ap (λ (f : AheadAndTexts E). f.ahead) gives.taken
 
     -- there is room for what is ahead and what is held
     pub room-behind : bytes_ahead old.ahead + texts_held before.escapes ≤ before.room → bytes_ahead now.ahead + texts_held held.escapes ≤ held.room
@@ -52,7 +52,7 @@ module _ {E : Type 0} where
           behind = one.behind;
           in_front = gives.in_front ∙ ap (λ (items : List (Ahead E)). map ByteAhead gives.bytes ++ items) here ∙ sym joined;
           length_is = length-append gives.bytes (one.byte ∷ []) ∙ ap (λ (n : ℕ). n + 1) gives.length_is;
-          taken = one.taken ∙ ap (λ (f : Framed E). record f { ahead = one.behind }) gives.taken;
+          taken = one.taken ∙ ap (λ (f : AheadAndTexts E). record f { ahead = one.behind }) gives.taken;
           takes = HalvesTaken-last before.escapes held.escapes after.escapes gives.bytes one.byte gives.takes one.takes;
           room = byte.room ∙ gives.room;
         }

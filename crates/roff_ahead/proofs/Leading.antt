@@ -2,12 +2,12 @@
 use Rattle.std.proofs.Common.{◌≡◌, ℕ, zero, suc, ◌+◌, ◌-◌, ◌≤◌, false, List, [], ◌∷◌, ◌++◌, length, map, take, drop, min, Some, refl, sym, ap, subst, ◌∙◌, arith, length-take}
 use Rattle.std.proofs.lemmas.List.{length-map, take-append-le, take_min}
 use Rattle.std.proofs.Math.Seq.{drop-append_seam}
-use Rattle.roff_ahead.specs.Frames.Bodies.{with_bodies}
-use Rattle.roff_ahead.specs.Frames.Kept.{Framed}
+use Rattle.roff_ahead.specs.InputAhead.Bodies.{with_bodies}
+use Rattle.roff_ahead.specs.InputAhead.Kept.{AheadAndTexts}
 use Rattle.roff_ahead.specs.Input.{Ahead, ByteAhead, FreeAhead, EndAhead, ReturnAhead, DoAhead, first, is_none_ahead, leading}
-use Rattle.roff_ahead.specs.Slots.Held.{Held}
-use Rattle.roff_ahead.specs.declared.frames.Frame.{Frame}
-use Rattle.roff_ahead.specs.declared.frames.Frame.TheVariants.{Body}
+use Rattle.roff_ahead.specs.PushedTexts.Held.{Held}
+use Rattle.roff_ahead.specs.declared.input_ahead.EventOrBody.{EventOrBody}
+use Rattle.roff_ahead.specs.declared.input_ahead.EventOrBody.TheVariants.{Body}
 use Rattle.roff_ahead.proofs.BodyTaken.{with_body-first}
 use Rattle.roff_store.specs.declared.text.LeaseId.{LeaseId}
 use Rattle.roff_store.specs.Texts.{Texts, lease_bytes, lease_of}
@@ -62,13 +62,13 @@ module _ {E : Type 0} where
   some-ahead count (item ∷ items) some few = refl
 
   -- what a body in front gives stands in front
-  pub leading-body : (t : Texts) (full : Held (Frame E)) (id : LeaseId) (front : List ℕ) → Some (DoAhead (Body id)) ≡ first full.ahead
+  pub leading-body : (t : Texts) (full : Held (EventOrBody E)) (id : LeaseId) (front : List ℕ) → Some (DoAhead (Body id)) ≡ first full.ahead
       → front ≡ take (length front) (lease_bytes (lease_of id.0 t)) → front ≡ take (length front) (leading (with_bodies t full.ahead))
   leading-body t full id front is same =
       let bytes : List ℕ = lease_bytes (lease_of id.0 t) in
       let behind : List (Ahead E) = with_bodies t (drop 1 full.ahead) in
       let whole : leading (with_bodies t full.ahead) ≡ bytes ++ leading behind =
-      ap (λ (h : Held (Frame E)). leading (with_bodies t h.ahead)) (with_body-first full id is) ∙ leading-bytes bytes behind in
+      ap (λ (h : Held (EventOrBody E)). leading (with_bodies t h.ahead)) (with_body-first full id is) ∙ leading-bytes bytes behind in
       let cut : Begins front bytes (length front) = begins front bytes (length front) same in
       same ∙ sym (ap (take (length front)) whole ∙ take-append-le (length front) bytes (leading behind) cut.among)
 
@@ -79,12 +79,12 @@ module _ {E : Type 0} where
       ap (λ (n : ℕ). drop n (map ByteAhead bytes ++ items)) same ∙ drop-append_seam (map ByteAhead bytes) items
 
   -- so many bytes were in front, and are taken
-  pub drop-taken : (old new : Framed E) (bytes : List ℕ) (count : ℕ) → length bytes ≡ count → old ≡ record new { ahead = map ByteAhead bytes ++ new.ahead }
+  pub drop-taken : (old new : AheadAndTexts E) (bytes : List ℕ) (count : ℕ) → length bytes ≡ count → old ≡ record new { ahead = map ByteAhead bytes ++ new.ahead }
       → new ≡ record old { ahead = drop count old.ahead }
   drop-taken old new bytes count is taken =
-      subst (λ (f : Framed E). new ≡ record f { ahead = drop count f.ahead }) (sym taken)
+      subst (λ (f : AheadAndTexts E). new ≡ record f { ahead = drop count f.ahead }) (sym taken)
       (ap (λ (items : List (Ahead E)). record new { ahead = items }) (sym (drop-bytes bytes count new.ahead is)))
 
   -- one item was in front, and is taken
-  pub drop-first : (old new : Framed E) (item : Ahead E) → old ≡ record new { ahead = item ∷ new.ahead } → new ≡ record old { ahead = drop 1 old.ahead }
-  drop-first old new item taken = subst (λ (f : Framed E). new ≡ record f { ahead = drop 1 f.ahead }) (sym taken) refl
+  pub drop-first : (old new : AheadAndTexts E) (item : Ahead E) → old ≡ record new { ahead = item ∷ new.ahead } → new ≡ record old { ahead = drop 1 old.ahead }
+  drop-first old new item taken = subst (λ (f : AheadAndTexts E). new ≡ record f { ahead = drop 1 f.ahead }) (sym taken) refl

@@ -5,9 +5,9 @@ use Rattle.std.proofs.lemmas.List.{get_or-set_same, get_or-set_other}
 use Rattle.std.proofs.lemmas.List.Elements.{All-tail}
 use Rattle.std.proofs.lemmas.List.Sums.{sum_by-set}
 use Rattle.roff_ahead.specs.Input.{Ahead, ByteAhead, FreeAhead, EndAhead, ReturnAhead, DoAhead}
-use Rattle.roff_ahead.specs.Frames.Bodies.{leases_in, with_bodies}
-use Rattle.roff_ahead.specs.declared.frames.Frame.{Frame}
-use Rattle.roff_ahead.specs.declared.frames.Frame.TheVariants.{Event, Body}
+use Rattle.roff_ahead.specs.InputAhead.Bodies.{leases_in, with_bodies}
+use Rattle.roff_ahead.specs.declared.input_ahead.EventOrBody.{EventOrBody}
+use Rattle.roff_ahead.specs.declared.input_ahead.EventOrBody.TheVariants.{Event, Body}
 use Rattle.roff_store.specs.Texts.{Texts, kept, lease_bytes, lease_of, live, rest_of}
 use Rattle.roff_store.specs.TextCalls.{Release, Take, after, bytes_given}
 
@@ -33,7 +33,7 @@ given-rest count None = omega arith
 given-rest count (Some bytes) = length-drop count bytes
 
 -- bodies give the same while their leases do
-pub with_bodies-same : {E : Type 0} (t u : Texts) (items : List (Ahead (Frame E)))
+pub with_bodies-same : {E : Type 0} (t u : Texts) (items : List (Ahead (EventOrBody E)))
     → All (λ id. lease_of id u ≡ lease_of id t) (leases_in items) → with_bodies u items ≡ with_bodies t items
 with_bodies-same t u [] same = refl
 with_bodies-same {E} t u (ByteAhead b ∷ items) same =

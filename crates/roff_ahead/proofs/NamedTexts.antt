@@ -4,8 +4,8 @@ use Rattle.std.specs.Prelude.{Result, Ok, Err, Some, if◌then◌else◌}
 use Rattle.std.specs.Str.{bytes_eq}
 use Rattle.std.proofs.lemmas.List.Sums.{sum_by-cons}
 use Rattle.roff_num.specs.declared.limit.Limit.{Limit}
-use Rattle.roff_ahead.specs.Frames.Kept.{IsSound}
-use Rattle.roff_ahead.specs.declared.frames.Frames.TheInside.{Inside}
+use Rattle.roff_ahead.specs.InputAhead.Kept.{IsSound}
+use Rattle.roff_ahead.specs.declared.input_ahead.InputAhead.TheInside.{Inside}
 use Rattle.roff_store.specs.Named.{Named, Table, entry_of}
 use Rattle.roff_store.specs.TextCalls.{unless_refused}
 use Rattle.roff_store.specs.Texts.{Entry, body_if_any, bytes_in, bytes_of}

@@ -5,12 +5,12 @@ use Rattle.std.proofs.lemmas.Bool.Decides.{nat_tests}
 use Rattle.std.proofs.lemmas.List.{get_or_append_left, get_or_push, get_or-set_same, get_or-set_other}
 use Rattle.std.proofs.lemmas.List.Sums.{sum_by-cons, sum_by-set, sum_by_push}
 use Rattle.roff_ahead.specs.Input.{Ahead, ByteAhead, DoAhead, bytes_ahead, ends_ahead, events_ahead}
-use Rattle.roff_ahead.specs.Frames.Bodies.{leases_in, with_bodies}
-use Rattle.roff_ahead.specs.Frames.Calls.{PutsBytes}
-use Rattle.roff_ahead.specs.Frames.Kept.{Gives, IsSound, is_end_next, kept_by}
-use Rattle.roff_ahead.specs.declared.frames.Frame.{Frame}
-use Rattle.roff_ahead.specs.declared.frames.Frame.TheVariants.{Body}
-use Rattle.roff_ahead.specs.declared.frames.Frames.TheInside.{Inside}
+use Rattle.roff_ahead.specs.InputAhead.Bodies.{leases_in, with_bodies}
+use Rattle.roff_ahead.specs.InputAhead.Calls.{PutsBytes}
+use Rattle.roff_ahead.specs.InputAhead.Kept.{Gives, IsSound, is_end_next, kept_by}
+use Rattle.roff_ahead.specs.declared.input_ahead.EventOrBody.{EventOrBody}
+use Rattle.roff_ahead.specs.declared.input_ahead.EventOrBody.TheVariants.{Body}
+use Rattle.roff_ahead.specs.declared.input_ahead.InputAhead.TheInside.{Inside}
 use Rattle.roff_ahead.proofs.Bodies.{bodies-few, bodies-fewer, bytes-with_bodies, ends-with_bodies, events-with_bodies}
 use Rattle.roff_ahead.proofs.Counts.{bytes_ahead-bytes, ends_ahead-bytes, events_ahead-bytes, frees_ahead-bytes}
 use Rattle.roff_ahead.proofs.Leased.{with_bodies-same}
@@ -50,53 +50,53 @@ inside-giving (lease ∷ leases) (suc id) gives = let n = inside-giving leases i
 
 module _ {E : Type 0} (a : Inside E) (sound : IsSound a) where
   -- where one more end has room, one more body may be leased
-  pub room-for-one : ends_ahead (kept_by a).ahead < a.slots.most_texts → live a.texts < a.texts.cap_leases
+  pub room-for-one : ends_ahead (kept_by a).ahead < a.pushed_texts.most_texts → live a.texts < a.texts.cap_leases
   room-for-one few =
       omega (
         arith,
         few,
-        ends-with_bodies a.texts a.slots.ahead,
-        bodies-few a.slots.ahead sound.ended,
+        ends-with_bodies a.texts a.pushed_texts.ahead,
+        bodies-few a.pushed_texts.ahead sound.ended,
         sound.live,
         sound.cap_leases,
       )
 
   -- of so many bytes, where these have room
-  pub room-for-most : (most : ℕ) → most + bytes_ahead (kept_by a).ahead ≤ a.slots.most_bytes
+  pub room-for-most : (most : ℕ) → most + bytes_ahead (kept_by a).ahead ≤ a.pushed_texts.most_bytes
       → kept a.texts + most ≤ a.texts.cap_kept
-  room-for-most most fits = omega (arith, fits, bytes-with_bodies a.texts a.slots.ahead, sound.sum, sound.cap_kept)
+  room-for-most most fits = omega (arith, fits, bytes-with_bodies a.texts a.pushed_texts.ahead, sound.sum, sound.cap_kept)
 
-module _ {E : Type 0} (a : Inside E) (sound : IsSound a) (name : List ℕ) (ended : is_end_next a.slots.ahead ≡ true)
-    (fits : length (body_of name a.texts) + bytes_ahead (kept_by a).ahead ≤ a.slots.most_bytes) where
+module _ {E : Type 0} (a : Inside E) (sound : IsSound a) (name : List ℕ) (ended : is_end_next a.pushed_texts.ahead ≡ true)
+    (fits : length (body_of name a.texts) + bytes_ahead (kept_by a).ahead ≤ a.pushed_texts.most_bytes) where
   -- there is room for the lease and the bytes
   pub room-for-lease : live a.texts < a.texts.cap_leases
   room-for-lease =
       omega (
         arith,
         sound.ends,
-        ends-with_bodies a.texts a.slots.ahead,
-        bodies-fewer a.slots.ahead ended sound.ended,
+        ends-with_bodies a.texts a.pushed_texts.ahead,
+        bodies-fewer a.pushed_texts.ahead ended sound.ended,
         sound.live,
         sound.cap_leases,
       )
 
   pub room-for-body : kept a.texts + length (body_of name a.texts) ≤ a.texts.cap_kept
-  room-for-body = omega (arith, fits, bytes-with_bodies a.texts a.slots.ahead, sound.sum, sound.cap_kept)
+  room-for-body = omega (arith, fits, bytes-with_bodies a.texts a.pushed_texts.ahead, sound.sum, sound.cap_kept)
 
-  pub room-for-mark : events_ahead a.slots.ahead < 4 * (a.slots.most_texts + 1)
+  pub room-for-mark : events_ahead a.pushed_texts.ahead < 4 * (a.pushed_texts.most_texts + 1)
   room-for-mark =
       omega (
         arith,
         sound.ends,
-        ends-with_bodies a.texts a.slots.ahead,
-        bodies-fewer a.slots.ahead ended sound.ended,
+        ends-with_bodies a.texts a.pushed_texts.ahead,
+        bodies-fewer a.pushed_texts.ahead ended sound.ended,
         sound.events,
-        events-with_bodies a.texts a.slots.ahead,
+        events-with_bodies a.texts a.pushed_texts.ahead,
       )
 
   module _ (some : 0 < length (body_of name a.texts)) (id : LeaseId) (free : IsFree id.0 a.texts) where
-    abbrev items : List (Ahead (Frame E))
-    items = DoAhead (Body id) ∷ a.slots.ahead
+    abbrev items : List (Ahead (EventOrBody E))
+    items = DoAhead (Body id) ∷ a.pushed_texts.ahead
 
     abbrev leased : Texts
     leased = after (Lease name id.0) a.texts
@@ -105,9 +105,9 @@ module _ {E : Type 0} (a : Inside E) (sound : IsSound a) (name : List ℕ) (ende
     now = same_by a.texts.leases id.0 free.known free.free (Some (body_of name a.texts)) (id.0 == length a.texts.leases) refl
 
     -- bodies that stood ahead have other leases
-    others : All (λ other. lease_of other leased ≡ lease_of other a.texts) (leases_in a.slots.ahead)
+    others : All (λ other. lease_of other leased ≡ lease_of other a.texts) (leases_in a.pushed_texts.ahead)
     others k d within =
-        let other = get_or (leases_in a.slots.ahead) k d in
+        let other = get_or (leases_in a.pushed_texts.ahead) k d in
         let gives : 0 < rest_of (lease_of other a.texts) = sound.give k d within in
         let apart : other ≢ id.0 = λ same.
         let none : rest_of (lease_of other a.texts) ≡ 0 =
@@ -116,21 +116,21 @@ module _ {E : Type 0} (a : Inside E) (sound : IsSound a) (name : List ℕ) (ende
         other_by a.texts.leases id.0 free.known free.free (Some (body_of name a.texts)) (id.0 == length a.texts.leases) refl other
         apart (inside-giving a.texts.leases other gives)
 
-    apart-all : All (λ other. id.0 ≢ other) (leases_in a.slots.ahead)
+    apart-all : All (λ other. id.0 ≢ other) (leases_in a.pushed_texts.ahead)
     apart-all k d within same =
-        let gives : 0 < rest_of (lease_of (get_or (leases_in a.slots.ahead) k d) a.texts) = sound.give k d within in
-        let none : rest_of (lease_of (get_or (leases_in a.slots.ahead) k d) a.texts) ≡ 0 =
+        let gives : 0 < rest_of (lease_of (get_or (leases_in a.pushed_texts.ahead) k d) a.texts) = sound.give k d within in
+        let none : rest_of (lease_of (get_or (leases_in a.pushed_texts.ahead) k d) a.texts) ≡ 0 =
         ap (λ n. rest_of (lease_of n a.texts)) (sym same) ∙ ap rest_of free.free in
         omega (arith, gives, none)
 
-    stands : with_bodies leased items ≡ map ByteAhead (body_of name a.texts) ++ with_bodies a.texts a.slots.ahead
+    stands : with_bodies leased items ≡ map ByteAhead (body_of name a.texts) ++ with_bodies a.texts a.pushed_texts.ahead
     stands =
-        ap (λ (lease : Option (List ℕ)). map ByteAhead (lease_bytes lease) ++ with_bodies leased a.slots.ahead) now
+        ap (λ (lease : Option (List ℕ)). map ByteAhead (lease_bytes lease) ++ with_bodies leased a.pushed_texts.ahead) now
         ∙ ap (λ (rest : List (Ahead E)). map ByteAhead (body_of name a.texts) ++ rest)
-        (with_bodies-same a.texts leased a.slots.ahead others)
+        (with_bodies-same a.texts leased a.pushed_texts.ahead others)
 
     abbrev inside : Inside E
-    inside = record a { slots = record a.slots { ahead = items }; texts = leased }
+    inside = record a { pushed_texts = record a.pushed_texts { ahead = items }; texts = leased }
 
     kept-leased : kept leased ≡ kept a.texts + length (body_of name a.texts)
     kept-leased =
@@ -145,13 +145,13 @@ module _ {E : Type 0} (a : Inside E) (sound : IsSound a) (name : List ℕ) (ende
     gives-leased : All (Gives leased) (leases_in items)
     gives-leased zero d within = rw now some
     gives-leased (suc k) d within =
-        let inside : k < length (leases_in a.slots.ahead) = omega (arith, within) in
+        let inside : k < length (leases_in a.pushed_texts.ahead) = omega (arith, within) in
         subst (λ (lease : Option (List ℕ)). 0 < rest_of lease) (sym (others k d inside)) (sound.give k d inside)
 
-    sum-leased : sum_by (λ other. rest_of (lease_of other leased)) (leases_in a.slots.ahead)
-        ≡ sum_by (λ other. rest_of (lease_of other a.texts)) (leases_in a.slots.ahead)
+    sum-leased : sum_by (λ other. rest_of (lease_of other leased)) (leases_in a.pushed_texts.ahead)
+        ≡ sum_by (λ other. rest_of (lease_of other a.texts)) (leases_in a.pushed_texts.ahead)
     sum-leased =
-        sum_by-same (λ other. rest_of (lease_of other leased)) (λ other. rest_of (lease_of other a.texts)) (leases_in a.slots.ahead)
+        sum_by-same (λ other. rest_of (lease_of other leased)) (λ other. rest_of (lease_of other a.texts)) (leases_in a.pushed_texts.ahead)
         (λ k d within. ap rest_of (others k d within))
 
     once-leased : AllPairs (λ n later. n ≢ later) (leases_in items)
@@ -174,14 +174,14 @@ module _ {E : Type 0} (a : Inside E) (sound : IsSound a) (name : List ℕ) (ende
             sound.sum,
             sum-leased,
             one,
-            sum_by-cons (λ other. rest_of (lease_of other leased)) id.0 (leases_in a.slots.ahead),
+            sum_by-cons (λ other. rest_of (lease_of other leased)) id.0 (leases_in a.pushed_texts.ahead),
           );
       cap_leases = sound.cap_leases;
       cap_kept = sound.cap_kept;
-      bytes = rw (stands, bytes_ahead-bytes (body_of name a.texts) (with_bodies a.texts a.slots.ahead)) fits;
-      ends = rw (stands, ends_ahead-bytes (body_of name a.texts) (with_bodies a.texts a.slots.ahead)) sound.ends;
-      events = rw (stands, events_ahead-bytes (body_of name a.texts) (with_bodies a.texts a.slots.ahead)) sound.events;
-      frees = rw (stands, frees_ahead-bytes (body_of name a.texts) (with_bodies a.texts a.slots.ahead)) sound.frees;
+      bytes = rw (stands, bytes_ahead-bytes (body_of name a.texts) (with_bodies a.texts a.pushed_texts.ahead)) fits;
+      ends = rw (stands, ends_ahead-bytes (body_of name a.texts) (with_bodies a.texts a.pushed_texts.ahead)) sound.ends;
+      events = rw (stands, events_ahead-bytes (body_of name a.texts) (with_bodies a.texts a.pushed_texts.ahead)) sound.events;
+      frees = rw (stands, frees_ahead-bytes (body_of name a.texts) (with_bodies a.texts a.pushed_texts.ahead)) sound.frees;
       small = sound.small;
       store = sound.store;
     }

@@ -3,14 +3,14 @@ use Rattle.std.proofs.Common.{◌≡◌, ◌<◌, ◌≤◌, ◌+◌, ℕ, List,
 use Rattle.std.specs.Prelude.{reverse}
 use Rattle.std.proofs.lemmas.List.{length-reverse}
 use Rattle.roff_ahead.specs.Input.{ByteAhead, FreeAhead, EndAhead, bytes_ahead, ends_ahead, frees_ahead, most_frees}
-use Rattle.roff_ahead.specs.Slots.Held.{Held, HasRoom}
-use Rattle.roff_ahead.specs.Slots.Standing.{standing, IsStacked}
-use Rattle.roff_ahead.specs.declared.slots.Slot.{Slot}
+use Rattle.roff_ahead.specs.PushedTexts.Held.{Held, HasRoom}
+use Rattle.roff_ahead.specs.PushedTexts.Standing.{standing, IsStacked}
+use Rattle.roff_ahead.specs.declared.pushed_texts.MarkAt.{MarkAt}
 use Rattle.roff_ahead.proofs.Counts.{bytes_ahead-bytes, ends_ahead-bytes, events_ahead-bytes, frees_ahead-bytes, bytes_ahead-frees, ends_ahead-frees, events_ahead-frees, frees_ahead-frees}
 use Rattle.roff_ahead.proofs.Standing.{standing-text, IsStacked-more}
 
 module _ {E : Type 0} where
-  module _ (old new : List (Slot E)) (bytes seen more text : List ℕ) (same : seen ≡ bytes) (longer : more ≡ bytes ++ reverse text)
+  module _ (old new : List (MarkAt E)) (bytes seen more text : List ℕ) (same : seen ≡ bytes) (longer : more ≡ bytes ++ reverse text)
       (some : 0 < length new) (stacked : IsStacked (reverse new) (length seen)) where
     -- something is there, from either end
     some_reversed : 0 < length (reverse new)
@@ -25,15 +25,15 @@ module _ {E : Type 0} where
     pub IsStacked-pushed : IsStacked (reverse new) (length more)
     IsStacked-pushed = IsStacked-more (reverse new) (length seen) (length more) some_reversed (rw (longer, same, length-append) (omega arith)) stacked
 
-  module _ (slots : List (Slot E)) (bytes more : List ℕ) (b : ℕ) (longer : more ≡ bytes ++ b ∷ [])
-      (some : 0 < length slots) (stacked : IsStacked slots (length bytes)) where
+  module _ (pushed_texts : List (MarkAt E)) (bytes more : List ℕ) (b : ℕ) (longer : more ≡ bytes ++ b ∷ [])
+      (some : 0 < length pushed_texts) (stacked : IsStacked pushed_texts (length bytes)) where
     -- a byte was put in front
-    pub standing-one : standing slots more ≡ ByteAhead b ∷ standing slots bytes
-    standing-one = rw longer (standing-text slots bytes (b ∷ []) some stacked)
+    pub standing-one : standing pushed_texts more ≡ ByteAhead b ∷ standing pushed_texts bytes
+    standing-one = rw longer (standing-text pushed_texts bytes (b ∷ []) some stacked)
 
     -- the heights are in order
-    pub IsStacked-one : IsStacked slots (length more)
-    IsStacked-one = IsStacked-more slots (length bytes) (length more) some (rw (longer, length-append) (omega arith)) stacked
+    pub IsStacked-one : IsStacked pushed_texts (length more)
+    IsStacked-one = IsStacked-more pushed_texts (length bytes) (length more) some (rw (longer, length-append) (omega arith)) stacked
 
   -- there is room for it
   pub HasRoom-pushed : (h : Held E) (text : List ℕ) → HasRoom h → length text + bytes_ahead h.ahead ≤ h.most_bytes → ends_ahead h.ahead < h.most_texts

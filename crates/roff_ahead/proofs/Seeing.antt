@@ -3,11 +3,11 @@ use Rattle.std.proofs.Common.{get_or, ◌≡◌, ◌<◌, ℕ, List, [], ◌∷�
 use Rattle.std.specs.Prelude.{Option, take}
 use Rattle.roff_ahead.specs.Input.{Ahead, ByteAhead, FreeAhead, EndAhead, ReturnAhead, DoAhead, first_but_ends}
 use Rattle.roff_ahead.specs.Shown.{Sighted, SeesByte, seen_ahead}
-use Rattle.roff_ahead.specs.Frames.Bodies.{items_of, leases_in, with_bodies}
-use Rattle.roff_ahead.specs.Frames.Kept.{Framed, Gives, IsSound, kept_by}
-use Rattle.roff_ahead.specs.declared.frames.Frame.{Frame}
-use Rattle.roff_ahead.specs.declared.frames.Frame.TheVariants.{Event, Body}
-use Rattle.roff_ahead.specs.declared.frames.Frames.TheInside.{Inside}
+use Rattle.roff_ahead.specs.InputAhead.Bodies.{items_of, leases_in, with_bodies}
+use Rattle.roff_ahead.specs.InputAhead.Kept.{AheadAndTexts, Gives, IsSound, kept_by}
+use Rattle.roff_ahead.specs.declared.input_ahead.EventOrBody.{EventOrBody}
+use Rattle.roff_ahead.specs.declared.input_ahead.EventOrBody.TheVariants.{Event, Body}
+use Rattle.roff_ahead.specs.declared.input_ahead.InputAhead.TheInside.{Inside}
 use Rattle.roff_ahead.proofs.Bodies.{rest_is}
 use Rattle.roff_store.specs.declared.text.LeaseId.{LeaseId}
 use Rattle.roff_store.specs.Texts.{Texts, lease_bytes, lease_of, rest_of}
@@ -22,7 +22,7 @@ front-seen E (x ∷ bytes) (b ∷ front) is some =
 
 module _ {E : Type 0} (t : Texts) where
   -- what is seen of an item that stands behind ends alone
-  abbrev pub seen_of : Option (Ahead (Frame E)) → Option Sighted
+  abbrev pub seen_of : Option (Ahead (EventOrBody E)) → Option Sighted
   seen_of None = None
   seen_of (Some item) = seen_ahead (items_of t item ++ [])
 
@@ -33,7 +33,7 @@ module _ {E : Type 0} (t : Texts) where
   seen-bytes (b ∷ bytes) items some = refl
 
   -- what is seen ahead is seen of the first item behind any ends
-  pub seen-with_bodies : (items : List (Ahead (Frame E))) → All (Gives t) (leases_in items)
+  pub seen-with_bodies : (items : List (Ahead (EventOrBody E))) → All (Gives t) (leases_in items)
       → seen_ahead (with_bodies t items) ≡ seen_of (first_but_ends items)
   seen-with_bodies [] give = refl
   seen-with_bodies (ByteAhead b ∷ items) give = refl
@@ -46,7 +46,7 @@ module _ {E : Type 0} (t : Texts) where
       seen-bytes (lease_bytes (lease_of id.0 t)) (with_bodies t items) (omega (arith, gives, rest_is (lease_of id.0 t)))
 
   -- the first body gives something
-  pub first-gives : (items : List (Ahead (Frame E))) (id : LeaseId) → All (Gives t) (leases_in items)
+  pub first-gives : (items : List (Ahead (EventOrBody E))) (id : LeaseId) → All (Gives t) (leases_in items)
       → Some (DoAhead (Body id)) ≡ first_but_ends items → Gives t id.0
   first-gives [] id give is = cc
   first-gives (ByteAhead b ∷ items) id give is = cc
@@ -77,8 +77,8 @@ module _ {E : Type 0} where
   no-return-first (DoAhead event ∷ items) is = cc
 
   -- what frames show
-  pub sees : (a : Inside E) (f : Framed E) → IsSound a → kept_by a ≡ f → (item : Option (Ahead (Frame E)))
-      → item ≡ first_but_ends a.slots.ahead → seen_of a.texts item ≡ seen_ahead f.ahead
+  pub sees : (a : Inside E) (f : AheadAndTexts E) → IsSound a → kept_by a ≡ f → (item : Option (Ahead (EventOrBody E)))
+      → item ≡ first_but_ends a.pushed_texts.ahead → seen_of a.texts item ≡ seen_ahead f.ahead
   sees a f sound is item first =
-      subst (λ (f : Framed E). seen_of a.texts item ≡ seen_ahead f.ahead) is
-      (ap (seen_of a.texts) first ∙ sym (seen-with_bodies a.texts a.slots.ahead sound.give))
+      subst (λ (f : AheadAndTexts E). seen_of a.texts item ≡ seen_ahead f.ahead) is
+      (ap (seen_of a.texts) first ∙ sym (seen-with_bodies a.texts a.pushed_texts.ahead sound.give))

@@ -5,19 +5,19 @@ use Rattle.std.proofs.lemmas.Bool.Decides.{nat_tests}
 use Rattle.std.proofs.Math.Seq.{drop-length, take-length}
 use Rattle.std.proofs.lemmas.List.{drop-append-le, take-append-le, reverse-append, reverse-reverse, map-append}
 use Rattle.roff_ahead.specs.Input.{Ahead, ByteAhead, EndAhead, is_none_ahead}
-use Rattle.roff_ahead.specs.Slots.Standing.{standing, items_of, IsStacked}
-use Rattle.roff_ahead.specs.declared.slots.Slot.{Slot}
-use Rattle.roff_ahead.specs.declared.slots.Mark.TheVariants.{Ends, Return, Free, Do}
-use Rattle.roff_ahead.specs.declared.slots.Mark.{Mark}
+use Rattle.roff_ahead.specs.PushedTexts.Standing.{standing, items_of, IsStacked}
+use Rattle.roff_ahead.specs.declared.pushed_texts.MarkAt.{MarkAt}
+use Rattle.roff_ahead.specs.declared.pushed_texts.Mark.TheVariants.{Ends, Return, Free, Do}
+use Rattle.roff_ahead.specs.declared.pushed_texts.Mark.{Mark}
 
-module _ {E : Type 0} (slot : Slot E) (slots : List (Slot E)) (bytes : List ℕ) where
+module _ {E : Type 0} (slot : MarkAt E) (pushed_texts : List (MarkAt E)) (bytes : List ℕ) where
   -- bytes on top of the others come first, the last of them in front
   pub standing-append : (more : List ℕ) → slot.height ≤ length bytes
-      → standing (slot ∷ slots) (bytes ++ more) ≡ map ByteAhead (reverse more) ++ standing (slot ∷ slots) bytes
+      → standing (slot ∷ pushed_texts) (bytes ++ more) ≡ map ByteAhead (reverse more) ++ standing (slot ∷ pushed_texts) bytes
   standing-append more below = simp (drop-append-le slot.height bytes more below, take-append-le slot.height bytes more below, reverse-append, map-append, append_assoc) refl
 
   -- where all bytes above a slot were taken, its mark comes next
-  pub standing_mark : slot.height ≡ length bytes → standing (slot ∷ slots) bytes ≡ items_of slot.mark ++ standing slots bytes
+  pub standing_mark : slot.height ≡ length bytes → standing (slot ∷ pushed_texts) bytes ≡ items_of slot.mark ++ standing pushed_texts bytes
   standing_mark at = simp (at, drop-length, take-length) refl
 
 -- a number that isn't 0
@@ -37,29 +37,29 @@ module _ {E : Type 0} where
   some_mark (Do event) items = refl
 
   -- nothing stands ahead where there is no slot
-  pub is_none_ahead-standing : (slots : List (Slot E)) (bytes : List ℕ) → is_none_ahead (standing slots bytes) ≡ (length slots == 0)
+  pub is_none_ahead-standing : (pushed_texts : List (MarkAt E)) (bytes : List ℕ) → is_none_ahead (standing pushed_texts bytes) ≡ (length pushed_texts == 0)
   is_none_ahead-standing [] bytes = refl
-  is_none_ahead-standing (slot ∷ slots) bytes = rw (not_none (length slots)) (something (map ByteAhead (reverse (drop slot.height bytes))) _ (some_mark slot.mark _))
+  is_none_ahead-standing (slot ∷ pushed_texts) bytes = rw (not_none (length pushed_texts)) (something (map ByteAhead (reverse (drop slot.height bytes))) _ (some_mark slot.mark _))
 
   -- so there is a slot where something stands ahead
-  pub some-slots : (slots : List (Slot E)) (bytes : List ℕ) → is_none_ahead (standing slots bytes) ≡ false → 0 < length slots
-  some-slots [] bytes some = cc
-  some-slots (slot ∷ slots) bytes some = omega arith
+  pub some-pushed_texts : (pushed_texts : List (MarkAt E)) (bytes : List ℕ) → is_none_ahead (standing pushed_texts bytes) ≡ false → 0 < length pushed_texts
+  some-pushed_texts [] bytes some = cc
+  some-pushed_texts (slot ∷ pushed_texts) bytes some = omega arith
 
   -- a text on top of others
-  pub standing-text : (slots : List (Slot E)) (bytes text : List ℕ) → 0 < length slots → IsStacked slots (length bytes)
-      → standing slots (bytes ++ reverse text) ≡ map ByteAhead text ++ standing slots bytes
+  pub standing-text : (pushed_texts : List (MarkAt E)) (bytes text : List ℕ) → 0 < length pushed_texts → IsStacked pushed_texts (length bytes)
+      → standing pushed_texts (bytes ++ reverse text) ≡ map ByteAhead text ++ standing pushed_texts bytes
   standing-text [] bytes text some stacked = absurd (omega (arith, some))
-  standing-text (slot ∷ slots) bytes text some stacked = rw (standing-append slot slots bytes (reverse text) stacked.0, reverse-reverse) refl
+  standing-text (slot ∷ pushed_texts) bytes text some stacked = rw (standing-append slot pushed_texts bytes (reverse text) stacked.0, reverse-reverse) refl
 
   -- with more bytes on top the heights stay in order
-  pub IsStacked-more : (slots : List (Slot E)) (n m : ℕ) → 0 < length slots → n ≤ m → IsStacked slots n → IsStacked slots m
+  pub IsStacked-more : (pushed_texts : List (MarkAt E)) (n m : ℕ) → 0 < length pushed_texts → n ≤ m → IsStacked pushed_texts n → IsStacked pushed_texts m
   IsStacked-more [] n m some le stacked = absurd (omega (arith, some))
-  IsStacked-more (slot ∷ slots) n m some le stacked = (omega (arith, stacked.0), stacked.1)
+  IsStacked-more (slot ∷ pushed_texts) n m some le stacked = (omega (arith, stacked.0), stacked.1)
 
   -- the slot in front is the last one
-  pub reverse_front : (slots below : List (Slot E)) (slot : Slot E) → slots ≡ below ++ slot ∷ [] → reverse slots ≡ slot ∷ reverse below
-  reverse_front slots below slot split = rw (split, reverse-append) refl
+  pub reverse_front : (pushed_texts below : List (MarkAt E)) (slot : MarkAt E) → pushed_texts ≡ below ++ slot ∷ [] → reverse pushed_texts ≡ slot ∷ reverse below
+  reverse_front pushed_texts below slot split = rw (split, reverse-append) refl
 
   -- an end in front of others
   pub one_more_end : (more : ℕ) (items : List (Ahead E)) → items_of (Ends (more + 1)) ++ items ≡ EndAhead ∷ (items_of (Ends more) ++ items)

@@ -4,8 +4,8 @@ use Rattle.std.specs.Prelude.{replicate}
 use Rattle.std.proofs.lemmas.Bool.Decides.{nat_tests}
 use Rattle.std.proofs.lemmas.List.{take_more, take_all}
 use Rattle.roff_ahead.specs.Input.{Ahead, ByteAhead, EndAhead, first_but_ends}
-use Rattle.roff_ahead.specs.Slots.Standing.{standing, items_of, is_byte_next, IsStacked}
-use Rattle.roff_ahead.specs.declared.slots.Slot.{Slot}
+use Rattle.roff_ahead.specs.PushedTexts.Standing.{standing, items_of, is_byte_next, IsStacked}
+use Rattle.roff_ahead.specs.declared.pushed_texts.MarkAt.{MarkAt}
 use Rattle.roff_ahead.proofs.Standing.{standing-append, standing_mark}
 
 -- the last one of some bytes
@@ -16,40 +16,40 @@ last_split bytes some =
 
 module _ {E : Type 0} where
   -- a byte comes next: it is the last one of the stack
-  pub standing_byte : (slots : List (Slot E)) (bytes : List ℕ) (b : ℕ) → is_byte_next slots (bytes ++ b ∷ []) ≡ true
-      → standing slots (bytes ++ b ∷ []) ≡ ByteAhead b ∷ standing slots bytes
+  pub standing_byte : (pushed_texts : List (MarkAt E)) (bytes : List ℕ) (b : ℕ) → is_byte_next pushed_texts (bytes ++ b ∷ []) ≡ true
+      → standing pushed_texts (bytes ++ b ∷ []) ≡ ByteAhead b ∷ standing pushed_texts bytes
   standing_byte [] bytes b next = cc
-  standing_byte (slot ∷ slots) bytes b next =
+  standing_byte (slot ∷ pushed_texts) bytes b next =
       let below : slot.height ≤ length bytes = grind (arith, nat_tests, length-append bytes (b ∷ [])) in
-      standing-append slot slots bytes (b ∷ []) below
+      standing-append slot pushed_texts bytes (b ∷ []) below
 
   -- and behind it the heights are in order
-  pub IsStacked_byte : (slots : List (Slot E)) (bytes : List ℕ) (b : ℕ) → is_byte_next slots (bytes ++ b ∷ []) ≡ true
-      → IsStacked slots (length (bytes ++ b ∷ [])) → IsStacked slots (length bytes)
+  pub IsStacked_byte : (pushed_texts : List (MarkAt E)) (bytes : List ℕ) (b : ℕ) → is_byte_next pushed_texts (bytes ++ b ∷ []) ≡ true
+      → IsStacked pushed_texts (length (bytes ++ b ∷ [])) → IsStacked pushed_texts (length bytes)
   IsStacked_byte [] bytes b next stacked = cc
-  IsStacked_byte (slot ∷ slots) bytes b next stacked = (grind (arith, nat_tests, length-append bytes (b ∷ [])), stacked.1)
+  IsStacked_byte (slot ∷ pushed_texts) bytes b next stacked = (grind (arith, nat_tests, length-append bytes (b ∷ [])), stacked.1)
 
   -- a byte comes next where there is one
-  pub some_byte : (slots : List (Slot E)) (bytes : List ℕ) → is_byte_next slots bytes ≡ true → 0 < length bytes
+  pub some_byte : (pushed_texts : List (MarkAt E)) (bytes : List ℕ) → is_byte_next pushed_texts bytes ≡ true → 0 < length bytes
   some_byte [] bytes next = cc
-  some_byte (slot ∷ slots) bytes next = grind (arith, nat_tests)
+  some_byte (slot ∷ pushed_texts) bytes next = grind (arith, nat_tests)
 
   -- what stands in front is the last byte of the stack
-  pub standing_last : (slots : List (Slot E)) (bytes : List ℕ) → is_byte_next slots bytes ≡ true
-      → standing slots bytes ≡ ByteAhead (get_or bytes (length bytes - 1) 0) ∷ standing slots (take (length bytes - 1) bytes)
-  standing_last slots bytes next =
-      let split = last_split bytes (some_byte slots bytes next) in
-      let next_split = subst (λ (all : List ℕ). is_byte_next slots all ≡ true) split next in
-      ap (λ (all : List ℕ). standing slots all) split ∙ standing_byte slots (take (length bytes - 1) bytes) (get_or bytes (length bytes - 1) 0) next_split
+  pub standing_last : (pushed_texts : List (MarkAt E)) (bytes : List ℕ) → is_byte_next pushed_texts bytes ≡ true
+      → standing pushed_texts bytes ≡ ByteAhead (get_or bytes (length bytes - 1) 0) ∷ standing pushed_texts (take (length bytes - 1) bytes)
+  standing_last pushed_texts bytes next =
+      let split = last_split bytes (some_byte pushed_texts bytes next) in
+      let next_split = subst (λ (all : List ℕ). is_byte_next pushed_texts all ≡ true) split next in
+      ap (λ (all : List ℕ). standing pushed_texts all) split ∙ standing_byte pushed_texts (take (length bytes - 1) bytes) (get_or bytes (length bytes - 1) 0) next_split
 
   -- no byte comes next: the mark does
-  pub at_mark : (slot : Slot E) (slots : List (Slot E)) (bytes : List ℕ) → is_byte_next (slot ∷ slots) bytes ≡ false → IsStacked (slot ∷ slots) (length bytes)
+  pub at_mark : (slot : MarkAt E) (pushed_texts : List (MarkAt E)) (bytes : List ℕ) → is_byte_next (slot ∷ pushed_texts) bytes ≡ false → IsStacked (slot ∷ pushed_texts) (length bytes)
       → slot.height ≡ length bytes
-  at_mark slot slots bytes next stacked = grind (arith, nat_tests, stacked.0)
+  at_mark slot pushed_texts bytes next stacked = grind (arith, nat_tests, stacked.0)
 
-  pub standing_behind : (slot : Slot E) (slots : List (Slot E)) (bytes : List ℕ) → is_byte_next (slot ∷ slots) bytes ≡ false → IsStacked (slot ∷ slots) (length bytes)
-      → standing (slot ∷ slots) bytes ≡ items_of slot.mark ++ standing slots bytes
-  standing_behind slot slots bytes next stacked = standing_mark slot slots bytes (at_mark slot slots bytes next stacked)
+  pub standing_behind : (slot : MarkAt E) (pushed_texts : List (MarkAt E)) (bytes : List ℕ) → is_byte_next (slot ∷ pushed_texts) bytes ≡ false → IsStacked (slot ∷ pushed_texts) (length bytes)
+      → standing (slot ∷ pushed_texts) bytes ≡ items_of slot.mark ++ standing pushed_texts bytes
+  standing_behind slot pushed_texts bytes next stacked = standing_mark slot pushed_texts bytes (at_mark slot pushed_texts bytes next stacked)
 
   -- the first item behind ends is behind these ends
   pub first_but_ends-ends : (n : ℕ) (items : List (Ahead E))

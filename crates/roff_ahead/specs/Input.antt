@@ -39,7 +39,7 @@ pub record Input (E : Type 0) : Type 0 where
   pub escapes : List OpenEscape
   -- the results of conditions that are kept for their other branch, the newest first, each with how many bodies that lines
   -- called hadn't ended then
-  pub kept : List (Bool × ℕ)
+  pub results : List (Bool × ℕ)
   -- how much was taken: bytes, ends of texts, events put back
   pub charge : ℕ
   -- how many newlines were taken of the source
@@ -60,7 +60,7 @@ initial_input first_names = record {
   arguments = no_arguments;
   calls = [];
   escapes = [];
-  kept = [];
+  results = [];
   charge = 0;
   newlines = 0;
   line = 1;
@@ -146,8 +146,8 @@ abbrev pub depth : {E : Type 0} → Input E → ℕ
 depth i = ends_ahead i.ahead
 
 -- what counts in the limit on conditions: the results that are kept
-abbrev pub results : {E : Type 0} → Input E → ℕ
-results i = length i.kept
+abbrev pub result_count : {E : Type 0} → Input E → ℕ
+result_count i = length i.results
 
 -- a text and its end are put in front
 abbrev pub pushing : {E : Type 0} → List ℕ → Input E → Input E
@@ -198,18 +198,18 @@ calls_behind ReturnAhead calls = drop 1 calls
 calls_behind (_) calls = calls
 
 -- the results that were kept while fewer calls than so many weren't over
-abbrev pub kept_below : ℕ → List (Bool × ℕ) → List (Bool × ℕ)
-kept_below calls [] = []
-kept_below calls (result ∷ others) = if nat_le calls result.1 then kept_below calls others else result ∷ others
+abbrev pub results_below : ℕ → List (Bool × ℕ) → List (Bool × ℕ)
+results_below calls [] = []
+results_below calls (result ∷ others) = if nat_le calls result.1 then results_below calls others else result ∷ others
 
 -- the results that are kept behind an item: those that were kept in a called body are dropped at its end
-abbrev pub kept_behind : {E : Type 0} → Ahead E → List (List (List ℕ)) → List (Bool × ℕ) → List (Bool × ℕ)
-kept_behind ReturnAhead calls kept = kept_below (length calls) kept
-kept_behind (_) calls kept = kept
+abbrev pub results_behind : {E : Type 0} → Ahead E → List (List (List ℕ)) → List (Bool × ℕ) → List (Bool × ℕ)
+results_behind ReturnAhead calls results = results_below (length calls) results
+results_behind (_) calls results = results
 
 -- all that stands ahead is dropped, and so are the calls of bodies and what was kept in them
 abbrev pub leaving : {E : Type 0} → Input E → Input E
-leaving i = record i { ahead = []; calls = []; kept = kept_below 1 i.kept }
+leaving i = record i { ahead = []; calls = []; results = results_below 1 i.results }
 
 -- an item ahead is taken, and these stand behind it
 abbrev pub item_taken : {E : Type 0} → Ahead E → List (Ahead E) → Input E → Input E
@@ -217,7 +217,7 @@ item_taken item behind i = record i {
   ahead = behind;
   charge = i.charge + cost item;
   calls = calls_behind item i.calls;
-  kept = kept_behind item i.calls i.kept;
+  results = results_behind item i.calls i.results;
 }
 
 -- these bytes that stand ahead are taken, one after another, and these items stand behind them

@@ -1,4 +1,4 @@
 pub mod Input
 pub mod Shown
-pub mod Slots
-pub mod Frames
+pub mod PushedTexts
+pub mod InputAhead

@@ -1,9 +1,9 @@
 //! What stands ahead of the source: pushed texts, bodies, their ends, and events that were put back.
 #![tactic(auto)]
 
-mod frames;
+mod input_ahead;
 mod item;
-mod slots;
+mod pushed_texts;
 
-pub use frames::Frames;
+pub use input_ahead::InputAhead;
 pub use item::{Item, Sight};

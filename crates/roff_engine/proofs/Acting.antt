@@ -6,7 +6,7 @@ use Rattle.roff_num.specs.declared.limit.Limit.{Limit}
 use Rattle.roff_num.specs.declared.limit.Limit.TheVariants.{Names, Stack, Depth, Store, Diversions, Conditions}
 use Rattle.roff_num.specs.declared.limits.Limits.{Limits}
 use Rattle.roff_escape.specs.OpenEscapes.{reading_ended}
-use Rattle.roff_ahead.specs.Input.{DoAhead, depth, results}
+use Rattle.roff_ahead.specs.Input.{DoAhead, depth, result_count}
 use Rattle.roff_ahead.specs.Input.Names.{names_added, stored}
 use Rattle.roff_source.specs.Tape.{Tape, behind_front}
 use Rattle.roff_scan.specs.Unread.{looked_then}
@@ -17,14 +17,14 @@ use Rattle.roff_engine.specs.declared.halt.Halt.{Halt}
 use Rattle.roff_engine.specs.declared.halt.Halt.TheVariants.{Limit as Limited, Refused, Output, Messages}
 use Rattle.roff_engine.specs.declared.running.Running.{Running as Coded}
 use Rattle.roff_engine.specs.Engine.Outcome.{Seen, IsLeftOf, IsRest, Reaches, Outcome, seen}
-use Rattle.roff_engine.specs.Formatter.Performing.{AllPerformed, Did, DoesTaking, Opens, Performs, PerformsOnly, acting, going, sinks}
-use Rattle.roff_engine.specs.Running.Turning.{Acts, Halts, IsAt, MayEnd, TookFrom, input_ends, line_told, state_at}
+use Rattle.roff_engine.specs.Formatter.Performing.{AllPerformed, TakingDone, DoesTaking, Opens, Performs, PerformsOnly, acting, going, sinks}
+use Rattle.roff_engine.specs.Running.Turning.{DoesItem, Halts, IsAt, MayEnd, TookFrom, input_ends, line_told, state_at}
 use Rattle.roff_pages.specs.Sinks.{Sunk}
 use Rattle.roff_requests.specs.Environments.Standing.{StandFor}
 use Rattle.roff_requests.specs.declared.environments.Environments.{Environments as EnvironmentsOf}
 use Rattle.roff_run.specs.Output.{PageHistory}
 use Rattle.roff_reader.specs.Reader.State.{ReaderState}
-use Rattle.roff_reader.specs.Reader.Taken.{Became, IsReady}
+use Rattle.roff_reader.specs.Reader.Taken.{CameTo, IsReady}
 use Rattle.roff_run.specs.Reading.Items.{PageUnread}
 use Rattle.roff_run.specs.Reading.{escape_ended, interrupted}
 use Rattle.roff_run.specs.Reading.Beginnings.{at_start}
@@ -68,7 +68,7 @@ module _ (l : Limits) (t left : Tape) (line_before line : ℕ) (start now : Seen
     (left_before : IsLeftOf left from.tape) (quiet_before : from.last_message ≡ []) (line_before_is : from.input.line ≡ line_before)
     (left_behind : IsLeftOf left done.tape) (quiet : done.last_message ≡ []) (line_is : done.input.line ≡ line) where
   -- what the code could not do of it halts the run
-  did_halt : (rest : List PageEvent) (halt : Halt) (es : EnvironmentsOf) → Did l t start now from done rest (Err halt) es
+  did_halt : (rest : List PageEvent) (halt : Halt) (es : EnvironmentsOf) → TakingDone l t start now from done rest (Err halt) es
       → Halts l t left (line_told halt line_before line) halt start now
   did_halt rest (Refused limit) es did = record {
     state = from;
@@ -124,7 +124,7 @@ IsTaking f does is_closing more run =
 
 -- the run goes on at the state behind a taking
 IsAt-behind : (t tape : Tape) (start now : Seen) (old new : Coded) (taken : Taking) (h : PageHistory) (messages : List ℕ) (more : List PageEvent)
-    → Became taken old.formatter.reader.registers new.formatter.reader old.unread new.unread
+    → CameTo taken old.formatter.reader.registers new.formatter.reader old.unread new.unread
     → new.limits ≡ old.limits → old.unread.limits ≡ old.limits → IsReady old.formatter.reader.registers old.unread
     → AllPerformed old.limits t start now (taken_as taken (ready_to_take tape old h messages false more)) [] new.formatter.environments
     → IsAt t tape start now new
@@ -157,13 +157,13 @@ module _ (f : Known → Taking) (does : State → State) (is_closing : Bool) (mo
       → DoesTaking f more old.formatter formatter old.unread unread (sinks out_old err_old) (sinks out_new err_new) r
       → (t tape : Tape) (start : Seen) (failures : ℕ) (from : State)
       → (took : TookFrom t tape start (seen failures out_old err_old) line does from old)
-      → Did old.limits t start (seen failures out_new err_new) from (done tape took.history took.messages) [] r formatter.environments
+      → TakingDone old.limits t start (seen failures out_new err_new) from (done tape took.history took.messages) [] r formatter.environments
   did {out_old} {err_old} {out_new} {err_new} formatter unread r takes t tape start failures from took =
       let h : PageHistory = took.history in
       let P : Limits → Type 0 = λ l. StandFor l h old.formatter.environments
       → Reaches l t start (seen failures out_old err_old) from
       → Opens l from (done tape h took.messages) h took.messages
-      → Did l t start (seen failures out_new err_new) from (done tape h took.messages) [] r formatter.environments in
+      → TakingDone l t start (seen failures out_new err_new) from (done tape h took.messages) [] r formatter.environments in
       subst P took.limits
       (λ stands reaches opens. takes.does t start failures from (looked_then old.unread.looked tape) h took.messages is_closing [] stands took.ready reaches opens)
       took.stands took.reaches (opened took)
@@ -174,7 +174,7 @@ module _ (f : Known → Taking) (does : State → State) (is_closing : Bool) (mo
       → DoesTaking f more old.formatter new.formatter old.unread new.unread (sinks out_old err_old) (sinks out_new err_new) (Err halt)
       → ((t left : Tape) (start : Seen) → Halts old.limits t left (line_told halt line line_behind) halt start (seen failures out_new err_new)
       → Outcome old.limits t left status start behind)
-      → Acts line does old new (seen failures out_old err_old) behind (Err status)
+      → DoesItem line does old new (seen failures out_old err_old) behind (Err status)
   halted_acts {out_old} {err_old} {out_new} {err_new} new failures halt status behind line_behind limits line_is takes ends = record {
     limits = limits;
     acts = λ t tape start from took.
@@ -194,7 +194,7 @@ pub taking_acts : {out_old err_old out_new err_new : Sunk} (f : Known → Taking
     → IsTaking f does false more old
     → new.limits ≡ old.limits
     → DoesTaking f more old.formatter new.formatter old.unread new.unread (sinks out_old err_old) (sinks out_new err_new) (Ok tt)
-    → Acts line does old new (seen failures out_old err_old) (seen failures out_new err_new) (Ok tt)
+    → DoesItem line does old new (seen failures out_old err_old) (seen failures out_new err_new) (Ok tt)
 taking_acts {out_old} {err_old} {out_new} {err_new} f does more line old new failures meant limits takes = record {
   limits = limits;
   acts = λ t tape start from took.
@@ -223,7 +223,7 @@ pub finished_acts : {out_old err_old out_new err_new : Sunk} (f : Known → Taki
     → IsTaking f does true more old
     → new.limits ≡ old.limits → MayEnd old → ((k : Known) → old.formatter.reader.reading ≡ Exiting → (f k).reading ≡ Exiting)
     → DoesTaking f more old.formatter new.formatter old.unread new.unread (sinks out_old err_old) (sinks out_new err_new) (Ok tt)
-    → Acts line does old new (seen failures out_old err_old) (seen failures out_new err_new) (Err Done)
+    → DoesItem line does old new (seen failures out_old err_old) (seen failures out_new err_new) (Err Done)
 finished_acts {out_old} {err_old} {out_new} {err_new} f does more line old new failures meant limits may_end leaves takes = record {
   limits = limits;
   acts = λ t tape start from took.
@@ -265,10 +265,10 @@ TookFrom-as does other line old t tape start now from same took = record {
 }
 
 -- acting as one thing is acting as another that does the same to the state the run is at
-pub Acts-as : (does other : State → State) (line : ℕ) (old new : Coded) (now behind : Seen) (r : Result (Unit {0}) Status)
+pub DoesItem-as : (does other : State → State) (line : ℕ) (old new : Coded) (now behind : Seen) (r : Result (Unit {0}) Status)
     → ((tape : Tape) (h : PageHistory) (messages : List ℕ) → does (state_at tape old h messages) ≡ other (state_at tape old h messages))
-    → Acts line other old new now behind r → Acts line does old new now behind r
-Acts-as does other line old new now behind r same acts = record {
+    → DoesItem line other old new now behind r → DoesItem line does old new now behind r
+DoesItem-as does other line old new now behind r same acts = record {
   limits = acts.limits;
   acts = λ t tape start from took. acts.acts t tape start from (TookFrom-as does other line old t tape start now from same took);
   input = λ t tape start from took.
@@ -321,7 +321,7 @@ counts_in-settling : (rs : AllRegisters) (i : PageInput) → counts_in rs (settl
 counts_in-settling rs i =
     let first : List (Limit × ℕ) → List (Limit × ℕ) = λ rest.
     (Names, length rs.named) ∷ (Diversions, length i.open_texts - 1) ∷ (Store, stored i) ∷ (Names, names_added i) ∷ rest in
-    ap (λ bytes. first ((Stack, bytes) ∷ (Depth, depth i) ∷ (Conditions, results i) ∷ [])) (pushed-settling i)
+    ap (λ bytes. first ((Stack, bytes) ∷ (Depth, depth i) ∷ (Conditions, result_count i) ∷ [])) (pushed-settling i)
 
 -- nor where something that isn't a byte of the line has come
 counts_in-interrupted : (rs : AllRegisters) (reading : LineState) (i : PageInput) → counts_in rs (interrupted reading i) ≡ counts_in rs i
@@ -353,13 +353,13 @@ abbrev pub event_taking : LineState → PageInput → Known → Taking
 event_taking reading i k = going_on (interrupted reading i) reading
 
 -- what is performed of it, by the answer
-Did-performed : (l : Limits) (t : Tape) (start now : Seen) (from done : State) (rest : List PageEvent) (r : Result (Unit {0}) Halt) (es : EnvironmentsOf)
-    → Performs l t start now done rest r es → Did l t start now from done rest r es
-Did-performed l t start now from done rest (Ok u) es p = p
-Did-performed l t start now from done rest (Err (Limited limit)) es p = p
-Did-performed l t start now from done rest (Err Output) es p = p
-Did-performed l t start now from done rest (Err Messages) es p = absurd p
-Did-performed l t start now from done rest (Err (Refused limit)) es p = absurd p
+TakingDone-performed : (l : Limits) (t : Tape) (start now : Seen) (from done : State) (rest : List PageEvent) (r : Result (Unit {0}) Halt) (es : EnvironmentsOf)
+    → Performs l t start now done rest r es → TakingDone l t start now from done rest r es
+TakingDone-performed l t start now from done rest (Ok u) es p = p
+TakingDone-performed l t start now from done rest (Err (Limited limit)) es p = p
+TakingDone-performed l t start now from done rest (Err Output) es p = p
+TakingDone-performed l t start now from done rest (Err Messages) es p = absurd p
+TakingDone-performed l t start now from done rest (Err (Refused limit)) es p = absurd p
 
 -- a fact is one of an answer that goes on
 OnOk-fact : {A F : Type 0} (r : Result A F) (P : Type 0) → P → OnOk r P
@@ -385,7 +385,7 @@ event_does event old new before behind out_old out_new err r input performs = re
       let allowed : first_passed before.limits (grown done) ≡ None =
       within-interrupted before.limits old.reader.registers.all old.reader.reading before.input ready.within in
       let step_is : step before.limits from ≡ done = opens.opens ∙ ap (λ (o : Option Limit). unless_refused before.limits o from done) allowed in
-      Did-performed before.limits t0 start _ from done rest r new.environments
+      TakingDone-performed before.limits t0 start _ from done rest r new.environments
       (performs.events_performed.performs before.limits t0 start failures err done h rest stands (record {
         comes = Leads-to before.limits (initial t0) from done reaches.comes step_is;
         text = rw (← opens.wrote) reaches.text;

@@ -8,7 +8,7 @@ use Rattle.roff_engine.specs.declared.formatter.Formatter.{Formatter}
 use Rattle.roff_engine.specs.declared.halt.Halt.{Halt}
 use Rattle.roff_engine.specs.declared.halt.Halt.TheVariants.{Limit as Limited, Refused, Output, Messages}
 use Rattle.roff_engine.specs.Engine.Outcome.{Reaches, Seen, seen}
-use Rattle.roff_engine.specs.Formatter.Performing.{Did, Does, DoesMeaning, DoesTaking, Means, Opens, PerformsOnly, RefusedAt, Sinks, acting, going}
+use Rattle.roff_engine.specs.Formatter.Performing.{TakingDone, MeaningDone, DoesMeaning, DoesTaking, Means, Opens, PerformsOnly, RefusedAt, Sinks, acting, going}
 use Rattle.roff_pages.specs.Sinks.{Sunk}
 use Rattle.roff_pages.proofs.Appending.{Writes-nothing}
 use Rattle.roff_engine.proofs.Performed.{does_events, does_halted, messages_told}
@@ -16,7 +16,7 @@ use Rattle.roff_requests.specs.Environments.Standing.{StandFor}
 use Rattle.roff_requests.specs.Events.Meant.{events_meant}
 use Rattle.roff_requests.specs.declared.environments.Environments.{Environments as EnvironmentsOf}
 use Rattle.roff_run.specs.Output.{PageHistory}
-use Rattle.roff_reader.specs.Reader.Taken.{Became, IsReady, TakesAs}
+use Rattle.roff_reader.specs.Reader.Taken.{CameTo, IsReady, TakesAs}
 use Rattle.roff_run.specs.Reading.Items.{PageUnread}
 use Rattle.roff_reader.specs.Reader.State.{ReaderState}
 use Rattle.roff_run.specs.Reading.Items.{PageInput, Taking, meaning_events}
@@ -30,7 +30,7 @@ use Rattle.roff_reader.specs.declared.reader.Meaning.{Meaning}
 
 -- what was done of a meaning was done of the taking
 did_does : (l : Limits) (t : Tape) (before now : Seen) (from s : State) (rest : List PageEvent) (r : Result (Unit {0}) Halt) (es : EnvironmentsOf)
-    → Does l t before now from s rest r es → Did l t before now from s rest r es
+    → MeaningDone l t before now from s rest r es → TakingDone l t before now from s rest r es
 did_does l t before now from s rest (Ok u) es d = d
 did_does l t before now from s rest (Err (Limited limit)) es d = d
 did_does l t before now from s rest (Err (Refused limit)) es d = absurd d
@@ -89,7 +89,7 @@ module _ (t : Known → Taking) (old mid : Formatter) (before behind : PageUnrea
   -- where something was done of that, it became what it becomes
   became_taken : (new : Formatter) (r : Result (Unit {0}) Halt) → new.reader ≡ mid.reader
       → (l : Limits) (h : PageHistory) → StandFor l h old.environments → IsReady old.reader.registers before
-      → OnOk r (Became (t (known_at h old.reader.registers.all before.input)) old.reader.registers new.reader before behind)
+      → OnOk r (CameTo (t (known_at h old.reader.registers.all before.input)) old.reader.registers new.reader before behind)
   became_taken new r kept l h stood ready = on_ok r (rw kept (takes.takes l h stood ready).became)
 
   -- what it means was done, as far as it was done
@@ -98,7 +98,7 @@ module _ (t : Known → Taking) (old mid : Formatter) (before behind : PageUnrea
       → StandFor before.limits h old.environments → IsReady old.reader.registers before
       → Reaches before.limits t0 start (seen failures told_old.out told_old.err) from
       → let state : State = taken_as (t (known_at h old.reader.registers.all before.input)) (going tape before.input old.reader.reading old.reader.registers.all h messages is_closing to_do) in
-      Opens before.limits from state h messages → Does before.limits t0 start (seen failures told_new.out told_new.err) from state to_do r new.environments
+      Opens before.limits from state h messages → MeaningDone before.limits t0 start (seen failures told_new.out told_new.err) from state to_do r new.environments
   done_taken new told_old told_new r done t0 start failures from tape h messages is_closing to_do stood ready reached opens =
       let k = known_at h old.reader.registers.all before.input in
       let took = takes.takes before.limits h stood ready in

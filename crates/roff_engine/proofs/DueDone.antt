@@ -19,7 +19,7 @@ use Rattle.roff_run.specs.declared.status.Status.TheVariants.{Aborted, Device}
 use Rattle.roff_run.proofs.InputCounts.{NoMore-leaving, NoMore-released, first_passed-no_more}
 use Rattle.roff_engine.specs.declared.running.Running.{Running as Coded}
 use Rattle.roff_engine.specs.Engine.Outcome.{Seen, IsLeftOf, IsRest, MessagesFail, seen}
-use Rattle.roff_engine.specs.Running.Turning.{Acts, IsAt, DoesDue, TookFrom, state_at}
+use Rattle.roff_engine.specs.Running.Turning.{DoesItem, IsAt, DoesDue, TookFrom, state_at}
 use Rattle.roff_pages.specs.Sinks.{Sunk, Writes, Fails}
 use Rattle.roff_engine.proofs.Acting.{IsLeftOf-looked_then}
 use Rattle.roff_engine.proofs.Calls.{Leaves}
@@ -197,7 +197,7 @@ module _ (old new : Coded) (now behind : Seen) (status : Status) (is : due old.f
   }
 
   -- the run ends there
-  pub left_due : Acts old.unread.input.line end_met (moved old left) new now behind (Err status) → DoesDue old new now behind (Err status)
+  pub left_due : DoesItem old.unread.input.line end_met (moved old left) new now behind (Err status) → DoesDue old new now behind (Err status)
   left_due acts = record {
     limits = acts.limits;
     idle = λ none. (let wrong : None ≡ Some LeavesInput = sym none ∙ is in absurd (cc));

@@ -19,7 +19,7 @@ use Rattle.roff_engine.specs.declared.formatter.Formatter.{Formatter}
 use Rattle.roff_engine.specs.declared.halt.Halt.{Halt}
 use Rattle.roff_engine.specs.declared.halt.Halt.TheVariants.{Limit as Limited, Refused, Output, Messages}
 use Rattle.roff_engine.specs.Engine.Outcome.{Seen, AppendsBetween, NoFewerFaults, Reaches, seen}
-use Rattle.roff_engine.specs.Formatter.Performing.{StoppedAt, FailedAt, LostAt, Performs, PerformsOnly, Means, Does, DoesMeaning, acting, sinks}
+use Rattle.roff_engine.specs.Formatter.Performing.{StoppedAt, FailedAt, LostAt, Performs, PerformsOnly, Means, MeaningDone, DoesMeaning, acting, sinks}
 use Rattle.roff_run.specs.Messages.{message_lines}
 use Rattle.roff_run.specs.declared.message.Message.{Message}
 use Rattle.roff_run.specs.Output.{PageHistory, text_of, finished_bytes, written_by}
@@ -226,7 +226,7 @@ module _ (l : Limits) (t : Tape) (before : Seen) (failures : ℕ) (out old new :
 
 -- what was performed of what an item means was done of it
 pub does_events : (l : Limits) (t : Tape) (before now : Seen) (from s : State) (rest : List PageEvent) (r : Result (Unit {0}) Halt) (es : EnvironmentsOf)
-    → Performs l t before now s rest r es → Does l t before now from s rest r es
+    → Performs l t before now s rest r es → MeaningDone l t before now from s rest r es
 does_events l t before now from s rest (Ok u) es p = p
 does_events l t before now from s rest (Err (Limited limit)) es p = p
 does_events l t before now from s rest (Err (Refused limit)) es p = p
@@ -243,7 +243,7 @@ performs_halted l t before now s rest left Messages es others p = p
 
 -- nor does it for what an item means
 pub does_halted : (l : Limits) (t : Tape) (before now : Seen) (from s : State) (rest left : List PageEvent) (halt : Halt) (es others : EnvironmentsOf)
-    → Does l t before now from s rest (Err halt) es → Does l t before now from s left (Err halt) others
+    → MeaningDone l t before now from s rest (Err halt) es → MeaningDone l t before now from s left (Err halt) others
 does_halted l t before now from s rest left (Limited limit) es others p = p
 does_halted l t before now from s rest left (Refused limit) es others p = p
 does_halted l t before now from s rest left Output es others p = p

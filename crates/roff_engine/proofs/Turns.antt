@@ -27,7 +27,7 @@ use Rattle.roff_run.specs.TurnsToCome.{begun, turns_to_come, turns_within}
 use Rattle.roff_engine.specs.declared.halt.Halt.TheVariants.{Refused}
 use Rattle.roff_engine.specs.declared.running.Running.{Running as Coded}
 use Rattle.roff_engine.specs.Engine.Outcome.{Seen, Outcome, seen}
-use Rattle.roff_engine.specs.Running.Turning.{Acts, AsksFirst, Continues, Halts, HasTape, IsAt, IsEnded, StepDoes, TookFrom, TurnsBy, input_ends, state_at, turns_left}
+use Rattle.roff_engine.specs.Running.Turning.{DoesItem, AsksFirst, Continues, Halts, HasTape, IsAt, IsEnded, StepDoes, TookFrom, TurnsBy, input_ends, state_at, turns_left}
 use Rattle.roff_pages.specs.Sinks.{Sunk, Puts}
 use Rattle.roff_engine.proofs.Calls.{EndsThere, EndsThere-takes, Leaves, Leaves-takes}
 use Rattle.roff_engine.proofs.Items.{end_passed, moved, return_passed, returned, note_told, refused, source_failed, source_stopped, took}
@@ -76,7 +76,7 @@ module _ {gave gives : Tape → Type 0} {old : Coded} {left : PageUnread} {taken
   -- what is done with the item leaves fewer turns
   fewer_behind : (doing : State → State) (line : ℕ) (new : Coded) (now after : Seen) (r : Result (Unit {0}) Status) → notes ≤ noted
       → OnOk r (LeavesFewer doing old left) → old.unread.limits ≡ old.limits
-      → (acts : Acts line doing (moved old left) new now after r)
+      → (acts : DoesItem line doing (moved old left) new now after r)
       → (t tape : Tape) (start : Seen) (from : State) → TookFrom t tape start now line doing from (moved old left)
       → Falls noted notes old new r
   fewer_behind doing line new now after (Ok done) less fewer limits acts t tape start from took =
@@ -94,13 +94,13 @@ module _ {gave gives : Tape → Type 0} {old : Coded} {left : PageUnread} {taken
       → (old.unread.limits ≡ old.limits → (tape : Tape) → gives tape → (h : PageHistory) (ms : List ℕ)
       → let from : State = state_at (items_then taken tape) old h ms in does from ≡ made old.limits from (doing (state_at tape (moved old left) h ms)))
       → OnOk r (LeavesFewer doing old left)
-      → Acts line doing (moved old left) new (seen failures out err) after r
+      → DoesItem line doing (moved old left) new (seen failures out err) after r
       → TurnsBy does gave gives noted notes old new (seen failed out err) after r
   acted doing line new failed failures out err after r more less line_is shows fewer acts =
       turned new (seen failed out err) after r acts.limits (λ t tape start may at goes.
       let from : State = state_at (items_then taken tape) old at.history at.messages in
-      let own : Acts old.unread.input.line doing (moved old left) new (seen failures out err) after r =
-      subst (λ (n : ℕ). Acts n doing (moved old left) new (seen failures out err) after r) line_is acts in
+      let own : DoesItem old.unread.input.line doing (moved old left) new (seen failures out err) after r =
+      subst (λ (n : ℕ). DoesItem n doing (moved old left) new (seen failures out err) after r) line_is acts in
       let took_it : TookFrom t tape start (seen failures out err) old.unread.input.line doing from (moved old left) =
       took leaves failed failures out err more t tape start may at doing (goes ∙ shows at.limits tape may at.history at.messages) in (
         own.acts t tape start from took_it,
@@ -187,7 +187,7 @@ FrontTurn gave gives noted notes old new now after r = TurnsBy (λ s. in_front_t
 module _ {gave gives : Tape → Type 0} {left : PageUnread} (old : Coded) (failed failures : ℕ) (out err : Sunk) (noted notes : ℕ) (more : failed ≤ failures) (less : notes ≤ noted) where
   -- a byte
   pub front_byte : (b line : ℕ) (new : Coded) (after : Seen) (r : Result (Unit {0}) Status) → Takes gave gives old.unread left (ShowsByte b)
-      → line ≡ old.unread.input.line → Acts line (byte_taken b) (moved old left) new (seen failures out err) after r → FrontTurn gave gives noted notes old new (seen failed out err) after r
+      → line ≡ old.unread.input.line → DoesItem line (byte_taken b) (moved old left) new (seen failures out err) after r → FrontTurn gave gives noted notes old new (seen failed out err) after r
   front_byte b line new after r call line_is acts =
       let leaves = leaves_front old call in
       let fewer : LeavesFewer (byte_taken b) old left = λ s is same.
@@ -196,7 +196,7 @@ module _ {gave gives : Tape → Type 0} {left : PageUnread} (old : Coded) (faile
 
   -- an event that was put back
   pub front_event : (event : PageEvent) (line : ℕ) (new : Coded) (after : Seen) (r : Result (Unit {0}) Status) → Takes gave gives old.unread left (ShowsDo event)
-      → line ≡ old.unread.input.line → Acts line (ahead_taken (DoAhead event)) (moved old left) new (seen failures out err) after r → FrontTurn gave gives noted notes old new (seen failed out err) after r
+      → line ≡ old.unread.input.line → DoesItem line (ahead_taken (DoAhead event)) (moved old left) new (seen failures out err) after r → FrontTurn gave gives noted notes old new (seen failed out err) after r
   front_event event line new after r call line_is acts =
       let leaves = leaves_front old call in
       let fewer : LeavesFewer (ahead_taken (DoAhead event)) old left = λ s is same.
@@ -232,7 +232,7 @@ module _ {gave gives : Tape → Type 0} {left : PageUnread} (old : Coded) (faile
 
   -- the end of the input
   pub front_ended : (new : Coded) (after : Seen) (r : Result (Unit {0}) Status) → Takes gave gives old.unread left (ShowsEnding Ended)
-      → (left.looked ≡ None → Acts left.input.line input_ends (moved old left) new (seen failures out err) after r)
+      → (left.looked ≡ None → DoesItem left.input.line input_ends (moved old left) new (seen failures out err) after r)
       → OnOk r (IsEnded left.input.escapes old.formatter.reader.reading) → FrontTurn gave gives noted notes old new (seen failed out err) after r
   front_ended new after r call acts half =
       let leaves = leaves_front old call in

@@ -23,7 +23,7 @@ use Rattle.roff_run.specs.Reading.Items.{PageInput}
 use Rattle.roff_run.specs.Run.{State, awaited, awaited_of_source, byte_taken, front_seen, escape_ends, in_front_taken, known, made, step, waiting}
 use Rattle.roff_engine.specs.declared.running.Running.{Running as Coded}
 use Rattle.roff_engine.specs.Engine.Outcome.{Seen, seen}
-use Rattle.roff_engine.specs.Running.Turning.{Acts, IsAt, StepDoes, TurnsBy, state_at, turns_left}
+use Rattle.roff_engine.specs.Running.Turning.{DoesItem, IsAt, StepDoes, TurnsBy, state_at, turns_left}
 use Rattle.roff_pages.specs.Sinks.{Sunk, Puts}
 use Rattle.roff_engine.proofs.Calls.{EndsThere, EndsThere-looks, IsEndingSeen, Leaves, Leaves-looks, Leaves-deciding}
 use Rattle.roff_engine.proofs.Items.{looked_at, moved, note_told, source_failed, source_stopped}
@@ -109,7 +109,7 @@ module _ {gave gives : Tape → Type 0} {left : PageUnread} (old : Coded) (faile
   -- what is seen stays: what is half read ends
   pub waiting_ends : (seen_byte : Option ℕ) (sight : Sighted) (new : Coded) (after : Seen) (r : Result (Unit {0}) Status) → ShowsFront seen_byte sight
       → Looks gave gives old.unread left sight → is_ended_by left.input.escapes seen_byte ≡ true
-      → newline_stays old.unread.input.escapes ≡ true → Acts left.input.line escape_ends (moved old left) new (seen failures out err) after r
+      → newline_stays old.unread.input.escapes ≡ true → DoesItem left.input.line escape_ends (moved old left) new (seen failures out err) after r
       → WaitingTurn gave gives noted notes old new (seen failed out err) after r
   waiting_ends seen_byte sight new after r is call stays half acts =
       let leaves = leaves_look old call in
@@ -176,7 +176,7 @@ turn_as does other noted notes old new now behind r same turn = record {
 -- a condition that is read decides
 pub waiting_decides :
     (gives : Tape → Type 0) (old new : Coded) (failures : ℕ) (out err : Sunk) (notes : ℕ) (after : Seen) (r : Result (Unit {0}) Status)
-    → decides_now old.unread.input.escapes ≡ true → Acts old.unread.input.line escape_ends old new (seen failures out err) after r
+    → decides_now old.unread.input.escapes ≡ true → DoesItem old.unread.input.line escape_ends old new (seen failures out err) after r
     → TurnsBy (λ s. waiting old.limits s) gives gives notes notes old new (seen failures out err) after r
 waiting_decides gives old new failures out err notes after r decides acts =
     let fewer : LeavesFewer escape_ends old old.unread = λ s is same_reading.
@@ -288,7 +288,7 @@ awaited_byte l limits i s b goes_on (DoAhead event ∷ items) looked a tape behi
 -- a byte was taken that what is half read waits for
 module _ {gave gives : Tape → Type 0} {left : PageUnread} (old : Coded) (failed failures : ℕ) (out err : Sunk) (noted notes : ℕ) (more : failed ≤ failures) (less : notes ≤ noted) where
   pub waiting_byte : (b line : ℕ) (new : Coded) (after : Seen) (r : Result (Unit {0}) Status) → Takes gave gives old.unread left (ShowsByte b)
-      → WaitsFor old.unread.input.escapes b → line ≡ old.unread.input.line → Acts line (byte_taken b) (moved old left) new (seen failures out err) after r
+      → WaitsFor old.unread.input.escapes b → line ≡ old.unread.input.line → DoesItem line (byte_taken b) (moved old left) new (seen failures out err) after r
       → TurnsBy (λ s. waiting old.limits s) gave gives noted notes old new (seen failed out err) after r
   waiting_byte b line new after r call waits line_is acts =
       let u : PageUnread = old.unread in

@@ -29,7 +29,7 @@ pub(crate) struct Running {
 }
 
 impl Running {
-    ghost use Rattle.roff_engine.specs.Running.Turning.{Acts, TurnsBy};
+    ghost use Rattle.roff_engine.specs.Running.Turning.{DoesItem, TurnsBy};
 
     /// Takes an item of the input, or ends what is half read; nothing is due. An `Err` is the
     /// status of a run that ended.
@@ -210,7 +210,7 @@ impl Running {
         out: &mut O,
         err: &mut E,
     ) -> Result<(), Status>
-        ensures { (failures : ℕ) → Acts line_before (byte_taken byte) self.old self.new
+        ensures { (failures : ℕ) → DoesItem line_before (byte_taken byte) self.old self.new
             (seen failures (O.sunk out.old) (E.sunk err.old))
             (seen failures (O.sunk out.new) (E.sunk err.new)) result }
     {
@@ -230,7 +230,7 @@ impl Running {
         out: &mut O,
         err: &mut E,
     ) -> Result<(), Status>
-        ensures { (failures : ℕ) → Acts line_before (byte_taken byte) self.old self.new
+        ensures { (failures : ℕ) → DoesItem line_before (byte_taken byte) self.old self.new
             (seen failures (O.sunk out.old) (E.sunk err.old))
             (seen failures (O.sunk out.new) (E.sunk err.new)) result }
     {
@@ -249,7 +249,7 @@ impl Running {
         out: &mut O,
         err: &mut E,
     ) -> Result<(), Status>
-        ensures { (failures : ℕ) → Acts line_before (ahead_taken (DoAhead event)) self.old self.new
+        ensures { (failures : ℕ) → DoesItem line_before (ahead_taken (DoAhead event)) self.old self.new
             (seen failures (O.sunk out.old) (E.sunk err.old))
             (seen failures (O.sunk out.new) (E.sunk err.new)) result }
     {

@@ -32,7 +32,7 @@ use Rattle.roff_laws.specs.CallLaws.{BeginsLine, BodiesAreCalled, BodiesAreCalle
 use Rattle.roff_run.specs.Reading.ControlLines.{BelongsToName}
 use Rattle.roff_laws.specs.InterpolationLaws.{StandsForItself}
 use Rattle.roff_run.specs.Within.{IsWithin}
-use Rattle.roff_run.specs.Reading.{kept_taking, taking}
+use Rattle.roff_run.specs.Reading.{undropped_taking, taking}
 use Rattle.roff_run.specs.Reading.Calls.{holding_call}
 use Rattle.roff_run.specs.Reading.ControlLines.{behind_called, called_taking, ends_name, name_ended_taking, name_whole_taking}
 use Rattle.roff_run.specs.Reading.Ends.{due}
@@ -63,14 +63,14 @@ pub record ReadsAs (names : Named Entry) (name : ShortName) (there : LineState) 
   is : called_by name names ≡ called
   none_due : due there ≡ None
   whole : (i : PageInput) (breaks : Bool) → behind_called i breaks called ≡ going_on i there
-  ended : (k : Known) (i : PageInput) (breaks : Bool) (b : ℕ) → called_taking k i breaks called b ≡ kept_taking k there i b
+  ended : (k : Known) (i : PageInput) (breaks : Bool) (b : ℕ) → called_taking k i breaks called b ≡ undropped_taking k there i b
 
 turns-second : (names : Named Entry) (a : Arguments) (texts : List (List ℕ)) (breaks : Bool) (first b : ℕ) (there : LineState) → BelongsToName b
     → ReadsAs names (record { first = first; second = Some b }) there → Turns names (stage (Name breaks first) a texts) b (stage there a texts)
 turns-second names a texts breaks first b there belongs reads k i =
     let here : PageInput = input_at names (stage (Name breaks first) a texts) i in
     let name : ShortName = record { first = first; second = Some b } in
-    ap (λ (c : Bool). if c then going_on here (Name breaks first) else kept_taking k (Name breaks first) here b) (not-first (is_dropped b) (ends_name b) belongs)
+    ap (λ (c : Bool). if c then going_on here (Name breaks first) else undropped_taking k (Name breaks first) here b) (not-first (is_dropped b) (ends_name b) belongs)
     ∙ ap (λ (c : Bool). if c then name_ended_taking k here breaks (record { first = first; second = None }) b else name_whole_taking here breaks name)
     (not-second (is_dropped b) (ends_name b) belongs)
     ∙ ap (behind_called here breaks) reads.is
@@ -170,7 +170,7 @@ turns-call names name a texts b itself k i =
     let unit : byte_read AboveArguments [] b ≡ (GivesUnit (Byte b), []) =
     ap (λ (c : Bool). if c then (GoesOn, Backslash ∷ []) else (GivesUnit (Byte b), [])) (not-first (b == backslash) (is_dropped b || b == newline) itself) in
     let others : Taking = if b == quote then going_on (holding_call (Byte b) here) reading else going_on (holding_call (Byte b) (settling here)) reading in
-    ap (λ (c : Bool). if c then going_on (settling here) reading else kept_taking k reading here b) (not-first (is_dropped b) (b == newline) read)
+    ap (λ (c : Bool). if c then going_on (settling here) reading else undropped_taking k reading here b) (not-first (is_dropped b) (b == newline) read)
     ∙ ap (read_in k (Calling name) here) unit
     ∙ ap (λ (c : Bool). if c then going_on (calling_body (body_named (name_bytes name) here) here) LineStart else others) (not-second (is_dropped b) (b == newline) read)
     ∙ ap (λ (j : PageInput). if b == quote then going_on j reading else going_on (holding_call (Byte b) (settling here)) reading)

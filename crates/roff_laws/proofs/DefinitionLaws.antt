@@ -32,7 +32,7 @@ use Rattle.roff_run.specs.Definitions.{end_mark, front_of, line_from, line_with,
 use Rattle.roff_laws.specs.InterpolationLaws.{StandsForItself}
 use Rattle.roff_run.specs.Within.{IsWithin}
 use Rattle.roff_run.specs.Output.{PageHistory}
-use Rattle.roff_run.specs.Reading.{kept_taking, taking}
+use Rattle.roff_run.specs.Reading.{undropped_taking, taking}
 use Rattle.roff_run.specs.Reading.DefinedLines.{behind_definition, definition_line, definition_unit}
 use Rattle.roff_run.specs.Reading.Definitions.{definition_grown}
 use Rattle.roff_run.specs.Reading.Found.{read_in}
@@ -117,7 +117,7 @@ reads-unit : (names : Named Entry) (d : Definition) (a : Arguments) (text : List
 reads-unit names d a text matched half unit b k i is_kept reads =
     let reading : LineState = Defining d.name d.appends d.end matched in
     let here : PageInput = record (input_at names (defining d a text matched) i) { escapes = half } in
-    ap (λ (c : Bool). if c then going_on here reading else kept_taking k reading here b) is_kept
+    ap (λ (c : Bool). if c then going_on here reading else undropped_taking k reading here b) is_kept
     ∙ ap (read_in k (Defining d.name d.appends d.end matched) here) reads
 
 -- a byte that is no backslash gives itself

@@ -21,7 +21,7 @@ use Rattle.roff_run.specs.declared.request.Request.{Request}
 use Rattle.roff_run.specs.declared.status.Status.{Status}
 use Rattle.roff_laws.specs.InterpolationLaws.{StandsForItself, reads_escapes, with_source_behind, cost_of_all, TextsCostTheirBytesAndOne}
 use Rattle.roff_run.specs.ItemsTaken.{TakesItems}
-use Rattle.roff_run.specs.Reading.{taking, kept_taking, interrupted}
+use Rattle.roff_run.specs.Reading.{taking, undropped_taking, interrupted}
 use Rattle.roff_run.specs.Reading.Ends.{due}
 use Rattle.roff_run.specs.Reading.Items.{PageInput, Taking, going_on}
 use Rattle.roff_run.specs.Reading.Found.{place_in, read_in}
@@ -89,26 +89,26 @@ none_due-reads _ (OnDefinition string appends end matched) = refl
 none_due-reads _ (OnMessage aborts is_front) = refl
 
 -- a byte that isn't dropped
-kept_taking-reads : (k : Known) (reading : LineState) (i : PageInput) (b : ℕ) → ReadsEscapes reading
-    → kept_taking k reading i b ≡ read_in k reading i (byte_read (place_in k reading) i.escapes b)
-kept_taking-reads k _ i b AtBeginning = refl
-kept_taking-reads k _ i b AtBranch = refl
-kept_taking-reads k _ i b AtBraced = refl
-kept_taking-reads k _ i b (OnText line) = refl
-kept_taking-reads k _ i b (OnArguments breaks request) = refl
-kept_taking-reads k _ i b (OnCondition keeps) = refl
-kept_taking-reads k _ i b (OnStringName appends) = refl
-kept_taking-reads k _ i b (OnCall string) = refl
-kept_taking-reads k _ i b (OnStringText string appends is_front) = refl
-kept_taking-reads k _ i b (OnDefinition string appends end matched) = refl
-kept_taking-reads k _ i b (OnMessage aborts is_front) = refl
+undropped_taking-reads : (k : Known) (reading : LineState) (i : PageInput) (b : ℕ) → ReadsEscapes reading
+    → undropped_taking k reading i b ≡ read_in k reading i (byte_read (place_in k reading) i.escapes b)
+undropped_taking-reads k _ i b AtBeginning = refl
+undropped_taking-reads k _ i b AtBranch = refl
+undropped_taking-reads k _ i b AtBraced = refl
+undropped_taking-reads k _ i b (OnText line) = refl
+undropped_taking-reads k _ i b (OnArguments breaks request) = refl
+undropped_taking-reads k _ i b (OnCondition keeps) = refl
+undropped_taking-reads k _ i b (OnStringName appends) = refl
+undropped_taking-reads k _ i b (OnCall string) = refl
+undropped_taking-reads k _ i b (OnStringText string appends is_front) = refl
+undropped_taking-reads k _ i b (OnDefinition string appends end matched) = refl
+undropped_taking-reads k _ i b (OnMessage aborts is_front) = refl
 
 -- a byte that is read
 pub taking-reads : (k : Known) (reading : LineState) (i : PageInput) (b : ℕ) → ReadsEscapes reading → IsRead b
     → taking k reading i b ≡ read_in k reading i (byte_read (place_in k reading) i.escapes b)
 taking-reads k reading i b on read =
-    ap (λ (d : Bool). if d then going_on (interrupted reading i) reading else kept_taking k reading i b) (not-first (is_dropped b) (b == newline) read)
-    ∙ kept_taking-reads k reading i b on
+    ap (λ (d : Bool). if d then going_on (interrupted reading i) reading else undropped_taking k reading i b) (not-first (is_dropped b) (b == newline) read)
+    ∙ undropped_taking-reads k reading i b on
 
 -- the arguments of a line where no quote follows the quote before
 abbrev pub settled_for : LineState → Arguments → Arguments

@@ -18,7 +18,7 @@ use Rattle.roff_run.proofs.ItemsTaken.{not-first, not-second}
 use Rattle.roff_laws.specs.InterpolationLaws.{StandsForItself}
 use Rattle.roff_laws.specs.MessageLaws.{MessagesAreTheirTexts, TellsText, without_front}
 use Rattle.roff_laws.specs.Quoting.{taking_all}
-use Rattle.roff_run.specs.Reading.{kept_taking, taking}
+use Rattle.roff_run.specs.Reading.{undropped_taking, taking}
 use Rattle.roff_run.specs.Reading.Items.{PageInput, Taking, going_on}
 use Rattle.roff_run.specs.Reading.Found.{read_in}
 use Rattle.roff_run.specs.Registers.{Known}
@@ -40,7 +40,7 @@ taking-message k aborts is_front i a b itself =
     let others : Taking = if is_front && b == blank then going_on held (Telling aborts true) else going_on (holding_plain (Byte b) held) (Telling aborts false) in
     let unit : byte_read AboveCopy [] b ≡ (GivesUnit (Byte b), []) =
     ap (λ (c : Bool). if c then (GoesOn, Backslash ∷ []) else (GivesUnit (Byte b), [])) (not-first (b == backslash) (is_dropped b || b == newline) itself) in
-    ap (λ (c : Bool). if c then going_on held reading else kept_taking k reading held b) (not-first (is_dropped b) (b == newline) read)
+    ap (λ (c : Bool). if c then going_on held reading else undropped_taking k reading held b) (not-first (is_dropped b) (b == newline) read)
     ∙ ap (read_in k (Telling aborts is_front) held) unit
     ∙ ap (λ (c : Bool). if c then going_on held (Told aborts) else others) (not-second (is_dropped b) (b == newline) read)
 

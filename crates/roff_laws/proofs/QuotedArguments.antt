@@ -20,7 +20,7 @@ use Rattle.roff_run.proofs.ItemsTaken.{not-first, not-second}
 use Rattle.roff_run.specs.declared.line_state.LineState.{LineState}
 use Rattle.roff_laws.specs.InterpolationLaws.{StandsForItself}
 use Rattle.roff_laws.specs.Quoting.{both, given_taking, taking_all, RequestsGetQuotedArguments}
-use Rattle.roff_run.specs.Reading.{taking, kept_taking}
+use Rattle.roff_run.specs.Reading.{taking, undropped_taking}
 use Rattle.roff_run.specs.Reading.Arguments.{arguments_ended}
 use Rattle.roff_run.specs.Reading.Definitions.{definition_named, lines_begun}
 use Rattle.roff_run.specs.Reading.Found.{read_in}
@@ -50,7 +50,7 @@ taking-argument k breaks request i a b itself =
     let read : IsRead b = IsRead-itself b itself in
     let unit : byte_read AboveArguments [] b ≡ (GivesUnit (Byte b), []) =
     ap (λ (c : Bool). if c then (GoesOn, Backslash ∷ []) else (GivesUnit (Byte b), [])) (not-first (b == backslash) (is_dropped b || b == newline) itself) in
-    ap (λ (c : Bool). if c then going_on (settling held) reading else kept_taking k reading held b) (not-first (is_dropped b) (b == newline) read)
+    ap (λ (c : Bool). if c then going_on (settling held) reading else undropped_taking k reading held b) (not-first (is_dropped b) (b == newline) read)
     ∙ ap (read_in k (InArguments breaks request) held) unit
     ∙ ap (λ (c : Bool). if c then arguments_ended k held breaks request (row_of request).line else going_on (holding (Byte b) held) reading) (not-second (is_dropped b) (b == newline) read)
     ∙ ap (λ (arguments : Arguments). going_on (record i { escapes = []; arguments = arguments }) reading) (only_kept-with_unit a (Byte b))

@@ -7,7 +7,7 @@ use Rattle.std.proofs.lemmas.List.Elements.{All-head, All-tail}
 use Rattle.roff_source.specs.Bytes.{newline, backslash, is_dropped}
 use Rattle.roff_laws.specs.ConditionLaws.{is_whole, escapes_among, MayEnd, AreKept, SkippedBranchesDoNothing, BranchesAreSkippedToTheirEnd}
 use Rattle.roff_laws.specs.Quoting.{both, taking_all}
-use Rattle.roff_run.specs.Reading.{kept_taking, taking}
+use Rattle.roff_run.specs.Reading.{undropped_taking, taking}
 use Rattle.roff_run.specs.Reading.Branches.{counted_if, most_braces, skipping_taking}
 use Rattle.roff_run.specs.Reading.Items.{PageInput, Taking, going_on}
 use Rattle.roff_run.specs.Registers.{Known}
@@ -135,7 +135,7 @@ skipped-by i bytes b false whole not_so few = skipped-escape i bytes b whole few
 taking-skipped : (k : Known) (i : PageInput) (bytes : List ℕ) (b : ℕ) → is_dropped b ≡ false
     → taking k (skipped_behind bytes) i b ≡ skipping_taking i (escapes_among 123 bytes) (escapes_among 125 bytes) (not (is_whole bytes)) b
 taking-skipped k i bytes b is_kept =
-    ap (λ (d : Bool). if d then going_on i (skipped_behind bytes) else kept_taking k (skipped_behind bytes) i b) is_kept
+    ap (λ (d : Bool). if d then going_on i (skipped_behind bytes) else undropped_taking k (skipped_behind bytes) i b) is_kept
 
 pub taking-goes_on : (k : Known) (i : PageInput) (bytes : List ℕ) (b : ℕ) → is_dropped b ≡ false → (MayEnd (bytes ++ b ∷ []) → ⊥) → length bytes + 1 ≤ most_braces
     → taking k (skipped_behind bytes) i b ≡ going_on i (skipped_behind (bytes ++ b ∷ []))

@@ -22,7 +22,7 @@ use Rattle.roff_reader.proofs.HeldRuns.{passed-counted}
 use Rattle.roff_run.proofs.TextBytes.{is_other, kept-text}
 use Rattle.roff_reader.specs.Reader.State.{ReaderState}
 use Rattle.roff_run.specs.Reading.Items.{PageUnread}
-use Rattle.roff_run.specs.Reading.{interrupted, kept_taking, taking}
+use Rattle.roff_run.specs.Reading.{interrupted, undropped_taking, taking}
 use Rattle.roff_run.specs.Reading.Definitions.{definition_grown}
 use Rattle.roff_run.specs.Reading.Ends.{due}
 use Rattle.roff_run.specs.Reading.Found.{read_in}
@@ -40,7 +40,7 @@ grows-text : (name : Option ShortName) (appends : Bool) (end : Option ShortName)
 grows-text name appends end b k i text none_half =
     let reading : LineState = Defining name appends end None in
     let bare : PageInput = record i { escapes = [] } in
-    ap (λ (c : Bool). if c then going_on (interrupted reading i) reading else kept_taking k reading i b)
+    ap (λ (c : Bool). if c then going_on (interrupted reading i) reading else undropped_taking k reading i b)
     (kept-text (nat_lt b 32) (b == 127) (b == backslash) (not (b == newline || b == tab || is_silent b)) text)
     ∙ ap (λ (half : List OpenEscape). read_in k (Defining name appends end None) i (byte_read AboveCopy half b)) none_half
     ∙ ap (λ (c : Bool). read_in k (Defining name appends end None) i (if c then (GoesOn, Backslash ∷ []) else (GivesUnit (Byte b), [])))

@@ -12,7 +12,7 @@ use Rattle.roff_ahead.specs.Input.Names.{adding}
 use Rattle.roff_scan.specs.Unread.{changing}
 use Rattle.roff_run.specs.Definitions.{end_mark, front_of}
 use Rattle.roff_reader.specs.Reader.State.{ReaderState}
-use Rattle.roff_reader.specs.Reader.Taken.{InputBecame, TakesAs}
+use Rattle.roff_reader.specs.Reader.Taken.{InputCameTo, TakesAs}
 use Rattle.roff_run.specs.Reading.Items.{PageUnread}
 use Rattle.roff_run.specs.Reading.Arguments.{arguments_ended, line_ended}
 use Rattle.roff_run.specs.Reading.Definitions.{definition_begun, definition_grown}
@@ -26,7 +26,7 @@ use Rattle.roff_run.specs.declared.request.LineReading.TheVariants.{ByArguments,
 use Rattle.roff_run.specs.declared.request.LinesFor.{LinesFor}
 use Rattle.roff_run.specs.declared.request.Request.{Request}
 use Rattle.roff_run.proofs.InputCounts.{NoMore}
-use Rattle.roff_reader.proofs.Strings.{InputBecame-changing}
+use Rattle.roff_reader.proofs.Strings.{InputCameTo-changing}
 use Rattle.roff_reader.proofs.TakesAs.{TakesAs-less}
 
 -- the line of any request but one by which lines are defined ends as the request is obeyed
@@ -67,10 +67,10 @@ TakesAs-behind_line name appends end es old new before mid behind result finishe
     (subst (λ (t : Taking). TakesAs (λ k. t) es old new (line_finished before) behind result) (definition_begun-finished before.input name appends end) there)
 
 -- the text of a definition grows, if a name gets it
-pub InputBecame-defined : (name : Option ShortName) (bytes : List ℕ) (before behind : PageUnread) (result : Result (Unit {0}) Limit) → is_some name ≡ true
-    → (result, behind) ≡ changing (adding bytes before.input) before → InputBecame (definition_grown name bytes before.input) before behind result
-InputBecame-defined None bytes before behind result is changes = absurd (cc)
-InputBecame-defined (Some name) bytes before behind result is changes = InputBecame-changing (adding bytes before.input) before behind result changes
+pub InputCameTo-defined : (name : Option ShortName) (bytes : List ℕ) (before behind : PageUnread) (result : Result (Unit {0}) Limit) → is_some name ≡ true
+    → (result, behind) ≡ changing (adding bytes before.input) before → InputCameTo (definition_grown name bytes before.input) before behind result
+InputCameTo-defined None bytes before behind result is changes = absurd (cc)
+InputCameTo-defined (Some name) bytes before behind result is changes = InputCameTo-changing (adding bytes before.input) before behind result changes
 
 -- what stands in front of a line that may be the last one is a part of its mark
 mark_few : (end : Option ShortName) → length (end_mark end) ≤ 3

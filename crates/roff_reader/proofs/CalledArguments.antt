@@ -14,7 +14,7 @@ use Rattle.roff_arguments.specs.declared.arguments.Place.TheVariants.{Between, I
 use Rattle.roff_escape.specs.declared.open_escape.CopyUnit.TheVariants.{Byte}
 use Rattle.roff_escape.specs.declared.open_escape.Found.TheVariants.{GoesOn, Unit as GivesUnit}
 use Rattle.roff_escape.specs.declared.open_escape.Surroundings.TheVariants.{Arguments as AboveArguments}
-use Rattle.roff_run.specs.Reading.{kept_taking}
+use Rattle.roff_run.specs.Reading.{undropped_taking}
 use Rattle.roff_run.specs.Reading.Calls.{call_unit, holding_call}
 use Rattle.roff_run.specs.Reading.Found.{read_in}
 use Rattle.roff_run.specs.Reading.Items.{PageInput, going_on}
@@ -90,7 +90,7 @@ module _ (i : PageInput) (b : ℕ) (few : length i.arguments.whole < 8) where
 
 -- a byte there that is neither a newline nor a backslash is held
 pub call-byte : (k : Known) (name : ShortName) (i : PageInput) (b : ℕ) → i.escapes ≡ [] → length i.arguments.whole < 8
-    → (b == backslash) ≡ false → (b == newline) ≡ false → going_on (holding (Byte b) i) (Calling name) ≡ kept_taking k (Calling name) i b
+    → (b == backslash) ≡ false → (b == newline) ≡ false → going_on (holding (Byte b) i) (Calling name) ≡ undropped_taking k (Calling name) i b
 call-byte k name i b none few no_escape no_newline =
     let bare : PageInput = record i { escapes = [] } in
     let unit : byte_read AboveArguments [] b ≡ (GivesUnit (Byte b), []) =

@@ -14,7 +14,7 @@ use Rattle.roff_store.specs.Texts.{Entry}
 use Rattle.roff_reader.proofs.HeldRuns.{passed-counted}
 use Rattle.roff_reader.specs.Reader.State.{ReaderState}
 use Rattle.roff_run.specs.Reading.Items.{PageUnread}
-use Rattle.roff_run.specs.Reading.{interrupted, kept_taking}
+use Rattle.roff_run.specs.Reading.{interrupted, undropped_taking}
 use Rattle.roff_run.specs.Reading.Ends.{due}
 use Rattle.roff_run.specs.Reading.Found.{read_in}
 use Rattle.roff_run.specs.Reading.Items.{PageInput, going_on}
@@ -26,10 +26,10 @@ use Rattle.roff_run.specs.declared.line_state.LineState.TheVariants.{Deciding}
 -- a byte of a condition
 takes-deciding : (keeps : Bool) → TakesHalf (Deciding keeps)
 takes-deciding keeps k i b next (IsRead reads) =
-    ap (λ (c : Bool). if c then going_on (interrupted (Deciding keeps) i) (Deciding keeps) else kept_taking k (Deciding keeps) i b) reads.stands
+    ap (λ (c : Bool). if c then going_on (interrupted (Deciding keeps) i) (Deciding keeps) else undropped_taking k (Deciding keeps) i b) reads.stands
     ∙ ap (read_in k (Deciding keeps) i) (reads.goes_on AboveArguments)
 takes-deciding keeps k i b next (IsHeld top holds is) =
-    ap (λ (c : Bool). if c then going_on (interrupted (Deciding keeps) i) (Deciding keeps) else kept_taking k (Deciding keeps) i b) holds.stands
+    ap (λ (c : Bool). if c then going_on (interrupted (Deciding keeps) i) (Deciding keeps) else undropped_taking k (Deciding keeps) i b) holds.stands
     ∙ ap (read_in k (Deciding keeps) i) (holds.holds AboveArguments)
     ∙ ap (λ (half : List OpenEscape). going_on (record i { escapes = half }) (Deciding keeps)) (sym is)
 

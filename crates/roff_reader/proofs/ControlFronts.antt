@@ -19,7 +19,7 @@ use Rattle.roff_run.specs.Reading.ControlLines.{BelongsToName}
 use Rattle.roff_reader.specs.ControlFronts.{BeginsControl, LeadsTo, StandsReady, control_byte, half_begun, input_begun, is_deciding}
 use Rattle.roff_reader.specs.Reader.State.{ReaderState}
 use Rattle.roff_run.specs.Reading.Items.{PageUnread}
-use Rattle.roff_run.specs.Reading.{kept_taking}
+use Rattle.roff_run.specs.Reading.{undropped_taking}
 use Rattle.roff_run.specs.Reading.Beginnings.{at_start}
 use Rattle.roff_run.specs.Reading.ControlLines.{behind_called, ends_name, name_ended_taking, name_whole_taking}
 use Rattle.roff_run.specs.Reading.Ends.{due}
@@ -99,7 +99,7 @@ turns-called : (names : Named Entry) (a : Arguments) (texts : List (List ℕ)) (
 turns-called names a texts breaks first second there belongs leads k i =
     let here : PageInput = input_at names (stage_with (Name breaks first) [] a texts) i in
     let name : ShortName = record { first = first; second = Some second } in
-    ap (λ (c : Bool). if c then going_on here (Name breaks first) else kept_taking k (Name breaks first) here second) (not-first (is_dropped second) (ends_name second) belongs)
+    ap (λ (c : Bool). if c then going_on here (Name breaks first) else undropped_taking k (Name breaks first) here second) (not-first (is_dropped second) (ends_name second) belongs)
     ∙ ap (λ (c : Bool). if c then name_ended_taking k here breaks (record { first = first; second = None }) second else name_whole_taking here breaks name)
     (not-second (is_dropped second) (ends_name second) belongs)
     ∙ leads here

@@ -10,8 +10,8 @@ use Rattle.roff_source.specs.Bytes.{tab, newline, blank, apostrophe, dot, backsl
 use Rattle.roff_escape.specs.Characters.{character}
 use Rattle.roff_escape.specs.Escapes.{escape_of}
 use Rattle.roff_escape.specs.OpenEscapes.{byte_read}
-use Rattle.roff_ahead.specs.Input.{pushed, depth, results}
-use Rattle.roff_ahead.specs.Input.Calls.{keeping}
+use Rattle.roff_ahead.specs.Input.{pushed, depth, result_count}
+use Rattle.roff_ahead.specs.Input.Calls.{with_result}
 use Rattle.roff_ahead.specs.Input.Names.{names_added, stored}
 use Rattle.roff_scan.specs.Unread.{changing, input_refusal}
 use Rattle.roff_escape.specs.declared.escapes.Escape.{Escape as Kind}
@@ -26,7 +26,7 @@ use Rattle.roff_reader.specs.Reader.State.{ReaderState}
 use Rattle.roff_reader.specs.Reader.Taken.{Takes, TakesAs, Took}
 use Rattle.roff_run.specs.Reading.Items.{PageUnread}
 use Rattle.roff_run.specs.Reading.Beginnings.{at_start, beginning_found, first_escape, first_taking, going_on_told, line_begun, line_begun_as}
-use Rattle.roff_run.specs.Reading.Branches.{condition_found, decided, is_so, kept_if, skipping_taking}
+use Rattle.roff_run.specs.Reading.Branches.{condition_found, decided, is_so, with_result_if, skipping_taking}
 use Rattle.roff_run.specs.Reading.Items.{PageInput, Taking, behind_events}
 use Rattle.roff_run.specs.Reading.TextLines.{character_printed, escape_meant, escape_taking, text_taking}
 use Rattle.roff_run.specs.Reading.Units.{no_unit_found}
@@ -43,11 +43,11 @@ use Rattle.roff_reader.proofs.TakesAs.{few_names-of, passed_none, passed_one}
 
 -- a taking behind which a result is kept too
 abbrev with_kept : Bool → Taking → Taking
-with_kept so t = record t { input = keeping so t.input }
+with_kept so t = record t { input = with_result so t.input }
 
 -- what is taken doesn't ask what is kept
 abbrev Keeps : Bool → (PageInput → Taking) → Type 0
-Keeps so f = (i : PageInput) → f (keeping so i) ≡ with_kept so (f i)
+Keeps so f = (i : PageInput) → f (with_result so i) ≡ with_kept so (f i)
 
 -- by a test
 Keeps-if : (so c : Bool) (f g : PageInput → Taking) → Keeps so f → Keeps so g → Keeps so (λ i. if c then f i else g i)
@@ -150,16 +150,16 @@ unless_first : (limit first : Limit) (before now : Option Limit) (c : Bool) → 
 unless_first limit first before now true later passed = passed
 unless_first limit first before now false later passed = later passed
 
-first_passed-keeping : (l : Limits) (rs : AllRegisters) (so : Bool) (i : PageInput) (limit : Limit)
-    → first_passed l (counts_in rs i) ≡ Some limit → first_passed l (counts_in rs (keeping so i)) ≡ Some limit
-first_passed-keeping l rs so i limit passed =
+first_passed-with_result : (l : Limits) (rs : AllRegisters) (so : Bool) (i : PageInput) (limit : Limit)
+    → first_passed l (counts_in rs i) ≡ Some limit → first_passed l (counts_in rs (with_result so i)) ≡ Some limit
+first_passed-with_result l rs so i limit passed =
     unless_first limit Names _ _ (nat_lt l.names (length rs.named))
     (unless_first limit Diversions _ _ (nat_lt l.diversions (length i.open_texts - 1))
     (unless_first limit Store _ _ (nat_lt l.store (stored i))
     (unless_first limit Names _ _ (nat_lt l.names (names_added i))
     (unless_first limit Stack _ _ (nat_lt l.stack (pushed i))
     (unless_first limit Depth _ _ (nat_lt l.depth (depth i))
-    (results_more limit l.conditions (results i) (results (keeping so i)) (nat_lt l.conditions (results i)) refl (omega arith))))))) passed
+    (results_more limit l.conditions (result_count i) (result_count (with_result so i)) (nat_lt l.conditions (result_count i)) refl (omega arith))))))) passed
 
 -- the limit that a taking would pass, if it would pass one
 abbrev passed_by : Limits → AllRegisters → Taking → Option Limit
@@ -168,14 +168,14 @@ passed_by l rs t = first_passed l (counts_in (changed_by_all t.effect.changes rs
 -- a branch whose beginning a limit refuses
 pub TakesAs-not_begun : (keeps so : Bool) (freed : Option ℕ) (es : EnvironmentsOf) (old new : ReaderState) (before behind : PageUnread) (limit : Limit)
     → TakesAs (λ k. decided k before.input so freed) es old new before behind (Err limit)
-    → TakesAs (λ k. decided k (kept_if keeps so before.input) so freed) es old new before behind (Err limit)
+    → TakesAs (λ k. decided k (with_result_if keeps so before.input) so freed) es old new before behind (Err limit)
 TakesAs-not_begun false so freed es old new before behind limit begins = begins
 TakesAs-not_begun true so freed es old new before behind limit begins = record {
   takes = λ l h stands ready.
       let k : Known = known_at h old.registers.all before.input in
       let begun : Taking = decided k before.input so freed in
       subst (λ (t : Taking). passed_by before.limits old.registers.all t ≡ Some limit) (sym (Keeps-decided so k freed before.input))
-      (first_passed-keeping before.limits (changed_by_all begun.effect.changes old.registers.all) so begun.input limit (begins.takes l h stands ready));
+      (first_passed-with_result before.limits (changed_by_all begun.effect.changes old.registers.all) so begun.input limit (begins.takes l h stands ready));
 }
 
 -- what is known of an input behind a taking: of the counts but that of results none is above its limit
@@ -191,15 +191,15 @@ Begun-took t old new before mid m took = record {
 
 -- by the input that keeps a result behind it
 passed_by-kept : (so : Bool) (t : Taking) (old : Capped) (before mid : PageUnread) → Begun t old before mid
-    → passed_by before.limits old.all (with_kept so t) ≡ input_refusal mid.limits (keeping so mid.input)
+    → passed_by before.limits old.all (with_kept so t) ≡ input_refusal mid.limits (with_result so mid.input)
 passed_by-kept so t old before mid begun =
-    first_passed-few_names before.limits (changed_by_all t.effect.changes old.all) (keeping so t.input) begun.few
-    ∙ ap (λ (u : PageUnread). input_refusal u.limits (keeping so u.input)) (sym begun.came)
+    first_passed-few_names before.limits (changed_by_all t.effect.changes old.all) (with_result so t.input) begun.few
+    ∙ ap (λ (u : PageUnread). input_refusal u.limits (with_result so u.input)) (sym begun.came)
 
 -- a branch began, and a limit refuses to keep the result
 pub TakesAs-not_kept : (so : Bool) (freed : Option ℕ) (es : EnvironmentsOf) (old new : ReaderState) (before mid behind : PageUnread) (m : Meaning) (limit : Limit)
-    → TakesAs (λ k. decided k before.input so freed) es old new before mid (Ok m) → (Err limit, behind) ≡ changing (keeping so mid.input) mid
-    → TakesAs (λ k. decided k (keeping so before.input) so freed) es old new before behind (Err limit)
+    → TakesAs (λ k. decided k before.input so freed) es old new before mid (Ok m) → (Err limit, behind) ≡ changing (with_result so mid.input) mid
+    → TakesAs (λ k. decided k (with_result so before.input) so freed) es old new before behind (Err limit)
 TakesAs-not_kept so freed es old new before mid behind m limit begins keeps = record {
   takes = λ l h stands ready.
       let k : Known = known_at h old.registers.all before.input in
@@ -207,24 +207,24 @@ TakesAs-not_kept so freed es old new before mid behind m limit begins keeps = re
       let begun : Begun t old.registers before mid = Begun-took t old.registers new before mid m (begins.takes l h stands ready) in
       subst (λ (t : Taking). passed_by before.limits old.registers.all t ≡ Some limit) (sym (Keeps-decided so k freed before.input))
       (passed_by-kept so t old.registers before mid begun
-      ∙ passed_one (input_refusal mid.limits (keeping so mid.input)) (keeping so mid.input) mid behind limit keeps);
+      ∙ passed_one (input_refusal mid.limits (with_result so mid.input)) (with_result so mid.input) mid behind limit keeps);
 }
 
 -- or the result is kept
 pub TakesAs-kept : (so : Bool) (freed : Option ℕ) (es : EnvironmentsOf) (old new : ReaderState) (before mid behind : PageUnread) (m : Meaning) (done : Unit {0})
-    → TakesAs (λ k. decided k before.input so freed) es old new before mid (Ok m) → (Ok done, behind) ≡ changing (keeping so mid.input) mid
-    → TakesAs (λ k. decided k (keeping so before.input) so freed) es old new before behind (Ok m)
+    → TakesAs (λ k. decided k before.input so freed) es old new before mid (Ok m) → (Ok done, behind) ≡ changing (with_result so mid.input) mid
+    → TakesAs (λ k. decided k (with_result so before.input) so freed) es old new before behind (Ok m)
 TakesAs-kept so freed es old new before mid behind m done begins keeps = record {
   takes = λ l h stands ready.
       let k : Known = known_at h old.registers.all before.input in
       let t : Taking = decided k before.input so freed in
       let took : Took t old.registers new before mid m = begins.takes l h stands ready in
       let begun : Begun t old.registers before mid = Begun-took t old.registers new before mid m took in
-      let kept = passed_none (input_refusal mid.limits (keeping so mid.input)) (keeping so mid.input) mid behind done keeps in
+      let kept = passed_none (input_refusal mid.limits (with_result so mid.input)) (with_result so mid.input) mid behind done keeps in
       subst (λ (t : Taking). Took t old.registers new before behind m) (sym (Keeps-decided so k freed before.input))
       (record {
         became = record {
-          input = kept.0 ∙ ap (λ (u : PageUnread). (let with_it : PageUnread = record u { input = keeping so u.input } in with_it)) begun.came;
+          input = kept.0 ∙ ap (λ (u : PageUnread). (let with_it : PageUnread = record u { input = with_result so u.input } in with_it)) begun.came;
           reading = took.became.reading;
           registers = took.became.registers;
           within = passed_by-kept so t old.registers before mid begun ∙ kept.1;
@@ -237,12 +237,12 @@ TakesAs-kept so freed es old new before mid behind m done begins keeps = record 
 -- what a condition decides by these registers, that it decides
 pub TakesAs-decides : (keeps so : Bool) (decision : Decision) (freed : Option ℕ) (es : EnvironmentsOf) (old new : ReaderState) (before behind : PageUnread) (result : Result Meaning Limit)
     → ((k : Known) → k.registers ≡ old.registers.all → so ≡ is_so k decision)
-    → TakesAs (λ k. decided k (kept_if keeps so before.input) so freed) es old new before behind result
+    → TakesAs (λ k. decided k (with_result_if keeps so before.input) so freed) es old new before behind result
     → TakesAs (λ k. condition_found k before.input keeps (Decides decision freed)) es old new before behind result
 TakesAs-decides keeps so decision freed es old new before behind result asked decides = record {
   takes = λ l h stands ready.
       let k : Known = known_at h old.registers.all before.input in
-      subst (λ (is : Bool). Takes (decided k (kept_if keeps is before.input) is freed) old.registers new before behind result) (asked k refl)
+      subst (λ (is : Bool). Takes (decided k (with_result_if keeps is before.input) is freed) old.registers new before behind result) (asked k refl)
       (decides.takes l h stands ready);
 }
 

@@ -5,7 +5,7 @@ use Rattle.std.proofs.lemmas.Bool.{cases_Bool, eqb-true}
 use Rattle.roff_source.specs.Bytes.{blank, newline, tab}
 use Rattle.roff_escape.specs.OpenEscapes.{byte_read}
 use Rattle.roff_ahead.specs.Input.{beginning_line}
-use Rattle.roff_ahead.specs.Input.Calls.{kept_last, without_last}
+use Rattle.roff_ahead.specs.Input.Calls.{last_result, without_last}
 use Rattle.roff_escape.specs.declared.open_escape.Surroundings.TheVariants.{Arguments as AboveArguments}
 use Rattle.roff_store.specs.Named.{Named}
 use Rattle.roff_store.specs.TextCalls.{Call}
@@ -160,7 +160,7 @@ LeavesTexts-line k i breaks request (ByCondition true) = record { at_blank = sti
 LeavesTexts-line k i breaks request (ByCondition false) = record { at_blank = still i _ refl refl; at_tab = still i _ refl refl; at_newline = still i _ refl refl }
 LeavesTexts-line k i breaks request (ByString appends) = record { at_blank = still i _ refl refl; at_tab = still i _ refl refl; at_newline = still i _ refl refl }
 LeavesTexts-line k i breaks request (ByMessage aborts) = record { at_blank = still i _ refl refl; at_tab = still i _ refl refl; at_newline = still i _ refl refl }
-LeavesTexts-line k i breaks request ByElse = LeavesTexts-branch k i (reads_else (kept_last i))
+LeavesTexts-line k i breaks request ByElse = LeavesTexts-branch k i (reads_else (last_result i))
 
 -- behind a name that a line begins with
 LeavesTexts-called : (k : Known) (i : PageInput) (breaks : Bool) (called : Called)

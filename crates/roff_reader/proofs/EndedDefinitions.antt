@@ -6,7 +6,7 @@ use Rattle.roff_num.specs.declared.limit.Limit.{Limit}
 use Rattle.roff_num.specs.declared.limit.Limit.TheVariants.{Conditions, Depth, Diversions, Names, Stack, Store}
 use Rattle.roff_num.specs.declared.limits.Limits.{Limits}
 use Rattle.roff_escape.specs.OpenEscape.{unit_bytes}
-use Rattle.roff_ahead.specs.Input.{beginning_line, depth, pushed, results}
+use Rattle.roff_ahead.specs.Input.{beginning_line, depth, pushed, result_count}
 use Rattle.roff_ahead.specs.Input.Names.{calling_on}
 use Rattle.roff_scan.specs.Unread.{input_refusal}
 use Rattle.roff_escape.specs.declared.open_escape.CopyUnit.{CopyUnit}
@@ -17,7 +17,7 @@ use Rattle.roff_store.specs.Texts.{bytes_in, newest}
 use Rattle.roff_run.specs.Definitions.{end_mark, ends_mark, front_of, line_from, matched_behind}
 use Rattle.roff_run.specs.Output.{PageHistory}
 use Rattle.roff_reader.specs.Reader.State.{ReaderState}
-use Rattle.roff_reader.specs.Reader.Taken.{InputBecame, Takes, TakesAs}
+use Rattle.roff_reader.specs.Reader.Taken.{InputCameTo, Takes, TakesAs}
 use Rattle.roff_run.specs.Reading.Items.{PageUnread}
 use Rattle.roff_run.specs.Reading.DefinedLines.{behind_definition, definition_found, definition_line, definition_unit}
 use Rattle.roff_run.specs.Reading.Definitions.{definition_grown}
@@ -66,7 +66,7 @@ abbrev ahead_refusal : Limits → PageInput → Option Limit
 ahead_refusal l i =
     if nat_lt l.stack (pushed i) then Some Stack
     else if nat_lt l.depth (depth i) then Some Depth
-    else if nat_lt l.conditions (results i) then Some Conditions
+    else if nat_lt l.conditions (result_count i) then Some Conditions
     else None
 
 -- the first one that names and texts are above, and else that one
@@ -114,7 +114,7 @@ refused-behind l name appends i behind limit within same refused =
 
 -- nor is the step that goes on behind it
 pub TakesAs-not_entered : (name : Option ShortName) (appends : Bool) (end : Option ShortName) (b : ℕ) (es : EnvironmentsOf) (old new : ReaderState) (before behind : PageUnread)
-    (limit : Limit) → ends_mark b ≡ true → InputBecame (string_entered name appends before.input) before behind (Err limit)
+    (limit : Limit) → ends_mark b ≡ true → InputCameTo (string_entered name appends before.input) before behind (Err limit)
     → TakesAs (λ k. behind_definition k (string_entered name appends before.input) end b) es old new before behind (Err limit)
 TakesAs-not_entered name appends end b es old new before behind limit ends refused = record {
   takes = λ l h stands ready.
@@ -131,7 +131,7 @@ TakesAs-not_entered name appends end b es old new before behind limit ends refus
 
 -- what is taken once the text has entered its name
 pub TakesAs-entered : (t : Known → PageInput → Taking) (name : Option ShortName) (appends : Bool) (es : EnvironmentsOf) (old new : ReaderState) (before mid behind : PageUnread)
-    (done : Unit {0}) (result : Result Meaning Limit) → InputBecame (string_entered name appends before.input) before mid (Ok done)
+    (done : Unit {0}) (result : Result Meaning Limit) → InputCameTo (string_entered name appends before.input) before mid (Ok done)
     → TakesAs (λ k. t k mid.input) es old new mid behind result
     → TakesAs (λ k. t k (string_entered name appends before.input)) es old new before behind result
 TakesAs-entered t name appends es old new before mid behind done result became takes = record {

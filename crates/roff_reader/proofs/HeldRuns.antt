@@ -23,7 +23,7 @@ use Rattle.roff_run.proofs.PlainRuns.{counted, counted-source}
 use Rattle.roff_reader.proofs.TurnedRuns.{counted-bytes_taken}
 use Rattle.roff_reader.specs.Reader.State.{ReaderState}
 use Rattle.roff_run.specs.Reading.Items.{PageUnread}
-use Rattle.roff_run.specs.Reading.{kept_taking}
+use Rattle.roff_run.specs.Reading.{undropped_taking}
 use Rattle.roff_run.specs.Reading.Arguments.{arguments_ended}
 use Rattle.roff_run.specs.Reading.Ends.{due}
 use Rattle.roff_run.specs.Reading.Found.{read_in}
@@ -43,7 +43,7 @@ holds_arguments breaks request b plain = λ k i none_half.
     let reading : LineState = InArguments breaks request in
     let bare : PageInput = record i { escapes = [] } in
     let none = none_of_three (b == backslash) (is_dropped b) (b == newline) plain in
-    ap (λ (c : Bool). if c then going_on (settling i) reading else kept_taking k reading i b) none.1.0
+    ap (λ (c : Bool). if c then going_on (settling i) reading else undropped_taking k reading i b) none.1.0
     ∙ ap (λ (half : List OpenEscape). read_in k (InArguments breaks request) i (byte_read AboveArguments half b)) none_half
     ∙ ap (λ (c : Bool). read_in k (InArguments breaks request) i (if c then (GoesOn, Backslash ∷ []) else (GivesUnit (Byte b), [])))
     none.0
@@ -59,7 +59,7 @@ holds_call : (name : ShortName) (b : ℕ) → is_argument_byte b ≡ true → Ho
 holds_call name b plain = λ k i none_half few.
     let reading : LineState = Calling name in
     let none = none_of_three (b == backslash) (is_dropped b) (b == newline) plain in
-    ap (λ (c : Bool). if c then going_on (settling i) reading else kept_taking k reading i b) none.1.0 ∙ sym (call-byte k name i b none_half few none.0 none.1.1)
+    ap (λ (c : Bool). if c then going_on (settling i) reading else undropped_taking k reading i b) none.1.0 ∙ sym (call-byte k name i b none_half few none.0 none.1.1)
 
 pub holds_call_where : (reading : LineState) (name : ShortName) → reading ≡ Calling name → (b : ℕ) → is_argument_byte b ≡ true → HoldsIfFewer (Some 8) reading b
 holds_call_where reading name is b plain = subst (λ (r : LineState). HoldsIfFewer (Some 8) r b) (sym is) (holds_call name b plain)

@@ -12,7 +12,7 @@ use Rattle.roff_store.specs.Texts.{Entry}
 use Rattle.roff_reader.proofs.HeldRuns.{passed-counted}
 use Rattle.roff_reader.specs.Reader.State.{ReaderState}
 use Rattle.roff_run.specs.Reading.Items.{PageUnread}
-use Rattle.roff_run.specs.Reading.{interrupted, kept_taking}
+use Rattle.roff_run.specs.Reading.{interrupted, undropped_taking}
 use Rattle.roff_run.specs.Reading.Beginnings.{at_start}
 use Rattle.roff_run.specs.Reading.Ends.{due}
 use Rattle.roff_run.specs.Reading.Items.{PageInput, going_on}
@@ -27,17 +27,17 @@ use Rattle.roff_run.specs.declared.line_state.TextLine.{TextLine}
 -- where a line or a branch begins, and on a text line
 reads-line_start : ReadsHalves LineStart
 reads-line_start k i b next kept reads =
-    ap (λ (c : Bool). if c then going_on (interrupted LineStart i) LineStart else kept_taking k LineStart i b) kept
+    ap (λ (c : Bool). if c then going_on (interrupted LineStart i) LineStart else undropped_taking k LineStart i b) kept
     ∙ ap (read_in k LineStart i) (reads (at_start k))
 
 reads-branch : ReadsHalves Branch
 reads-branch k i b next kept reads =
-    ap (λ (c : Bool). if c then going_on (interrupted Branch i) Branch else kept_taking k Branch i b) kept
+    ap (λ (c : Bool). if c then going_on (interrupted Branch i) Branch else undropped_taking k Branch i b) kept
     ∙ ap (read_in k Branch i) (reads (at_start k))
 
 reads-text_line : (line : TextLine) → ReadsHalves (InText line)
 reads-text_line line k i b next kept reads =
-    ap (λ (c : Bool). if c then going_on (interrupted (InText line) i) (InText line) else kept_taking k (InText line) i b) kept
+    ap (λ (c : Bool). if c then going_on (interrupted (InText line) i) (InText line) else undropped_taking k (InText line) i b) kept
     ∙ ap (read_in k (InText line) i) (reads (on_line k line))
 
 pub reads_at_start : (reading : LineState) → reading ≡ LineStart → ReadsHalves reading

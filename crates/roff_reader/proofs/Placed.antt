@@ -3,7 +3,7 @@ use Rattle.std.proofs.Common.{◌≡◌, ℕ, Bool, true, Option, refl}
 use Rattle.roff_escape.specs.OpenEscapes.{byte_read}
 use Rattle.roff_escape.specs.declared.open_escape.Found.{Found}
 use Rattle.roff_run.specs.Reading.Items.{reads_above}
-use Rattle.roff_run.specs.Reading.{kept_taking}
+use Rattle.roff_run.specs.Reading.{undropped_taking}
 use Rattle.roff_run.specs.Reading.Found.{found_in, has_place, place_in, read_in}
 use Rattle.roff_run.specs.Reading.Items.{PageInput, going_on}
 use Rattle.roff_run.specs.Registers.{Known}
@@ -15,7 +15,7 @@ use Rattle.roff_run.specs.declared.request.Request.{Request}
 
 -- a byte is read by what is half read, and does what was found
 pub kept-placed : (k : Known) (i : PageInput) (r : LineState) (b : ℕ) → has_place r ≡ true
-    → read_in k r i (byte_read (place_in k r) i.escapes b) ≡ kept_taking k r i b
+    → read_in k r i (byte_read (place_in k r) i.escapes b) ≡ undropped_taking k r i b
 kept-placed k i LineStart b is = refl
 kept-placed k i Branch b is = refl
 kept-placed k i Braced b is = refl

@@ -33,7 +33,7 @@ use Rattle.roff_reader.specs.Reader.AtOnce.{AsksAbove, GoesOnAbove, IsReadAbove,
 use Rattle.roff_reader.specs.Reader.State.{ReaderState}
 use Rattle.roff_reader.specs.Reader.Taken.{TakesAs, Took}
 use Rattle.roff_run.specs.Reading.Items.{PageUnread}
-use Rattle.roff_run.specs.Reading.{escape_ended, kept_taking, taking}
+use Rattle.roff_run.specs.Reading.{escape_ended, undropped_taking, taking}
 use Rattle.roff_run.specs.Reading.Arguments.{arguments_ended}
 use Rattle.roff_run.specs.Reading.Beginnings.{at_start, first_name}
 use Rattle.roff_run.specs.Reading.Branches.{branch_of}
@@ -70,19 +70,19 @@ at_once-as s t events old new before behind false same kept = kept
 
 -- of a byte that isn't dropped
 pub at_once-kept : (b : ℕ) (events : List PageEvent) (old new : ReaderState) (before behind : PageUnread) (on : Bool) → false ≡ is_dropped b
-    → TakesAtOnce (λ k. kept_taking k old.reading before.input b) events old new before behind on
+    → TakesAtOnce (λ k. undropped_taking k old.reading before.input b) events old new before behind on
     → TakesAtOnce (λ k. taking k old.reading before.input b) events old new before behind on
 at_once-kept b events old new before behind on is takes =
-    at_once-as (λ k. kept_taking k old.reading before.input b) (λ k. taking k old.reading before.input b) events old new before behind on
+    at_once-as (λ k. undropped_taking k old.reading before.input b) (λ k. taking k old.reading before.input b) events old new before behind on
     (λ k. taking-of k old.reading before.input b false is) takes
 
 -- what is taken where this is being read
 pub at_once-where : (b : ℕ) (place : LineState) (old new : ReaderState) (before behind : PageUnread) (on : Bool) → old.reading ≡ place
-    → TakesAtOnce (λ k. kept_taking k place before.input b) [] old new before behind on
-    → TakesAtOnce (λ k. kept_taking k old.reading before.input b) [] old new before behind on
+    → TakesAtOnce (λ k. undropped_taking k place before.input b) [] old new before behind on
+    → TakesAtOnce (λ k. undropped_taking k old.reading before.input b) [] old new before behind on
 at_once-where b place old new before behind on is takes =
-    at_once-as (λ k. kept_taking k place before.input b) (λ k. kept_taking k old.reading before.input b) [] old new before behind on
-    (λ k. ap (λ (r : LineState). kept_taking k r before.input b) (sym is)) takes
+    at_once-as (λ k. undropped_taking k place before.input b) (λ k. undropped_taking k old.reading before.input b) [] old new before behind on
+    (λ k. ap (λ (r : LineState). undropped_taking k r before.input b) (sym is)) takes
 
 -- something else is read on, and these events are meant
 pub at_once-meant : (t : Known → Taking) (place : LineState) (events : List PageEvent) (old new : ReaderState) (u : PageUnread)
@@ -164,20 +164,20 @@ pub none_half : (half : List OpenEscape) → not (length half == 0) ≡ false �
 none_half half is = nil_from_length half (eqb-true (length half) 0 (not-false (length half == 0) is))
 
 -- where nothing is half read, a dot begins a control line
-pub begins-dot : (k : Known) (i : PageInput) → i.escapes ≡ [] → kept_taking k LineStart i 46 ≡ going_on i (Control true)
+pub begins-dot : (k : Known) (i : PageInput) → i.escapes ≡ [] → undropped_taking k LineStart i 46 ≡ going_on i (Control true)
 begins-dot k i none =
     ap (λ (half : List OpenEscape). read_in k LineStart i (byte_read (at_start k) half 46)) none
     ∙ ap (λ (half : List OpenEscape). going_on (record i { escapes = half }) (Control true)) (sym none)
 
 -- and an apostrophe one whose requests don't break
-pub begins-apostrophe : (k : Known) (i : PageInput) → i.escapes ≡ [] → kept_taking k LineStart i 39 ≡ going_on i (Control false)
+pub begins-apostrophe : (k : Known) (i : PageInput) → i.escapes ≡ [] → undropped_taking k LineStart i 39 ≡ going_on i (Control false)
 begins-apostrophe k i none =
     ap (λ (half : List OpenEscape). read_in k LineStart i (byte_read (at_start k) half 39)) none
     ∙ ap (λ (half : List OpenEscape). going_on (record i { escapes = half }) (Control false)) (sym none)
 
 -- a newline ends a line that calls a body
 pub ends-call : (k : Known) (i : PageInput) (name : ShortName) → i.escapes ≡ []
-    → going_on (calling_body (body_named (name_bytes name) i) i) LineStart ≡ kept_taking k (Calling name) i 10
+    → going_on (calling_body (body_named (name_bytes name) i) i) LineStart ≡ undropped_taking k (Calling name) i 10
 ends-call k i name none =
     ap (λ (half : List OpenEscape). going_on (calling_body (body_named (name_bytes name) (record i { escapes = half })) (record i { escapes = half })) LineStart) none
     ∙ ap (λ (half : List OpenEscape). read_in k (Calling name) i (byte_read AboveArguments half 10)) (sym none)
@@ -185,7 +185,7 @@ ends-call k i name none =
 -- another byte behind a request's name is held, but for a backslash
 pub holds-byte : (k : Known) (breaks : Bool) (request : Request) (i : PageInput) (b : ℕ) → i.escapes ≡ []
     → (b == backslash) ≡ false → (b == newline) ≡ false
-    → going_on (holding (Byte b) i) (InArguments breaks request) ≡ kept_taking k (InArguments breaks request) i b
+    → going_on (holding (Byte b) i) (InArguments breaks request) ≡ undropped_taking k (InArguments breaks request) i b
 holds-byte k breaks request i b none no_escape no_newline =
     let reading : LineState = InArguments breaks request in
     let bare : PageInput = record i { escapes = [] } in

@@ -10,7 +10,7 @@ use Rattle.roff_num.specs.declared.limit.Limit.TheVariants.{Stack, Depth, Divers
 use Rattle.roff_num.specs.declared.limits.Limits.{Limits}
 use Rattle.roff_arguments.specs.Arguments.{Arguments, held, no_arguments, settled_at, with_byte_at, with_unit, with_whole}
 use Rattle.roff_escape.specs.OpenEscape.{texts_held, unit_bytes}
-use Rattle.roff_ahead.specs.Input.{bytes_ahead, depth, pushed, results}
+use Rattle.roff_ahead.specs.Input.{bytes_ahead, depth, pushed, result_count}
 use Rattle.roff_arguments.specs.Arguments.{live_bytes}
 use Rattle.roff_ahead.specs.Input.Names.{adding, calling, calling_on, names_added, stored}
 use Rattle.roff_scan.specs.Unread.{input_refusal}
@@ -22,7 +22,7 @@ use Rattle.roff_arguments.proofs.KeptArguments.{held-only_kept}
 use Rattle.roff_store.specs.TextCalls.{Open, PushOpen}
 use Rattle.roff_store.specs.Texts.{newest}
 use Rattle.roff_reader.specs.Reader.State.{ReaderState}
-use Rattle.roff_reader.specs.Reader.Taken.{InputBecame, TakesAs}
+use Rattle.roff_reader.specs.Reader.Taken.{InputCameTo, TakesAs}
 use Rattle.roff_run.specs.Reading.Items.{PageUnread}
 use Rattle.roff_num.specs.ShortNames.{name_at}
 use Rattle.roff_run.specs.Reading.Items.{PageInput, Taking, going_on}
@@ -88,7 +88,7 @@ stored-begun i = let more = sum_by-append (λ (text : List ℕ). length text) i.
 -- the others are passed as little as before
 others_not : (l : Limits) (i : PageInput) → input_refusal l i ≡ None
     → NonePassed (nat_lt l.store (stored (begun i))) (nat_lt l.names (names_added (begun i))) (nat_lt l.stack (pushed (begun i)))
-    (nat_lt l.depth (depth (begun i))) (nat_lt l.conditions (results (begun i)))
+    (nat_lt l.depth (depth (begun i))) (nat_lt l.conditions (result_count (begun i)))
 others_not l i none =
     let before = none_passed _ _ _ _ _ _ none in
     let released = NoMore-released i in
@@ -112,27 +112,27 @@ refused-grown l i bytes limit none is =
     let passed = diversions_passed _ _ _ _ _ _ limit (others_not l i none) is in
     let same = making-adding bytes (newest (begun i).open_texts) (begun i) in
     let was = first_of-diversions _ (nat_lt l.store (stored (begun i))) (nat_lt l.names (names_added (begun i))) (nat_lt l.stack (pushed (begun i)))
-    (nat_lt l.depth (depth (begun i))) (nat_lt l.conditions (results (begun i))) passed in
+    (nat_lt l.depth (depth (begun i))) (nat_lt l.conditions (result_count (begun i))) passed in
     let grown : PageInput = adding bytes (begun i) in
-    first_of-diversions _ (nat_lt l.store (stored grown)) (nat_lt l.names (names_added grown)) (nat_lt l.stack (pushed grown)) (nat_lt l.depth (depth grown)) (nat_lt l.conditions (results grown))
+    first_of-diversions _ (nat_lt l.store (stored grown)) (nat_lt l.names (names_added grown)) (nat_lt l.stack (pushed grown)) (nat_lt l.depth (depth grown)) (nat_lt l.conditions (result_count grown))
     (ap (λ (n : ℕ). nat_lt l.diversions (n - 1)) same ∙ passed)
     ∙ sym was ∙ is
 
-InputBecame-refused_grown : (name : Option ShortName) (unit : CopyUnit) (before behind : PageUnread) (limit : Limit)
-    → InputBecame (string_begun name before.input) before behind (Err limit)
-    → InputBecame (string_grown name unit (string_begun name before.input)) before behind (Err limit)
-InputBecame-refused_grown None unit before behind limit refused = refused
-InputBecame-refused_grown (Some name) unit before behind limit refused = record {
+InputCameTo-refused_grown : (name : Option ShortName) (unit : CopyUnit) (before behind : PageUnread) (limit : Limit)
+    → InputCameTo (string_begun name before.input) before behind (Err limit)
+    → InputCameTo (string_grown name unit (string_begun name before.input)) before behind (Err limit)
+InputCameTo-refused_grown None unit before behind limit refused = refused
+InputCameTo-refused_grown (Some name) unit before behind limit refused = record {
   becomes = λ within. refused-grown before.limits before.input (unit_bytes unit) limit within (refused.becomes within);
 }
 
 -- where a text can't be begun, its first unit isn't read
 pub TakesAs-not_begun : (name : Option ShortName) (appends : Bool) (unit : CopyUnit) (es : EnvironmentsOf) (old new : ReaderState) (before behind : PageUnread)
-    (limit : Limit) → (unit ≡ Byte 10 → ⊥) → InputBecame (string_begun name before.input) before behind (Err limit)
+    (limit : Limit) → (unit ≡ Byte 10 → ⊥) → InputCameTo (string_begun name before.input) before behind (Err limit)
     → TakesAs (λ k. string_unit (string_begun name before.input) name appends true unit) es old new before behind (Err limit)
 TakesAs-not_begun name appends (Kept b) es old new before behind limit no_newline refused =
     TakesAs-not_became _ (StringText name appends false) es old new before behind limit
-    (InputBecame-refused_grown name (Kept b) before behind limit refused)
+    (InputCameTo-refused_grown name (Kept b) before behind limit refused)
 TakesAs-not_begun name appends (Byte b) es old new before behind limit no_newline refused =
     let newline : (b == 10) ≡ false = other b 10 (λ is. no_newline (ap (λ (c : ℕ). Byte c) is)) in
     let Refuses : Taking → Type 0 = λ t. TakesAs (λ k. t) es old new before behind (Err limit) in
@@ -140,7 +140,7 @@ TakesAs-not_begun name appends (Byte b) es old new before behind limit no_newlin
     (one_of Refuses (b == 32) _ _ (TakesAs-not_became _ (StringText name appends true) es old new before behind limit refused)
     (one_of Refuses (b == 34) _ _ (TakesAs-not_became _ (StringText name appends false) es old new before behind limit refused)
     (TakesAs-not_became _ (StringText name appends false) es old new before behind limit
-    (InputBecame-refused_grown name (Byte b) before behind limit refused))))
+    (InputCameTo-refused_grown name (Byte b) before behind limit refused))))
 
 -- the arguments behind a unit have none that is whole, or hold as many bytes as before
 abbrev NoneOrAsMany : Arguments → Arguments → Type 0
@@ -199,7 +199,7 @@ no_name i unit l limit none refused (inr same) =
 -- where a unit of a name is refused, the name isn't whole behind it
 pub TakesAs-not_held : (appends : Bool) (unit : CopyUnit) (es : EnvironmentsOf) (old new : ReaderState) (before behind : PageUnread) (limit : Limit)
     → ((unit ≡ Byte 34 → ⊥) → before.input.arguments.place ≡ BehindQuote → ⊥) → name_read before.input ≡ None
-    → InputBecame (holding unit before.input) before behind (Err limit)
+    → InputCameTo (holding unit before.input) before behind (Err limit)
     → TakesAs (λ k. string_name_behind (holding unit before.input) appends (name_read (holding unit before.input))) es old new before behind (Err limit)
 TakesAs-not_held appends unit es old new before behind limit apart none refused = record {
   takes = λ l h stands ready.

@@ -20,7 +20,7 @@ use Rattle.roff_escape.specs.declared.open_escape.Found.{Found}
 use Rattle.roff_escape.specs.declared.open_escape.Found.TheVariants.{GoesOn, Unit as OneUnit, Holds, Escape, Asks, Motion, Measures, Tells, Decides}
 use Rattle.roff_requests.specs.Events.Meant.{events_meant, none_meant}
 use Rattle.roff_reader.specs.Reader.State.{ReaderState}
-use Rattle.roff_reader.specs.Reader.Taken.{InputBecame, IsInputNow, IsReady, TakesAs}
+use Rattle.roff_reader.specs.Reader.Taken.{InputCameTo, IsInputNow, IsReady, TakesAs}
 use Rattle.roff_run.specs.Reading.Items.{PageUnread}
 use Rattle.roff_run.specs.Reading.Items.{PageInput, Taking, going_on}
 use Rattle.roff_run.specs.Reading.Messages.{message_unit}
@@ -69,9 +69,9 @@ IsInputNow-changing : (i : PageInput) (before behind : PageUnread) (result : Res
 IsInputNow-changing i before behind (Ok done) changes = passed_none (input_refusal before.limits i) i before behind done changes
 IsInputNow-changing i before behind (Err limit) changes = passed_one (input_refusal before.limits i) i before behind limit changes
 
-pub InputBecame-changing : (i : PageInput) (before behind : PageUnread) (result : Result (Unit {0}) Limit) → (result, behind) ≡ changing i before
-    → InputBecame i before behind result
-InputBecame-changing i before behind result changes = record { becomes = λ within. IsInputNow-changing i before behind result changes }
+pub InputCameTo-changing : (i : PageInput) (before behind : PageUnread) (result : Result (Unit {0}) Limit) → (result, behind) ≡ changing i before
+    → InputCameTo i before behind result
+InputCameTo-changing i before behind result changes = record { becomes = λ within. IsInputNow-changing i before behind result changes }
 
 -- so does one behind another change that no limit is asked for
 IsInputNow-elsewhere : (i j : PageInput) (before behind : PageUnread) (result : Result (Unit {0}) Limit)
@@ -85,7 +85,7 @@ refused_none r u ready = sym (first_passed-few_names u.limits r.all u.input (few
 
 -- the input became this, and this is read on
 pub TakesAs-became : (i : PageInput) (place : LineState) (es : EnvironmentsOf) (old new : ReaderState) (before behind : PageUnread) (m : Meaning) (done : Unit {0})
-    → InputBecame i before behind (Ok done) → new ≡ record old { reading = place } → m.message ≡ None → m.events ≡ none_meant
+    → InputCameTo i before behind (Ok done) → new ≡ record old { reading = place } → m.message ≡ None → m.events ≡ none_meant
     → TakesAs (λ k. going_on i place) es old new before behind (Ok m)
 TakesAs-became i place es old new before behind m done became came silent none = record {
   takes = λ l h stands ready.
@@ -104,7 +104,7 @@ TakesAs-became i place es old new before behind m done became came silent none =
 
 -- or a limit refuses it
 pub TakesAs-not_became : (i : PageInput) (place : LineState) (es : EnvironmentsOf) (old new : ReaderState) (before behind : PageUnread) (limit : Limit)
-    → InputBecame i before behind (Err limit) → TakesAs (λ k. going_on i place) es old new before behind (Err limit)
+    → InputCameTo i before behind (Err limit) → TakesAs (λ k. going_on i place) es old new before behind (Err limit)
 TakesAs-not_became i place es old new before behind limit became = record {
   takes = λ l h stands ready.
       first_passed-few_names before.limits old.registers.all i (few_names old.registers before ready)
@@ -140,10 +140,10 @@ message_unit-held i aborts true (Byte b) no_newline no_blank =
     rw (newline, blank) refl
 
 -- a string with a name grows by what is added
-pub InputBecame-grown : (name : Option ShortName) (unit : CopyUnit) (before behind : PageUnread) (result : Result (Unit {0}) Limit) → is_some name ≡ true
-    → (result, behind) ≡ changing (adding (unit_bytes unit) before.input) before → InputBecame (string_grown name unit before.input) before behind result
-InputBecame-grown None unit before behind result is changes = absurd (cc)
-InputBecame-grown (Some name) unit before behind result is changes = InputBecame-changing (adding (unit_bytes unit) before.input) before behind result changes
+pub InputCameTo-grown : (name : Option ShortName) (unit : CopyUnit) (before behind : PageUnread) (result : Result (Unit {0}) Limit) → is_some name ≡ true
+    → (result, behind) ≡ changing (adding (unit_bytes unit) before.input) before → InputCameTo (string_grown name unit before.input) before behind result
+InputCameTo-grown None unit before behind result is changes = absurd (cc)
+InputCameTo-grown (Some name) unit before behind result is changes = InputCameTo-changing (adding (unit_bytes unit) before.input) before behind result changes
 
 -- a name that stands for nothing, or for a request, has no body
 is_body-kind : (entry : Option Entry) (kind : Option Kind) → option_map kind_given kind ≡ option_map kind_of entry → ((count : ℕ) → kind ≡ Some (BodyGiven count) → ⊥)
@@ -162,26 +162,26 @@ no_second false has none = refl
 emptied : (name : ShortName) (appends : Bool) (before behind : PageUnread) (result : Result (Unit {0}) Limit)
     → (appends && has_body (name_bytes name) (texts_of before.input)) ≡ false
     → (result, behind) ≡ changing (calling (Set (name_bytes name) (BodyOfName [])) before.input) before
-    → InputBecame (string_emptied (Some name) appends before.input) before behind result
+    → InputCameTo (string_emptied (Some name) appends before.input) before behind result
 emptied name appends before behind result none changes =
-    rw none (InputBecame-changing (calling (Set (name_bytes name) (BodyOfName [])) before.input) before behind result changes)
+    rw none (InputCameTo-changing (calling (Set (name_bytes name) (BodyOfName [])) before.input) before behind result changes)
 
-pub InputBecame-fresh : (name : ShortName) (appends : Bool) (before behind : PageUnread) (result : Result (Unit {0}) Limit) → appends ≡ false
+pub InputCameTo-fresh : (name : ShortName) (appends : Bool) (before behind : PageUnread) (result : Result (Unit {0}) Limit) → appends ≡ false
     → (result, behind) ≡ changing (calling (Set (name_bytes name) (BodyOfName [])) before.input) before
-    → InputBecame (string_emptied (Some name) appends before.input) before behind result
-InputBecame-fresh name appends before behind result fresh changes = emptied name appends before behind result (rw fresh refl) changes
+    → InputCameTo (string_emptied (Some name) appends before.input) before behind result
+InputCameTo-fresh name appends before behind result fresh changes = emptied name appends before behind result (rw fresh refl) changes
 
-pub InputBecame-new : (name : ShortName) (appends : Bool) (kind : Option Kind) (before behind : PageUnread) (result : Result (Unit {0}) Limit)
+pub InputCameTo-new : (name : ShortName) (appends : Bool) (kind : Option Kind) (before behind : PageUnread) (result : Result (Unit {0}) Limit)
     → option_map kind_given kind ≡ option_map kind_of (entry_of (name_bytes name) before.input.names) → ((count : ℕ) → kind ≡ Some (BodyGiven count) → ⊥)
     → (result, behind) ≡ changing (calling (Set (name_bytes name) (BodyOfName [])) before.input) before
-    → InputBecame (string_emptied (Some name) appends before.input) before behind result
-InputBecame-new name appends kind before behind result same no_body changes =
+    → InputCameTo (string_emptied (Some name) appends before.input) before behind result
+InputCameTo-new name appends kind before behind result same no_body changes =
     emptied name appends before behind result
     (no_second appends _ (is_body-kind (entry_of (name_bytes name) before.input.names) kind same no_body)) changes
 
 -- what is taken once the input became another
 pub TakesAs-elsewhere : (t : PageInput → Taking) (i : PageInput) (es : EnvironmentsOf) (old new : ReaderState) (before mid behind : PageUnread) (done : Unit {0})
-    (result : Result Meaning Limit) → InputBecame i before mid (Ok done) → TakesAs (λ k. t mid.input) es old new mid behind result
+    (result : Result Meaning Limit) → InputCameTo i before mid (Ok done) → TakesAs (λ k. t mid.input) es old new mid behind result
     → TakesAs (λ k. t i) es old new before behind result
 TakesAs-elsewhere t i es old new before mid behind done result became takes = record {
   takes = λ l h stands ready.

@@ -31,7 +31,7 @@ use Rattle.roff_run.specs.Output.{PageHistory}
 use Rattle.roff_reader.specs.Reader.State.{ReaderState}
 use Rattle.roff_reader.specs.Reader.Taken.{IsReady, Takes, TakesAs, Took}
 use Rattle.roff_run.specs.Reading.Items.{PageUnread}
-use Rattle.roff_run.specs.Reading.{interrupted, kept_taking, taking}
+use Rattle.roff_run.specs.Reading.{interrupted, undropped_taking, taking}
 use Rattle.roff_run.specs.Reading.Arguments.{arguments_found}
 use Rattle.roff_run.specs.Reading.Beginnings.{beginning_text, escape_begun, first_escape, first_taking, going_on_told, line_begun, line_begun_as}
 use Rattle.roff_run.specs.Reading.ControlLines.{line_taking}
@@ -92,13 +92,13 @@ NoMore-half_begun true i = NoMore-choosing i
 NoMore-half_begun false i = NoMore-same i
 
 -- where the newest result is taken
-fewer_kept : (kept : List (Bool × ℕ)) → length (drop 1 kept) ≤ length kept
-fewer_kept [] = omega arith
-fewer_kept (result ∷ kept) = omega arith
+fewer_results : (kept : List (Bool × ℕ)) → length (drop 1 kept) ≤ length kept
+fewer_results [] = omega arith
+fewer_results (result ∷ kept) = omega arith
 
 pub NoMore-without_last : (i : PageInput) → NoMore (without_last i) i
 NoMore-without_last i =
-    let fewer = fewer_kept i.kept in
+    let fewer = fewer_results i.results in
     record { bytes = omega arith; texts = omega arith; results = omega arith; stored = omega arith; names = omega arith; open_texts = omega arith }
 
 -- what something reads, with what is half read then
@@ -488,8 +488,8 @@ first_escape-any k i Dropped b in_branch in_brace = refl
 
 -- by whether a byte is dropped
 pub taking-of : (k : Known) (r : LineState) (i : PageInput) (b : ℕ) (c : Bool) → c ≡ is_dropped b
-    → (if c then going_on (interrupted r i) r else kept_taking k r i b) ≡ taking k r i b
-taking-of k r i b c is = ap (λ (dropped : Bool). if dropped then going_on (interrupted r i) r else kept_taking k r i b) is
+    → (if c then going_on (interrupted r i) r else undropped_taking k r i b) ≡ taking k r i b
+taking-of k r i b c is = ap (λ (dropped : Bool). if dropped then going_on (interrupted r i) r else undropped_taking k r i b) is
 
 -- within a line the end of the input is a newline, where no interrupted line ends with it, but of a definition
 pub end_taking-newline : (k : Known) (r : LineState) (i : PageInput) → (r ≡ LineStart → ⊥) → (r ≡ Dropped → ⊥) → (r ≡ Exiting → ⊥)
@@ -497,7 +497,7 @@ pub end_taking-newline : (k : Known) (r : LineState) (i : PageInput) → (r ≡ 
     → ((name : Option ShortName) (appends is_front : Bool) → r ≡ StringText name appends is_front → ⊥)
     → ((opened closed : ℕ) (behind : Bool) → r ≡ Skipping opened closed behind → ⊥)
     → ((name : Option ShortName) (appends : Bool) (end : Option ShortName) (matched : Option ℕ) → r ≡ Defining name appends end matched → ⊥)
-    → kept_taking k r i newline ≡ end_taking k r i
+    → undropped_taking k r i newline ≡ end_taking k r i
 end_taking-newline k LineStart i begun dropped left braced control named strings skips defines = absurd (begun refl)
 end_taking-newline k Branch i begun dropped left braced control named strings skips defines = refl
 end_taking-newline k Braced i begun dropped left braced control named strings skips defines = absurd (braced refl)

@@ -6,7 +6,7 @@ use Rattle.roff_escape.specs.OpenEscape.{OpenEscape, Backslash}
 use Rattle.roff_escape.specs.OpenEscapes.{byte_read}
 use Rattle.roff_escape.specs.declared.open_escape.CopyUnit.TheVariants.{Byte}
 use Rattle.roff_escape.specs.declared.open_escape.Found.TheVariants.{GoesOn, Unit as GivesUnit}
-use Rattle.roff_run.specs.Reading.{interrupted, kept_taking, taking}
+use Rattle.roff_run.specs.Reading.{interrupted, undropped_taking, taking}
 use Rattle.roff_run.specs.Reading.Beginnings.{at_start, beginning_text, going_on_told, line_begun, line_begun_as}
 use Rattle.roff_run.specs.Reading.Items.{PageInput, behind_events, going_on}
 use Rattle.roff_run.specs.Reading.TextLines.{fresh_line, on_line, text_taking}
@@ -19,7 +19,7 @@ use Rattle.roff_run.specs.declared.line_state.TextLine.{TextLine}
 pub text_line-reads : (k : Known) (i : PageInput) (line : TextLine) (b : ℕ) → i.escapes ≡ [] → is_dropped b ≡ false → (b == backslash) ≡ false
     → taking k (InText line) i b ≡ text_taking i line b
 text_line-reads k i line b none_half kept no_escape =
-    ap (λ (c : Bool). if c then going_on (interrupted (InText line) i) (InText line) else kept_taking k (InText line) i b) kept
+    ap (λ (c : Bool). if c then going_on (interrupted (InText line) i) (InText line) else undropped_taking k (InText line) i b) kept
     ∙ ap (λ (half : List OpenEscape). read_in k (InText line) i (byte_read (on_line k line) half b)) none_half
     ∙ ap (λ (c : Bool). read_in k (InText line) i (if c then (GoesOn, Backslash ∷ []) else (GivesUnit (Byte b), []))) no_escape
     ∙ ap (λ (half : List OpenEscape). text_taking (record i { escapes = half }) line b) (sym none_half)
@@ -29,7 +29,7 @@ pub line_start-reads : (k : Known) (i : PageInput) (b : ℕ) → i.escapes ≡ [
     → line_begun k i b ≡ taking k LineStart i b
 line_start-reads k i b none_half kept no_escape =
     sym
-    (ap (λ (c : Bool). if c then going_on (interrupted LineStart i) LineStart else kept_taking k LineStart i b) kept
+    (ap (λ (c : Bool). if c then going_on (interrupted LineStart i) LineStart else undropped_taking k LineStart i b) kept
     ∙ ap (λ (half : List OpenEscape). read_in k LineStart i (byte_read (at_start k) half b)) none_half
     ∙ ap (λ (c : Bool). read_in k LineStart i (if c then (GoesOn, Backslash ∷ []) else (GivesUnit (Byte b), []))) no_escape
     ∙ ap (λ (half : List OpenEscape). line_begun k (record i { escapes = half }) b) (sym none_half))

@@ -3,10 +3,10 @@ pub use Rattle.roff_run.specs.Environments.{PageHistory}
 pub use Rattle.roff_requests.specs.Environments.Standing.{StandFor}
 pub use Rattle.roff_requests.specs.declared.environments.Environments.{Environments as EnvironmentsOf}
 pub use Rattle.roff_reader.specs.Reader.State.{fresh_reader}
-pub use Rattle.roff_reader.specs.Reader.Taken.{Changed, InputBecame, TakesAs}
+pub use Rattle.roff_reader.specs.Reader.Taken.{Changed, InputCameTo, TakesAs}
 pub use Rattle.roff_run.specs.Reading.Items.{PageUnread}
 pub use Rattle.roff_source.specs.Bytes.{is_passed}
-pub use Rattle.roff_run.specs.Reading.{Passes, escape_ended, interrupted, kept_taking, taking}
+pub use Rattle.roff_run.specs.Reading.{Passes, escape_ended, interrupted, undropped_taking, taking}
 pub use Rattle.roff_run.specs.Reading.Arguments.{arguments_found, calling_all, line_ended, unit_found, arguments_ended}
 pub use Rattle.roff_run.specs.Reading.Beginnings.{beginning_found, first_escape, first_taking, going_on_told, line_begun, first_name, at_start}
 pub use Rattle.roff_run.specs.Reading.Branches.{condition_found, decided, is_so, condition_begun}

@@ -3,7 +3,7 @@ use Rattle.std.specs.Prelude.{◌≡◌, ℕ, Bool, true, false, if◌then◌els
 use Rattle.roff_source.specs.Bytes.{apostrophe, dot}
 use Rattle.roff_escape.specs.OpenEscape.{OpenEscape, Condition}
 use Rattle.roff_escape.specs.declared.open_escape.ConditionPart.TheVariants.{Choice}
-use Rattle.roff_ahead.specs.Input.Calls.{kept_last, without_last}
+use Rattle.roff_ahead.specs.Input.Calls.{last_result, without_last}
 use Rattle.roff_scan.specs.Unread.Calls.{IsFront, front_bytes}
 use Rattle.roff_run.specs.Reading.Items.{PageUnread}
 use Rattle.roff_run.specs.Reading.{taking}
@@ -44,7 +44,7 @@ LeadsTo behind reading = (i : PageInput) → behind i ≡ going_on (input_begun 
 
 -- behind something the other branch is read of the last condition whose result was kept
 abbrev pub LeadsToElse : (PageInput → Taking) → Type 0
-LeadsToElse behind = (i : PageInput) → behind i ≡ going_on (without_last i) (branch_of (reads_else (kept_last i)))
+LeadsToElse behind = (i : PageInput) → behind i ≡ going_on (without_last i) (branch_of (reads_else (last_result i)))
 
 -- these bytes begin with those of a control line's front
 abbrev pub Fronts : List ℕ → ControlFront → Type 0

@@ -108,7 +108,7 @@ impl Reader {
             self.interrupt(unread);
             return Ok(Meaning::nothing());
         }
-        self.read_kept(byte, environments, unread)
+        self.read_undropped(byte, environments, unread)
     }
 
     /// What is due before anything more is taken.

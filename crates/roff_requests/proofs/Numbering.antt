@@ -10,15 +10,15 @@ use Rattle.roff_num.specs.declared.num.Scale.TheVariants.{Units}
 use Rattle.roff_run.specs.Numbers.{value_beside}
 use Rattle.roff_run.specs.Registers.{Known, value_in_force}
 use Rattle.roff_requests.specs.Request.Coded.{register_named}
-use Rattle.roff_run.specs.Requests.Effects.{Done}
+use Rattle.roff_run.specs.Requests.Effects.{Response}
 use Rattle.roff_run.specs.Requests.Numbering.{if_named, increment_given, set_register, set_to}
 
 -- an argument that has a byte gives a name
-if_named-some : (c : ℕ) (text : List ℕ) (done : Done) → if_named (c ∷ text) done ≡ done
+if_named-some : (c : ℕ) (text : List ℕ) (done : Response) → if_named (c ∷ text) done ≡ done
 if_named-some c text done = grind (arith, nat_tests)
 
 -- a register is set beside this value
-abbrev pub setting_beside : Num → List ℕ → List ℕ → Result ℤ NumFault → Done
+abbrev pub setting_beside : Num → List ℕ → List ℕ → Result ℤ NumFault → Response
 setting_beside in_force name text increment = set_to name (value_beside in_force.0 Units text) increment
 
 -- of equal names, values in force and texts

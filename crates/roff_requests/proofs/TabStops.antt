@@ -11,7 +11,7 @@ use Rattle.roff_lines.specs.declared.event.Event.TheVariants.{Set}
 use Rattle.roff_lines.specs.declared.settings.Param.TheVariants.{NoStops}
 use Rattle.roff_run.specs.declared.event.PageEvent.{PageEvent}
 use Rattle.roff_run.specs.declared.event.PageEvent.TheVariants.{Text}
-use Rattle.roff_run.specs.Requests.Effects.{Done, bad_number, happens, meant_by, saying}
+use Rattle.roff_run.specs.Requests.Effects.{Response, bad_number, happens, meant_by, saying}
 use Rattle.roff_run.specs.Requests.Tabs.{setting_stops, stop_place, stop_places, stop_set}
 
 -- the column of a stop
@@ -92,7 +92,7 @@ stops_set-columns (stop ∷ stops) = ap (λ (es : List PageEvent). stop_set stop
 pub all_read : (texts : List (List ℕ)) (count : ℕ) (before : ℤ) (columns : List ℕ) → ReadSoFar texts count before columns → length texts ≤ count
     → happens [] (stops_set columns) ≡ setting_stops (stop_places (pos 0) texts)
 all_read texts count before columns so_far behind =
-    let set : List PageEvent → Done = λ es. happens [] (Text (Set NoStops) ∷ es) in
+    let set : List PageEvent → Response = λ es. happens [] (Text (Set NoStops) ∷ es) in
     ap (λ (cs : List ℕ). happens [] (stops_set cs)) so_far.columns_are
     ∙ ap set (stops_set-columns so_far.stops)
     ∙ ap (λ (stops : List ℤ). setting_stops (Ok stops)) (sym (append-nil so_far.stops))

@@ -2,7 +2,7 @@
 
 ghost use Rattle.std.specs.Prelude.{◌≡◌, ℕ, List};
 ghost use Rattle.roff_run.specs.Registers.{Known};
-ghost use Rattle.roff_requests.specs.Request.Coded.{GivesFirst, KnowsOf, done_of, effect_of};
+ghost use Rattle.roff_requests.specs.Request.Coded.{GivesFirst, KnowsOf, response_of, effect_of};
 ghost use Rattle.roff_run.specs.Requests.{request_effect, row_of};
 
 mod adjustment;
@@ -15,7 +15,7 @@ mod switching;
 mod tabs;
 
 use Request::{LeftOut, WithoutEffect};
-pub(crate) use effects::Done;
+pub(crate) use effects::Response;
 pub use effects::{Changes, Effect, RequestFacts};
 pub use numbering::{name_given, register_named};
 use roff_lines::Param;
@@ -40,42 +40,42 @@ pub fn effect(request: Request, by_dot: bool, known: RequestFacts, given: Given<
 }
 
 /// What a request does behind its break.
-fn does(request: Request, known: RequestFacts, given: Given<'_>) -> Done
+fn does(request: Request, known: RequestFacts, given: Given<'_>) -> Response
     ensures { (k : Known) (as_given : List (List ℕ))
         → KnowsOf k request as_given known → GivesFirst as_given given.entry
-        → done_of as_given result ≡ (row_of request).does k as_given }
+        → response_of as_given result ≡ (row_of request).does k as_given }
 {
     match request {
-        Request::Abort => Done::nothing(),
+        Request::Abort => Response::nothing(),
         Request::Adjust => adjustment::adjust(given.first),
         Request::AssignFormat => numbering::assign_format(given.first, given.second),
-        Request::AppendMacro => Done::nothing(),
-        Request::AppendString => Done::nothing(),
-        Request::Break => Done::nothing(),
+        Request::AppendMacro => Response::nothing(),
+        Request::AppendString => Response::nothing(),
+        Request::Break => Response::nothing(),
         Request::Centre => adjustment::centre(given.first),
-        Request::DefineMacro => Done::nothing(),
-        Request::DefineString => Done::nothing(),
-        Request::Else => Done::nothing(),
+        Request::DefineMacro => Response::nothing(),
+        Request::DefineString => Response::nothing(),
+        Request::Else => Response::nothing(),
         Request::Environment => switching::switch(known, given.first),
-        Request::Exit => Done::nothing(),
-        Request::Fill => Done::setting(Param::Filling(true)),
-        Request::IfElse => Done::nothing(),
-        Request::If => Done::nothing(),
-        Request::Ignore => Done::nothing(),
+        Request::Exit => Response::nothing(),
+        Request::Fill => Response::setting(Param::Filling(true)),
+        Request::IfElse => Response::nothing(),
+        Request::If => Response::nothing(),
+        Request::Ignore => Response::nothing(),
         Request::Indent => lengths::indent(known, given.first),
         Request::LineLength => lengths::line_length(known, given.first),
         Request::LineSpacing => spacing::line_spacing(known, given.first),
-        Request::NoAdjust => Done::setting(Param::Adjusting(false)),
-        Request::NoFill => Done::setting(Param::Filling(false)),
+        Request::NoAdjust => Response::setting(Param::Adjusting(false)),
+        Request::NoFill => Response::setting(Param::Filling(false)),
         Request::NumberRegister => numbering::set_register(known, given),
-        Request::RemoveNames => Done::changing(Changes::RemoveNamesGiven),
+        Request::RemoveNames => Response::changing(Changes::RemoveNamesGiven),
         Request::Rename => naming::rename(given.first, given.second),
-        Request::RemoveRegisters => Done::changing(Changes::RemoveGiven),
+        Request::RemoveRegisters => Response::changing(Changes::RemoveGiven),
         Request::Space => spacing::space_down(given.first),
-        Request::TabStops => Done::SetsStops,
+        Request::TabStops => Response::SetsStops,
         Request::TemporaryIndent => lengths::temporary_indent(known, given.first),
-        Request::TellMessage => Done::nothing(),
-        WithoutEffect(_) => Done::nothing(),
-        LeftOut(name) => Done::left_out(name),
+        Request::TellMessage => Response::nothing(),
+        WithoutEffect(_) => Response::nothing(),
+        LeftOut(name) => Response::left_out(name),
     }
 }

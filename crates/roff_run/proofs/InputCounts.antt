@@ -7,7 +7,7 @@ use Rattle.roff_num.specs.declared.limit.Limit.TheVariants.{Stack, Depth, Condit
 use Rattle.roff_num.specs.declared.limits.Limits.{Limits}
 use Rattle.roff_arguments.specs.Arguments.{held, settled, no_arguments}
 use Rattle.roff_escape.specs.OpenEscape.{texts_held}
-use Rattle.roff_ahead.specs.Input.{Ahead, ByteAhead, FreeAhead, EndAhead, ReturnAhead, DoAhead, counting, item_taken, leaving, pushed, depth, results, bytes_ahead, ends_ahead, calls_behind, kept_behind, kept_below}
+use Rattle.roff_ahead.specs.Input.{Ahead, ByteAhead, FreeAhead, EndAhead, ReturnAhead, DoAhead, counting, item_taken, leaving, pushed, depth, result_count, bytes_ahead, ends_ahead, calls_behind, results_behind, results_below}
 use Rattle.roff_arguments.specs.Arguments.{live_bytes}
 use Rattle.roff_ahead.specs.Input.Names.{names_added, stored}
 use Rattle.roff_source.specs.Tape.{Answer, Gives, Ends, OneByte, OneNote}
@@ -34,7 +34,7 @@ one_of P false x y first second = second
 pub record NoMore (now before : PageInput) : Type 0 where
   pub bytes : pushed now ≤ pushed before
   pub texts : depth now ≤ depth before
-  pub results : results now ≤ results before
+  pub results : result_count now ≤ result_count before
   pub stored : stored now ≤ stored before
   pub names : names_added now ≤ names_added before
   pub open_texts : length now.open_texts ≤ length before.open_texts
@@ -52,7 +52,7 @@ names_added-same now before names first_names =
 -- by what stands ahead, the calls of bodies and the results that are kept alone
 by_ahead : (now before : PageInput) → now.arguments ≡ before.arguments → now.escapes ≡ before.escapes → now.names ≡ before.names
     → now.first_names ≡ before.first_names → now.open_texts ≡ before.open_texts → bytes_ahead now.ahead ≤ bytes_ahead before.ahead
-    → ends_ahead now.ahead ≤ ends_ahead before.ahead → live_bytes now.calls ≤ live_bytes before.calls → length now.kept ≤ length before.kept → NoMore now before
+    → ends_ahead now.ahead ≤ ends_ahead before.ahead → live_bytes now.calls ≤ live_bytes before.calls → length now.results ≤ length before.results → NoMore now before
 by_ahead now before same same_half names first_names open_texts bytes texts calls kept =
     let held_same : held now.arguments ≡ held before.arguments = ap held same in
     let half_same : texts_held now.escapes ≡ texts_held before.escapes = ap texts_held same_half in
@@ -104,25 +104,25 @@ calls_behind-fewer ReturnAhead calls = live_bytes-drop calls
 calls_behind-fewer (DoAhead event) calls = omega arith
 
 -- nor have results that were kept in it been kept
-kept_below-fewer : (calls : ℕ) (kept : List (Bool × ℕ)) → length (kept_below calls kept) ≤ length kept
-kept_below-fewer calls [] = omega arith
-kept_below-fewer calls (result ∷ others) =
-    let fewer = kept_below-fewer calls others in
-    one_of (λ (left : List (Bool × ℕ)). length left ≤ length (result ∷ others)) (nat_le calls result.1) (kept_below calls others) (result ∷ others)
+results_below-fewer : (calls : ℕ) (kept : List (Bool × ℕ)) → length (results_below calls kept) ≤ length kept
+results_below-fewer calls [] = omega arith
+results_below-fewer calls (result ∷ others) =
+    let fewer = results_below-fewer calls others in
+    one_of (λ (left : List (Bool × ℕ)). length left ≤ length (result ∷ others)) (nat_le calls result.1) (results_below calls others) (result ∷ others)
     (omega (arith, fewer)) (omega arith)
 
-kept_behind-fewer : (item : Ahead PageEvent) (calls : List (List (List ℕ))) (kept : List (Bool × ℕ)) → length (kept_behind item calls kept) ≤ length kept
-kept_behind-fewer (ByteAhead b) calls kept = omega arith
-kept_behind-fewer (FreeAhead b) calls kept = omega arith
-kept_behind-fewer EndAhead calls kept = omega arith
-kept_behind-fewer ReturnAhead calls kept = kept_below-fewer (length calls) kept
-kept_behind-fewer (DoAhead event) calls kept = omega arith
+results_behind-fewer : (item : Ahead PageEvent) (calls : List (List (List ℕ))) (kept : List (Bool × ℕ)) → length (results_behind item calls kept) ≤ length kept
+results_behind-fewer (ByteAhead b) calls kept = omega arith
+results_behind-fewer (FreeAhead b) calls kept = omega arith
+results_behind-fewer EndAhead calls kept = omega arith
+results_behind-fewer ReturnAhead calls kept = results_below-fewer (length calls) kept
+results_behind-fewer (DoAhead event) calls kept = omega arith
 
 pub NoMore-item_taken : (item : Ahead PageEvent) (items : List (Ahead PageEvent)) (i : PageInput) → i.ahead ≡ item ∷ items → NoMore (item_taken item items i) i
 NoMore-item_taken item items i ahead = by_ahead (item_taken item items i) i refl refl refl refl refl
     (subst (λ (all : List (Ahead PageEvent)). bytes_ahead items ≤ bytes_ahead all) (sym ahead) (bytes_behind item items))
     (subst (λ (all : List (Ahead PageEvent)). ends_ahead items ≤ ends_ahead all) (sym ahead) (ends_behind item items))
-    (calls_behind-fewer item i.calls) (kept_behind-fewer item i.calls i.kept)
+    (calls_behind-fewer item i.calls) (results_behind-fewer item i.calls i.results)
 
 -- what a call leaves counts for no more
 abbrev LeavesNoMore : PageInput → Shown PageEvent × Unread PageEvent → Type 0
@@ -163,7 +163,7 @@ NoMore-released i = record { bytes = omega arith; texts = omega arith; results =
 
 -- where nothing stands ahead
 pub NoMore-leaving : (i : PageInput) → NoMore (leaving i) i
-NoMore-leaving i = record { bytes = omega arith; texts = omega arith; results = kept_below-fewer 1 i.kept; stored = omega arith; names = omega arith; open_texts = omega arith }
+NoMore-leaving i = record { bytes = omega arith; texts = omega arith; results = results_below-fewer 1 i.results; stored = omega arith; names = omega arith; open_texts = omega arith }
 
 -- a limit that a count isn't above is above none that is no more
 pub not_above : (limit before now : ℕ) → now ≤ before → nat_lt limit before ≡ false → nat_lt limit now ≡ false
@@ -181,7 +181,7 @@ first_not x rest false passes none = none
 -- where the counts are no more, no limit refuses what none refused
 pub input_refusal-no_more : (l : Limits) (now before : PageInput) → NoMore now before → input_refusal l before ≡ None → input_refusal l now ≡ None
 input_refusal-no_more l now before less none =
-    let behind_depth : Option Limit = if nat_lt l.conditions (results before) then Some Conditions else None in
+    let behind_depth : Option Limit = if nat_lt l.conditions (result_count before) then Some Conditions else None in
     let behind_bytes : Option Limit = if nat_lt l.depth (depth before) then Some Depth else behind_depth in
     let behind_names : Option Limit = if nat_lt l.stack (pushed before) then Some Stack else behind_bytes in
     let behind_stored : Option Limit = if nat_lt l.names (names_added before) then Some Names else behind_names in
@@ -191,14 +191,14 @@ input_refusal-no_more l now before less none =
     let names = neither Names behind_names (nat_lt l.names (names_added before)) store.1 in
     let bytes = neither Stack behind_bytes (nat_lt l.stack (pushed before)) names.1 in
     let texts = neither Depth behind_depth (nat_lt l.depth (depth before)) bytes.1 in
-    let kept = neither Conditions None (nat_lt l.conditions (results before)) texts.1 in
+    let kept = neither Conditions None (nat_lt l.conditions (result_count before)) texts.1 in
     let fewer : length now.open_texts - 1 ≤ length before.open_texts - 1 = omega (arith, less.open_texts) in
     first_not Diversions _ _ (not_above l.diversions (length before.open_texts - 1) (length now.open_texts - 1) fewer making.0)
     (first_not Store _ _ (not_above l.store (stored before) (stored now) less.stored store.0)
     (first_not Names _ _ (not_above l.names (names_added before) (names_added now) less.names names.0)
     (first_not Stack _ _ (not_above l.stack (pushed before) (pushed now) less.bytes bytes.0)
     (first_not Depth _ _ (not_above l.depth (depth before) (depth now) less.texts texts.0)
-    (first_not Conditions None _ (not_above l.conditions (results before) (results now) less.results kept.0) refl)))))
+    (first_not Conditions None _ (not_above l.conditions (result_count before) (result_count now) less.results kept.0) refl)))))
 
 -- where no count is above its limit, no limit refuses the input
 pub IsWithin-allowed : (u : Unread PageEvent) → IsWithin u → input_refusal u.limits u.input ≡ None
@@ -208,7 +208,7 @@ IsWithin-allowed u within =
     (first_not Names _ _ (le-ltb u.limits.names (names_added u.input) within.names)
     (first_not Stack _ _ (le-ltb u.limits.stack (pushed u.input) within.pushed)
     (first_not Depth _ _ (le-ltb u.limits.depth (depth u.input) within.depth)
-    (first_not Conditions None _ (le-ltb u.limits.conditions (results u.input) within.results) refl)))))
+    (first_not Conditions None _ (le-ltb u.limits.conditions (result_count u.input) within.results) refl)))))
 
 -- where the names are within their limit, the others decide
 pub first_passed-few_names : (l : Limits) (rs : AllRegisters) (i : PageInput) → nat_lt l.names (length rs.named) ≡ false
@@ -227,7 +227,7 @@ behind_store l i =
     if nat_lt l.names (names_added i) then Some Names
     else if nat_lt l.stack (pushed i) then Some Stack
     else if nat_lt l.depth (depth i) then Some Depth
-    else if nat_lt l.conditions (results i) then Some Conditions
+    else if nat_lt l.conditions (result_count i) then Some Conditions
     else None
 
 abbrev behind_making : Limits → PageInput → Option Limit

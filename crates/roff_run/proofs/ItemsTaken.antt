@@ -9,7 +9,7 @@ use Rattle.roff_num.specs.declared.limits.Limits.{Limits}
 use Rattle.roff_arguments.specs.Arguments.{Arguments}
 use Rattle.roff_escape.specs.Conditions.{ends_condition, is_decided}
 use Rattle.roff_escape.specs.OpenEscapes.{decides_now, newline_stays, is_ended_by}
-use Rattle.roff_ahead.specs.Input.{Ahead, ByteAhead, counting, item_taken, pushed, depth, results}
+use Rattle.roff_ahead.specs.Input.{Ahead, ByteAhead, counting, item_taken, pushed, depth, result_count}
 use Rattle.roff_ahead.specs.Input.Names.{names_added, stored}
 use Rattle.roff_source.specs.Tape.{Tape, Answer, Gives, OneByte, front, items_then}
 use Rattle.roff_ahead.specs.Shown.{seen_ahead}
@@ -160,7 +160,7 @@ pub record Fits (l : Limits) (registers : AllRegisters) (i : PageInput) : Type 0
   pub store : stored i ≤ l.store
   pub texts : names_added i ≤ l.names
   pub making : length i.open_texts ≤ l.diversions + 1
-  pub conditions : results i ≤ l.conditions
+  pub conditions : result_count i ≤ l.conditions
 
 -- a step that leads within them is made
 pub made-Fits : (l : Limits) (from done : State) → Fits l done.registers done.input → made l from done ≡ done
@@ -168,7 +168,7 @@ made-Fits l from done fits =
     let names : nat_lt l.names (length done.registers.named) ≡ false = le-ltb _ _ fits.names in
     let stack : nat_lt l.stack (pushed done.input) ≡ false = le-ltb _ _ fits.stack in
     let depth : nat_lt l.depth (depth done.input) ≡ false = le-ltb _ _ fits.depth in
-    let conditions : nat_lt l.conditions (results done.input) ≡ false = le-ltb _ _ fits.conditions in
+    let conditions : nat_lt l.conditions (result_count done.input) ≡ false = le-ltb _ _ fits.conditions in
     let store : nat_lt l.store (stored done.input) ≡ false = le-ltb _ _ fits.store in
     let texts : nat_lt l.names (names_added done.input) ≡ false = le-ltb _ _ fits.texts in
     let making : nat_lt l.diversions (length done.input.open_texts - 1) ≡ false = le-ltb _ _ (omega (arith, fits.making)) in

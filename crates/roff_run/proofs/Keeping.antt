@@ -6,7 +6,7 @@ use Rattle.std.specs.Prelude.{◌||◌, ◌==◌}
 use Rattle.roff_source.specs.Bytes.{tab, newline, blank, is_dropped}
 use Rattle.roff_escape.specs.OpenEscapes.{byte_read, reading_ended}
 use Rattle.roff_ahead.specs.Input.{beginning_line, choosing}
-use Rattle.roff_ahead.specs.Input.Calls.{arguments_given, kept_last, without_last}
+use Rattle.roff_ahead.specs.Input.Calls.{arguments_given, last_result, without_last}
 use Rattle.roff_escape.specs.declared.open_escape.CopyUnit.{CopyUnit}
 use Rattle.roff_escape.specs.declared.open_escape.CopyUnit.TheVariants.{Kept}
 use Rattle.roff_escape.specs.OpenEscape.{OpenEscape, unit_bytes}
@@ -28,10 +28,10 @@ use Rattle.roff_run.specs.declared.definition.DefinitionLine.TheVariants.{MayBeL
 use Rattle.roff_run.specs.Definitions.{end_mark, ends_mark, front_of, line_from, matched_behind}
 use Rattle.roff_num.specs.ShortNames.{name_at}
 use Rattle.roff_run.specs.declared.request.Request.{Request}
-use Rattle.roff_run.specs.Reading.{kept_taking, interrupted, taking, escape_ended}
+use Rattle.roff_run.specs.Reading.{undropped_taking, interrupted, taking, escape_ended}
 use Rattle.roff_run.specs.Reading.Arguments.{arguments_ended}
 use Rattle.roff_run.specs.Reading.Beginnings.{at_start}
-use Rattle.roff_run.specs.Reading.Branches.{branch_of, branch_taking, is_so, decided, kept_if, condition_found, reads_else, condition_begun}
+use Rattle.roff_run.specs.Reading.Branches.{branch_of, branch_taking, is_so, decided, with_result_if, condition_found, reads_else, condition_begun}
 use Rattle.roff_run.specs.Reading.ControlLines.{ends_name, line_taking, called_taking, name_ended_taking, behind_called, behind_name}
 use Rattle.roff_run.specs.Reading.DefinedLines.{behind_definition, definition_unit, definition_line, definition_found}
 use Rattle.roff_run.specs.Reading.Definitions.{definition_dropped, definition_grown}
@@ -59,10 +59,10 @@ Keeps-branch_taking less most k i j old false b keeps one_more =
     Keeps-stays most i j LineStart _ (Keeps-with_escapes less most i j old LineStart j.escapes keeps (omega (arith, keeps.escapes, one_more))) (Stays-skipping_taking j 0 0 false b)
 
 -- a result is kept, or isn't
-Keeps-kept_if : (most : ℕ) (i j : PageInput) (reading : LineState) (keeps so : Bool) → Keeps most i j reading → Keeps most i (kept_if keeps so j) reading
-Keeps-kept_if most i j reading true so keeps =
+Keeps-with_result_if : (most : ℕ) (i j : PageInput) (reading : LineState) (keeps so : Bool) → Keeps most i j reading → Keeps most i (with_result_if keeps so j) reading
+Keeps-with_result_if most i j reading true so keeps =
     record { charge = keeps.charge; newlines = keeps.newlines; line = keeps.line; free = keeps.free; escapes = keeps.escapes }
-Keeps-kept_if most i j reading false so keeps = keeps
+Keeps-with_result_if most i j reading false so keeps = keeps
 
 -- a condition decided
 Keeps-decided : (less most : ℕ) (k : Known) (i j : PageInput) (old : LineState) (decision : Decision) (so : Bool) (freed : Option ℕ) → Keeps less i j old
@@ -82,7 +82,7 @@ Keeps-condition_found : (less most : ℕ) (k : Known) (i j : PageInput) (keeping
     → less + 2 * freed_endings found ≤ most → KeepsBy most i (condition_found k j keeping found)
 Keeps-condition_found less most k i j keeping (Decides decision freed) keeps few =
     Keeps-decided less most k i _ (Deciding keeping) decision (is_so k decision) freed
-    (Keeps-kept_if less i j (Deciding keeping) keeping (is_so k decision) keeps) few
+    (Keeps-with_result_if less i j (Deciding keeping) keeping (is_so k decision) keeps) few
 Keeps-condition_found less most k i j keeping (Holds unit) keeps few = Keeps-undecided less most k i j (Deciding keeping) (Holds unit) keeps few
 Keeps-condition_found less most k i j keeping (Asks purpose name) keeps few = Keeps-undecided less most k i j (Deciding keeping) (Asks purpose name) keeps few
 Keeps-condition_found less most k i j keeping (Measures width) keeps few = Keeps-undecided less most k i j (Deciding keeping) (Measures width) keeps few
@@ -150,7 +150,7 @@ module _ (some most : ℕ) (k : Known) (i j : PageInput) (b : ℕ) (keeps : Keep
   Keeps-line_taking breaks request (ByLines lines) =
       Keeps-arguments_found most k i _ breaks request (byte_read AboveArguments j.escapes b).0 (Keeps-begins AboveArguments (InArguments breaks request) (omega arith))
   Keeps-line_taking breaks request ByElse =
-      Keeps-branch_taking (2 * endings_of j.escapes) most k i (without_last j) LineStart (reads_else (kept_last j)) b
+      Keeps-branch_taking (2 * endings_of j.escapes) most k i (without_last j) LineStart (reads_else (last_result j)) b
       (record { charge = keeps.charge; newlines = keeps.newlines; line = keeps.line; free = keeps.free; escapes = omega arith }) (omega (arith, few))
 
   -- a byte behind a name that it doesn't belong to
@@ -216,7 +216,7 @@ Keeps-behind_name i breaks first request ByLastLine = record { charge = refl; ne
 Keeps-behind_name i breaks first request (ByMessage aborts) = record { charge = refl; newlines = refl; line = refl; free = refl; escapes = omega arith }
 Keeps-behind_name i breaks first request (ByLines lines) = record { charge = refl; newlines = refl; line = refl; free = refl; escapes = omega arith }
 Keeps-behind_name i breaks first request ByElse =
-    record { charge = refl; newlines = refl; line = refl; free = refl; escapes = omega (arith, unnamed-branch_of (reads_else (kept_last i))) }
+    record { charge = refl; newlines = refl; line = refl; free = refl; escapes = omega (arith, unnamed-branch_of (reads_else (last_result i))) }
 
 -- the last byte of a name
 Keeps-behind_called : (i : PageInput) (breaks : Bool) (first : ℕ) (called : Called) → TwoMore i (Name breaks first) (behind_called i breaks called)
@@ -225,43 +225,43 @@ Keeps-behind_called i breaks first (ABody name) = record { charge = refl; newlin
 Keeps-behind_called i breaks first Unknown = record { charge = refl; newlines = refl; line = refl; free = refl; escapes = omega arith }
 
 -- a byte that isn't dropped
-Keeps-kept_taking : (k : Known) (reading : LineState) (i : PageInput) (b : ℕ) → TwoMore i reading (kept_taking k reading i b)
-Keeps-kept_taking k LineStart i b = Keeps-beginning_found _ k i _ LineStart (byte_read (at_start k) i.escapes b).0 (Keeps-same_reading (at_start k) i LineStart b)
-Keeps-kept_taking k Branch i b = Keeps-beginning_found _ k i _ Branch (byte_read (at_start k) i.escapes b).0 (Keeps-same_reading (at_start k) i Branch b)
-Keeps-kept_taking k Braced i b = Keeps-beginning_found _ k i _ Braced (byte_read (at_start k) i.escapes b).0 (Keeps-same_reading (at_start k) i Braced b)
-Keeps-kept_taking k (InText line) i b = Keeps-text_found _ k i _ line (byte_read (on_line k line) i.escapes b).0 (Keeps-same_reading (on_line k line) i (InText line) b)
-Keeps-kept_taking k (Control breaks) i b =
+Keeps-undropped_taking : (k : Known) (reading : LineState) (i : PageInput) (b : ℕ) → TwoMore i reading (undropped_taking k reading i b)
+Keeps-undropped_taking k LineStart i b = Keeps-beginning_found _ k i _ LineStart (byte_read (at_start k) i.escapes b).0 (Keeps-same_reading (at_start k) i LineStart b)
+Keeps-undropped_taking k Branch i b = Keeps-beginning_found _ k i _ Branch (byte_read (at_start k) i.escapes b).0 (Keeps-same_reading (at_start k) i Branch b)
+Keeps-undropped_taking k Braced i b = Keeps-beginning_found _ k i _ Braced (byte_read (at_start k) i.escapes b).0 (Keeps-same_reading (at_start k) i Braced b)
+Keeps-undropped_taking k (InText line) i b = Keeps-text_found _ k i _ line (byte_read (on_line k line) i.escapes b).0 (Keeps-same_reading (on_line k line) i (InText line) b)
+Keeps-undropped_taking k (Control breaks) i b =
     Keeps-if _ i (b == blank || b == tab) _ _ (KeepsTwoMore-same i (Control breaks))
     (Keeps-if _ i (ends_name b) _ _ (TwoMore-stays i (Control breaks) _ (Stays-dropped_taking i b))
     (record { charge = refl; newlines = refl; line = refl; free = refl; escapes = omega arith }))
-Keeps-kept_taking k (Name breaks first) i b =
+Keeps-undropped_taking k (Name breaks first) i b =
     Keeps-if _ i (ends_name b) _ _
     (Keeps-name_ended_taking 1 _ k i i b (record { charge = refl; newlines = refl; line = refl; free = refl; escapes = omega arith })
     (λ base. endings-byte_read base i.escapes b) (endings-byte_read AboveArguments (choosing i).escapes b) (omega arith) breaks
     (record { first = first; second = None }))
     (Keeps-behind_called i breaks first (called_by (record { first = first; second = Some b }) i.names))
-Keeps-kept_taking k (InArguments breaks request) i b =
+Keeps-undropped_taking k (InArguments breaks request) i b =
     Keeps-arguments_found _ k i _ breaks request (byte_read AboveArguments i.escapes b).0 (Keeps-same_reading AboveArguments i (InArguments breaks request) b)
-Keeps-kept_taking k (Deciding keeping) i b =
+Keeps-undropped_taking k (Deciding keeping) i b =
     let read : Leaves (endings_of i.escapes + 1) (byte_read AboveArguments i.escapes b) = endings-byte_read AboveArguments i.escapes b in
     Keeps-condition_found (2 * endings_of (byte_read AboveArguments i.escapes b).1) _ k i (record i { escapes = (byte_read AboveArguments i.escapes b).1 }) keeping (byte_read AboveArguments i.escapes b).0
     (Keeps-with_escapes _ _ i i (Deciding keeping) (Deciding keeping) (byte_read AboveArguments i.escapes b).1 (KeepsTwoMore-same i (Deciding keeping)) (omega arith)) (omega (arith, read))
-Keeps-kept_taking k (StringName appends) i b =
+Keeps-undropped_taking k (StringName appends) i b =
     Keeps-string_name_found _ k i _ appends (byte_read AboveArguments i.escapes b).0 (Keeps-same_reading AboveArguments i (StringName appends) b)
-Keeps-kept_taking k (StringText name appends is_front) i b =
+Keeps-undropped_taking k (StringText name appends is_front) i b =
     Keeps-string_text_found _ k i _ name appends is_front (byte_read AboveCopy i.escapes b).0
     (Keeps-same_reading AboveCopy i (StringText name appends is_front) b)
-Keeps-kept_taking k (Calling name) i b =
+Keeps-undropped_taking k (Calling name) i b =
     Keeps-call_found _ k i _ name (byte_read AboveArguments i.escapes b).0 (Keeps-same_reading AboveArguments i (Calling name) b)
-Keeps-kept_taking k (Defining name appends end matched) i b =
+Keeps-undropped_taking k (Defining name appends end matched) i b =
     Keeps-definition_found _ k i _ name appends end matched (byte_read AboveCopy i.escapes b).0 (Keeps-same_reading AboveCopy i (Defining name appends end matched) b)
     (omega arith)
-Keeps-kept_taking k (Skipping opened closed behind) i b = TwoMore-stays i (Skipping opened closed behind) _ (Stays-skipping_taking i opened closed behind b)
-Keeps-kept_taking k Dropped i b = TwoMore-stays i Dropped _ (Stays-dropped_taking i b)
-Keeps-kept_taking k (Telling aborts is_front) i b =
+Keeps-undropped_taking k (Skipping opened closed behind) i b = TwoMore-stays i (Skipping opened closed behind) _ (Stays-skipping_taking i opened closed behind b)
+Keeps-undropped_taking k Dropped i b = TwoMore-stays i Dropped _ (Stays-dropped_taking i b)
+Keeps-undropped_taking k (Telling aborts is_front) i b =
     Keeps-message_found _ k i _ aborts is_front (byte_read AboveCopy i.escapes b).0 (Keeps-same_reading AboveCopy i (Telling aborts is_front) b)
-Keeps-kept_taking k (Told aborts) i b = KeepsTwoMore-same i (Told aborts)
-Keeps-kept_taking k Exiting i b = KeepsTwoMore-same i Exiting
+Keeps-undropped_taking k (Told aborts) i b = KeepsTwoMore-same i (Told aborts)
+Keeps-undropped_taking k Exiting i b = KeepsTwoMore-same i Exiting
 
 -- what isn't a byte of the line
 pub Keeps-interrupted : (reading : LineState) (i : PageInput) → KeepsTwoMore i reading (interrupted reading i) reading
@@ -285,7 +285,7 @@ Keeps-interrupted Exiting i = KeepsTwoMore-same i Exiting
 
 -- a byte
 pub Keeps-taking : (k : Known) (reading : LineState) (i : PageInput) (b : ℕ) → TwoMore i reading (taking k reading i b)
-Keeps-taking k reading i b = Keeps-if _ i (is_dropped b) _ _ (Keeps-interrupted reading i) (Keeps-kept_taking k reading i b)
+Keeps-taking k reading i b = Keeps-if _ i (is_dropped b) _ _ (Keeps-interrupted reading i) (Keeps-undropped_taking k reading i b)
 
 -- one turn fewer is to come
 abbrev pub KeepsOneFewer : PageInput → LineState → PageInput → LineState → Type 0
@@ -349,25 +349,25 @@ Keeps-last_string i appends (Some name) =
 -- the end of the input
 pub Keeps-end_taking : (k : Known) (reading : LineState) (i : PageInput) → TwoMore i reading (end_taking k reading i)
 Keeps-end_taking k LineStart i = KeepsTwoMore-same i LineStart
-Keeps-end_taking k Branch i = Keeps-kept_taking k Branch i newline
+Keeps-end_taking k Branch i = Keeps-undropped_taking k Branch i newline
 Keeps-end_taking k Braced i = KeepsTwoMore-same i LineStart
-Keeps-end_taking k (InText line) i = Keeps-kept_taking k (InText line) i newline
+Keeps-end_taking k (InText line) i = Keeps-undropped_taking k (InText line) i newline
 Keeps-end_taking k (Control breaks) i = KeepsTwoMore-same i LineStart
-Keeps-end_taking k (Name breaks first) i = Keeps-kept_taking k (Name breaks first) i newline
-Keeps-end_taking k (InArguments breaks request) i = Keeps-kept_taking k (InArguments breaks request) i newline
-Keeps-end_taking k (Deciding keeping) i = Keeps-kept_taking k (Deciding keeping) i newline
+Keeps-end_taking k (Name breaks first) i = Keeps-undropped_taking k (Name breaks first) i newline
+Keeps-end_taking k (InArguments breaks request) i = Keeps-undropped_taking k (InArguments breaks request) i newline
+Keeps-end_taking k (Deciding keeping) i = Keeps-undropped_taking k (Deciding keeping) i newline
 Keeps-end_taking k (StringName appends) i = Keeps-last_string i appends (name_at 0 (arguments_given i))
 Keeps-end_taking k (StringText name appends is_front) i =
     Keeps-alike _ i i (StringText name appends is_front) (string_entered name appends i) LineStart
     (KeepsTwoMore-same i (StringText name appends is_front)) (Alike-string_entered name appends i) refl
-Keeps-end_taking k (Calling name) i = Keeps-kept_taking k (Calling name) i newline
+Keeps-end_taking k (Calling name) i = Keeps-undropped_taking k (Calling name) i newline
 Keeps-end_taking k (Defining name appends end matched) i =
     Keeps-alike _ i i (Defining name appends end matched) (definition_dropped name i) LineStart (KeepsTwoMore-same i (Defining name appends end matched))
     (Alike-definition_dropped name i) refl
 Keeps-end_taking k (Skipping opened closed behind) i = KeepsTwoMore-same i LineStart
 Keeps-end_taking k Dropped i = KeepsTwoMore-same i LineStart
-Keeps-end_taking k (Telling aborts is_front) i = Keeps-kept_taking k (Telling aborts is_front) i newline
-Keeps-end_taking k (Told aborts) i = Keeps-kept_taking k (Told aborts) i newline
+Keeps-end_taking k (Telling aborts is_front) i = Keeps-undropped_taking k (Telling aborts is_front) i newline
+Keeps-end_taking k (Told aborts) i = Keeps-undropped_taking k (Told aborts) i newline
 Keeps-end_taking k Exiting i = KeepsTwoMore-same i Exiting
 
 -- an input where nothing is half read
@@ -401,7 +401,7 @@ module _ (k : Known) (i : PageInput) (breaks : Bool) where
   Keeps-last_line request (ByMessage aborts) = Keeps-plain i 3 (Told aborts) (omega arith)
   Keeps-last_line request (ByLines lines) = Keeps-last_arguments request
   Keeps-last_line request ByElse =
-      Keeps-branch_taking 0 3 k (plain i) (without_last (plain i)) LineStart (reads_else (kept_last (plain i))) newline
+      Keeps-branch_taking 0 3 k (plain i) (without_last (plain i)) LineStart (reads_else (last_result (plain i))) newline
       (record { charge = refl; newlines = refl; line = refl; free = refl; escapes = omega arith }) (omega arith)
 
   -- what a line does that ends behind a name

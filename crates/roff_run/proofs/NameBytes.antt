@@ -7,7 +7,7 @@ use Rattle.roff_store.specs.Named.{Named}
 use Rattle.roff_store.specs.Texts.{Entry}
 use Rattle.roff_run.proofs.ItemsTaken.{not-first, not-second}
 use Rattle.roff_run.specs.Reading.ControlLines.{BelongsToName, ends_name}
-use Rattle.roff_run.specs.Reading.{kept_taking}
+use Rattle.roff_run.specs.Reading.{undropped_taking}
 use Rattle.roff_run.specs.Reading.Items.{PageInput, going_on}
 use Rattle.roff_run.specs.Stages.{Stage, Turns, input_at}
 use Rattle.roff_run.specs.declared.line_state.LineState.{LineState}
@@ -28,7 +28,7 @@ pub turns-first : (names : Named Entry) (a : Arguments) (texts : List (List ℕ)
 turns-first names a texts breaks b belongs k i =
     let here : PageInput = input_at names (stage (Control breaks) a texts) i in
     let no_end : ends_name b ≡ false = not-second (is_dropped b) (ends_name b) belongs in
-    ap (λ (c : Bool). if c then going_on here (Control breaks) else kept_taking k (Control breaks) here b) (not-first (is_dropped b) (ends_name b) belongs)
+    ap (λ (c : Bool). if c then going_on here (Control breaks) else undropped_taking k (Control breaks) here b) (not-first (is_dropped b) (ends_name b) belongs)
     ∙ ap (λ (c : Bool). if c then going_on here (Control breaks) else if ends_name b then going_on here (if b == newline then LineStart else Dropped) else going_on here (Name breaks b))
     (first-of-two (b == blank) (b == 9) (b == newline || b == backslash) no_end)
     ∙ ap (λ (c : Bool). if c then going_on here (if b == newline then LineStart else Dropped) else going_on here (Name breaks b)) no_end

@@ -116,7 +116,7 @@ pub record HasRoom (l : Limits) (s : State) (names : Named Entry) (from : Origin
   pub store : bytes_in names + most.stored ≤ l.store
   pub texts : length names - i.first_names ≤ l.names
   pub making : most.texts ≤ l.diversions + 1
-  pub conditions : length i.kept ≤ l.conditions
+  pub conditions : length i.results ≤ l.conditions
   pub registers : length s.registers.named ≤ l.names
   pub environments : EnvironmentsWithin l (environments s.history)
 

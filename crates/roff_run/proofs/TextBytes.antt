@@ -10,7 +10,7 @@ use Rattle.roff_escape.specs.OpenEscape.{OpenEscape, Backslash}
 use Rattle.roff_escape.specs.OpenEscapes.{byte_read}
 use Rattle.roff_escape.specs.declared.open_escape.CopyUnit.TheVariants.{Byte}
 use Rattle.roff_escape.specs.declared.open_escape.Found.TheVariants.{GoesOn, Unit as GivesUnit}
-use Rattle.roff_run.specs.Reading.{interrupted, kept_taking}
+use Rattle.roff_run.specs.Reading.{interrupted, undropped_taking}
 use Rattle.roff_run.specs.Reading.Items.{PageInput, Taking, going_on, meaning_events}
 use Rattle.roff_run.specs.Reading.TextLines.{blank_taking, glyph_taking, on_line, other_taking, tab_taking, text_line_end, text_taking}
 use Rattle.roff_run.specs.Reading.Found.{read_in}
@@ -69,7 +69,7 @@ told-kept i has_other has_brace b text =
 prints-plain : (has_other has_brace : Bool) (b : ℕ) → is_text_byte b ≡ true → Prints (InText (line_of has_other has_brace)) b
 prints-plain has_other has_brace b text = λ k i none_half.
     let line : TextLine = line_of has_other has_brace in
-    ap (λ (c : Bool). if c then going_on (interrupted (InText line) i) (InText line) else kept_taking k (InText line) i b)
+    ap (λ (c : Bool). if c then going_on (interrupted (InText line) i) (InText line) else undropped_taking k (InText line) i b)
     (kept-text (nat_lt b 32) (b == 127) (b == backslash) (not (b == newline || b == tab || is_silent b)) text)
     ∙ ap (λ (half : List OpenEscape). read_in k (InText line) i (byte_read (on_line k line) half b)) none_half
     ∙ ap (λ (c : Bool). read_in k (InText line) i (if c then (GoesOn, Backslash ∷ []) else (GivesUnit (Byte b), []))) (is_other b backslash text refl)

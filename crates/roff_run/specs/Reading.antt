@@ -27,19 +27,19 @@ use Rattle.roff_run.specs.Reading.Units.{settling}
 use Rattle.roff_run.specs.Registers.{Known}
 
 -- a byte that isn't dropped
-abbrev pub kept_taking : Known → LineState → PageInput → ℕ → Taking
-kept_taking k (Control breaks) i b =
+abbrev pub undropped_taking : Known → LineState → PageInput → ℕ → Taking
+undropped_taking k (Control breaks) i b =
     if b == blank || b == tab then going_on i (Control breaks)
     else if ends_name b then dropped_taking i b
     else going_on i (Name breaks b)
-kept_taking k (Name breaks first) i b =
+undropped_taking k (Name breaks first) i b =
     if ends_name b then name_ended_taking k i breaks (record { first = first; second = None }) b
     else name_whole_taking i breaks (record { first = first; second = Some b })
-kept_taking k (Skipping opened closed behind) i b = skipping_taking i opened closed behind b
-kept_taking k Dropped i b = dropped_taking i b
-kept_taking k (Told aborts) i b = going_on i (Told aborts)
-kept_taking k Exiting i b = going_on i Exiting
-kept_taking k reading i b = read_in k reading i (byte_read (place_in k reading) i.escapes b)
+undropped_taking k (Skipping opened closed behind) i b = skipping_taking i opened closed behind b
+undropped_taking k Dropped i b = dropped_taking i b
+undropped_taking k (Told aborts) i b = going_on i (Told aborts)
+undropped_taking k Exiting i b = going_on i Exiting
+undropped_taking k reading i b = read_in k reading i (byte_read (place_in k reading) i.escapes b)
 
 -- what isn't a byte of the line: no quote follows the quote before it
 abbrev pub interrupted : LineState → PageInput → PageInput
@@ -50,7 +50,7 @@ interrupted (_) i = i
 
 -- what a byte does where this is being read
 abbrev pub taking : Known → LineState → PageInput → ℕ → Taking
-taking k reading i b = if is_dropped b then going_on (interrupted reading i) reading else kept_taking k reading i b
+taking k reading i b = if is_dropped b then going_on (interrupted reading i) reading else undropped_taking k reading i b
 
 -- a byte changes nothing where this is read
 abbrev pub Passes : LineState → ℕ → Type 0

@@ -15,7 +15,7 @@ use Rattle.roff_run.specs.declared.request.Called.TheVariants.{Request as AReque
 use Rattle.roff_run.specs.declared.request.LinesFor.TheVariants.{Macro, Nobody}
 use Rattle.roff_num.specs.declared.short_name.ShortName.{ShortName}
 use Rattle.roff_num.specs.ShortNames.{name_bytes}
-pub use Rattle.roff_run.specs.Requests.Effects.{Effect, doing, saying, Done, Ignored, Does, nothing, setting, left_out, meant_by}
+pub use Rattle.roff_run.specs.Requests.Effects.{Effect, doing, saying, Response, Ignored, Obeyed, nothing, setting, left_out, meant_by}
 use Rattle.roff_run.specs.Requests.Adjustment.{adjust, centre}
 use Rattle.roff_run.specs.Requests.Spacing.{space_down, line_spacing}
 use Rattle.roff_run.specs.Requests.Lengths.{line_length, indent, temporary_indent}
@@ -37,14 +37,14 @@ pub record Row : Type 0 where
   pub name : List ℕ
   pub line : LineReading
   pub breaks : Bool
-  pub does : Known → List (List ℕ) → Done
+  pub does : Known → List (List ℕ) → Response
 
 -- a row, as it stands in the table
-abbrev pub row : List ℕ → LineReading → Bool → (Known → List (List ℕ) → Done) → Row
+abbrev pub row : List ℕ → LineReading → Bool → (Known → List (List ℕ) → Response) → Row
 row name line breaks does = record { name = name; line = line; breaks = breaks; does = does }
 
 -- the same, whatever is known and given
-abbrev pub always : Done → Known → List (List ℕ) → Done
+abbrev pub always : Response → Known → List (List ℕ) → Response
 always done known as_given = done
 
 -- the table, in the order of the names, and beside each request the number of its section

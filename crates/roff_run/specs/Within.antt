@@ -4,7 +4,7 @@ use Rattle.roff_lines.specs.Lines.{pending_length}
 use Rattle.roff_num.specs.declared.limits.Limits.{Limits}
 use Rattle.roff_run.specs.Environments.{Environments, environments}
 use Rattle.roff_run.specs.Run.{State}
-use Rattle.roff_ahead.specs.Input.{pushed, depth, results}
+use Rattle.roff_ahead.specs.Input.{pushed, depth, result_count}
 use Rattle.roff_ahead.specs.Input.Names.{names_added, stored}
 
 -- the pending line of each environment is within the limit on lines, and so few of them were left as may be
@@ -22,6 +22,6 @@ pub record IsWithin (l : Limits) (s : State) : Type 0 where
   pub store : stored s.input ≤ l.store
   pub texts : names_added s.input ≤ l.names
   pub making : length s.input.open_texts ≤ l.diversions + 1
-  pub conditions : results s.input ≤ l.conditions
+  pub conditions : result_count s.input ≤ l.conditions
   pub names : length s.registers.named ≤ l.names
   pub environments : EnvironmentsWithin l (environments s.history)

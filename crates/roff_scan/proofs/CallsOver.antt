@@ -1,21 +1,21 @@
 -- The end of a called body is taken: its call is over, and what was kept in it is kept no more.
 use Rattle.std.proofs.Common.{◌≡◌, ◌≤◌, ◌+◌, ℕ, Bool, true, false, List, [], ◌∷◌, length, length-drop, drop, refl, ap, arith}
 use Rattle.std.specs.Prelude.{if◌then◌else◌, nat_le}
-use Rattle.roff_ahead.specs.Input.{Ahead, ByteAhead, FreeAhead, EndAhead, ReturnAhead, DoAhead, bytes_ahead, ends_ahead, item_taken, kept_below, returns_ahead}
+use Rattle.roff_ahead.specs.Input.{Ahead, ByteAhead, FreeAhead, EndAhead, ReturnAhead, DoAhead, bytes_ahead, ends_ahead, item_taken, results_below, returns_ahead}
 use Rattle.roff_arguments.specs.Arguments.{live_bytes}
 use Rattle.roff_scan.specs.Unread.{Unread, IsWithin}
 use Rattle.roff_ahead.specs.Shown.{ShowsReturn, shown_ahead}
 
 -- no more is kept than before
 fewer-if : (is : Bool) (calls : ℕ) (result : Bool × ℕ) (others : List (Bool × ℕ))
-    → length (kept_below calls others) ≤ length others
-    → length (if is then kept_below calls others else result ∷ others) ≤ length (result ∷ others)
+    → length (results_below calls others) ≤ length others
+    → length (if is then results_below calls others else result ∷ others) ≤ length (result ∷ others)
 fewer-if true calls result others fewer = omega (arith, fewer)
 fewer-if false calls result others fewer = omega arith
 
-pub kept_below-few : (calls : ℕ) (kept : List (Bool × ℕ)) → length (kept_below calls kept) ≤ length kept
-kept_below-few calls [] = omega arith
-kept_below-few calls (result ∷ others) = fewer-if (nat_le calls result.1) calls result others (kept_below-few calls others)
+pub results_below-few : (calls : ℕ) (kept : List (Bool × ℕ)) → length (results_below calls kept) ≤ length kept
+results_below-few calls [] = omega arith
+results_below-few calls (result ∷ others) = fewer-if (nat_le calls result.1) calls result others (results_below-few calls others)
 
 -- nor have calls more bytes
 live_bytes-few : (calls : List (List (List ℕ))) → live_bytes (drop 1 calls) ≤ live_bytes calls
@@ -49,7 +49,7 @@ module _ {E : Type 0} where
         newlines = omega (arith, within.newlines);
         pushed = omega (arith, bytes, live_bytes-few u.input.calls, within.pushed);
         depth = omega (arith, ends, within.depth);
-        results = omega (arith, kept_below-few (length u.input.calls) u.input.kept, within.results);
+        results = omega (arith, results_below-few (length u.input.calls) u.input.results, within.results);
         stored = within.stored;
         names = within.names;
         making = within.making;

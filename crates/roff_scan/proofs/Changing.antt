@@ -6,10 +6,10 @@ use Rattle.roff_num.specs.declared.limit.Limit.{Limit}
 use Rattle.roff_num.specs.declared.limit.Limit.TheVariants.{Stack, Depth, Store, Names}
 use Rattle.roff_arguments.specs.Arguments.{Arguments, held}
 use Rattle.roff_escape.specs.OpenEscape.{OpenEscape, texts_held}
-use Rattle.roff_ahead.specs.Input.{Input, EndAhead, pushed, depth, results, pushing, freeing, leaving, with_arguments, with_escapes}
+use Rattle.roff_ahead.specs.Input.{Input, EndAhead, pushed, depth, result_count, pushing, freeing, leaving, with_arguments, with_escapes}
 use Rattle.roff_ahead.specs.Input.Names.{names_added, stored}
 use Rattle.roff_scan.specs.Unread.{Unread, IsWithin, changing, unless_passed}
-use Rattle.roff_scan.proofs.CallsOver.{kept_below-few}
+use Rattle.roff_scan.proofs.CallsOver.{results_below-few}
 use Rattle.roff_arguments.proofs.KeptArguments.{held-only_kept}
 use Rattle.roff_ahead.proofs.Counts.{bytes_ahead-bytes, ends_ahead-bytes, bytes_ahead-frees, ends_ahead-frees}
 
@@ -37,14 +37,14 @@ module _ {E : Type 0} (u : Unread E) (i : Input E) where
   pub record OthersWithin : Type 0 where
     pub charge : i.charge ≤ u.limits.bytes
     pub newlines : i.newlines ≤ i.charge
-    pub results : results i ≤ u.limits.conditions
+    pub results : result_count i ≤ u.limits.conditions
     pub stored : stored i ≤ u.limits.store
     pub names : names_added i ≤ u.limits.names
     pub making : length i.open_texts ≤ u.limits.diversions + 1
 
   -- the limits on the texts come first, of which the bytes and the names may be above theirs
   pub changing_texts : pushed i ≤ u.limits.stack → depth i ≤ u.limits.depth → length i.open_texts ≤ u.limits.diversions + 1
-      → results i ≤ u.limits.conditions
+      → result_count i ≤ u.limits.conditions
       → changing i u
       ≡ unless_passed (texts_refusal (nat_lt u.limits.store (stored i)) (nat_lt u.limits.names (names_added i))) i u
   changing_texts within inside making few =
@@ -52,7 +52,7 @@ module _ {E : Type 0} (u : Unread E) (i : Input E) where
         not_above u.limits.stack (pushed i) within,
         not_above u.limits.depth (depth i) inside,
         not_above u.limits.diversions (length i.open_texts - 1) (omega (arith, making)),
-        not_above u.limits.conditions (results i) few,
+        not_above u.limits.conditions (result_count i) few,
       ) refl
 
   module _ (others : OthersWithin) where
@@ -244,7 +244,7 @@ IsWithin-leaving u within = record {
   newlines = within.newlines;
   pushed = omega (arith, within.pushed);
   depth = omega arith;
-  results = omega (arith, kept_below-few 1 u.input.kept, within.results);
+  results = omega (arith, results_below-few 1 u.input.results, within.results);
   stored = within.stored;
   names = within.names;
   making = within.making;

@@ -10,7 +10,7 @@ use Rattle.roff_num.specs.declared.limit.Limit.TheVariants.{Bytes, Stack, Depth,
 use Rattle.roff_num.specs.declared.limits.Limits.{Limits}
 use Rattle.roff_source.specs.Bytes.{is_passed}
 use Rattle.roff_escape.specs.OpenEscapes.{Reads, reading_ended}
-use Rattle.roff_ahead.specs.Input.{with_escapes, Input, initial_input, is_none_ahead, Ahead, cost, counting, item_taken, pushed, depth, results}
+use Rattle.roff_ahead.specs.Input.{with_escapes, Input, initial_input, is_none_ahead, Ahead, cost, counting, item_taken, pushed, depth, result_count}
 use Rattle.roff_ahead.specs.Input.Names.{stored, names_added}
 use Rattle.roff_store.specs.Texts.{Texts}
 use Rattle.roff_source.specs.Tape.{Tape, Answer, Answers, Gives, Ends, OneByte, OneNote, items_then}
@@ -33,7 +33,7 @@ pub record IsWithin {E : Type 0} (u : Unread E) : Type 0 where
   pub newlines : u.input.newlines ≤ u.input.charge
   pub pushed : pushed u.input ≤ u.limits.stack
   pub depth : depth u.input ≤ u.limits.depth
-  pub results : results u.input ≤ u.limits.conditions
+  pub results : result_count u.input ≤ u.limits.conditions
   pub stored : stored u.input ≤ u.limits.store
   pub names : names_added u.input ≤ u.limits.names
   pub making : length u.input.open_texts ≤ u.limits.diversions + 1
@@ -136,7 +136,7 @@ input_refusal l i =
     else if nat_lt l.names (names_added i) then Some Names
     else if nat_lt l.stack (pushed i) then Some Stack
     else if nat_lt l.depth (depth i) then Some Depth
-    else if nat_lt l.conditions (results i) then Some Conditions
+    else if nat_lt l.conditions (result_count i) then Some Conditions
     else None
 
 -- a change of the input is made, unless a count would pass its limit

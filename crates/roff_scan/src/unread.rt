@@ -13,7 +13,7 @@ mod results;
 mod skipped;
 mod taken;
 
-use roff_ahead::Frames;
+use roff_ahead::InputAhead;
 use roff_arguments::{ArgumentTexts, Calls};
 use roff_escape::OpenEscapes;
 use roff_num::Limits;
@@ -26,13 +26,13 @@ use std::marker::Model;
 #[derive(Drop)]
 pub struct Unread<E> {
     limits: Limits,
-    frames: Frames<E>,
+    input_ahead: InputAhead<E>,
     arguments: ArgumentTexts,
     calls: Calls,
     escapes: OpenEscapes,
     /// The results of conditions that are kept for their other branch, the newest at the back, each
     /// with how many calls weren't over then.
-    kept: Vec<(bool, u32)>,
+    results: Vec<(bool, u32)>,
     /// The byte of the source that was looked at and isn't taken yet.
     looked: Option<u8>,
     charge: u32,
@@ -64,11 +64,11 @@ impl<E: Copy> Unread<E> {
     {
         Ok(Unread {
             limits,
-            frames: Frames::new(alloc, &limits, first_names)?,
+            input_ahead: InputAhead::new(alloc, &limits, first_names)?,
             arguments: ArgumentTexts::new(alloc, limits.stack)?,
             calls: Calls::new(alloc, limits.stack, limits.depth)?,
             escapes: OpenEscapes::new(alloc, limits.stack)?,
-            kept: Vec::with_capacity(alloc, limits.conditions as usize)?,
+            results: Vec::with_capacity(alloc, limits.conditions as usize)?,
             looked: None,
             charge: 0,
             newlines: 0,
@@ -113,7 +113,7 @@ impl<E: Copy> Unread<E> {
     pub fn pushed(&self) -> usize
         ensures { result ≡ pushed self.now.input }
     {
-        self.frames.byte_count()
+        self.input_ahead.byte_count()
             + self.arguments.held()
             + self.escapes.held()
             + self.calls.byte_count()
@@ -124,7 +124,7 @@ impl<E: Copy> Unread<E> {
     pub fn depth(&self) -> usize
         ensures { result ≡ depth self.now.input }
     {
-        self.frames.depth()
+        self.input_ahead.depth()
     }
 
     /// Whether nothing stands ahead of the source.
@@ -132,6 +132,6 @@ impl<E: Copy> Unread<E> {
     pub fn is_none_ahead(&self) -> bool
         ensures { result ≡ is_none_ahead self.now.input.ahead }
     {
-        self.frames.is_empty()
+        self.input_ahead.is_empty()
     }
 }

@@ -33,13 +33,13 @@ abbrev pub argument_live : {E : Type 0} → ℕ → Input E → List ℕ
 argument_live index i = get_or (arguments_live i) index []
 
 -- a result is kept
-abbrev pub keeping : {E : Type 0} → Bool → Input E → Input E
-keeping so i = record i { kept = (so, length i.calls) ∷ i.kept }
+abbrev pub with_result : {E : Type 0} → Bool → Input E → Input E
+with_result so i = record i { results = (so, length i.calls) ∷ i.results }
 
 -- the result that was kept last, if one is
-abbrev pub kept_last : {E : Type 0} → Input E → Option Bool
-kept_last i = elim i.kept [ [] ↦ None | result ∷ others ↦ Some result.0 ]
+abbrev pub last_result : {E : Type 0} → Input E → Option Bool
+last_result i = elim i.results [ [] ↦ None | result ∷ others ↦ Some result.0 ]
 
 -- it is kept no more
 abbrev pub without_last : {E : Type 0} → Input E → Input E
-without_last i = record i { kept = drop 1 i.kept }
+without_last i = record i { results = drop 1 i.results }

@@ -21,7 +21,7 @@ use Rattle.roff_run.specs.declared.event.PageEvent.TheVariants.{Text}
 use Rattle.roff_run.specs.declared.message.Message.{Message}
 use Rattle.roff_run.specs.declared.line_state.LineState.{LineState}
 use Rattle.roff_run.specs.Run.{State, Leads, initial, step, stopped_by, made, taken_as, known_at, output, reported}
-use Rattle.roff_reader.specs.Reader.Taken.{Became, IsReady}
+use Rattle.roff_reader.specs.Reader.Taken.{CameTo, IsReady}
 use Rattle.roff_run.specs.Reading.Items.{PageUnread}
 use Rattle.roff_pages.specs.Sinks.{Sunk}
 
@@ -89,9 +89,9 @@ pub record LostAt (l : Limits) (t : Tape) (before now : Seen) (from : State) : T
   pub fault : Rises before.err.failures now.err.failures
 
 -- how far the code did what an item means, by its answer
-abbrev pub Does : Limits → Tape → Seen → Seen → State → State → List PageEvent → Result (Unit {0}) Halt → EnvironmentsOf → Type 0
-Does l t before now from s rest (Err Messages) es = LostAt l t before now from
-Does l t before now from s rest result es = Performs l t before now s rest result es
+abbrev pub MeaningDone : Limits → Tape → Seen → Seen → State → State → List PageEvent → Result (Unit {0}) Halt → EnvironmentsOf → Type 0
+MeaningDone l t before now from s rest (Err Messages) es = LostAt l t before now from
+MeaningDone l t before now from s rest result es = Performs l t before now s rest result es
 
 -- what both sinks of a run tell
 pub record Sinks : Type 0 where
@@ -107,7 +107,7 @@ pub record DoesMeaning (line : ℕ) (messages : List Message) (events : List Pag
   pub does : (l : Limits) (t : Tape) (before : Seen) (failures : ℕ) (from s : State) (h : PageHistory) (rest : List PageEvent)
       → StandFor l h old.environments → Reaches l t before (seen failures told_old.out told_old.err) from
       → Means l from s h line messages events rest
-      → Does l t before (seen failures told_new.out told_new.err) from s rest result new.environments
+      → MeaningDone l t before (seen failures told_new.out told_new.err) from s rest result new.environments
   pub reader : new.reader ≡ old.reader
 
 -- a state of a run that hasn't ended, by all that it has
@@ -140,22 +140,22 @@ pub record RefusedAt (l : Limits) (t : Tape) (before now : Seen) (from : State) 
   pub stops : step l from ≡ stopped_by l limit from
 
 -- how far the code did a taking, from this state to that, by its answer
-abbrev pub Did : Limits → Tape → Seen → Seen → State → State → List PageEvent → Result (Unit {0}) Halt → EnvironmentsOf → Type 0
-Did l t before now from done rest (Err (Refused limit)) es = RefusedAt l t before now from limit
-Did l t before now from done rest result es = Does l t before now from done rest result es
+abbrev pub TakingDone : Limits → Tape → Seen → Seen → State → State → List PageEvent → Result (Unit {0}) Halt → EnvironmentsOf → Type 0
+TakingDone l t before now from done rest (Err (Refused limit)) es = RefusedAt l t before now from limit
+TakingDone l t before now from done rest result es = MeaningDone l t before now from done rest result es
 
 -- The code did what the definition takes, and performed some events more, as far as it answers: for each state of a
 -- run from which one step leads to the taking's, with these events and others to do behind its own.
 pub record DoesTaking (t : Known → Taking) (more : List PageEvent) (old new : Formatter) (before behind : PageUnread) (told_old told_new : Sinks) (result : Result (Unit {0}) Halt) : Type 0 where
   pub became : (l : Limits) (h : PageHistory) → StandFor l h old.environments → IsReady old.reader.registers before
-      → OnOk result (Became (t (known_at h old.reader.registers.all before.input)) old.reader.registers new.reader before behind)
+      → OnOk result (CameTo (t (known_at h old.reader.registers.all before.input)) old.reader.registers new.reader before behind)
   pub does : (t0 : Tape) (start : Seen) (failures : ℕ) (from : State) (tape : Tape) (h : PageHistory) (messages : List ℕ) (is_closing : Bool) (rest : List PageEvent)
       → StandFor before.limits h old.environments → IsReady old.reader.registers before
       → Reaches before.limits t0 start (seen failures told_old.out told_old.err) from
       → let known : Known = known_at h old.reader.registers.all before.input in
       let state : State = going tape before.input old.reader.reading old.reader.registers.all h messages is_closing (more ++ rest) in
       Opens before.limits from (taken_as (t known) state) h messages
-      → Did before.limits t0 start (seen failures told_new.out told_new.err) from (taken_as (t known) state) rest result new.environments
+      → TakingDone before.limits t0 start (seen failures told_new.out told_new.err) from (taken_as (t known) state) rest result new.environments
 
 -- the events that finish the last line
 abbrev pub closing_events : List PageEvent

@@ -113,7 +113,7 @@ pub record TookFrom (t tape : Tape) (start now : Seen) (line : ℕ) (does : Stat
 
 -- The code did what is to be done with an item that it took, or has ended: for each state from which a step of the
 -- definition leads to that. Where it goes on, the input and what is read are the definition's.
-pub record Acts (line : ℕ) (does : State → State) (old new : Coded) (now behind : Seen) (r : Result (Unit {0}) Status) : Type 0 where
+pub record DoesItem (line : ℕ) (does : State → State) (old new : Coded) (now behind : Seen) (r : Result (Unit {0}) Status) : Type 0 where
   pub limits : new.limits ≡ old.limits
   pub acts : (t tape : Tape) (start : Seen) (from : State) → TookFrom t tape start now line does from old → Continues t tape start behind r new
   pub input : (t tape : Tape) (start : Seen) (from : State) → (took : TookFrom t tape start now line does from old)

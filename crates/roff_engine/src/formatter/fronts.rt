@@ -157,7 +157,7 @@ impl Formatter {
         requires none_half { unread.old.input.escapes ≡ [] }
         ensures past { result ≡ true → ReadsPast (S.gives source.old) (S.gives source.new)
             self.old.reader self.new.reader unread.old unread.new }
-        ensures kept { result ≡ false
+        ensures unchanged { result ≡ false
             → (self.new ≡ self.old) × (unread.new ≡ unread.old) × (source.new ≡ source.old) }
         ensures others { self.new ≡ record self.old { reader = self.new.reader } }
         ensures notes { S.notes source.new ≡ S.notes source.old }

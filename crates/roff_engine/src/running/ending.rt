@@ -12,7 +12,7 @@ use roff_pages::{ByteSink, SinkFault};
 use roff_run::{Message, Status};
 
 impl Running {
-    ghost use Rattle.roff_engine.specs.Running.Turning.{Acts, Halts, IsEnded, MayEnd, input_ends};
+    ghost use Rattle.roff_engine.specs.Running.Turning.{DoesItem, Halts, IsEnded, MayEnd, input_ends};
     ghost use Rattle.roff_engine.specs.Running.Turning.{line_told};
 
     /// Ends what is half read, before what stays.
@@ -21,7 +21,7 @@ impl Running {
         out: &mut O,
         err: &mut E,
     ) -> Result<(), Status>
-        ensures { (failures : ℕ) → Acts self.old.unread.input.line escape_ends self.old self.new
+        ensures { (failures : ℕ) → DoesItem self.old.unread.input.line escape_ends self.old self.new
             (seen failures (O.sunk out.old) (E.sunk err.old))
             (seen failures (O.sunk out.new) (E.sunk err.new)) result }
     {
@@ -40,7 +40,7 @@ impl Running {
         err: &mut E,
     ) -> Result<(), Status>
         ensures acts { self.old.unread.looked ≡ None → (failures : ℕ)
-            → Acts self.old.unread.input.line input_ends self.old self.new
+            → DoesItem self.old.unread.input.line input_ends self.old self.new
             (seen failures (O.sunk out.old) (E.sunk err.old))
             (seen failures (O.sunk out.new) (E.sunk err.new)) result }
         // It goes on only where something was half read, or a control line.
@@ -58,7 +58,7 @@ impl Running {
 
     /// Ends a control line, with nothing half read.
     fn end_line<O: ByteSink, E: ByteSink>(&mut self, out: &mut O, err: &mut E) -> Result<(), Status>
-        ensures { (failures : ℕ) → Acts self.old.unread.input.line (input_ended true)
+        ensures { (failures : ℕ) → DoesItem self.old.unread.input.line (input_ended true)
             self.old self.new
             (seen failures (O.sunk out.old) (E.sunk err.old))
             (seen failures (O.sunk out.new) (E.sunk err.new)) result }
@@ -73,7 +73,7 @@ impl Running {
     /// Ends the run, with nothing half read: its status.
     pub(super) fn finish<O: ByteSink, E: ByteSink>(&mut self, out: &mut O, err: &mut E) -> Status
         ensures { MayEnd self.old → (failures : ℕ)
-            → Acts self.old.unread.input.line end_met self.old self.new
+            → DoesItem self.old.unread.input.line end_met self.old self.new
             (seen failures (O.sunk out.old) (E.sunk err.old))
             (seen failures (O.sunk out.new) (E.sunk err.new)) (Err result) }
     {

@@ -59,7 +59,7 @@ impl Running {
           };
           unread = self.new.unread;
         } }
-        ensures kept { result ≡ false → self.new ≡ self.old }
+        ensures unchanged { result ≡ false → self.new ≡ self.old }
     {
         if !self.unread.pass_return() {
             return false;
@@ -77,7 +77,7 @@ impl Running {
         requires none_half { self.old.unread.input.escapes ≡ [] }
         ensures past { result ≡ true
             → GoesPastOver S.ByteSource source.old source.new self.old self.new }
-        ensures kept { result ≡ false → (self.new ≡ self.old) × (source.new ≡ source.old) }
+        ensures unchanged { result ≡ false → (self.new ≡ self.old) × (source.new ≡ source.old) }
     {
         self.formatter.read_control_front(&mut self.unread, source)
     }
@@ -106,7 +106,7 @@ impl Running {
         ensures stays { result ≡ true → newline_stays self.old.unread.input.escapes ≡ false }
         ensures passes { result ≡ true → PassesEnd self.old.unread self.new.unread }
         ensures within { result ≡ true → IsWithin self.new.unread }
-        ensures kept { result ≡ false → self.new ≡ self.old }
+        ensures unchanged { result ≡ false → self.new ≡ self.old }
         ensures others { self.new ≡ record self.old { unread = self.new.unread } }
     {
         if self.unread.newline_stays() || self.formatter.due().is_some() {
@@ -143,7 +143,7 @@ impl Running {
             → Passes self.old.formatter.reader.reading b }
         requires none_due { due self.old.formatter.reader.reading ≡ None }
         ensures past { GoesPastOver S.ByteSource source.old source.new self.old self.new }
-        ensures kept { self.new.formatter ≡ self.old.formatter }
+        ensures unchanged { self.new.formatter ≡ self.old.formatter }
     {
         if self.unread.is_none_ahead() {
             self.unread.pass_over(source, within_block);

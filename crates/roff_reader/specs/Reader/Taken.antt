@@ -38,7 +38,7 @@ Changed changes old new (Err limit) = Refused changes old limit
 
 -- the code came to the input, to what is read and to the registers of a taking, no count is above its limit, and
 -- nothing else changed
-pub record Became (t : Taking) (old : Capped) (new : ReaderState) (before behind : PageUnread) : Type 0 where
+pub record CameTo (t : Taking) (old : Capped) (new : ReaderState) (before behind : PageUnread) : Type 0 where
   pub input : behind ≡ record before { input = t.input }
   pub reading : new.reading ≡ t.reading
   pub registers : new.registers ≡ behind_changes t.effect.changes old
@@ -46,7 +46,7 @@ pub record Became (t : Taking) (old : Capped) (new : ReaderState) (before behind
 
 -- and it means what the taking means, with the events that are kept of a request
 pub record Took (t : Taking) (old : Capped) (new : ReaderState) (before behind : PageUnread) (m : Meaning) : Type 0 where
-  pub became : Became t old new before behind
+  pub became : CameTo t old new before behind
   pub messages : option_to_list m.message ≡ t.effect.messages
   pub events : events_meant new.requested m.events ≡ t.effect.events
 
@@ -62,7 +62,7 @@ IsInputNow i before behind (Ok done) = (behind ≡ record before { input = i }) 
 IsInputNow i before behind (Err limit) = input_refusal before.limits i ≡ Some limit
 
 -- so it became, if no count was above its limit before
-pub record InputBecame (i : PageInput) (before behind : PageUnread) (result : Result (Unit {0}) Limit) : Type 0 where
+pub record InputCameTo (i : PageInput) (before behind : PageUnread) (result : Result (Unit {0}) Limit) : Type 0 where
   pub becomes : input_refusal before.limits before.input ≡ None → IsInputNow i before behind result
 
 -- the registers have the limit of the unread input, and no count is above its limit

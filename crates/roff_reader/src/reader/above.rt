@@ -90,7 +90,7 @@ impl Reader {
     ) -> bool
         ensures puts { result ≡ true
             → PutsAbove purpose (Some name.now) environments.now self.now unread.old unread.new }
-        ensures kept { result ≡ false → unread.new ≡ unread.old }
+        ensures unchanged { result ≡ false → unread.new ≡ unread.old }
     {
         match purpose {
             NameUse::Register(None) => self.puts_register(name, environments, unread),
@@ -112,7 +112,7 @@ impl Reader {
     ) -> bool
         ensures puts { result ≡ true → PutsAbove (Register None) (Some name.now)
             environments.now self.now unread.old unread.new }
-        ensures kept { result ≡ false → unread.new ≡ unread.old }
+        ensures unchanged { result ≡ false → unread.new ≡ unread.old }
     {
         let text = self.registers.text(name, facts(environments, unread));
         match unread.push(&text) {
@@ -125,7 +125,7 @@ impl Reader {
     fn puts_string(&self, name: &Name, unread: &mut Unread<PageEvent>) -> bool
         ensures puts { result ≡ true → (es : EnvironmentsOf)
             → PutsAbove OfText (Some name.now) es self.now unread.old unread.new }
-        ensures kept { result ≡ false → unread.new ≡ unread.old }
+        ensures unchanged { result ≡ false → unread.new ≡ unread.old }
     {
         match unread.push_body(name) {
             Ok(()) => true,

@@ -51,7 +51,7 @@ impl Reader {
         requires none_half { unread.old.input.escapes ≡ [] }
         ensures past { result ≡ true → ReadsPast (S.gives source.old) (S.gives source.new)
             self.old self.new unread.old unread.new }
-        ensures kept { result ≡ false
+        ensures unchanged { result ≡ false
             → (self.new ≡ self.old) × (unread.new ≡ unread.old) × (source.new ≡ source.old) }
         ensures notes { S.notes source.new ≡ S.notes source.old }
         ensures failures { S.failures source.new ≡ S.failures source.old }
@@ -77,7 +77,7 @@ impl Reader {
             (S.ready source.old) unread.old }
         ensures past { result ≡ true → ReadsPast (S.gives source.old) (S.gives source.new)
             self.old self.new unread.old unread.new }
-        ensures kept { result ≡ false
+        ensures unchanged { result ≡ false
             → (self.new ≡ self.old) × (unread.new ≡ unread.old) × (source.new ≡ source.old) }
         ensures notes { S.notes source.new ≡ S.notes source.old }
         ensures failures { S.failures source.new ≡ S.failures source.old }

@@ -28,7 +28,7 @@ impl Reader {
         ensures takes { IfSome result (λ read.
             TakesAs (λ k. taking k self.old.reading unread.old.input byte) environments.now
             self.old self.new unread.old unread.new read) }
-        ensures kept { result ≡ None → (self.new ≡ self.old) × (unread.new ≡ unread.old) }
+        ensures unchanged { result ≡ None → (self.new ≡ self.old) × (unread.new ≡ unread.old) }
     {
         if byte != b'\n' {
             return None;

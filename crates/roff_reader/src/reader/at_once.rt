@@ -9,7 +9,7 @@ ghost use Rattle.roff_run.specs.Reading.Beginnings.{line_begun};
 ghost use Rattle.roff_run.specs.Reading.TextLines.{text_taking};
 ghost use Rattle.roff_run.specs.Stages.{counts_blanks};
 ghost use Rattle.roff_reader.specs.Reader.Stages.{TurnsFront};
-ghost use Rattle.roff_reader.specs.Clauses.{LineStart, NameOf, PageUnread, TakesAs, kept_taking};
+ghost use Rattle.roff_reader.specs.Clauses.{LineStart, NameOf, PageUnread, TakesAs, undropped_taking};
 ghost use Rattle.roff_reader.specs.Clauses.{taking};
 ghost use Rattle.roff_run.specs.declared.line_state.LineState.TheVariants.{Arguments as InArguments};
 ghost use Rattle.roff_run.specs.declared.line_state.LineState.TheVariants.{Calling};
@@ -53,7 +53,7 @@ impl Reader {
             TakesAs (λ k. taking k self.old.reading unread.now.input byte) environments.now
             self.old self.new unread.now unread.now
             (Ok (only_events (text_byte_events byte means)))) }
-        ensures kept { result ≡ None → self.new ≡ self.old }
+        ensures unchanged { result ≡ None → self.new ≡ self.old }
     {
         if unread.has_open_escape() {
             return None;
@@ -77,7 +77,7 @@ impl Reader {
         ensures takes { IfSome result (λ means. (u : PageUnread)
             → TakesAs (λ k. line_begun k u.input byte) environments.now
             self.old self.new u u (Ok (only_events (text_byte_events byte means)))) }
-        ensures kept { result ≡ None → self.new ≡ self.old }
+        ensures unchanged { result ≡ None → self.new ≡ self.old }
     {
         if byte == b'.' {
             return None;
@@ -97,7 +97,7 @@ impl Reader {
         ensures takes { IfSome result (λ means. (i : PageInput) → text_taking i line byte
             ≡ meaning_events i self.new.reading (text_byte_events byte means)) }
         ensures reading { self.new ≡ record self.old { reading = self.new.reading } }
-        ensures kept { result ≡ None → self.new ≡ self.old }
+        ensures unchanged { result ≡ None → self.new ≡ self.old }
     {
         let (reading, means) = line.at_once(byte)?;
         self.go_on(reading);
@@ -135,7 +135,7 @@ impl Reader {
     #[inline(never)]
     fn reads_kept_on(&mut self, byte: u8, unread: &mut Unread<PageEvent>) -> bool
         requires { unread.old.input.escapes ≡ [] }
-        ensures { TakesAtOnce (λ k. kept_taking k self.old.reading unread.old.input byte) []
+        ensures { TakesAtOnce (λ k. undropped_taking k self.old.reading unread.old.input byte) []
             self.old self.new unread.old unread.new result }
     {
         match self.reading {
@@ -166,7 +166,7 @@ impl Reader {
     /// Reads the dot or apostrophe with which a control line begins.
     fn begins_control(&mut self, byte: u8) -> bool
         ensures { (u : PageUnread) → u.input.escapes ≡ []
-            → TakesAtOnce (λ k. kept_taking k LineStart u.input byte) [] self.old self.new u u result }
+            → TakesAtOnce (λ k. undropped_taking k LineStart u.input byte) [] self.old self.new u u result }
     {
         if byte == b'.' {
             self.go_on(LineState::Control { breaks: true });
@@ -188,7 +188,7 @@ impl Reader {
         byte: u8,
         unread: &mut Unread<PageEvent>,
     ) -> bool
-        ensures { TakesAtOnce (λ k. kept_taking k (NameOf breaks first) unread.old.input byte) []
+        ensures { TakesAtOnce (λ k. undropped_taking k (NameOf breaks first) unread.old.input byte) []
             self.old self.new unread.old unread.new result }
     {
         if ends_name(byte) {
@@ -212,7 +212,7 @@ impl Reader {
         unread: &mut Unread<PageEvent>,
     ) -> bool
         requires { unread.old.input.escapes ≡ [] }
-        ensures { TakesAtOnce (λ k. kept_taking k (InArguments breaks request) unread.old.input byte)
+        ensures { TakesAtOnce (λ k. undropped_taking k (InArguments breaks request) unread.old.input byte)
             [] self.old self.new unread.old unread.new result }
     {
         if byte == b'\n' {
@@ -234,7 +234,7 @@ impl Reader {
     /// refuses it: the line's end, or one of the first arguments.
     fn calls(&mut self, name: ShortName, byte: u8, unread: &mut Unread<PageEvent>) -> bool
         requires { unread.old.input.escapes ≡ [] }
-        ensures { TakesAtOnce (λ k. kept_taking k (Calling name) unread.old.input byte) []
+        ensures { TakesAtOnce (λ k. undropped_taking k (Calling name) unread.old.input byte) []
             self.old self.new unread.old unread.new result }
     {
         if byte == b'\n' {
@@ -259,7 +259,7 @@ impl Reader {
     #[inline(never)]
     fn calls_body(&mut self, name: ShortName, unread: &mut Unread<PageEvent>) -> bool
         requires { unread.old.input.escapes ≡ [] }
-        ensures { TakesAtOnce (λ k. kept_taking k (Calling name) unread.old.input newline) []
+        ensures { TakesAtOnce (λ k. undropped_taking k (Calling name) unread.old.input newline) []
             self.old self.new unread.old unread.new result }
     {
         match unread.call(&name.name()) {

@@ -5,7 +5,7 @@ ghost use Rattle.roff_lines.specs.declared.event.Event.TheVariants.{Gap, Print, 
 ghost use Rattle.roff_lines.specs.declared.glyph.Glyph.TheVariants.{Printed};
 ghost use Rattle.roff_run.specs.declared.event.PageEvent.TheVariants.{Text};
 ghost use Rattle.roff_run.specs.Registers.{Known};
-ghost use Rattle.roff_reader.specs.Clauses.{Passes, TakesAs, meaning_events, is_passed, kept_taking};
+ghost use Rattle.roff_reader.specs.Clauses.{Passes, TakesAs, meaning_events, is_passed, undropped_taking};
 ghost use Rattle.roff_reader.specs.Clauses.{taking, due};
 ghost use Rattle.roff_run.specs.Reading.Found.{has_place};
 ghost use Rattle.roff_run.specs.Telling.{Prints};
@@ -182,13 +182,13 @@ impl Reader {
     }
 
     /// The same of a byte that isn't dropped.
-    pub(super) fn read_kept(
+    pub(super) fn read_undropped(
         &mut self,
         byte: u8,
         environments: &Environments,
         unread: &mut Unread<PageEvent>,
     ) -> Result<Meaning, Limit>
-        ensures { TakesAs (λ k. kept_taking k self.old.reading unread.old.input byte)
+        ensures { TakesAs (λ k. undropped_taking k self.old.reading unread.old.input byte)
             environments.now self.old self.new unread.old unread.new result }
     {
         match self.reading {
@@ -222,7 +222,7 @@ impl Reader {
         unread: &mut Unread<PageEvent>,
     ) -> Result<Meaning, Limit>
         requires { has_place self.old.reading ≡ true }
-        ensures { TakesAs (λ k. kept_taking k self.old.reading unread.old.input byte)
+        ensures { TakesAs (λ k. undropped_taking k self.old.reading unread.old.input byte)
             environments.now self.old self.new unread.old unread.new result }
     {
         let place = self.place(environments);

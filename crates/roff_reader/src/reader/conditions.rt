@@ -51,7 +51,7 @@ impl Reader {
                 // The limit on results is the last that is looked at.
                 let meaning = self.begin_branch(so, freed, environments, unread)?;
                 if keeps {
-                    unread.keep(so)?;
+                    unread.keep_result(so)?;
                 }
                 Ok(meaning)
             }

@@ -4,7 +4,7 @@ ghost use Rattle.std.specs.Prelude.{◌≡◌, [], None, Ok, IfSome};
 ghost use Rattle.roff_run.specs.Reading.ControlLines.{behind_called};
 ghost use Rattle.roff_reader.specs.Reader.AtOnce.{only_events};
 ghost use Rattle.roff_reader.specs.ControlFronts.{LeadsTo, LeadsToElse, input_begun};
-ghost use Rattle.roff_reader.specs.Clauses.{EnvironmentsOf, NameOf, TakesAs, behind_name, kept_taking};
+ghost use Rattle.roff_reader.specs.Clauses.{EnvironmentsOf, NameOf, TakesAs, behind_name, undropped_taking};
 ghost use Rattle.roff_reader.specs.Clauses.{line_taking, row_of, name_ended_taking, called_by};
 
 use super::{Meaning, Reader};
@@ -24,7 +24,7 @@ impl Reader {
         environments: &Environments,
         unread: &mut Unread<PageEvent>,
     ) -> Result<Meaning, Limit>
-        ensures { TakesAs (λ k. kept_taking k (NameOf breaks first) unread.old.input byte)
+        ensures { TakesAs (λ k. undropped_taking k (NameOf breaks first) unread.old.input byte)
             environments.now self.old self.new unread.old unread.new result }
     {
         if ends_name(byte) {
@@ -111,7 +111,7 @@ impl Reader {
                 self.read_arguments(breaks, request, found, environments, unread)
             }
             LineReading::ByElse => {
-                let so = unread.take_kept() == Some(false);
+                let so = unread.take_result() == Some(false);
                 self.begin_branch(so, Some(byte), environments, unread)
             }
         }
@@ -133,7 +133,7 @@ impl Reader {
                 begin_deciding(reading, unread);
                 self.go_on(reading);
             }
-            None => self.go_on(LineState::branch(unread.take_kept() == Some(false))),
+            None => self.go_on(LineState::branch(unread.take_result() == Some(false))),
         }
     }
 }

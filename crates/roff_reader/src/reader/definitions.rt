@@ -1,7 +1,7 @@
 //! Lines by which macros are defined, or that are ignored.
 
 ghost use Rattle.std.specs.Prelude.{◌≡◌, ◌≤◌, ◌++◌, true, length};
-ghost use Rattle.roff_reader.specs.Clauses.{EnvironmentsOf, TakesAs, InputBecame, arguments_given};
+ghost use Rattle.roff_reader.specs.Clauses.{EnvironmentsOf, TakesAs, InputCameTo, arguments_given};
 ghost use Rattle.roff_reader.specs.Clauses.{string_entered, lines_begun, behind_definition};
 ghost use Rattle.roff_reader.specs.Clauses.{definition_begun, definition_found, definition_grown};
 ghost use Rattle.roff_reader.specs.Clauses.{definition_line, ends_mark, unit_bytes};
@@ -195,7 +195,7 @@ fn grow_definition(
     unread: &mut Unread<PageEvent>,
 ) -> Result<(), Limit>
     requires { length front.now ≤ 3 }
-    ensures { InputBecame (definition_grown name (front.now ++ unit_bytes unit) unread.old.input)
+    ensures { InputCameTo (definition_grown name (front.now ++ unit_bytes unit) unread.old.input)
         unread.old unread.new result }
 {
     if name.is_none() {

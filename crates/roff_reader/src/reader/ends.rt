@@ -70,7 +70,7 @@ impl Reader {
             LineState::Dropped => Ok(self.end_interrupted(LineState::LineStart, environments)),
             LineState::Exiting => Ok(self.end_interrupted(LineState::Exiting, environments)),
             LineState::Defining { name, .. } => Ok(self.drop_definition(name, unread)),
-            _ => self.read_kept(b'\n', environments, unread),
+            _ => self.read_undropped(b'\n', environments, unread),
         }
     }
 

@@ -3,7 +3,7 @@
 ghost use Rattle.std.specs.Prelude.{◌≢◌, Some};
 ghost use Rattle.roff_arguments.specs.declared.arguments.Place.TheVariants.{BehindQuote};
 ghost use Rattle.roff_escape.specs.declared.open_escape.CopyUnit.TheVariants.{Byte};
-ghost use Rattle.roff_reader.specs.Clauses.{EnvironmentsOf, TakesAs, InputBecame, arguments_given, name_read};
+ghost use Rattle.roff_reader.specs.Clauses.{EnvironmentsOf, TakesAs, InputCameTo, arguments_given, name_read};
 ghost use Rattle.roff_reader.specs.Clauses.{string_emptied, string_line_ended, string_name_behind};
 ghost use Rattle.roff_reader.specs.Clauses.{string_name_found, string_name_or_text, string_name_unit};
 ghost use Rattle.roff_reader.specs.Clauses.{name_at as name_given_at};
@@ -141,7 +141,7 @@ impl Reader {
 
 /// A string without a text is empty; one that is appended to stays.
 fn empty_string(name: ShortName, appends: bool, unread: &mut Unread<PageEvent>) -> Result<(), Limit>
-    ensures { InputBecame (string_emptied (Some name) appends unread.old.input)
+    ensures { InputCameTo (string_emptied (Some name) appends unread.old.input)
         unread.old unread.new result }
 {
     let name = name.name();

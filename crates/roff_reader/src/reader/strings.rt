@@ -1,6 +1,6 @@
 //! The texts of strings that are defined.
 
-ghost use Rattle.roff_reader.specs.Clauses.{EnvironmentsOf, TakesAs, InputBecame, string_begun, string_entered};
+ghost use Rattle.roff_reader.specs.Clauses.{EnvironmentsOf, TakesAs, InputCameTo, string_begun, string_entered};
 ghost use Rattle.roff_reader.specs.Clauses.{string_grown, string_text_found, string_unit};
 
 use super::{Meaning, Reader};
@@ -78,7 +78,7 @@ pub(super) fn begin_string(
     name: Option<ShortName>,
     unread: &mut Unread<PageEvent>,
 ) -> Result<(), Limit>
-    ensures { InputBecame (string_begun name unread.old.input) unread.old unread.new result }
+    ensures { InputCameTo (string_begun name unread.old.input) unread.old unread.new result }
 {
     unread.begin_arguments();
     match name {
@@ -93,7 +93,7 @@ fn grow_string(
     unit: CopyUnit,
     unread: &mut Unread<PageEvent>,
 ) -> Result<(), Limit>
-    ensures { InputBecame (string_grown name unit unread.old.input) unread.old unread.new result }
+    ensures { InputCameTo (string_grown name unit unread.old.input) unread.old unread.new result }
 {
     if name.is_none() {
         return Ok(());
@@ -110,7 +110,7 @@ pub(super) fn enter_string(
     appends: bool,
     unread: &mut Unread<PageEvent>,
 ) -> Result<(), Limit>
-    ensures { InputBecame (string_entered name appends unread.old.input)
+    ensures { InputCameTo (string_entered name appends unread.old.input)
         unread.old unread.new result }
 {
     match name {

@@ -8,15 +8,15 @@ use Rattle.roff_run.specs.declared.request.Request.{Request}
 use Rattle.roff_run.specs.declared.request.Request.TheVariants.{NumberRegister}
 use Rattle.roff_requests.specs.declared.requests.effects.Changes.{Changes}
 use Rattle.roff_requests.specs.declared.requests.effects.Changes.TheVariants.{Nothing, One, RemoveGiven, RemoveNamesGiven, Rename as RenameGiven}
-use Rattle.roff_requests.specs.declared.requests.effects.Done.{Done as CodedDone}
-use Rattle.roff_requests.specs.declared.requests.effects.Done.TheVariants.{Ignored as IgnoredWith, Does as DoesWith, SetsStops}
+use Rattle.roff_requests.specs.declared.requests.effects.Response.{Response as CodedResponse}
+use Rattle.roff_requests.specs.declared.requests.effects.Response.TheVariants.{Ignored as IgnoredWith, Obeyed as ObeyedWith, SetsStops}
 use Rattle.roff_requests.specs.declared.requests.effects.Effect.{Effect as CodedEffect}
 use Rattle.roff_requests.specs.declared.requests.effects.RequestFacts.{RequestFacts}
 use Rattle.roff_requests.specs.Events.{request_events, stops_set}
 use Rattle.roff_run.specs.Registers.{Known, Change, Remove, value_in_force}
 use Rattle.roff_requests.specs.Registers.Coded.{change_of}
 use Rattle.roff_store.specs.TextCalls.{Call, Rename}
-use Rattle.roff_run.specs.Requests.{Done, Ignored, Does, Effect}
+use Rattle.roff_run.specs.Requests.{Response, Ignored, Obeyed, Effect}
 use Rattle.roff_run.specs.Requests.Effects.{bad_number, behind_break, happens, meant_by}
 use Rattle.roff_run.specs.Requests.Naming.{removals}
 use Rattle.roff_run.specs.Requests.Numbering.{name_given, names_given}
@@ -64,16 +64,16 @@ calls_of as_given RemoveNamesGiven = removals (names_given as_given)
 calls_of as_given (RenameGiven from to) = Rename from to ∷ []
 
 -- what a request did in the code, given these arguments
-abbrev pub done_of : List (List ℕ) → CodedDone → Done
-done_of as_given (IgnoredWith message) = Ignored (option_to_list message)
-done_of as_given (DoesWith message changes events) =
-    Does (option_to_list message) (changes_of as_given changes) (calls_of as_given changes) (request_events events)
-done_of as_given SetsStops = tab_stops as_given
+abbrev pub response_of : List (List ℕ) → CodedResponse → Response
+response_of as_given (IgnoredWith message) = Ignored (option_to_list message)
+response_of as_given (ObeyedWith message changes events) =
+    Obeyed (option_to_list message) (changes_of as_given changes) (calls_of as_given changes) (request_events events)
+response_of as_given SetsStops = tab_stops as_given
 
 -- what a request for tab stops did where its arguments are these stops, or none that are good
-abbrev pub stops_done : Option (ArrayVec ℕ) → Done
-stops_done (Some stops) = happens [] (stops_set stops.items)
-stops_done None = bad_number
+abbrev pub stops_response : Option (ArrayVec ℕ) → Response
+stops_response (Some stops) = happens [] (stops_set stops.items)
+stops_response None = bad_number
 
 -- what a request says there: where its arguments are stops, what they are decides
 abbrev pub said_by : List (List ℕ) → CodedEffect → List Message

@@ -2,24 +2,24 @@
 
 ghost use Rattle.std.specs.Prelude.{◌≡◌, ℕ, List, slice_get};
 ghost use Rattle.std.specs.Option.{option_copied};
-ghost use Rattle.roff_requests.specs.Request.Coded.{done_of};
+ghost use Rattle.roff_requests.specs.Request.Coded.{response_of};
 ghost use Rattle.roff_run.specs.Requests.Adjustment.{adjust, centre, mode_named, mode_wanted};
 
 use crate::events::RequestEvents;
 use crate::number::value_in;
-use crate::requests::Done;
+use crate::requests::Response;
 use roff_lines::{AdjustMode, Event, Param};
 use roff_num::Scale;
 use roff_run::PageEvent;
 
 /// `ad`: adjusting on, in the mode of the argument or the one in force.
-pub(super) fn adjust(argument: Option<&[u8]>) -> Done
+pub(super) fn adjust(argument: Option<&[u8]>) -> Response
     ensures { (as_given : List (List ℕ)) → option_copied argument.entry ≡ slice_get as_given 0
-        → done_of as_given result ≡ adjust as_given }
+        → response_of as_given result ≡ adjust as_given }
 {
     match mode_wanted(argument) {
-        None => Done::setting(Param::Adjusting(true)),
-        Some(mode) => Done::doing(
+        None => Response::setting(Param::Adjusting(true)),
+        Some(mode) => Response::doing(
             None,
             RequestEvents::Two(
                 PageEvent::Text(Event::Set(Param::Mode(mode))),
@@ -30,15 +30,15 @@ pub(super) fn adjust(argument: Option<&[u8]>) -> Done
 }
 
 /// `ce`: so many lines are centred, one where no number is given.
-pub(super) fn centre(argument: Option<&[u8]>) -> Done
+pub(super) fn centre(argument: Option<&[u8]>) -> Response
     ensures { (as_given : List (List ℕ)) → option_copied argument.entry ≡ slice_get as_given 0
-        → done_of as_given result ≡ centre as_given }
+        → response_of as_given result ≡ centre as_given }
 {
     match argument {
-        None => Done::setting(Param::Centring(1)),
+        None => Response::setting(Param::Centring(1)),
         Some(text) => match value_in(Scale::Units, text) {
-            Ok(count) => Done::setting(Param::Centring(count.max(0) as u32)),
-            Err(_) => Done::bad_number(),
+            Ok(count) => Response::setting(Param::Centring(count.max(0) as u32)),
+            Err(_) => Response::bad_number(),
         },
     }
 }

@@ -3,8 +3,8 @@
 ghost use Rattle.std.specs.Prelude.{◌≡◌, ℕ, List, []};
 ghost use Rattle.std.specs.Option.{option_to_list};
 ghost use Rattle.roff_requests.specs.Events.{request_events};
-ghost use Rattle.roff_requests.specs.Request.Coded.{calls_of, changes_of, done_of, effect_of};
-ghost use Rattle.roff_run.specs.Requests.Effects.{Does, Ignored, bad_format, bad_number, happens, left_out, meant_by, no_such_environment, nothing, setting};
+ghost use Rattle.roff_requests.specs.Request.Coded.{calls_of, changes_of, response_of, effect_of};
+ghost use Rattle.roff_run.specs.Requests.Effects.{Obeyed, Ignored, bad_format, bad_number, happens, left_out, meant_by, no_such_environment, nothing, setting};
 
 use crate::events::RequestEvents;
 use crate::registers::Change;
@@ -26,11 +26,11 @@ pub struct RequestFacts {
 
 /// What a request does with its arguments.
 #[derive(Drop)]
-pub(crate) enum Done {
+pub(crate) enum Response {
     /// It is ignored, and says why.
     Ignored(Option<Message>),
     /// It says this, registers or names change so, and this happens behind its break.
-    Does(Option<Message>, Changes, RequestEvents),
+    Obeyed(Option<Message>, Changes, RequestEvents),
     /// Its arguments are stops, which are set behind its break in place of those in force.
     SetsStops,
 }
@@ -66,94 +66,94 @@ pub struct Effect {
     pub sets_stops: bool,
 }
 
-impl Done {
+impl Response {
     /// Nothing happens behind its break.
-    pub(super) fn nothing() -> Done
-        ensures { (as_given : List (List ℕ)) → done_of as_given result ≡ nothing }
+    pub(super) fn nothing() -> Response
+        ensures { (as_given : List (List ℕ)) → response_of as_given result ≡ nothing }
     {
-        Done::doing(None, RequestEvents::Nothing)
+        Response::doing(None, RequestEvents::Nothing)
     }
 
     /// A parameter is set.
-    pub(super) fn setting(param: Param) -> Done
-        ensures { (as_given : List (List ℕ)) → done_of as_given result ≡ setting param }
+    pub(super) fn setting(param: Param) -> Response
+        ensures { (as_given : List (List ℕ)) → response_of as_given result ≡ setting param }
     {
-        Done::doing(None, RequestEvents::One(PageEvent::Text(Event::Set(param))))
+        Response::doing(None, RequestEvents::One(PageEvent::Text(Event::Set(param))))
     }
 
     /// Registers change, or what names stand for.
-    pub(super) fn changing(changes: Changes) -> Done
+    pub(super) fn changing(changes: Changes) -> Response
         ensures { (as_given : List (List ℕ))
-            → done_of as_given result
-            ≡ Does [] (changes_of as_given changes) (calls_of as_given changes) [] }
+            → response_of as_given result
+            ≡ Obeyed [] (changes_of as_given changes) (calls_of as_given changes) [] }
     {
-        Done::Does(None, changes, RequestEvents::Nothing)
+        Response::Obeyed(None, changes, RequestEvents::Nothing)
     }
 
     /// An argument that it can't do without is missing.
-    pub(super) fn unsaid() -> Done
-        ensures { (as_given : List (List ℕ)) → done_of as_given result ≡ Ignored [] }
+    pub(super) fn unsaid() -> Response
+        ensures { (as_given : List (List ℕ)) → response_of as_given result ≡ Ignored [] }
     {
-        Done::Ignored(None)
+        Response::Ignored(None)
     }
 
     /// An argument isn't a number, or is out of range.
-    pub(super) fn bad_number() -> Done
-        ensures { (as_given : List (List ℕ)) → done_of as_given result ≡ bad_number }
+    pub(super) fn bad_number() -> Response
+        ensures { (as_given : List (List ℕ)) → response_of as_given result ≡ bad_number }
     {
-        Done::Ignored(Some(Message::BadNumber))
+        Response::Ignored(Some(Message::BadNumber))
     }
 
     /// An argument isn't a format.
-    pub(super) fn bad_format() -> Done
-        ensures { (as_given : List (List ℕ)) → done_of as_given result ≡ bad_format }
+    pub(super) fn bad_format() -> Response
+        ensures { (as_given : List (List ℕ)) → response_of as_given result ≡ bad_format }
     {
-        Done::Ignored(Some(Message::BadFormat))
+        Response::Ignored(Some(Message::BadFormat))
     }
 
     /// An argument is no environment's number, or there is none to go back to.
-    pub(super) fn no_such_environment() -> Done
-        ensures { (as_given : List (List ℕ)) → done_of as_given result ≡ no_such_environment }
+    pub(super) fn no_such_environment() -> Response
+        ensures { (as_given : List (List ℕ)) → response_of as_given result ≡ no_such_environment }
     {
-        Done::Ignored(Some(Message::NoSuchEnvironment))
+        Response::Ignored(Some(Message::NoSuchEnvironment))
     }
 
     /// It is left out.
-    pub(super) fn left_out(name: [u8; 2]) -> Done
-        ensures { (as_given : List (List ℕ)) → done_of as_given result ≡ left_out name }
+    pub(super) fn left_out(name: [u8; 2]) -> Response
+        ensures { (as_given : List (List ℕ)) → response_of as_given result ≡ left_out name }
     {
-        Done::Ignored(Some(Message::LeftOut(name)))
+        Response::Ignored(Some(Message::LeftOut(name)))
     }
 
     /// It says this, and these events happen.
-    pub(super) fn doing(message: Option<Message>, events: RequestEvents) -> Done
-        ensures { (as_given : List (List ℕ)) → done_of as_given result
+    pub(super) fn doing(message: Option<Message>, events: RequestEvents) -> Response
+        ensures { (as_given : List (List ℕ)) → response_of as_given result
             ≡ happens (option_to_list message) (request_events events) }
     {
-        Done::Does(message, Changes::Nothing, events)
+        Response::Obeyed(message, Changes::Nothing, events)
     }
 
     /// What it means, with a break or without: what is ignored doesn't break.
     pub(super) fn meaning(self, breaks: bool) -> Effect
         ensures { (as_given : List (List ℕ))
-            → effect_of as_given result ≡ meant_by breaks (done_of as_given self) }
+            → effect_of as_given result ≡ meant_by breaks (response_of as_given self) }
     {
         match self {
-            Done::Ignored(message) => Effect {
+            Response::Ignored(message) => Effect {
                 message,
                 changes: Changes::Nothing,
                 breaks: false,
                 events: RequestEvents::Nothing,
                 sets_stops: false,
             },
-            Done::Does(message, changes, events) => Effect {
+            Response::Obeyed(message, changes, events) => Effect {
                 message,
                 changes,
                 breaks,
                 events,
                 sets_stops: false,
             },
-            Done::SetsStops => Effect {
+            Response::SetsStops => Effect {
                 message: None,
                 changes: Changes::Nothing,
                 breaks,

@@ -3,11 +3,11 @@
 ghost use Rattle.std.specs.Prelude.{◌≡◌, ℕ, List, slice_get};
 ghost use Rattle.std.specs.Option.{option_copied};
 ghost use Rattle.roff_run.specs.Registers.{Known};
-ghost use Rattle.roff_requests.specs.Request.Coded.{done_of};
+ghost use Rattle.roff_requests.specs.Request.Coded.{response_of};
 ghost use Rattle.roff_run.specs.Requests.Lengths.{indent, length_set, length_wanted, line_length, temporary_indent};
 
 use crate::number::{rounded_to_columns, value_beside};
-use crate::requests::{Done, RequestFacts};
+use crate::requests::{RequestFacts, Response};
 use roff_lines::Param;
 use roff_num::{NumFault, Scale};
 
@@ -15,42 +15,42 @@ use roff_num::{NumFault, Scale};
 const COLUMN: u32 = 24;
 
 /// `ll`: the line length.
-pub(super) fn line_length(known: RequestFacts, argument: Option<&[u8]>) -> Done
+pub(super) fn line_length(known: RequestFacts, argument: Option<&[u8]>) -> Response
     ensures { (k : Known) (as_given : List (List ℕ)) → known.settings ≡ k.settings
         → option_copied argument.entry ≡ slice_get as_given 0
-        → done_of as_given result ≡ line_length k as_given }
+        → response_of as_given result ≡ line_length k as_given }
 {
     let s = known.settings;
     match length_wanted(s.line_length, s.previous_line_length, argument) {
-        Ok(columns) => Done::setting(Param::LineLength(columns)),
-        Err(_) => Done::bad_number(),
+        Ok(columns) => Response::setting(Param::LineLength(columns)),
+        Err(_) => Response::bad_number(),
     }
 }
 
 /// `in`: the indent.
-pub(super) fn indent(known: RequestFacts, argument: Option<&[u8]>) -> Done
+pub(super) fn indent(known: RequestFacts, argument: Option<&[u8]>) -> Response
     ensures { (k : Known) (as_given : List (List ℕ)) → known.settings ≡ k.settings
         → option_copied argument.entry ≡ slice_get as_given 0
-        → done_of as_given result ≡ indent k as_given }
+        → response_of as_given result ≡ indent k as_given }
 {
     let s = known.settings;
     match length_wanted(s.indent, s.previous_indent, argument) {
-        Ok(columns) => Done::setting(Param::Indent(columns)),
-        Err(_) => Done::bad_number(),
+        Ok(columns) => Response::setting(Param::Indent(columns)),
+        Err(_) => Response::bad_number(),
     }
 }
 
 /// `ti`: the indent of the next line that a word begins; without an argument it is ignored.
-pub(super) fn temporary_indent(known: RequestFacts, argument: Option<&[u8]>) -> Done
+pub(super) fn temporary_indent(known: RequestFacts, argument: Option<&[u8]>) -> Response
     ensures { (k : Known) (as_given : List (List ℕ)) → known.settings ≡ k.settings
         → option_copied argument.entry ≡ slice_get as_given 0
-        → done_of as_given result ≡ temporary_indent k as_given }
+        → response_of as_given result ≡ temporary_indent k as_given }
 {
     match argument {
-        None => Done::unsaid(),
+        None => Response::unsaid(),
         Some(text) => match length_set(known.settings.indent, text) {
-            Ok(columns) => Done::setting(Param::TemporaryIndent(columns)),
-            Err(_) => Done::bad_number(),
+            Ok(columns) => Response::setting(Param::TemporaryIndent(columns)),
+            Err(_) => Response::bad_number(),
         },
     }
 }

@@ -2,22 +2,22 @@
 
 ghost use Rattle.std.specs.Prelude.{◌≡◌, ℕ, List, slice_get};
 ghost use Rattle.std.specs.Option.{option_copied};
-ghost use Rattle.roff_requests.specs.Request.Coded.{done_of};
+ghost use Rattle.roff_requests.specs.Request.Coded.{response_of};
 ghost use Rattle.roff_run.specs.Requests.Naming.{rename};
 
-use crate::requests::{Changes, Done, name_given, register_named};
+use crate::requests::{Changes, Response, name_given, register_named};
 
 /// `rn`: what a name stands for goes to another one.
-pub(super) fn rename(first: Option<&[u8]>, second: Option<&[u8]>) -> Done
+pub(super) fn rename(first: Option<&[u8]>, second: Option<&[u8]>) -> Response
     ensures { (as_given : List (List ℕ)) → option_copied first.entry ≡ slice_get as_given 0
         → option_copied second.entry ≡ slice_get as_given 1
-        → done_of as_given result ≡ rename as_given }
+        → response_of as_given result ≡ rename as_given }
 {
     match (register_named(first), second) {
         (Some(from), Some(text)) => match name_given(text) {
-            Some(to) => Done::changing(Changes::Rename { from, to }),
-            None => Done::unsaid(),
+            Some(to) => Response::changing(Changes::Rename { from, to }),
+            None => Response::unsaid(),
         },
-        _ => Done::unsaid(),
+        _ => Response::unsaid(),
     }
 }

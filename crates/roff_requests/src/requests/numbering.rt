@@ -4,23 +4,23 @@ ghost use Rattle.std.specs.Prelude.{◌≡◌, ℕ, List, drop, slice_get};
 ghost use Rattle.std.specs.Option.{option_copied};
 ghost use Rattle.roff_num.specs.Names.{name_of};
 ghost use Rattle.roff_run.specs.Registers.{Known};
-ghost use Rattle.roff_requests.specs.Request.Coded.{GivesFirst, KnowsOf, done_of, register_named};
+ghost use Rattle.roff_requests.specs.Request.Coded.{GivesFirst, KnowsOf, response_of, register_named};
 ghost use Rattle.roff_run.specs.declared.request.Request.TheVariants.{NumberRegister};
 ghost use Rattle.roff_run.specs.Requests.Numbering.{assign_format, format_as, increment_given, name_given, set_register, set_to};
 
 use crate::number::{value_beside, value_in};
 use crate::registers::Change;
-use crate::requests::{Changes, Done, Given, RequestFacts};
+use crate::requests::{Changes, Given, RequestFacts, Response};
 use roff_num::{Format, Name, Num, NumFault, Scale, read_format};
 
 /// How many bytes of an argument are a register's name.
 const NAME_BYTES: usize = 2;
 
 /// `nr`: a register's value and increment.
-pub(super) fn set_register(known: RequestFacts, given: Given<'_>) -> Done
+pub(super) fn set_register(known: RequestFacts, given: Given<'_>) -> Response
     ensures { (k : Known) (as_given : List (List ℕ))
         → KnowsOf k NumberRegister as_given known → GivesFirst as_given given.entry
-        → done_of as_given result ≡ set_register k as_given }
+        → response_of as_given result ≡ set_register k as_given }
 {
     match (register_named(given.first), given.second) {
         (Some(name), Some(text)) => set_to(
@@ -28,19 +28,19 @@ pub(super) fn set_register(known: RequestFacts, given: Given<'_>) -> Done
             value_beside(i64::from(known.in_force.0), Scale::Units, text),
             increment_given(given.third),
         ),
-        _ => Done::unsaid(),
+        _ => Response::unsaid(),
     }
 }
 
 /// `af`: how a register is written.
-pub(super) fn assign_format(first: Option<&[u8]>, second: Option<&[u8]>) -> Done
+pub(super) fn assign_format(first: Option<&[u8]>, second: Option<&[u8]>) -> Response
     ensures { (as_given : List (List ℕ)) → option_copied first.entry ≡ slice_get as_given 0
         → option_copied second.entry ≡ slice_get as_given 1
-        → done_of as_given result ≡ assign_format as_given }
+        → response_of as_given result ≡ assign_format as_given }
 {
     match (register_named(first), second) {
         (Some(name), Some(text)) => format_as(name, read_format(text)),
-        _ => Done::unsaid(),
+        _ => Response::unsaid(),
     }
 }
 
@@ -74,25 +74,25 @@ fn increment_given(third: Option<&[u8]>) -> Result<i32, NumFault>
 }
 
 /// A register is set to a value and an increment, if both are numbers.
-fn set_to(name: Name, value: Result<i32, NumFault>, increment: Result<i32, NumFault>) -> Done
-    ensures { (as_given : List (List ℕ)) → done_of as_given result ≡ set_to name value increment }
+fn set_to(name: Name, value: Result<i32, NumFault>, increment: Result<i32, NumFault>) -> Response
+    ensures { (as_given : List (List ℕ)) → response_of as_given result ≡ set_to name value increment }
 {
     match (value, increment) {
-        (Ok(value), Ok(increment)) => Done::changing(Changes::One(Change::SetTo {
+        (Ok(value), Ok(increment)) => Response::changing(Changes::One(Change::SetTo {
             name,
             value: Num(value),
             increment: Num(increment),
         })),
-        _ => Done::bad_number(),
+        _ => Response::bad_number(),
     }
 }
 
 /// A register is given a format, if it is one.
-fn format_as(name: Name, format: Option<Format>) -> Done
-    ensures { (as_given : List (List ℕ)) → done_of as_given result ≡ format_as name format }
+fn format_as(name: Name, format: Option<Format>) -> Response
+    ensures { (as_given : List (List ℕ)) → response_of as_given result ≡ format_as name format }
 {
     match format {
-        Some(format) => Done::changing(Changes::One(Change::FormatAs { name, format })),
-        None => Done::bad_format(),
+        Some(format) => Response::changing(Changes::One(Change::FormatAs { name, format })),
+        None => Response::bad_format(),
     }
 }

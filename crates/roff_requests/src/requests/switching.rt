@@ -3,52 +3,52 @@
 ghost use Rattle.std.specs.Prelude.{◌≡◌, ℕ, List, slice_get, Ok};
 ghost use Rattle.std.specs.Option.{option_copied};
 ghost use Rattle.roff_run.specs.Registers.{Known};
-ghost use Rattle.roff_requests.specs.Request.Coded.{done_of};
+ghost use Rattle.roff_requests.specs.Request.Coded.{response_of};
 ghost use Rattle.roff_run.specs.Requests.Switching.{switch, switching_by, switching_to};
 
 use crate::events::RequestEvents;
 use crate::number::value_in;
-use crate::requests::{Done, RequestFacts};
+use crate::requests::{RequestFacts, Response};
 use roff_num::Scale;
 use roff_run::{EnvironmentNumber, PageEvent};
 
 /// `ev`: another environment, or back to the one that was left last where no number is given.
-pub(super) fn switch(known: RequestFacts, argument: Option<&[u8]>) -> Done
+pub(super) fn switch(known: RequestFacts, argument: Option<&[u8]>) -> Response
     ensures { (k : Known) (as_given : List (List ℕ)) → known.has_left ≡ k.has_left
         → option_copied argument.entry ≡ slice_get as_given 0
-        → done_of as_given result ≡ switch k as_given }
+        → response_of as_given result ≡ switch k as_given }
 {
     match argument {
         None => {
             if known.has_left {
-                Done::doing(None, RequestEvents::One(PageEvent::Back))
+                Response::doing(None, RequestEvents::One(PageEvent::Back))
             } else {
-                Done::no_such_environment()
+                Response::no_such_environment()
             }
         }
         Some(text) => match value_in(Scale::Units, text) {
             Ok(number) => switching_by(number),
-            Err(_) => Done::bad_number(),
+            Err(_) => Response::bad_number(),
         },
     }
 }
 
 /// The environment is left for that of a number, if there is one.
-fn switching_by(number: i32) -> Done
-    ensures { (as_given : List (List ℕ)) → done_of as_given result ≡ switching_by (Ok number) }
+fn switching_by(number: i32) -> Response
+    ensures { (as_given : List (List ℕ)) → response_of as_given result ≡ switching_by (Ok number) }
 {
     match u32::try_from(number) {
         Ok(number) => switching_to(EnvironmentNumber::of(number)),
-        Err(_) => Done::no_such_environment(),
+        Err(_) => Response::no_such_environment(),
     }
 }
 
 /// The environment is left for this one, if there is one.
-fn switching_to(number: Option<EnvironmentNumber>) -> Done
-    ensures { (as_given : List (List ℕ)) → done_of as_given result ≡ switching_to number }
+fn switching_to(number: Option<EnvironmentNumber>) -> Response
+    ensures { (as_given : List (List ℕ)) → response_of as_given result ≡ switching_to number }
 {
     match number {
-        Some(number) => Done::doing(None, RequestEvents::One(PageEvent::Environment(number))),
-        None => Done::no_such_environment(),
+        Some(number) => Response::doing(None, RequestEvents::One(PageEvent::Environment(number))),
+        None => Response::no_such_environment(),
     }
 }

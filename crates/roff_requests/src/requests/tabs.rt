@@ -3,7 +3,7 @@
 ghost use Rattle.std.specs.Prelude.{◌≡◌, ◌/◌, ℕ, List};
 ghost use Rattle.roff_run.specs.Numbers.{at_least_zero};
 ghost use Rattle.roff_arguments.specs.ArgumentList.{listed};
-ghost use Rattle.roff_requests.specs.Request.Coded.{stops_done};
+ghost use Rattle.roff_requests.specs.Request.Coded.{stops_response};
 ghost use Rattle.roff_run.specs.Requests.Tabs.{stop_place, tab_stops};
 
 use crate::events::Stops;
@@ -20,7 +20,7 @@ const COLUMN: u32 = 24;
 /// `ta`: the tab stops that these arguments are, none where none are given; `None` if one of them
 /// isn't a number, or is out of range.
 pub fn tab_stops(given: ArgumentList<'_>) -> Option<Stops>
-    ensures { stops_done result ≡ tab_stops (listed given.entry) }
+    ensures { stops_response result ≡ tab_stops (listed given.entry) }
 {
     let mut stops = Stops::new();
     let mut before = 0;

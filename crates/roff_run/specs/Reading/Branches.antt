@@ -3,7 +3,7 @@ use Rattle.std.specs.Prelude.{ℕ, ◌+◌, Bool, true, false, ◌&&◌, not, na
 use Rattle.roff_source.specs.Bytes.{newline, backslash}
 use Rattle.roff_escape.specs.OpenEscapes.{byte_read}
 use Rattle.roff_ahead.specs.Input.{choosing}
-use Rattle.roff_ahead.specs.Input.Calls.{keeping}
+use Rattle.roff_ahead.specs.Input.Calls.{with_result}
 use Rattle.roff_escape.specs.declared.open_escape.Decision.{Decision}
 use Rattle.roff_escape.specs.declared.open_escape.Decision.TheVariants.{Is, OnPages}
 use Rattle.roff_escape.specs.declared.open_escape.Found.{Found}
@@ -54,12 +54,12 @@ decided k i so None = going_on i (branch_of so)
 decided k i so (Some b) = branch_taking k i so b
 
 -- the input with a result kept, if it is to be
-abbrev pub kept_if : Bool → Bool → PageInput → PageInput
-kept_if keeps so i = if keeps then keeping so i else i
+abbrev pub with_result_if : Bool → Bool → PageInput → PageInput
+with_result_if keeps so i = if keeps then with_result so i else i
 
 -- what was found of a condition
 abbrev pub condition_found : Known → PageInput → Bool → Found → Taking
-condition_found k i keeps (Decides decision freed) = decided k (kept_if keeps (is_so k decision) i) (is_so k decision) freed
+condition_found k i keeps (Decides decision freed) = decided k (with_result_if keeps (is_so k decision) i) (is_so k decision) freed
 condition_found k i keeps found = no_unit_found k i (Deciding keeps) found
 
 -- the first byte of a condition behind a name of one byte: one that isn't there is false

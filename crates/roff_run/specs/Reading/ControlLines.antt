@@ -3,7 +3,7 @@ use Rattle.std.specs.Prelude.{ℕ, Bool, true, ◌||◌, if◌then◌else◌, �
 use Rattle.roff_source.specs.Bytes.{tab, newline, blank, backslash, is_dropped}
 use Rattle.roff_escape.specs.OpenEscapes.{byte_read}
 use Rattle.roff_ahead.specs.Input.{choosing}
-use Rattle.roff_ahead.specs.Input.Calls.{kept_last, without_last}
+use Rattle.roff_ahead.specs.Input.Calls.{last_result, without_last}
 use Rattle.roff_escape.specs.declared.open_escape.Surroundings.TheVariants.{Arguments as AboveArguments, Copy as AboveCopy}
 use Rattle.roff_run.specs.declared.line_state.LineState.TheVariants.{LineStart, Arguments as InArguments, Deciding, StringName, Dropped, Telling, Calling}
 use Rattle.roff_num.specs.declared.short_name.ShortName.{ShortName}
@@ -42,7 +42,7 @@ line_taking k i breaks request (ByMessage aborts) b =
     read_by (λ j. message_found k j aborts true) i (byte_read AboveCopy i.escapes b)
 line_taking k i breaks request (ByLines lines) b =
     read_by (λ j. arguments_found k j breaks request) i (byte_read AboveArguments i.escapes b)
-line_taking k i breaks request ByElse b = branch_taking k (without_last i) (reads_else (kept_last i)) b
+line_taking k i breaks request ByElse b = branch_taking k (without_last i) (reads_else (last_result i)) b
 
 -- a byte behind a name that stands for this: a request is read on, a body is called, and any other line is dropped
 abbrev pub called_taking : Known → PageInput → Bool → Called → ℕ → Taking
@@ -63,7 +63,7 @@ behind_name i breaks request (ByString appends) = going_on i (StringName appends
 behind_name i breaks request ByLastLine = going_on i (InArguments breaks request)
 behind_name i breaks request (ByMessage aborts) = going_on i (Telling aborts true)
 behind_name i breaks request (ByLines lines) = going_on i (InArguments breaks request)
-behind_name i breaks request ByElse = going_on (without_last i) (branch_of (reads_else (kept_last i)))
+behind_name i breaks request ByElse = going_on (without_last i) (branch_of (reads_else (last_result i)))
 
 -- what is read behind a name that stands for this
 abbrev pub behind_called : PageInput → Bool → Called → Taking

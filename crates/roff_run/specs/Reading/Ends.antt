@@ -3,7 +3,7 @@ use Rattle.std.specs.Prelude.{Bool, true, false, List, [], ◌∷◌, Some, None
 use Rattle.roff_lines.specs.declared.event.Event.TheVariants.{Resume}
 use Rattle.roff_source.specs.Bytes.{newline}
 use Rattle.roff_ahead.specs.Input.Calls.{arguments_given}
-use Rattle.roff_run.specs.Reading.{kept_taking}
+use Rattle.roff_run.specs.Reading.{undropped_taking}
 use Rattle.roff_run.specs.Reading.Definitions.{definition_cut}
 use Rattle.roff_run.specs.Reading.Items.{PageInput, Taking, meaning_events}
 use Rattle.roff_run.specs.Reading.Strings.{string_entered, string_line_ended}
@@ -56,4 +56,4 @@ end_taking k (Skipping opened closed behind) i = last_line_ended k i
 end_taking k Dropped i = last_line_ended k i
 end_taking k Exiting i = meaning_events i Exiting (interrupted_end k.interrupted)
 end_taking k (Defining name appends end matched) i = definition_cut i name
-end_taking k reading i = kept_taking k reading i newline
+end_taking k reading i = undropped_taking k reading i newline

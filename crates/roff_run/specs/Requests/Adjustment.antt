@@ -8,7 +8,7 @@ use Rattle.roff_num.specs.declared.num.NumFault.{NumFault}
 use Rattle.roff_num.specs.declared.num.Scale.TheVariants.{Units}
 use Rattle.roff_run.specs.Numbers.{value_in, at_least_zero}
 use Rattle.roff_run.specs.declared.event.PageEvent.TheVariants.{Text}
-use Rattle.roff_run.specs.Requests.Effects.{Done, happens, setting, bad_number}
+use Rattle.roff_run.specs.Requests.Effects.{Response, happens, setting, bad_number}
 
 -- the mode of adjusting that a letter stands for
 abbrev pub mode_named : ℕ → Option AdjustMode
@@ -27,20 +27,20 @@ mode_wanted ([] ∷ as_given) = None
 mode_wanted ((c ∷ letters) ∷ as_given) = mode_named c
 
 -- adjusting on, in a mode or in the one in force
-abbrev pub adjusting_in : Option AdjustMode → Done
+abbrev pub adjusting_in : Option AdjustMode → Response
 adjusting_in None = setting (Adjusting true)
 adjusting_in (Some mode) = happens [] (Text (Set (Mode mode)) ∷ Text (Set (Adjusting true)) ∷ [])
 
 -- `ad`: the mode is that of the argument, if it names one
-abbrev pub adjust : List (List ℕ) → Done
+abbrev pub adjust : List (List ℕ) → Response
 adjust as_given = adjusting_in (mode_wanted as_given)
 
 -- so many lines are centred from now on, none where that is below 0
-abbrev pub centring : Result ℤ NumFault → Done
+abbrev pub centring : Result ℤ NumFault → Response
 centring (Ok count) = setting (Centring (at_least_zero count))
 centring (Err fault) = bad_number
 
 -- `ce`: one line where no number is given
-abbrev pub centre : List (List ℕ) → Done
+abbrev pub centre : List (List ℕ) → Response
 centre [] = setting (Centring 1)
 centre (text ∷ others) = centring (value_in Units text)

@@ -25,46 +25,46 @@ abbrev pub saying : List Message → List PageEvent → Effect
 saying messages events = record { messages = messages; changes = []; calls = []; events = events }
 
 -- what a request does with its arguments
-pub data Done : Type 0 where
+pub data Response : Type 0 where
   -- it is ignored, and says why
-  Ignored : (messages : List Message) → Done
+  Ignored : (messages : List Message) → Response
   -- it says this, the registers change so, and what names stand for, and this happens behind its break
-  Does : (messages : List Message) (changes : List Change) (calls : List Call) (events : List PageEvent) → Done
+  Obeyed : (messages : List Message) (changes : List Change) (calls : List Call) (events : List PageEvent) → Response
 
 -- these events happen behind its break, and it says this
-abbrev pub happens : List Message → List PageEvent → Done
-happens messages events = Does messages [] [] events
+abbrev pub happens : List Message → List PageEvent → Response
+happens messages events = Obeyed messages [] [] events
 
 -- nothing happens behind its break
-abbrev pub nothing : Done
+abbrev pub nothing : Response
 nothing = happens [] []
 
 -- a parameter is set
-abbrev pub setting : Param → Done
+abbrev pub setting : Param → Response
 setting p = happens [] (Text (Set p) ∷ [])
 
 -- a register changes
-abbrev pub changing : Change → Done
-changing change = Does [] (change ∷ []) [] []
+abbrev pub changing : Change → Response
+changing change = Obeyed [] (change ∷ []) [] []
 
 -- what names stand for changes
-abbrev pub naming : List Call → Done
-naming calls = Does [] [] calls []
+abbrev pub naming : List Call → Response
+naming calls = Obeyed [] [] calls []
 
 -- an argument isn't a number, or is out of range
-abbrev pub bad_number : Done
+abbrev pub bad_number : Response
 bad_number = Ignored (BadNumber ∷ [])
 
 -- an argument isn't a format
-abbrev pub bad_format : Done
+abbrev pub bad_format : Response
 bad_format = Ignored (BadFormat ∷ [])
 
 -- an argument is no environment's number, or there is none to go back to
-abbrev pub no_such_environment : Done
+abbrev pub no_such_environment : Response
 no_such_environment = Ignored (NoSuchEnvironment ∷ [])
 
 -- a request of this name isn't built
-abbrev pub left_out : List ℕ → Done
+abbrev pub left_out : List ℕ → Response
 left_out name = Ignored (LeftOut name ∷ [])
 
 -- a break in front of some events, if there is one
@@ -72,7 +72,7 @@ abbrev pub behind_break : Bool → List PageEvent → List PageEvent
 behind_break breaks events = if breaks then Text WordEnd ∷ Text Break ∷ events else events
 
 -- what a request means by what it did: it breaks, if its row has it so, unless it is ignored
-abbrev pub meant_by : Bool → Done → Effect
+abbrev pub meant_by : Bool → Response → Effect
 meant_by breaks (Ignored messages) = saying messages []
-meant_by breaks (Does messages changes calls events) =
+meant_by breaks (Obeyed messages changes calls events) =
     record { messages = messages; changes = changes; calls = calls; events = behind_break breaks events }

@@ -7,7 +7,7 @@ use Rattle.roff_num.specs.declared.num.NumFault.{NumFault}
 use Rattle.roff_num.specs.declared.num.Scale.TheVariants.{Columns}
 use Rattle.roff_run.specs.Numbers.{value_beside, rounded_in_range, at_least_zero}
 use Rattle.roff_run.specs.Registers.{Known, in_units}
-use Rattle.roff_run.specs.Requests.Effects.{Done, Ignored, setting, bad_number}
+use Rattle.roff_run.specs.Requests.Effects.{Response, Ignored, setting, bad_number}
 
 -- the length in columns that a text sets: it is rounded, and not below 0
 abbrev pub length_set : ℕ → List ℕ → Result ℕ NumFault
@@ -21,21 +21,21 @@ length_wanted in_force previous [] = Ok previous
 length_wanted in_force previous (text ∷ others) = length_set in_force text
 
 -- a length is set
-abbrev pub setting_length : (ℕ → Param) → Result ℕ NumFault → Done
+abbrev pub setting_length : (ℕ → Param) → Result ℕ NumFault → Response
 setting_length parameter (Ok columns) = setting (parameter columns)
 setting_length parameter (Err fault) = bad_number
 
 -- `ll`: the line length
-abbrev pub line_length : Known → List (List ℕ) → Done
+abbrev pub line_length : Known → List (List ℕ) → Response
 line_length known as_given =
     let s = known.settings in setting_length LineLength (length_wanted s.line_length s.previous_line_length as_given)
 
 -- `in`: the indent
-abbrev pub indent : Known → List (List ℕ) → Done
+abbrev pub indent : Known → List (List ℕ) → Response
 indent known as_given =
     let s = known.settings in setting_length Indent (length_wanted s.indent s.previous_indent as_given)
 
 -- `ti`: the indent of the next line that a word begins; without an argument it is ignored
-abbrev pub temporary_indent : Known → List (List ℕ) → Done
+abbrev pub temporary_indent : Known → List (List ℕ) → Response
 temporary_indent known [] = Ignored []
 temporary_indent known (text ∷ others) = setting_length TemporaryIndent (length_set known.settings.indent text)

@@ -1,7 +1,7 @@
 -- Removing and renaming strings, macros and requests (manual, section 7).
 use Rattle.std.specs.Prelude.{ℕ, List, [], ◌∷◌, map}
 use Rattle.roff_store.specs.TextCalls.{Call, Remove, Rename}
-use Rattle.roff_run.specs.Requests.Effects.{Done, Ignored, naming}
+use Rattle.roff_run.specs.Requests.Effects.{Response, Ignored, naming}
 use Rattle.roff_run.specs.Requests.Numbering.{if_named, name_given, names_given}
 
 -- names go, one after another
@@ -9,11 +9,11 @@ abbrev pub removals : List (List ℕ) → List Call
 removals names = map Remove names
 
 -- `rm`: what names stand for goes, be it a string, a macro or a request
-abbrev pub remove_names : List (List ℕ) → Done
+abbrev pub remove_names : List (List ℕ) → Response
 remove_names as_given = naming (removals (names_given as_given))
 
 -- `rn`: what a name stands for goes to another one, if both are given
-abbrev pub rename : List (List ℕ) → Done
+abbrev pub rename : List (List ℕ) → Response
 rename [] = Ignored []
 rename (from ∷ []) = Ignored []
 rename (from ∷ to ∷ others) = if_named from (if_named to (naming (Rename (name_given from) (name_given to) ∷ [])))

@@ -8,7 +8,7 @@ use Rattle.roff_num.specs.declared.num.Scale.TheVariants.{Units}
 use Rattle.roff_arguments.specs.Arguments.{has_byte}
 use Rattle.roff_run.specs.Numbers.{value_in, value_beside}
 use Rattle.roff_run.specs.Registers.{Known, SetTo, FormatAs, Remove, value_in_force}
-use Rattle.roff_run.specs.Requests.Effects.{Done, Ignored, changing, bad_number, bad_format}
+use Rattle.roff_run.specs.Requests.Effects.{Response, Ignored, changing, bad_number, bad_format}
 
 -- a name that an argument gives: its first two bytes
 abbrev pub name_given : List ℕ → List ℕ
@@ -24,17 +24,17 @@ increment_given [] = Ok (pos 0)
 increment_given (text ∷ others) = value_in Units text
 
 -- a register is set to a value and an increment, if both are numbers
-abbrev pub set_to : List ℕ → Result ℤ NumFault → Result ℤ NumFault → Done
+abbrev pub set_to : List ℕ → Result ℤ NumFault → Result ℤ NumFault → Response
 set_to name (Err fault) increment = bad_number
 set_to name (Ok value) (Err fault) = bad_number
 set_to name (Ok value) (Ok increment) = changing (SetTo name (number value) (number increment))
 
 -- an argument that gives no name is none, and nothing happens
-abbrev pub if_named : List ℕ → Done → Done
+abbrev pub if_named : List ℕ → Response → Response
 if_named text done = if length text == 0 then Ignored [] else done
 
 -- `nr`: a sign in front adds to the value in force, or takes from it
-abbrev pub set_register : Known → List (List ℕ) → Done
+abbrev pub set_register : Known → List (List ℕ) → Response
 set_register known [] = Ignored []
 set_register known (name ∷ []) = Ignored []
 set_register known (name ∷ value ∷ others) =
@@ -42,12 +42,12 @@ set_register known (name ∷ value ∷ others) =
     (value_beside (value_in_force known (name_given name)).0 Units value) (increment_given others))
 
 -- a register is given a format, if it is one
-abbrev pub format_as : List ℕ → Option Format → Done
+abbrev pub format_as : List ℕ → Option Format → Response
 format_as name None = bad_format
 format_as name (Some format) = changing (FormatAs name format)
 
 -- `af`: how a register is written
-abbrev pub assign_format : List (List ℕ) → Done
+abbrev pub assign_format : List (List ℕ) → Response
 assign_format [] = Ignored []
 assign_format (name ∷ []) = Ignored []
 assign_format (name ∷ format ∷ others) = if_named name (format_as (name_given name) (format_of format))
@@ -57,5 +57,5 @@ abbrev pub names_given : List (List ℕ) → List (List ℕ)
 names_given as_given = map name_given (filter has_byte as_given)
 
 -- `rr`: registers go
-abbrev pub remove_registers : List (List ℕ) → Done
+abbrev pub remove_registers : List (List ℕ) → Response
 remove_registers as_given = changing (Remove (names_given as_given))

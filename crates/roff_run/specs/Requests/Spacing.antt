@@ -8,25 +8,25 @@ use Rattle.roff_run.specs.Numbers.{value_in, rounded_in_range, at_least_zero}
 use Rattle.roff_run.specs.Registers.{Known}
 use Rattle.roff_run.specs.declared.event.PageEvent.TheVariants.{Space}
 use Rattle.roff_run.specs.declared.message.Message.TheVariants.{BackwardMotion}
-use Rattle.roff_run.specs.Requests.Effects.{Done, happens, setting, bad_number}
+use Rattle.roff_run.specs.Requests.Effects.{Response, happens, setting, bad_number}
 
 -- the blank lines of a height in basic units: none if it is below 0, which is reported
-abbrev pub spaced : Result ℤ NumFault → Done
+abbrev pub spaced : Result ℤ NumFault → Response
 spaced (Ok (pos height)) = happens [] (Space (height / 40) ∷ [])
 spaced (Ok (negsuc height)) = happens (BackwardMotion ∷ []) (Space 0 ∷ [])
 spaced (Err fault) = bad_number
 
 -- `sp`: so many blank lines, and one where no height is given
-abbrev pub space_down : List (List ℕ) → Done
+abbrev pub space_down : List (List ℕ) → Response
 space_down [] = happens [] (Space 1 ∷ [])
 space_down (text ∷ others) = spaced (followed (value_in Lines text) (rounded_in_range 40))
 
 -- lines stand so far from each other, and at least one apart
-abbrev pub spacing : Result ℤ NumFault → Done
+abbrev pub spacing : Result ℤ NumFault → Response
 spacing (Ok lines) = setting (Spacing (max 1 (at_least_zero lines)))
 spacing (Err fault) = bad_number
 
 -- `ls`: the previous spacing where none is given
-abbrev pub line_spacing : Known → List (List ℕ) → Done
+abbrev pub line_spacing : Known → List (List ℕ) → Response
 line_spacing known [] = setting (Spacing known.settings.previous_spacing)
 line_spacing known (text ∷ others) = spacing (value_in Units text)

@@ -9,7 +9,7 @@ use Rattle.roff_num.specs.declared.num.Scale.TheVariants.{Columns}
 use Rattle.roff_run.specs.Numbers.{value_in, rounded_in_range, at_least_zero}
 use Rattle.roff_run.specs.declared.event.PageEvent.{PageEvent}
 use Rattle.roff_run.specs.declared.event.PageEvent.TheVariants.{Text}
-use Rattle.roff_run.specs.Requests.Effects.{Done, happens, bad_number}
+use Rattle.roff_run.specs.Requests.Effects.{Response, happens, bad_number}
 
 -- of more stops than this the others are ignored
 abbrev pub most_stops : ℕ
@@ -33,10 +33,10 @@ abbrev pub stop_set : ℤ → PageEvent
 stop_set stop = Text (Set (Stop (at_least_zero stop / 24)))
 
 -- these stops are set in place of those in force
-abbrev pub setting_stops : Result (List ℤ) NumFault → Done
+abbrev pub setting_stops : Result (List ℤ) NumFault → Response
 setting_stops (Ok stops) = happens [] (Text (Set NoStops) ∷ map stop_set stops)
 setting_stops (Err fault) = bad_number
 
 -- `ta`: no stops where none are given
-abbrev pub tab_stops : List (List ℕ) → Done
+abbrev pub tab_stops : List (List ℕ) → Response
 tab_stops as_given = setting_stops (stop_places (pos 0) (take most_stops as_given))

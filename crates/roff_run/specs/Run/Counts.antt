@@ -6,7 +6,7 @@ use Rattle.roff_num.specs.declared.limit.Limit.{Limit}
 use Rattle.roff_num.specs.declared.limit.Limit.TheVariants.{Names, Stack, Depth, Line, Conditions, Store, Diversions, Environments as EnvironmentsLimit}
 use Rattle.roff_num.specs.declared.limits.Limits.{Limits}
 use Rattle.roff_ahead.specs.Input.Names.{names_added, stored}
-use Rattle.roff_ahead.specs.Input.{pushed, depth, results}
+use Rattle.roff_ahead.specs.Input.{pushed, depth, result_count}
 use Rattle.roff_run.specs.Environments.{environments}
 use Rattle.roff_run.specs.Output.{PageHistory, text_of}
 use Rattle.roff_run.specs.Reading.Items.{PageInput}
@@ -39,4 +39,4 @@ refusal l h e = first_passed l (counts h e)
 abbrev pub counts_in : AllRegisters → PageInput → List (Limit × ℕ)
 counts_in rs i =
     (Names, length rs.named) ∷ (Diversions, length i.open_texts - 1) ∷ (Store, stored i) ∷ (Names, names_added i)
-    ∷ (Stack, pushed i) ∷ (Depth, depth i) ∷ (Conditions, results i) ∷ []
+    ∷ (Stack, pushed i) ∷ (Depth, depth i) ∷ (Conditions, result_count i) ∷ []

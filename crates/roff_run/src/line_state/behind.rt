@@ -5,7 +5,7 @@ ghost use Rattle.roff_run.specs.Reading.Items.{PageInput};
 ghost use Rattle.roff_run.specs.Reading.Arguments.{reading_behind};
 ghost use Rattle.roff_run.specs.Reading.Branches.{branch_of, counted_if};
 ghost use Rattle.roff_run.specs.Reading.Items.{going_on};
-ghost use Rattle.roff_run.specs.Reading.{kept_taking};
+ghost use Rattle.roff_run.specs.Reading.{undropped_taking};
 ghost use Rattle.roff_run.specs.Reading.ControlLines.{dropped_taking};
 ghost use Rattle.roff_run.specs.Reading.Branches.{skipping_taking};
 ghost use Rattle.roff_run.specs.Reading.Calls.{behind_return};
@@ -72,7 +72,7 @@ impl LineState {
     /// What is read behind a byte behind a control line's dot or apostrophe, and the blanks there.
     pub fn behind_control(breaks: bool, byte: u8) -> LineState
         ensures { (k : Known) (i : PageInput)
-            → kept_taking k (BehindControl breaks) i byte ≡ going_on i result }
+            → undropped_taking k (BehindControl breaks) i byte ≡ going_on i result }
     {
         if byte == b' ' || byte == b'\t' {
             LineState::Control { breaks }

@@ -131,7 +131,7 @@ impl<E: Copy> Unread<E> {
     {
         let room = self.limits.stack as usize - self.pushed();
         let allowed = room.min((self.limits.bytes - self.charge) as usize);
-        let front = front_of(&self.frames, self.looked, source, allowed);
+        let front = front_of(&self.input_ahead, self.looked, source, allowed);
         if front.is_empty() {
             return;
         }

@@ -2,12 +2,12 @@
 
 ghost use Rattle.roff_arguments.specs.ArgumentList.{listed};
 ghost use Rattle.std.specs.Prelude.{vec_capacity, reverse, ◌≡◌, ◌<◌, ◌^◌, [], drop, get_or, length};
-ghost use Rattle.roff_ahead.specs.Input.{pushing, kept_below};
+ghost use Rattle.roff_ahead.specs.Input.{pushing, results_below};
 ghost use Rattle.roff_ahead.specs.Input.Calls.{arguments_live, argument_live, calling_body};
 ghost use Rattle.roff_ahead.specs.Input.Names.{body_named};
 
 use super::Unread;
-use super::results::drop_kept;
+use super::results::drop_results;
 use roff_arguments::{ArgumentList, Calls};
 use roff_num::{Limit, Name};
 
@@ -27,12 +27,12 @@ impl<E: Copy> Unread<E> {
     {
         let room = self.limits.stack as usize - self.pushed();
         if self.is_deep() {
-            if self.frames.called(name).len > room {
+            if self.input_ahead.called(name).len > room {
                 return Err(Limit::Stack);
             }
             return Err(Limit::Depth);
         }
-        if !self.frames.call(name, room) {
+        if !self.input_ahead.call(name, room) {
             return Err(Limit::Stack);
         }
         self.arguments.finish();
@@ -67,7 +67,7 @@ impl<E: Copy> Unread<E> {
         if is_deep {
             return Err(Limit::Depth);
         }
-        self.frames.push(text);
+        self.input_ahead.push(text);
         Ok(())
     }
 }
@@ -83,13 +83,13 @@ fn argument_at(arguments: ArgumentList<'_>, index: usize) -> &[u8]
 }
 
 /// The innermost call is over, and what was kept in its body is kept no more.
-pub(super) fn end_call(calls: &mut Calls, kept: &mut Vec<(bool, u32)>)
+pub(super) fn end_call(calls: &mut Calls, results: &mut Vec<(bool, u32)>)
     requires { calls.old.most_calls < 2 ^ 32 }
     ensures calls { calls.new ≡ record calls.old { calls = drop 1 calls.old.calls } }
-    ensures results { reverse kept.new.items
-        ≡ kept_below (length calls.old.calls) (reverse kept.old.items) }
-    ensures capacity { vec_capacity kept.new ≡ vec_capacity kept.old }
+    ensures results { reverse results.new.items
+        ≡ results_below (length calls.old.calls) (reverse results.old.items) }
+    ensures capacity { vec_capacity results.new ≡ vec_capacity results.old }
 {
-    drop_kept(kept, calls.len() as u32);
+    drop_results(results, calls.len() as u32);
     calls.pop();
 }

@@ -5,7 +5,7 @@ ghost use Rattle.roff_scan.specs.Unread.Calls.{next_bytes};
 ghost use Rattle.roff_ahead.specs.Input.{is_none_ahead};
 
 use super::Unread;
-use roff_ahead::Frames;
+use roff_ahead::InputAhead;
 use roff_source::{ByteSource, at_most};
 
 impl<E: Copy> Unread<E> {
@@ -22,7 +22,7 @@ impl<E: Copy> Unread<E> {
         ensures front { IsFront (length result.now) (S.ready source.now) self.now }
     {
         let most = (self.limits.bytes - self.charge) as usize;
-        front_of(&self.frames, self.looked, source, most)
+        front_of(&self.input_ahead, self.looked, source, most)
     }
 
     /// Takes at once so many of the bytes that stand in front, each at its cost.
@@ -40,8 +40,8 @@ impl<E: Copy> Unread<E> {
         if count == 0 {
             return;
         }
-        if !self.frames.is_empty() {
-            self.frames.pass(count);
+        if !self.input_ahead.is_empty() {
+            self.input_ahead.pass(count);
             self.charge += count as u32;
             return;
         }
@@ -71,19 +71,19 @@ impl<E: Copy> Unread<E> {
 /// nothing is ahead and no byte was looked at, those of the source that stand ready.
 #[inline]
 pub(super) fn front_of<'a, E: Copy, S: ByteSource>(
-    frames: &'a Frames<E>,
+    input_ahead: &'a InputAhead<E>,
     looked: Option<u8>,
     source: &'a S,
     most: usize,
 ) -> &'a [u8]
     ensures bytes { result.now
-        ≡ take (length result.now) (next_bytes frames.now.ahead looked (S.ready source.now)) }
+        ≡ take (length result.now) (next_bytes input_ahead.now.ahead looked (S.ready source.now)) }
     ensures among { length result.now
-        ≤ length (next_bytes frames.now.ahead looked (S.ready source.now)) }
+        ≤ length (next_bytes input_ahead.now.ahead looked (S.ready source.now)) }
     ensures few { length result.now ≤ most }
 {
-    if !frames.is_empty() {
-        return at_most(frames.front(), most);
+    if !input_ahead.is_empty() {
+        return at_most(input_ahead.front(), most);
     }
     if looked.is_some() {
         return &[];

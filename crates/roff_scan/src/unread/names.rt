@@ -24,7 +24,7 @@ impl<E: Copy> Unread<E> {
         ensures { option_map kind_given result
             ≡ option_map kind_of (entry_of name.now self.now.input.names) }
     {
-        self.frames.get(name)
+        self.input_ahead.get(name)
     }
 
     /// Lets a name stand for an entry from now on.
@@ -37,7 +37,7 @@ impl<E: Copy> Unread<E> {
         ensures change { (result, self.new)
             ≡ changing (calling (Set name.now (entry_given entry.entry)) self.old.input) self.old }
     {
-        self.frames.set(name, entry)
+        self.input_ahead.set(name, entry)
     }
 
     /// Removes a name.
@@ -45,7 +45,7 @@ impl<E: Copy> Unread<E> {
         ensures change { self.new
             ≡ record self.old { input = calling (Remove name.now) self.old.input } }
     {
-        self.frames.remove(name);
+        self.input_ahead.remove(name);
     }
 
     /// Lets one name stand for what another one stood for, which then stands for nothing. Nothing
@@ -54,7 +54,7 @@ impl<E: Copy> Unread<E> {
         ensures change { self.new
             ≡ record self.old { input = calling (Rename from.now to.now) self.old.input } }
     {
-        self.frames.rename(from, to);
+        self.input_ahead.rename(from, to);
     }
 
     /// Begins a text.
@@ -65,10 +65,10 @@ impl<E: Copy> Unread<E> {
     pub fn begin_text(&mut self) -> Result<(), Limit>
         ensures change { (result, self.new) ≡ changing (calling Open self.old.input) self.old }
     {
-        if !self.frames.can_open() {
+        if !self.input_ahead.can_open() {
             return Err(Limit::Diversions);
         }
-        self.frames.open();
+        self.input_ahead.open();
         Ok(())
     }
 
@@ -80,8 +80,8 @@ impl<E: Copy> Unread<E> {
     pub fn add(&mut self, text: &[u8]) -> Result<(), Limit>
         ensures change { (result, self.new) ≡ changing (adding text.now self.old.input) self.old }
     {
-        match self.frames.newest() {
-            Some(id) => self.frames.push_open(id, text),
+        match self.input_ahead.newest() {
+            Some(id) => self.input_ahead.push_open(id, text),
             None => Ok(()),
         }
     }
@@ -96,7 +96,7 @@ impl<E: Copy> Unread<E> {
         ensures notes { S.notes source.new ≡ S.notes source.old }
         ensures failures { S.failures source.new ≡ S.failures source.old }
     {
-        if self.frames.is_empty() && self.looked.is_none() {
+        if self.input_ahead.is_empty() && self.looked.is_none() {
             self.add_ready(source);
         }
     }
@@ -110,7 +110,7 @@ impl<E: Copy> Unread<E> {
         ensures notes { S.notes source.new ≡ S.notes source.old }
         ensures failures { S.failures source.new ≡ S.failures source.old }
     {
-        let room = self.limits.store as usize - self.frames.stored();
+        let room = self.limits.store as usize - self.input_ahead.stored();
         let allowed = self.limits.bytes - self.charge;
         let text = text_ready(source, room.min(allowed as usize));
         let count = text.len();
@@ -133,8 +133,8 @@ impl<E: Copy> Unread<E> {
         ensures change { (result, self.new)
             ≡ changing (entering name.now append self.old.input) self.old }
     {
-        match self.frames.newest() {
-            Some(id) => self.frames.enter(id, name, append),
+        match self.input_ahead.newest() {
+            Some(id) => self.input_ahead.enter(id, name, append),
             None => Ok(()),
         }
     }
@@ -143,8 +143,8 @@ impl<E: Copy> Unread<E> {
     pub fn drop_text(&mut self)
         ensures change { self.new ≡ record self.old { input = dropping self.old.input } }
     {
-        if let Some(id) = self.frames.newest() {
-            self.frames.drop_open(id);
+        if let Some(id) = self.input_ahead.newest() {
+            self.input_ahead.drop_open(id);
         }
     }
 }

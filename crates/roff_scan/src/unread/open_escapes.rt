@@ -97,7 +97,7 @@ impl<E: Copy> Unread<E> {
         ensures failures { S.failures source.new ≡ S.failures source.old }
     {
         let most = (self.limits.bytes - self.charge) as usize;
-        let front = front_of(&self.frames, self.looked, source, most);
+        let front = front_of(&self.input_ahead, self.looked, source, most);
         if front.is_empty() {
             return;
         }
@@ -123,10 +123,10 @@ impl<E: Copy> Unread<E> {
     #[inline(always)]
     fn take_pushed(&mut self) -> bool
         ensures takes { TakesPushed self.old self.new }
-        ensures kept { result ≡ false → self.new ≡ self.old }
+        ensures unchanged { result ≡ false → self.new ≡ self.old }
     {
         let allowed = (self.limits.bytes - self.charge) as usize;
-        let given = self.frames.give_front(&mut self.escapes, allowed);
+        let given = self.input_ahead.give_front(&mut self.escapes, allowed);
         self.charge += given as u32;
         given > 0
     }
@@ -140,7 +140,7 @@ impl<E: Copy> Unread<E> {
     {
         let allowed = (self.limits.bytes - self.charge) as usize;
         let most = allowed.min(self.limits.stack as usize - self.pushed());
-        let front = front_of(&self.frames, self.looked, source, most);
+        let front = front_of(&self.input_ahead, self.looked, source, most);
         if front.is_empty() {
             return;
         }

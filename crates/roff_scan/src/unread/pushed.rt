@@ -6,7 +6,7 @@ ghost use Rattle.roff_ahead.specs.Input.{most_frees, depth, pushing, putting_bac
 ghost use Rattle.roff_ahead.specs.Input.Names.{body_named};
 
 use super::Unread;
-use super::results::drop_kept;
+use super::results::drop_results;
 use roff_num::{Limit, Name};
 
 impl<E: Copy> Unread<E> {
@@ -34,7 +34,7 @@ impl<E: Copy> Unread<E> {
         if self.is_deep() {
             return Err(Limit::Depth);
         }
-        self.frames.push(text);
+        self.input_ahead.push(text);
         Ok(())
     }
 
@@ -50,12 +50,12 @@ impl<E: Copy> Unread<E> {
     {
         let room = self.limits.stack as usize - self.pushed();
         if self.is_deep() {
-            if self.frames.body_len(name) > room {
+            if self.input_ahead.body_len(name) > room {
                 return Err(Limit::Stack);
             }
             return Err(Limit::Depth);
         }
-        if !self.frames.push_body(name, room) {
+        if !self.input_ahead.push_body(name, room) {
             return Err(Limit::Stack);
         }
         Ok(())
@@ -66,7 +66,7 @@ impl<E: Copy> Unread<E> {
         requires { events_ahead self.old.input.ahead < most_events self.old.limits.depth }
         ensures change { self.new ≡ record self.old { input = putting_back event self.old.input } }
     {
-        self.frames.put_back(event);
+        self.input_ahead.put_back(event);
     }
 
     /// Puts bytes that were taken in front again. They cost nothing.
@@ -74,15 +74,15 @@ impl<E: Copy> Unread<E> {
         requires { frees_ahead self.old.input.ahead + length bytes.now ≤ most_frees }
         ensures change { self.new ≡ record self.old { input = freeing bytes.now self.old.input } }
     {
-        self.frames.free(bytes);
+        self.input_ahead.free(bytes);
     }
 
     /// Drops all that stands ahead of the source. That costs nothing.
     pub fn leave(&mut self)
         ensures change { self.new ≡ record self.old { input = leaving self.old.input } }
     {
-        self.frames.clear();
+        self.input_ahead.clear();
         self.calls.clear();
-        drop_kept(&mut self.kept, 1);
+        drop_results(&mut self.results, 1);
     }
 }

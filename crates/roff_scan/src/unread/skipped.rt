@@ -19,7 +19,7 @@ impl<E: Copy> Unread<E> {
     fn is_bare(&self) -> bool
         ensures { result ≡ is_bare self.now }
     {
-        self.frames.is_empty() && self.looked.is_none() && self.escapes.is_empty()
+        self.input_ahead.is_empty() && self.looked.is_none() && self.escapes.is_empty()
     }
 
     /// Takes at once the bytes of the source that stand ready, up to the first backslash and,
@@ -68,7 +68,7 @@ impl<E: Copy> Unread<E> {
     {
         if self.escapes.is_empty() {
             let most = (self.limits.bytes - self.charge) as usize;
-            let passed = self.frames.pass_over(within_block, most);
+            let passed = self.input_ahead.pass_over(within_block, most);
             self.charge += passed as u32;
         }
     }
@@ -80,14 +80,14 @@ impl<E: Copy> Unread<E> {
     pub fn pass_newline<S: ByteSource>(&mut self, source: &mut S) -> bool
         ensures passes { result ≡ true → PassesFront (S.gives source.old) (S.gives source.new)
             (newline ∷ []) self.old self.new }
-        ensures kept { result ≡ false → (self.new ≡ self.old) × (source.new ≡ source.old) }
+        ensures unchanged { result ≡ false → (self.new ≡ self.old) × (source.new ≡ source.old) }
         ensures notes { S.notes source.new ≡ S.notes source.old }
         ensures failures { S.failures source.new ≡ S.failures source.old }
     {
         if self.limits.bytes == self.charge {
             return false;
         }
-        if !self.frames.is_empty() {
+        if !self.input_ahead.is_empty() {
             return self.pass_newline_ahead();
         }
         self.pass_newline_ready(source)
@@ -98,9 +98,9 @@ impl<E: Copy> Unread<E> {
     fn pass_newline_ahead(&mut self) -> bool
         requires room { self.old.input.charge < self.old.limits.bytes }
         ensures passes { result ≡ true → PassesNewline self.old self.new }
-        ensures kept { result ≡ false → self.new ≡ self.old }
+        ensures unchanged { result ≡ false → self.new ≡ self.old }
     {
-        if !self.frames.pass_newline() {
+        if !self.input_ahead.pass_newline() {
             return false;
         }
         self.charge += 1;
@@ -114,7 +114,7 @@ impl<E: Copy> Unread<E> {
         requires none_ahead { is_none_ahead self.old.input.ahead ≡ true }
         ensures passes { result ≡ true → PassesFront (S.gives source.old) (S.gives source.new)
             (newline ∷ []) self.old self.new }
-        ensures kept { result ≡ false → (self.new ≡ self.old) × (source.new ≡ source.old) }
+        ensures unchanged { result ≡ false → (self.new ≡ self.old) × (source.new ≡ source.old) }
         ensures notes { S.notes source.new ≡ S.notes source.old }
         ensures failures { S.failures source.new ≡ S.failures source.old }
     {
@@ -136,12 +136,12 @@ impl<E: Copy> Unread<E> {
     #[inline(always)]
     pub fn pass_end(&mut self) -> bool
         ensures passes { result ≡ true → PassesEnd self.old self.new }
-        ensures kept { result ≡ false → self.new ≡ self.old }
+        ensures unchanged { result ≡ false → self.new ≡ self.old }
     {
         if self.limits.bytes == self.charge {
             return false;
         }
-        if !self.frames.pass_end() {
+        if !self.input_ahead.pass_end() {
             return false;
         }
         self.charge += 1;
@@ -153,16 +153,16 @@ impl<E: Copy> Unread<E> {
     #[inline(always)]
     pub fn pass_return(&mut self) -> bool
         ensures passes { result ≡ true → PassesReturn self.old self.new }
-        ensures kept { result ≡ false → self.new ≡ self.old }
+        ensures unchanged { result ≡ false → self.new ≡ self.old }
     {
         if self.limits.bytes == self.charge {
             return false;
         }
-        if !self.frames.pass_return() {
+        if !self.input_ahead.pass_return() {
             return false;
         }
         self.charge += 1;
-        end_call(&mut self.calls, &mut self.kept);
+        end_call(&mut self.calls, &mut self.results);
         true
     }
 }

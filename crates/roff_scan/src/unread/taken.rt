@@ -31,7 +31,7 @@ impl<E: Copy> Unread<E> {
         ensures fault { shown result ≡ ShowsEnding Failed
             → Rises (S.failures source.old) (S.failures source.new) }
     {
-        if !self.frames.is_empty() {
+        if !self.input_ahead.is_empty() {
             return self.take_ahead();
         }
         if let Some(byte) = self.looked {
@@ -53,11 +53,11 @@ impl<E: Copy> Unread<E> {
     pub fn take_ready<S: ByteSource>(&mut self, source: &mut S) -> Option<u8>
         ensures takes { IfSome result (λ b.
             Takes (S.gives source.old) (S.gives source.new) self.old self.new (ShowsByte b)) }
-        ensures kept { result ≡ None → (self.new ≡ self.old) × (source.new ≡ source.old) }
+        ensures unchanged { result ≡ None → (self.new ≡ self.old) × (source.new ≡ source.old) }
         ensures notes { S.notes source.new ≤ S.notes source.old }
         ensures failures { S.failures source.old ≤ S.failures source.new }
     {
-        if !self.frames.is_empty() {
+        if !self.input_ahead.is_empty() {
             return self.take_ready_ahead();
         }
         if self.limits.bytes == self.charge {
@@ -82,12 +82,12 @@ impl<E: Copy> Unread<E> {
         requires { is_none_ahead self.old.input.ahead ≡ false }
         ensures takes { IfSome result (λ b.
             (a : Answer) → (ShowsByte b, self.new) ≡ taking a self.old) }
-        ensures kept { result ≡ None → self.new ≡ self.old }
+        ensures unchanged { result ≡ None → self.new ≡ self.old }
     {
         if self.limits.bytes - self.charge == 0 {
             return None;
         }
-        match self.frames.take_ready() {
+        match self.input_ahead.take_ready() {
             None => None,
             Some(byte) => {
                 self.charge += 1;
@@ -104,14 +104,14 @@ impl<E: Copy> Unread<E> {
         ensures takes { IfSome result (λ b.
             Takes (S.gives source.old) (S.gives source.new) self.old self.new (ShowsByte b)) }
         ensures waits { IfSome result (λ b. WaitsFor self.old.input.escapes b) }
-        ensures kept { result ≡ None → (self.new ≡ self.old) × (source.new ≡ source.old) }
+        ensures unchanged { result ≡ None → (self.new ≡ self.old) × (source.new ≡ source.old) }
         ensures notes { S.notes source.new ≤ S.notes source.old }
         ensures failures { S.failures source.old ≤ S.failures source.new }
     {
         if self.limits.bytes == self.charge {
             return None;
         }
-        if !self.frames.is_empty() {
+        if !self.input_ahead.is_empty() {
             return self.take_waiting_ahead();
         }
         self.take_waiting_ready(source)
@@ -125,9 +125,9 @@ impl<E: Copy> Unread<E> {
         ensures takes { IfSome result (λ b.
             (a : Answer) → (ShowsByte b, self.new) ≡ taking a self.old) }
         ensures waits { IfSome result (λ b. WaitsFor self.old.input.escapes b) }
-        ensures kept { result ≡ None → self.new ≡ self.old }
+        ensures unchanged { result ≡ None → self.new ≡ self.old }
     {
-        match self.frames.take_waiting(&self.escapes) {
+        match self.input_ahead.take_waiting(&self.escapes) {
             None => None,
             Some(byte) => {
                 self.charge += 1;
@@ -144,7 +144,7 @@ impl<E: Copy> Unread<E> {
         ensures takes { IfSome result (λ b.
             Takes (S.gives source.old) (S.gives source.new) self.old self.new (ShowsByte b)) }
         ensures waits { IfSome result (λ b. WaitsFor self.old.input.escapes b) }
-        ensures kept { result ≡ None → (self.new ≡ self.old) × (source.new ≡ source.old) }
+        ensures unchanged { result ≡ None → (self.new ≡ self.old) × (source.new ≡ source.old) }
         ensures notes { S.notes source.new ≡ S.notes source.old }
         ensures failures { S.failures source.new ≡ S.failures source.old }
     {
@@ -201,14 +201,14 @@ impl<E: Copy> Unread<E> {
         ensures note { (m : _) → shown result ≡ ShowsNote m → ⊥ }
         ensures ending { (e : _) → shown result ≡ ShowsEnding e → ⊥ }
     {
-        let cost = self.frames.cost();
+        let cost = self.input_ahead.cost();
         if cost > self.limits.bytes - self.charge {
             return Item::Refused(Limit::Bytes);
         }
         self.charge += cost;
-        match self.frames.take() {
+        match self.input_ahead.take() {
             Item::Return => {
-                end_call(&mut self.calls, &mut self.kept);
+                end_call(&mut self.calls, &mut self.results);
                 Item::Return
             }
             item => item,
@@ -228,7 +228,7 @@ impl<E: Copy> Unread<E> {
         ensures fault { sighted result ≡ SeesEnding Failed
             → Rises (S.failures source.old) (S.failures source.new) }
     {
-        if let Some(sight) = self.frames.seen() {
+        if let Some(sight) = self.input_ahead.seen() {
             return sight;
         }
         if let Some(byte) = self.looked {

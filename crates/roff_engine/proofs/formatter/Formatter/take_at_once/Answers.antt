@@ -22,4 +22,4 @@ returns-in-None g c =
     let text = c.take_text.new.self in
     let other = c.take_beside_text in
     taken_behind_nothing (λ f v k. taking k f.reader.reading v.input b) old (record old { reader = text }) other.new.self u u other.new.unread _ _
-    other.result (ap (λ (r : ReaderState). record old { reader = r }) (c.in-None.ensures.kept refl)) refl other.ensures
+    other.result (ap (λ (r : ReaderState). record old { reader = r }) (c.in-None.ensures.unchanged refl)) refl other.ensures

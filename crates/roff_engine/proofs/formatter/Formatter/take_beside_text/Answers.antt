@@ -21,6 +21,6 @@ returns-in-None g c =
     let mid = c.end_request.new.self in
     let now = c.end_request.new.unread in
     let other = c.take_little in
-    let kept = c.in-None.ensures.kept refl in
+    let kept = c.in-None.ensures.unchanged refl in
     taken_behind_nothing (λ f v k. taking k f.reader.reading v.input b) old (record old { reader = mid }) other.new.self u now other.new.unread _ _
     other.result (ap (λ (r : ReaderState). record old { reader = r }) kept.0) kept.1 other.ensures

@@ -1,13 +1,13 @@
 use Rattle.std.proofs.Common.{true, false, inl, inr, sym, ◌∙◌}
 use Rattle.roff_run.specs.Run.{escape_ends, input_ended}
 use Rattle.roff_engine.specs.Running.Turning.{input_ends, state_at}
-use Rattle.roff_engine.proofs.Acting.{Acts-as, input_ends-escapes, input_ends-no_half}
+use Rattle.roff_engine.proofs.Acting.{DoesItem-as, input_ends-escapes, input_ends-no_half}
 use Rattle.roff_engine.proofs.Turns.{some_half, on_ok}
 use Rattle.roff_engine.proofs.running.Running.end_input.Goals as goal
 
 pub returns-then-has_open_escape-clause-acts : goal.returns-then-has_open_escape-clause-acts
 returns-then-has_open_escape-clause-acts g c = λ none failures.
-    Acts-as input_ends escape_ends _ _ _ _ _ _
+    DoesItem-as input_ends escape_ends _ _ _ _ _ _
     (λ tape h messages. input_ends-escapes (state_at tape c.args.self.now h messages) (sym c.has_open_escape.ensures ∙ c.if-has_open_escape.true))
     (c.end_escape.ensures failures)
 
@@ -17,7 +17,7 @@ returns-then-has_open_escape-clause-some g c =
 
 pub returns-then-line_ends_first-clause-acts : goal.returns-then-line_ends_first-clause-acts
 returns-then-line_ends_first-clause-acts g c = λ none failures.
-    Acts-as input_ends (input_ended true) _ _ _ _ _ _
+    DoesItem-as input_ends (input_ended true) _ _ _ _ _ _
     (λ tape h messages. input_ends-no_half (state_at tape c.args.self.now h messages) true (sym c.has_open_escape.ensures ∙ c.if-has_open_escape.false)
     (sym c.line_ends_first.ensures ∙ c.if-line_ends_first.true))
     (c.end_line.ensures failures)
@@ -28,7 +28,7 @@ returns-then-line_ends_first-clause-some g c =
 
 pub returns-clause-acts : goal.returns-clause-acts
 returns-clause-acts g c = λ none failures.
-    Acts-as input_ends (input_ended false) _ _ _ _ _ _
+    DoesItem-as input_ends (input_ended false) _ _ _ _ _ _
     (λ tape h messages. input_ends-no_half (state_at tape c.args.self.now h messages) false (sym c.has_open_escape.ensures ∙ c.if-has_open_escape.false)
     (sym c.line_ends_first.ensures ∙ c.if-line_ends_first.false))
     (c.finish.ensures (inl none) failures)

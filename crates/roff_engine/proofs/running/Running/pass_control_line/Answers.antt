@@ -9,8 +9,8 @@ returns-then-read_control_front g c = λ out err.
 
 pub returns-else-read_control_front : goal.returns-else-read_control_front
 returns-else-read_control_front g c = λ out err.
-    let kept = c.read_control_front.ensures.kept c.if-read_control_front.false in
+    let kept = c.read_control_front.ensures.unchanged c.if-read_control_front.false in
     goes_further_both _ _ _ _ _ _ _ _ _ _ _ _ _
     (goes_past_kept _ _ _ _ _ _ out err c.args.self.now _ (ap g.S.ByteSource.gives kept.1) (ap g.S.ByteSource.notes kept.1) (ap g.S.ByteSource.failures kept.1) kept.0)
     (let ends = c.pass_return.ensures in
-    goes_further_returned _ _ _ (rw kept.0 c.requires.none_due) (rw kept.0 c.requires.none_half) ends.passes ends.within ends.reads ends.kept _ _ _)
+    goes_further_returned _ _ _ (rw kept.0 c.requires.none_due) (rw kept.0 c.requires.none_half) ends.passes ends.within ends.reads ends.unchanged _ _ _)

@@ -7,10 +7,10 @@ use Rattle.roff_engine.proofs.running.Running.pass_dropped.Goals as goal
 
 pub end_dropped-requires-clause-ends : goal.end_dropped-requires-clause-ends
 end_dropped-requires-clause-ends g c =
-    subst (λ (f : Formatter). EndsLine f.reader.reading) (sym c.pass_plain.ensures.kept) (c.requires.ends c.if-not-within_block.true)
+    subst (λ (f : Formatter). EndsLine f.reader.reading) (sym c.pass_plain.ensures.unchanged) (c.requires.ends c.if-not-within_block.true)
 
 pub end_dropped-requires-clause-none_due : goal.end_dropped-requires-clause-none_due
-end_dropped-requires-clause-none_due g c = ap (λ (f : Formatter). due f.reader.reading) c.pass_plain.ensures.kept ∙ c.requires.none_due
+end_dropped-requires-clause-none_due g c = ap (λ (f : Formatter). due f.reader.reading) c.pass_plain.ensures.unchanged ∙ c.requires.none_due
 
 pub returns-then-not-has_open_escape : goal.returns-then-not-has_open_escape
 returns-then-not-has_open_escape g c = λ out err.

@@ -8,6 +8,6 @@ returns-in-Some g c =
 
 pub returns-in-None : goal.returns-in-None
 returns-in-None g c =
-    let kept = c.take_ready.ensures.kept c.in-None.is in
+    let kept = c.take_ready.ensures.unchanged c.in-None.is in
     let turned = rw kept.1 at c.turn_item.ensures in
     TurnsBy-same _ _ _ _ _ c.args.self.now c.turn_item.new.self c.take_ready.new.self _ _ _ kept.0 turned

@@ -19,7 +19,7 @@ returns-in-Some g c =
 pub returns-in-None : goal.returns-in-None
 returns-in-None g c =
     let old = c.args.self.now in
-    let kept = c.take_waiting.ensures.kept c.in-None.is in
+    let kept = c.take_waiting.ensures.unchanged c.in-None.is in
     let turned = rw kept.1 at c.turn_looking.ensures in
     turn_as _ _ _ _ old _ _ _ _
     (λ tape h ms.

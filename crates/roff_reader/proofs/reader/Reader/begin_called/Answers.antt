@@ -1,5 +1,5 @@
 use Rattle.std.proofs.Common.{◌≡◌, [], Ok, ap, refl, rules, sym, ◌∙◌}
-use Rattle.roff_ahead.specs.Input.Calls.{kept_last, without_last}
+use Rattle.roff_ahead.specs.Input.Calls.{last_result, without_last}
 use Rattle.roff_reader.specs.ControlFronts.{input_begun, is_deciding}
 use Rattle.roff_reader.specs.Reader.AtOnce.{only_events}
 use Rattle.roff_run.specs.Reading.Branches.{branch_of, reads_else}
@@ -23,10 +23,10 @@ returns-in-Some c = λ es.
 pub returns-in-None : goal.returns-in-None
 returns-in-None c = λ es.
     let i = c.args.unread.now.input in
-    let taken = c.take_kept in
+    let taken = c.take_result in
     let done = c.go_on-in-None in
-    let so : c.eq.result ≡ reads_else (kept_last i) = search rules in
-    TakesAs-as (λ k. going_on (without_last i) (branch_of (reads_else (kept_last i)))) (λ k. behind_called i c.args.breaks c.args.called) es c.args.self.now done.new.self
+    let so : c.eq.result ≡ reads_else (last_result i) = search rules in
+    TakesAs-as (λ k. going_on (without_last i) (branch_of (reads_else (last_result i)))) (λ k. behind_called i c.args.breaks c.args.called) es c.args.self.now done.new.self
     c.args.unread.now taken.new.self (Ok (only_events [])) (λ k. sym (c.in-None.ensures.other refl i))
-    (TakesAs-gone_on (without_last i) (branch_of (reads_else (kept_last i))) es c.args.self.now done.new.self c.args.unread.now taken.new.self (NoMore-without_last i)
+    (TakesAs-gone_on (without_last i) (branch_of (reads_else (last_result i))) es c.args.self.now done.new.self c.args.unread.now taken.new.self (NoMore-without_last i)
     taken.ensures.change (rw (c.branch-eq.ensures ∙ ap branch_of so) at done.ensures))

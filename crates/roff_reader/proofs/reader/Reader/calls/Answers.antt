@@ -2,7 +2,7 @@ use Rattle.std.proofs.Common.{◌≡◌, ◌∙◌, ◌==◌, ◌<◌, length, a
 use Rattle.std.proofs.lemmas.Bool.{eqb-true}
 use Rattle.std.proofs.lemmas.List.{length-reverse}
 use Rattle.roff_escape.specs.declared.open_escape.CopyUnit.TheVariants.{Byte}
-use Rattle.roff_run.specs.Reading.{kept_taking}
+use Rattle.roff_run.specs.Reading.{undropped_taking}
 use Rattle.roff_run.specs.Reading.Units.{holding}
 use Rattle.roff_run.specs.declared.line_state.LineState.{LineState}
 use Rattle.roff_run.specs.declared.line_state.LineState.TheVariants.{Calling}
@@ -25,7 +25,7 @@ returns-in-Ok c =
     let no_escape : (b == 92) ≡ false = search rules in
     let count = ap length c.arguments.ensures ∙ length-reverse u.input.arguments.whole in
     let few : length u.input.arguments.whole < 8 = omega (arith, count, c.len.ensures) in
-    at_once-changed (λ k. kept_taking k place u.input b) (holding (Byte b) u.input) place c.args.self.now c.go_on.new.self u c.hold.new.self _
+    at_once-changed (λ k. undropped_taking k place u.input b) (holding (Byte b) u.input) place c.args.self.now c.go_on.new.self u c.hold.new.self _
     (λ k. call-byte k c.args.name u.input b c.requires few no_escape no_newline) c.in-Ok.ensures.change c.go_on.ensures
 
 pub returns-in-Err : goal.returns-in-Err

@@ -2,7 +2,7 @@ use Rattle.std.proofs.Common.{◌≡◌, Ok, Err, refl, ap, rules, ◌∙◌}
 use Rattle.roff_source.specs.Bytes.{newline}
 use Rattle.roff_ahead.specs.Input.Calls.{arguments_given}
 use Rattle.roff_reader.specs.Reader.State.{ReaderState}
-use Rattle.roff_run.specs.Reading.{kept_taking}
+use Rattle.roff_run.specs.Reading.{undropped_taking}
 use Rattle.roff_run.specs.Reading.Ends.{end_taking}
 use Rattle.roff_run.specs.Reading.Items.{going_on}
 use Rattle.roff_run.specs.Reading.Strings.{string_entered, string_line_ended}
@@ -133,11 +133,11 @@ returns-in_default c =
     let old = c.args.self.now in
     let u = c.args.unread.now in
     let same = ap (λ (s : ReaderState). s.reading) c.self.view_is in
-    TakesAs-as (λ k. kept_taking k old.reading u.input newline) (λ k. end_taking k old.reading u.input) c.args.environments.now old c.read_kept.new.self u
-    c.read_kept.new.unread c.read_kept.result (λ k. end_taking-newline k old.reading u.input (λ at. c.in_default.not-LineStart (same ∙ at)) (λ at. c.in_default.not-Dropped (same ∙ at))
+    TakesAs-as (λ k. undropped_taking k old.reading u.input newline) (λ k. end_taking k old.reading u.input) c.args.environments.now old c.read_undropped.new.self u
+    c.read_undropped.new.unread c.read_undropped.result (λ k. end_taking-newline k old.reading u.input (λ at. c.in_default.not-LineStart (same ∙ at)) (λ at. c.in_default.not-Dropped (same ∙ at))
     (λ at. c.in_default.not-Exiting (same ∙ at)) (λ at. c.in_default.not-Braced (same ∙ at))
     (λ breaks at. c.in_default.not-Control breaks (same ∙ at))
     (λ appends at. c.in_default.not-StringName appends (same ∙ at))
     (λ name appends is_front at. c.in_default.not-StringText name appends is_front (same ∙ at))
     (λ opened closed behind at. c.in_default.not-Skipping opened closed behind (same ∙ at))
-    (λ name appends end matched at. c.in_default.not-Defining name appends end matched (same ∙ at))) c.read_kept.ensures
+    (λ name appends end matched at. c.in_default.not-Defining name appends end matched (same ∙ at))) c.read_undropped.ensures

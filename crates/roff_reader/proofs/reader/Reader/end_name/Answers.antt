@@ -1,6 +1,6 @@
 use Rattle.std.proofs.Common.{◌≡◌, true, false, rules, refl, ap, None, Ok}
 use Rattle.roff_run.specs.Registers.{Known}
-use Rattle.roff_run.specs.Reading.{kept_taking}
+use Rattle.roff_run.specs.Reading.{undropped_taking}
 use Rattle.roff_run.specs.Reading.ControlLines.{behind_called, ends_name, name_ended_taking}
 use Rattle.roff_run.specs.Reading.Items.{Taking}
 use Rattle.roff_run.specs.declared.line_state.LineState.TheVariants.{Name}
@@ -16,7 +16,7 @@ returns-then-ends_name c =
     let done = c.read_behind_name in
     let name : ShortName = record { first = c.args.first; second = None } in
     let ends : ends_name b ≡ true = search rules in
-    TakesAs-as (λ k. name_ended_taking k i c.args.breaks name b) (λ k. kept_taking k (Name c.args.breaks c.args.first) i b) c.args.environments.now c.args.self.now done.new.self
+    TakesAs-as (λ k. name_ended_taking k i c.args.breaks name b) (λ k. undropped_taking k (Name c.args.breaks c.args.first) i b) c.args.environments.now c.args.self.now done.new.self
     c.args.unread.now done.new.unread done.result (λ k. rw ends refl) done.ensures
 
 pub returns : goal.returns
@@ -28,6 +28,6 @@ returns c =
     let begun = c.begin_called in
     let behind : Known → Taking = λ k. behind_called u.input breaks c.called_by.result in
     let goes_on : ends_name c.args.byte ≡ false = search rules in
-    TakesAs-as behind (λ k. kept_taking k (Name breaks c.args.first) u.input c.args.byte) es old begun.new.self u begun.new.unread (Ok c.nothing.result)
+    TakesAs-as behind (λ k. undropped_taking k (Name breaks c.args.first) u.input c.args.byte) es old begun.new.self u begun.new.unread (Ok c.nothing.result)
     (λ k. rw goes_on (ap (behind_called u.input breaks) c.called_by.ensures))
     (TakesAs-nothing behind es old begun.new.self u begun.new.unread c.nothing.result c.nothing.ensures.message c.nothing.ensures.events (begun.ensures es))

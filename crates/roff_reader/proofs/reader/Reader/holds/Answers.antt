@@ -1,6 +1,6 @@
 use Rattle.std.proofs.Common.{◌≡◌, ◌==◌, false, refl, rules}
 use Rattle.roff_escape.specs.declared.open_escape.CopyUnit.TheVariants.{Byte}
-use Rattle.roff_run.specs.Reading.{kept_taking}
+use Rattle.roff_run.specs.Reading.{undropped_taking}
 use Rattle.roff_run.specs.Reading.Units.{holding}
 use Rattle.roff_run.specs.declared.line_state.LineState.{LineState}
 use Rattle.roff_run.specs.declared.line_state.LineState.TheVariants.{Arguments as InArguments}
@@ -14,7 +14,7 @@ returns-in-Ok c =
     let place : LineState = InArguments c.args.breaks c.args.request in
     let no_newline : (b == 10) ≡ false = search rules in
     let no_escape : (b == 92) ≡ false = search rules in
-    at_once-changed (λ k. kept_taking k place u.input b) (holding (Byte b) u.input) place c.args.self.now c.go_on.new.self u c.hold.new.self _
+    at_once-changed (λ k. undropped_taking k place u.input b) (holding (Byte b) u.input) place c.args.self.now c.go_on.new.self u c.hold.new.self _
     (λ k. holds-byte k c.args.breaks c.args.request u.input b c.requires no_escape no_newline) c.in-Ok.ensures.change c.go_on.ensures
 
 pub returns-in-Err : goal.returns-in-Err

@@ -1,6 +1,6 @@
 use Rattle.std.proofs.Common.{◌≡◌, Ok, true, false, rules}
 use Rattle.roff_source.specs.Bytes.{is_dropped}
-use Rattle.roff_run.specs.Reading.{interrupted, kept_taking, taking}
+use Rattle.roff_run.specs.Reading.{interrupted, undropped_taking, taking}
 use Rattle.roff_run.specs.Reading.Items.{going_on}
 use Rattle.roff_reader.proofs.TakesAs.{TakesAs-as, TakesAs-interrupted, taking-of}
 use Rattle.roff_reader.proofs.reader.Reader.read.Goals as goal
@@ -22,5 +22,5 @@ returns c =
     let u = c.args.unread.now in
     let b = c.args.byte in
     let is : false ≡ is_dropped b = search rules in
-    TakesAs-as (λ k. kept_taking k old.reading u.input b) (λ k. taking k old.reading u.input b) c.args.environments.now old c.read_kept.new.self u c.read_kept.new.unread c.read_kept.result
-    (λ k. taking-of k old.reading u.input b false is) c.read_kept.ensures
+    TakesAs-as (λ k. undropped_taking k old.reading u.input b) (λ k. taking k old.reading u.input b) c.args.environments.now old c.read_undropped.new.self u c.read_undropped.new.unread c.read_undropped.result
+    (λ k. taking-of k old.reading u.input b false is) c.read_undropped.ensures

@@ -1,6 +1,6 @@
 use Rattle.std.proofs.Common.{◌≡◌, Bool, true, rules, refl, subst}
 use Rattle.roff_escape.specs.OpenEscapes.{byte_read}
-use Rattle.roff_ahead.specs.Input.Calls.{kept_last, without_last}
+use Rattle.roff_ahead.specs.Input.Calls.{last_result, without_last}
 use Rattle.roff_escape.specs.declared.open_escape.Surroundings.TheVariants.{Arguments as AboveArguments, Copy as AboveCopy}
 use Rattle.roff_escape.proofs.TextsHeld.{texts_held-byte_read}
 use Rattle.roff_reader.specs.Reader.Taken.{TakesAs}
@@ -111,8 +111,8 @@ returns-in-ByElse c =
     let request = c.args.request in
     let done = c.begin_branch in
     let line : (row_of request).line ≡ ByElse = search rules in
-    let so : c.eq-so.result ≡ reads_else (kept_last u.input) = search rules in
+    let so : c.eq-so.result ≡ reads_else (last_result u.input) = search rules in
     let At : PageUnread → Bool → Type 0 = λ v so. TakesAs (λ k. branch_taking k v.input so b) es old done.new.self v done.new.unread done.result in
     TakesAs-line ByElse breaks request b es old done.new.self u done.new.unread done.result line
     (TakesAs-less (without_last u.input) (λ k. line_taking k u.input breaks request ByElse b) es old done.new.self u done.new.unread done.result
-    (NoMore-without_last u.input) refl refl (subst (λ (v : PageUnread). At v (reads_else (kept_last u.input))) c.take_kept.ensures.change (subst (λ (so : Bool). At c.take_kept.new.self so) so done.ensures)))
+    (NoMore-without_last u.input) refl refl (subst (λ (v : PageUnread). At v (reads_else (last_result u.input))) c.take_result.ensures.change (subst (λ (so : Bool). At c.take_result.new.self so) so done.ensures)))

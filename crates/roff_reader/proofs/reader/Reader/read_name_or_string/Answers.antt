@@ -1,7 +1,7 @@
 use Rattle.std.proofs.Common.{◌≡◌, true, Some, None, Ok, Err, rules, sym, ap}
 use Rattle.roff_run.specs.Reading.Strings.{name_read, string_begun, string_name_behind, string_name_or_text, string_unit}
 use Rattle.roff_run.specs.Reading.Units.{holding}
-use Rattle.roff_reader.proofs.Strings.{InputBecame-changing, TakesAs-elsewhere}
+use Rattle.roff_reader.proofs.Strings.{InputCameTo-changing, TakesAs-elsewhere}
 use Rattle.roff_reader.proofs.StringRefusals.{TakesAs-not_begun, TakesAs-not_held}
 use Rattle.roff_reader.proofs.TakesAs.{TakesAs-as}
 use Rattle.roff_reader.proofs.reader.Reader.read_name_or_string.Goals as goal
@@ -31,7 +31,7 @@ returns-in_err-hold-in-None c = λ es.
     (λ k. string_name_or_text u.input c.args.appends unit (name_read u.input)) es c.args.self.now c.args.self.now u
     c.hold.new.self (Err c.in_err-hold-in-None.field-0.0) (λ k. ap (string_name_or_text u.input c.args.appends unit) (sym none))
     (TakesAs-not_held c.args.appends unit es c.args.self.now c.args.self.now u c.hold.new.self c.in_err-hold-in-None.field-0.0 c.requires.apart none
-    (InputBecame-changing (holding unit u.input) u c.hold.new.self (Err c.in_err-hold-in-None.field-0.0) c.in_err-hold-in-None.ensures.change)))
+    (InputCameTo-changing (holding unit u.input) u c.hold.new.self (Err c.in_err-hold-in-None.field-0.0) c.in_err-hold-in-None.ensures.change)))
 
 pub returns-in_ok-begin_string-in-Some : goal.returns-in_ok-begin_string-in-Some
 returns-in_ok-begin_string-in-Some c = λ es.
@@ -51,7 +51,7 @@ returns-in_ok-hold-in-None c = λ es.
     let u = c.args.unread.now in
     let unit = c.args.unit in
     let done = c.begin_text_if_named in
-    let held = InputBecame-changing (holding unit u.input) u c.hold.new.self (Ok c.in_ok-hold-in-None.field-0) c.in_ok-hold-in-None.ensures.change in
+    let held = InputCameTo-changing (holding unit u.input) u c.hold.new.self (Ok c.in_ok-hold-in-None.field-0) c.in_ok-hold-in-None.ensures.change in
     let none : name_read u.input ≡ None = search rules in
     TakesAs-as (λ k. string_name_behind (holding unit u.input) c.args.appends (name_read (holding unit u.input)))
     (λ k. string_name_or_text u.input c.args.appends unit (name_read u.input)) es c.args.self.now done.new.self u done.new.unread done.result

@@ -1,5 +1,5 @@
 use Rattle.std.proofs.Common.{◌≡◌, [], rules, true}
-use Rattle.roff_run.specs.Reading.{kept_taking}
+use Rattle.roff_run.specs.Reading.{undropped_taking}
 use Rattle.roff_run.specs.declared.line_state.LineState.{LineState}
 use Rattle.roff_run.specs.declared.line_state.LineState.TheVariants.{Arguments as InArguments, Calling, Control, Dropped, LineStart, Name, Skipping}
 use Rattle.roff_reader.proofs.ReadAtOnce.{at_once-meant, at_once-where}
@@ -19,7 +19,7 @@ returns-in-Control c =
     let place : LineState = Control c.in-Control.breaks in
     let is : old.reading ≡ place = search rules in
     at_once-where c.args.byte place old c.go_on.new.self u u true is
-    (at_once-meant (λ k. kept_taking k place u.input c.args.byte) c.behind_control.result [] old c.go_on.new.self u
+    (at_once-meant (λ k. undropped_taking k place u.input c.args.byte) c.behind_control.result [] old c.go_on.new.self u
     (λ k. c.behind_control.ensures k u.input) c.go_on.ensures)
 
 pub returns-in-Name : goal.returns-in-Name
@@ -50,7 +50,7 @@ returns-in-Dropped c =
     let done = c.go_on-in-Dropped in
     let is : old.reading ≡ Dropped = search rules in
     at_once-where c.args.byte Dropped old done.new.self u u true is
-    (at_once-meant (λ k. kept_taking k Dropped u.input c.args.byte) c.behind_dropped.result [] old done.new.self u
+    (at_once-meant (λ k. undropped_taking k Dropped u.input c.args.byte) c.behind_dropped.result [] old done.new.self u
     (λ k. c.behind_dropped.ensures u.input) done.ensures)
 
 pub returns-in-Skipping : goal.returns-in-Skipping
@@ -61,5 +61,5 @@ returns-in-Skipping c =
     let place : LineState = Skipping c.in-Skipping.opened c.in-Skipping.closed c.in-Skipping.behind in
     let is : old.reading ≡ place = search rules in
     at_once-where c.args.byte place old done.new.self u u true is
-    (at_once-meant (λ k. kept_taking k place u.input c.args.byte) c.behind_skipped.result [] old done.new.self u
+    (at_once-meant (λ k. undropped_taking k place u.input c.args.byte) c.behind_skipped.result [] old done.new.self u
     (λ k. c.behind_skipped.ensures u.input) done.ensures)

@@ -3,7 +3,7 @@ use Rattle.std.specs.Prelude.{is_some}
 use Rattle.roff_escape.specs.OpenEscape.{unit_bytes}
 use Rattle.roff_ahead.specs.Input.Names.{adding}
 use Rattle.roff_scan.specs.Unread.{changing}
-use Rattle.roff_reader.proofs.BegunDefinitions.{InputBecame-defined}
+use Rattle.roff_reader.proofs.BegunDefinitions.{InputCameTo-defined}
 use Rattle.roff_reader.proofs.reader.definitions.grow_definition.Goals.{in-Byte, in-Kept}
 use Rattle.roff_reader.proofs.reader.definitions.grow_definition.Goals as goal
 
@@ -13,5 +13,5 @@ returns c =
     let bytes : List ℕ = c.args.front.now ++ unit_bytes c.args.unit in
     let named : is_some c.args.name ≡ true = search rules in
     let text : c.deref.result.now ≡ bytes = elim c.match-unit.branch [ in-Byte w ↦ search rules | in-Kept w ↦ search rules ] in
-    InputBecame-defined c.args.name bytes u c.add.new.self c.add.result named
+    InputCameTo-defined c.args.name bytes u c.add.new.self c.add.result named
     (subst (λ (bytes : List ℕ). (c.add.result, c.add.new.self) ≡ changing (adding bytes u.input) u) text c.add.ensures.change)

@@ -44,7 +44,7 @@ returns-then-not-call g c =
     let long : kept.limits.stack - c.pushed.result < length (called_text body) = c.call.ensures.long c.if-not-call.true in
     record {
       change =
-          rw (← c.self.view_is, c.call.ensures.kept c.if-not-call.true)
+          rw (← c.self.view_is, c.call.ensures.unchanged c.if-not-call.true)
           (sym (call_past_stack kept body c.self.invariant.within c.self.invariant.begun c.pushed.result counted long));
     }
 
@@ -61,7 +61,7 @@ push-requires-clause-calls g c =
     let kept = kept_by c.self.inside in
     let shallow : depth kept.input < kept.limits.depth =
     rw (← c.self.view_is) at (c.is_deep.ensures.shallow c.if-is_deep.false) in
-    omega (arith, shallow, returns-few c.self.inside.frames.ahead, c.self.invariant.calls, c.self.invariant.most_calls)
+    omega (arith, shallow, returns-few c.self.inside.input_ahead.ahead, c.self.invariant.calls, c.self.invariant.most_calls)
 
 pub invariant_of-self-2 : goal.invariant_of-self-2
 invariant_of-self-2 g c =

@@ -17,8 +17,8 @@ invariant_of-self g c =
       small = c.self.invariant.small;
       store = rw c.clear.ensures c.self.invariant.store;
       once = rw c.clear.ensures c.self.invariant.once;
-      results = rw c.drop_kept.ensures.capacity c.self.invariant.results;
+      results = rw c.drop_results.ensures.capacity c.self.invariant.results;
       within =
-          rw (c.clear.ensures, c.clear-2.ensures, c.drop_kept.ensures.results)
+          rw (c.clear.ensures, c.clear-2.ensures, c.drop_results.ensures.results)
           (IsWithin-leaving (kept_by c.self.inside) c.self.invariant.within);
     }

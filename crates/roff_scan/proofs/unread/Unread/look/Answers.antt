@@ -10,10 +10,10 @@ returns-in-Some-clause-looks g c =
     looks_ahead (g.S.ByteSource.gives c.args.source.now) _ _ c.self.view_is _ (sym c.in-Some.ensures)
 
 pub returns-in-Some-clause-note : goal.returns-in-Some-clause-note
-returns-in-Some-clause-note g c = λ m note. absurd (no_note_ahead c.self.inside.frames.ahead m (sym c.in-Some.ensures ∙ ap (λ s. Some s) note))
+returns-in-Some-clause-note g c = λ m note. absurd (no_note_ahead c.self.inside.input_ahead.ahead m (sym c.in-Some.ensures ∙ ap (λ s. Some s) note))
 
 pub returns-in-Some-clause-fault : goal.returns-in-Some-clause-fault
-returns-in-Some-clause-fault g c = λ fault. absurd (no_ending_ahead c.self.inside.frames.ahead Failed (sym c.in-Some.ensures ∙ ap (λ s. Some s) fault))
+returns-in-Some-clause-fault g c = λ fault. absurd (no_ending_ahead c.self.inside.input_ahead.ahead Failed (sym c.in-Some.ensures ∙ ap (λ s. Some s) fault))
 
 pub returns-in-Some-looked-clause-looks : goal.returns-in-Some-looked-clause-looks
 returns-in-Some-looked-clause-looks g c =

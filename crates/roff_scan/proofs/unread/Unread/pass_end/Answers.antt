@@ -1,5 +1,5 @@
 use Rattle.std.proofs.Common.{◌≡◌, ◌+◌, ◌∷◌, ◌<◌, subst, ap, arith}
-use Rattle.roff_ahead.specs.Frames.Kept.{Framed}
+use Rattle.roff_ahead.specs.InputAhead.Kept.{AheadAndTexts}
 use Rattle.roff_ahead.specs.Input.{EndAhead}
 use Rattle.roff_scan.specs.Unread.Calls.{PassesEnd}
 use Rattle.roff_scan.specs.Unread.Kept.{kept_by}
@@ -10,10 +10,10 @@ pub returns-clause-passes : goal.returns-clause-passes
 returns-clause-passes g c = λ did.
     let kept = kept_by c.self.inside in
     let new = c.pass_end.new.self in
-    let taken : c.self.inside.frames ≡ record new { ahead = EndAhead ∷ new.ahead } = c.pass_end.ensures.taken c.if-not-pass_end.false in
-    let front : kept.input.ahead ≡ EndAhead ∷ new.ahead = ap (λ (f : Framed _). f.ahead) taken in
+    let taken : c.self.inside.input_ahead ≡ record new { ahead = EndAhead ∷ new.ahead } = c.pass_end.ensures.taken c.if-not-pass_end.false in
+    let front : kept.input.ahead ≡ EndAhead ∷ new.ahead = ap (λ (f : AheadAndTexts _). f.ahead) taken in
     let room : kept.input.charge < kept.limits.bytes = omega (arith, c.self.invariant.within.charge) in
-    subst (λ (f : Framed _). PassesEnd c.args.self.now (record kept {
+    subst (λ (f : AheadAndTexts _). PassesEnd c.args.self.now (record kept {
       input = record kept.input {
         ahead = new.ahead;
         charge = kept.input.charge + 1;

@@ -59,7 +59,7 @@ invariant_of-self g c =
       most_calls = c.self.invariant.most_calls;
       calls =
           rw (c.push.ensures, same)
-          (returns_ahead-bytes text (EndAhead ∷ c.self.inside.frames.ahead) ∙ c.self.invariant.calls);
+          (returns_ahead-bytes text (EndAhead ∷ c.self.inside.input_ahead.ahead) ∙ c.self.invariant.calls);
       held = c.self.invariant.held;
       small = c.self.invariant.small;
       store = rw c.push.ensures c.self.invariant.store;

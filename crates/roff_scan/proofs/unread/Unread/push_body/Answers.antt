@@ -37,7 +37,7 @@ returns-then-not-push_body g c =
     let long : kept.limits.stack - c.pushed.result < length body = c.push_body.ensures.long c.if-not-push_body.true in
     record {
       change =
-          rw (← c.self.view_is, c.push_body.ensures.kept c.if-not-push_body.true)
+          rw (← c.self.view_is, c.push_body.ensures.unchanged c.if-not-push_body.true)
           (sym (push_past_stack kept body c.self.invariant.within c.pushed.result counted long));
     }
 
@@ -56,7 +56,7 @@ invariant_of-self-2 g c =
       begun = c.self.invariant.begun;
       call_bytes = c.self.invariant.call_bytes;
       most_calls = c.self.invariant.most_calls;
-      calls = rw put (returns_ahead-bytes body (EndAhead ∷ c.self.inside.frames.ahead) ∙ c.self.invariant.calls);
+      calls = rw put (returns_ahead-bytes body (EndAhead ∷ c.self.inside.input_ahead.ahead) ∙ c.self.invariant.calls);
       held = c.self.invariant.held;
       small = c.self.invariant.small;
       store = rw put c.self.invariant.store;

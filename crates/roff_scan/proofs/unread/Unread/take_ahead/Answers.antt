@@ -1,5 +1,5 @@
 use Rattle.std.proofs.Common.{◌≡◌, ◌∷◌, sym, subst, ap, ◌∙◌, arith}
-use Rattle.roff_ahead.specs.Frames.Kept.{Framed}
+use Rattle.roff_ahead.specs.InputAhead.Kept.{AheadAndTexts}
 use Rattle.roff_ahead.specs.Input.{Ahead, ReturnAhead, front_cost, item_taken}
 use Rattle.roff_scan.specs.Unread.{IsWithin, texts_within}
 use Rattle.roff_scan.specs.Unread.Kept.{kept_by}
@@ -12,30 +12,30 @@ invariant_of-self g c =
     let kept = kept_by c.self.inside in
     let new = c.take.new.self in
     let over = shows_return c.in-Return.ensures.front c.in-Return.ensures.shows in
-    let taken : c.self.inside.frames ≡ record new { ahead = ReturnAhead ∷ new.ahead } =
+    let taken : c.self.inside.input_ahead ≡ record new { ahead = ReturnAhead ∷ new.ahead } =
     c.in-Return.ensures.taken ∙ ap (λ (item : Ahead _). record new { ahead = item ∷ new.ahead }) over in
-    let first : c.self.inside.frames.ahead ≡ ReturnAhead ∷ new.ahead = ap (λ (f : Framed _). f.ahead) taken in
+    let first : c.self.inside.input_ahead.ahead ≡ ReturnAhead ∷ new.ahead = ap (λ (f : AheadAndTexts _). f.ahead) taken in
     let one : c.cost-cost.result ≡ 1 = c.cost-cost.ensures ∙ ap front_cost first in
     record {
-      bytes = ap (λ (f : Framed _). f.most_bytes) (sym taken) ∙ c.self.invariant.bytes;
-      texts = ap (λ (f : Framed _). f.most_texts) (sym taken) ∙ c.self.invariant.texts;
+      bytes = ap (λ (f : AheadAndTexts _). f.most_bytes) (sym taken) ∙ c.self.invariant.bytes;
+      texts = ap (λ (f : AheadAndTexts _). f.most_texts) (sym taken) ∙ c.self.invariant.texts;
       store =
-          subst (λ (f : Framed _). f.texts
+          subst (λ (f : AheadAndTexts _). f.texts
           ≡ texts_within kept.limits (record kept.input { names = f.texts.names.entries; open_texts = f.texts.open_texts })) taken c.self.invariant.store;
-      once = subst (λ (f : Framed _). EachOnce f.texts.names.entries) taken c.self.invariant.once;
+      once = subst (λ (f : AheadAndTexts _). EachOnce f.texts.names.entries) taken c.self.invariant.once;
       arguments = c.self.invariant.arguments;
       begun = c.self.invariant.begun;
       call_bytes = rw c.end_call.ensures.calls c.self.invariant.call_bytes;
       most_calls = rw c.end_call.ensures.calls c.self.invariant.most_calls;
       calls =
           rw c.end_call.ensures.calls
-          (returns-over c.self.inside.frames.ahead new.ahead c.self.inside.calls.calls first c.self.invariant.calls);
+          (returns-over c.self.inside.input_ahead.ahead new.ahead c.self.inside.calls.calls first c.self.invariant.calls);
       held = c.self.invariant.held;
       small = c.self.invariant.small;
       results = rw c.end_call.ensures.capacity c.self.invariant.results;
       within =
           rw (c.end_call.ensures.calls, c.end_call.ensures.results, one)
-          (subst (λ (f : Framed _). IsWithin (record kept {
+          (subst (λ (f : AheadAndTexts _). IsWithin (record kept {
             input = record (item_taken ReturnAhead new.ahead kept.input) {
               names = f.texts.names.entries;
               open_texts = f.texts.open_texts;

@@ -13,7 +13,7 @@ returns-else-not-waits_for-clause-takes g c =
     let gave = g.S.ByteSource.gives c.args.source.now in
     let gives = g.S.ByteSource.gives c.pass.new.self in
     let none : c.self.inside.looked ≡ None = search rules in
-    let none_ahead : is_none_ahead c.self.inside.frames.ahead ≡ true = rw (← c.self.view_is) at c.requires.none_ahead in
+    let none_ahead : is_none_ahead c.self.inside.input_ahead.ahead ≡ true = rw (← c.self.view_is) at c.requires.none_ahead in
     let room : nat_lt now.limits.bytes (now.input.charge + 1) ≡ false = le-ltb now.limits.bytes (now.input.charge + 1) (omega (arith, c.requires.room)) in
     let took : Took gave gives (map OneByte (take 1 bytes)) = subst (λ (ready : List ℕ). Took gave gives (map OneByte (take 1 ready))) (sym c.buffered.ensures) c.pass.ensures.gives in
     takes_asked gave _ _ _ c.self.view_is _ gives (Gives (OneByte (get_or bytes 0 0))) none_ahead none

@@ -1,0 +1,12 @@
+use Rattle.std.proofs.Common.{◌≡◌, length}
+use Rattle.roff_ahead.proofs.input_ahead.InputAhead.clear.Given as goal
+
+abbrev pub invariant-loop-self : goal.invariant-loop-self
+invariant-loop-self g l = record {
+  texts : l.self.texts ≡ l.initial.self.texts;
+  most_bytes : l.self.most_bytes ≡ l.initial.self.most_bytes;
+  most_texts : l.self.most_texts ≡ l.initial.self.most_texts;
+}
+
+abbrev pub decreases-loop-self : goal.decreases-loop-self
+decreases-loop-self g l = length l.self.ahead

@@ -1,0 +1,79 @@
+use Rattle.std.proofs.Common.{◌≡◌, ◌∙◌, [], Ok, ap, refl, rules}
+use Rattle.roff_reader.specs.Reader.State.{ReaderState}
+use Rattle.roff_run.specs.Reading.{undropped_taking}
+use Rattle.roff_run.specs.declared.line_state.LineState.TheVariants.{Control, Dropped, Name, Skipping, Told, Exiting}
+use Rattle.roff_reader.proofs.Placed.{placed}
+use Rattle.roff_reader.proofs.TakesAs.{TakesAs-meant, TakesAs-where}
+use Rattle.roff_reader.proofs.reader.Reader.read_undropped.Goals as goal
+
+pub read_placed-requires : goal.read_placed-requires
+read_placed-requires c =
+    let same = ap (λ (s : ReaderState). s.reading) c.self.view_is in
+    placed c.args.self.now.reading (λ breaks is. c.in_default.not-Control breaks (same ∙ is)) (λ breaks first is. c.in_default.not-Name breaks first (same ∙ is))
+    (λ opened closed behind is. c.in_default.not-Skipping opened closed behind (same ∙ is)) (λ is. c.in_default.not-Dropped (same ∙ is))
+    (λ aborts is. c.in_default.not-Told aborts (same ∙ is)) (λ is. c.in_default.not-Exiting (same ∙ is))
+
+pub returns-in-Control : goal.returns-in-Control
+returns-in-Control c =
+    let es = c.args.environments.now in
+    let old = c.args.self.now in
+    let u = c.args.unread.now in
+    let place = Control c.in-Control.breaks in
+    let is : old.reading ≡ place = search rules in
+    TakesAs-where (λ k r. undropped_taking k r u.input c.args.byte) place es old c.read_on.new.self u u (Ok c.read_on.result) is
+    (TakesAs-meant (λ k. undropped_taking k place u.input c.args.byte) c.behind_control.result [] es old c.read_on.new.self u c.read_on.result
+    (λ k. c.behind_control.ensures k u.input) c.read_on.ensures.reading c.read_on.ensures.message c.read_on.ensures.events)
+
+pub returns-in-Name : goal.returns-in-Name
+returns-in-Name c =
+    let u = c.args.unread.now in
+    let place = Name c.in-Name.breaks c.in-Name.first in
+    let is : c.args.self.now.reading ≡ place = search rules in
+    TakesAs-where (λ k r. undropped_taking k r u.input c.args.byte) place c.args.environments.now c.args.self.now c.end_name.new.self u c.end_name.new.unread c.end_name.result is
+    c.end_name.ensures
+
+pub returns-in-Skipping : goal.returns-in-Skipping
+returns-in-Skipping c =
+    let es = c.args.environments.now in
+    let old = c.args.self.now in
+    let u = c.args.unread.now in
+    let place = Skipping c.in-Skipping.opened c.in-Skipping.closed c.in-Skipping.behind in
+    let is : old.reading ≡ place = search rules in
+    let done = c.read_on-in-Skipping in
+    TakesAs-where (λ k r. undropped_taking k r u.input c.args.byte) place es old done.new.self u u (Ok done.result) is
+    (TakesAs-meant (λ k. undropped_taking k place u.input c.args.byte) c.behind_skipped.result [] es old done.new.self u done.result
+    (λ k. c.behind_skipped.ensures u.input) done.ensures.reading done.ensures.message done.ensures.events)
+
+pub returns-in-Dropped : goal.returns-in-Dropped
+returns-in-Dropped c =
+    let es = c.args.environments.now in
+    let old = c.args.self.now in
+    let u = c.args.unread.now in
+    let is : old.reading ≡ Dropped = search rules in
+    let done = c.read_on-in-Dropped in
+    TakesAs-where (λ k r. undropped_taking k r u.input c.args.byte) Dropped es old done.new.self u u (Ok done.result) is
+    (TakesAs-meant (λ k. undropped_taking k Dropped u.input c.args.byte) c.behind_dropped.result [] es old done.new.self u done.result
+    (λ k. c.behind_dropped.ensures u.input) done.ensures.reading done.ensures.message done.ensures.events)
+
+pub returns-in-Told : goal.returns-in-Told
+returns-in-Told c =
+    let es = c.args.environments.now in
+    let old = c.args.self.now in
+    let u = c.args.unread.now in
+    let place = Told c.in-Told.aborts in
+    let is : old.reading ≡ place = search rules in
+    let done = c.read_on-in-Told in
+    TakesAs-where (λ k r. undropped_taking k r u.input c.args.byte) place es old done.new.self u u (Ok done.result) is
+    (TakesAs-meant (λ k. undropped_taking k place u.input c.args.byte) place [] es old done.new.self u done.result
+    (λ k. refl) done.ensures.reading done.ensures.message done.ensures.events)
+
+pub returns-in-Exiting : goal.returns-in-Exiting
+returns-in-Exiting c =
+    let es = c.args.environments.now in
+    let old = c.args.self.now in
+    let u = c.args.unread.now in
+    let is : old.reading ≡ Exiting = search rules in
+    let done = c.read_on-in-Exiting in
+    TakesAs-where (λ k r. undropped_taking k r u.input c.args.byte) Exiting es old done.new.self u u (Ok done.result) is
+    (TakesAs-meant (λ k. undropped_taking k Exiting u.input c.args.byte) Exiting [] es old done.new.self u done.result
+    (λ k. refl) done.ensures.reading done.ensures.message done.ensures.events)
