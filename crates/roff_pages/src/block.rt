@@ -2,7 +2,7 @@
 
 ghost use Rattle.std.specs.Prelude.{◌≡◌, ◌≤◌, [], ◌∷◌, ◌++◌, length, replicate, vec_capacity, OnOk};
 ghost use Rattle.std.specs.Prelude.{OnErr};
-ghost use Rattle.roff_lines.specs.Columns.{finished_of, line_bytes};
+ghost use Rattle.roff_lines.specs.Columns.{device_line, finished_of, line_bytes, printed};
 ghost use Rattle.roff_lines.specs.LineBytes.Fronts.{Moves};
 ghost use Rattle.roff_pages.specs.Sinks.{Fails, HoldsBack, Puts};
 
@@ -44,30 +44,49 @@ impl Block {
         ensures { Puts (O.sunk out.old) (O.sunk out.new)
             (line_bytes (finished_of line.entry)) result }
     {
-        if line.after < BLOCK as u64 {
-            return self.put_pieces(line, out);
+        self.put_line_behind(line, 0, line.after, out)
+    }
+
+    /// Writes a line behind so many columns more, such as the page offset, and then so many blank
+    /// lines in place of its own.
+    ///
+    /// # Errors
+    ///
+    /// [`SinkFault`] if the sink failed; a beginning of the bytes was written.
+    #[inline(always)]
+    pub fn put_line_behind<O: ByteSink>(
+        &mut self,
+        line: Line<'_>,
+        columns: u64,
+        after: u64,
+        out: &mut O,
+    ) -> Result<(), SinkFault>
+        ensures { Puts (O.sunk out.old) (O.sunk out.new)
+            (device_line columns (printed (finished_of line.entry)) ++ replicate after 10) result }
+    {
+        if after < BLOCK as u64 {
+            return self.put_pieces(line, columns, after, out);
         }
-        let alone = Line {
-            text: line.text,
-            lead: line.lead,
-            spare: line.spare,
-            gaps: line.gaps,
-            after: 0,
-        };
-        match self.put_pieces(alone, out) {
-            Ok(()) => self.put_newlines(line.after, out),
+        match self.put_pieces(line, columns, 0, out) {
+            Ok(()) => self.put_newlines(after, out),
             Err(fault) => Err(fault),
         }
     }
 
     /// Writes a line piece by piece, its blank lines a byte at a time.
     #[inline(never)]
-    fn put_pieces<O: ByteSink>(&mut self, line: Line<'_>, out: &mut O) -> Result<(), SinkFault>
+    fn put_pieces<O: ByteSink>(
+        &mut self,
+        line: Line<'_>,
+        columns: u64,
+        after: u64,
+        out: &mut O,
+    ) -> Result<(), SinkFault>
         ensures { Puts (O.sunk out.old) (O.sunk out.new)
-            (line_bytes (finished_of line.entry)) result }
+            (device_line columns (printed (finished_of line.entry)) ++ replicate after 10) result }
     {
         let bytes = &mut self.bytes;
-        let mut to_come = LineBytes::of(line);
+        let mut to_come = LineBytes::behind_columns(line, columns, after);
         to_come.add_text(bytes, BLOCK);
         loop {
             add_pieces(bytes, &mut to_come);
