@@ -1,4 +1,4 @@
-use Rattle.std.proofs.Common.{◌≡◌, ◌≤◌, ◌+◌, ◌-◌, ◌++◌, length, vec_capacity}
+use Rattle.std.proofs.Common.{◌≤◌, ◌-◌, ◌++◌, length, vec_capacity}
 use Rattle.roff_lines.specs.Columns.{spaces}
 use Rattle.roff_pages.specs.Sinks.{HoldsBack}
 use Rattle.roff_pages.proofs.block.push_blanks.Given as goal
