@@ -26,15 +26,21 @@ Writes-append front back first second = record {
   failures = omega (arith, first.failures, second.failures);
 }
 
--- one byte more of a piece
+-- more of a piece
+pub HoldsBack-more : {old mid new : Sunk} {piece held held_then : List ℕ} (more : List ℕ)
+    → HoldsBack old mid piece held → HoldsBack mid new (held ++ more) held_then
+    → HoldsBack old new (piece ++ more) held_then
+HoldsBack-more more all next = record {
+  front = all.front ++ next.front;
+  split = rw (all.split, append_assoc all.front _ more, next.split, append_assoc) refl;
+  writes = Writes-append all.front next.front all.writes next.writes;
+}
+
+-- one byte more of it
 pub HoldsBack-push : {old mid new : Sunk} {piece held held_then : List ℕ} (b : ℕ)
     → HoldsBack old mid piece held → HoldsBack mid new (held ++ b ∷ []) held_then
     → HoldsBack old new (piece ++ b ∷ []) held_then
-HoldsBack-push b all more = record {
-  front = all.front ++ more.front;
-  split = rw (all.split, append_assoc all.front _ (b ∷ []), more.split, append_assoc) refl;
-  writes = Writes-append all.front more.front all.writes more.writes;
-}
+HoldsBack-push b all more = HoldsBack-more (b ∷ []) all more
 
 -- a beginning of what was held back is one of the piece and of what follows it
 pub Fails-held : {old mid new : Sunk} {piece held : List ℕ} (rest : List ℕ)

@@ -1,1 +1,4 @@
 pub mod Sinks
+pub mod Titles
+pub mod TitleParts
+pub mod TitleLeft

@@ -1,12 +1,18 @@
 //! The block through which lines are written.
 
 ghost use Rattle.std.specs.Prelude.{◌≡◌, ◌≤◌, [], ◌∷◌, ◌++◌, length, replicate, vec_capacity, OnOk};
-ghost use Rattle.std.specs.Prelude.{OnErr};
-ghost use Rattle.roff_lines.specs.Columns.{finished_of, line_bytes};
+ghost use Rattle.std.specs.Prelude.{OnErr, ◌+◌, ◌<◌, ◌^◌};
+ghost use Rattle.roff_lines.specs.Columns.{device_line, finished_of, line_bytes, printed};
+ghost use Rattle.roff_lines.specs.Columns.{spaces};
+ghost use Rattle.roff_lines.specs.Glyphs.{text_width};
 ghost use Rattle.roff_lines.specs.LineBytes.Fronts.{Moves};
 ghost use Rattle.roff_pages.specs.Sinks.{Fails, HoldsBack, Puts};
+ghost use Rattle.roff_pages.specs.TitleLeft.{title_of};
+ghost use Rattle.roff_pages.specs.TitleParts.{HasNoBlank};
+ghost use Rattle.roff_pages.specs.Titles.{part_text, title_text};
 
 use crate::sink::{ByteSink, SinkFault};
+use crate::title::{TitleLine, TitlePieces};
 use roff_lines::{Line, LineBytes};
 use std::alloc::{AllocError, Global};
 
@@ -44,30 +50,49 @@ impl Block {
         ensures { Puts (O.sunk out.old) (O.sunk out.new)
             (line_bytes (finished_of line.entry)) result }
     {
-        if line.after < BLOCK as u64 {
-            return self.put_pieces(line, out);
+        self.put_line_behind(line, 0, line.after, out)
+    }
+
+    /// Writes a line behind so many columns more, such as the page offset, and then so many blank
+    /// lines in place of its own.
+    ///
+    /// # Errors
+    ///
+    /// [`SinkFault`] if the sink failed; a beginning of the bytes was written.
+    #[inline(always)]
+    pub fn put_line_behind<O: ByteSink>(
+        &mut self,
+        line: Line<'_>,
+        columns: u64,
+        after: u64,
+        out: &mut O,
+    ) -> Result<(), SinkFault>
+        ensures { Puts (O.sunk out.old) (O.sunk out.new)
+            (device_line columns (printed (finished_of line.entry)) ++ replicate after 10) result }
+    {
+        if after < BLOCK as u64 {
+            return self.put_pieces(line, columns, after, out);
         }
-        let alone = Line {
-            text: line.text,
-            lead: line.lead,
-            spare: line.spare,
-            gaps: line.gaps,
-            after: 0,
-        };
-        match self.put_pieces(alone, out) {
-            Ok(()) => self.put_newlines(line.after, out),
+        match self.put_pieces(line, columns, 0, out) {
+            Ok(()) => self.put_newlines(after, out),
             Err(fault) => Err(fault),
         }
     }
 
     /// Writes a line piece by piece, its blank lines a byte at a time.
     #[inline(never)]
-    fn put_pieces<O: ByteSink>(&mut self, line: Line<'_>, out: &mut O) -> Result<(), SinkFault>
+    fn put_pieces<O: ByteSink>(
+        &mut self,
+        line: Line<'_>,
+        columns: u64,
+        after: u64,
+        out: &mut O,
+    ) -> Result<(), SinkFault>
         ensures { Puts (O.sunk out.old) (O.sunk out.new)
-            (line_bytes (finished_of line.entry)) result }
+            (device_line columns (printed (finished_of line.entry)) ++ replicate after 10) result }
     {
         let bytes = &mut self.bytes;
-        let mut to_come = LineBytes::of(line);
+        let mut to_come = LineBytes::behind_columns(line, columns, after);
         to_come.add_text(bytes, BLOCK);
         loop {
             add_pieces(bytes, &mut to_come);
@@ -76,6 +101,36 @@ impl Block {
             };
             push(bytes, byte, out)?;
         }
+    }
+
+    /// Writes a title behind so many columns, such as the page offset.
+    ///
+    /// # Errors
+    ///
+    /// [`SinkFault`] if the sink failed; a beginning of the bytes was written.
+    pub fn put_title<O: ByteSink>(
+        &mut self,
+        title: TitleLine<'_>,
+        columns: u64,
+        out: &mut O,
+    ) -> Result<(), SinkFault>
+        requires some { 0 < length title.number.now }
+        requires shown { HasNoBlank title.number.now }
+        requires width { let number = title.number.now in
+            text_width (part_text number title.left.now)
+            + text_width (part_text number title.centre.now)
+            + text_width (part_text number title.right.now) + title.length < 2 ^ 64 }
+        ensures { Puts (O.sunk out.old) (O.sunk out.new)
+            (device_line columns (title_text (title_of title.entry))) result }
+    {
+        let bytes = &mut self.bytes;
+        let mut to_come = TitlePieces::of(title, columns);
+        while let Some(piece) = to_come.next_piece() {
+            push_blanks(bytes, piece.blanks, out)?;
+            push_text(bytes, piece.glyphs, out)?;
+        }
+        push(bytes, b'\n', out)?;
+        put(bytes, out)
     }
 
     /// Writes so many blank lines.
@@ -143,6 +198,53 @@ fn push<O: ByteSink>(bytes: &mut Vec<u8>, byte: u8, out: &mut O) -> Result<(), S
     }
     bytes.push(byte).unwrap();
     Ok(())
+}
+
+/// Adds so many blanks to the bytes of a block; where they fill it they are put.
+fn push_blanks<O: ByteSink>(bytes: &mut Vec<u8>, count: u128, out: &mut O) -> Result<(), SinkFault>
+    requires capacity { 8192 ≤ vec_capacity bytes.old }
+    requires few { length bytes.old.items ≤ 8192 }
+    ensures capacity { vec_capacity bytes.old ≤ vec_capacity bytes.new }
+    ensures ok { OnOk result
+        (HoldsBack (O.sunk out.old) (O.sunk out.new)
+        (bytes.old.items ++ spaces count) bytes.new.items) }
+    ensures err { OnErr result
+        (Fails (O.sunk out.old) (O.sunk out.new) (bytes.old.items ++ spaces count)) }
+    ensures few { OnOk result (length bytes.new.items ≤ 8192) }
+    ensures empty { OnErr result (bytes.new.items ≡ []) }
+{
+    let mut left = count;
+    while left > 0 {
+        if bytes.len() >= BLOCK {
+            put(bytes, out)?;
+        }
+        let more = left.min((BLOCK - bytes.len()) as u128);
+        bytes.resize(bytes.len() + more as usize, b' ').unwrap();
+        left -= more;
+    }
+    Ok(())
+}
+
+/// Adds a text to the bytes of a block; where they have no room for it they are put, and it too
+/// where it is longer than a block.
+fn push_text<O: ByteSink>(bytes: &mut Vec<u8>, text: &[u8], out: &mut O) -> Result<(), SinkFault>
+    requires capacity { 8192 ≤ vec_capacity bytes.old }
+    requires few { length bytes.old.items ≤ 8192 }
+    ensures capacity { vec_capacity bytes.old ≤ vec_capacity bytes.new }
+    ensures ok { OnOk result
+        (HoldsBack (O.sunk out.old) (O.sunk out.new)
+        (bytes.old.items ++ text.now) bytes.new.items) }
+    ensures err { OnErr result
+        (Fails (O.sunk out.old) (O.sunk out.new) (bytes.old.items ++ text.now)) }
+    ensures few { OnOk result (length bytes.new.items ≤ 8192) }
+    ensures empty { OnErr result (bytes.new.items ≡ []) }
+{
+    if text.len() <= BLOCK - bytes.len() {
+        bytes.extend_from_slice(text).unwrap();
+        return Ok(());
+    }
+    put(bytes, out)?;
+    out.put(text)
 }
 
 /// Puts the bytes of a block, which is then empty.

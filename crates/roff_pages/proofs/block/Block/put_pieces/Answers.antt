@@ -1,7 +1,7 @@
-use Rattle.std.proofs.Common.{◌≡◌, ◌++◌, ◌∷◌, [], List, ℕ, length, arith, append_assoc, append-nil, sym, ap, ◌∙◌}
+use Rattle.std.proofs.Common.{◌≡◌, ◌++◌, ◌∷◌, [], List, ℕ, length, replicate, arith, append_assoc, append-nil, sym, ap, ◌∙◌}
 use Rattle.std.proofs.lemmas.List.{length-append}
 use Rattle.std.proofs.lemmas.Result.{err_from_is_err_and, on_ok_weaker, on_err_weaker}
-use Rattle.roff_lines.specs.Columns.{finished_of, line_bytes}
+use Rattle.roff_lines.specs.Columns.{device_line, finished_of, printed}
 use Rattle.roff_lines.specs.LineBytes.Fronts.{Moves}
 use Rattle.roff_pages.specs.Sinks.{Sunk}
 use Rattle.roff_pages.proofs.Appending.{Writes-nothing, HoldsBack-push, HoldsBack-keep, HoldsBack-put, Fails-held}
@@ -20,9 +20,9 @@ behind_pieces begun moves = record {
 pub loop-byte-init : goal.loop-byte-init
 loop-byte-init g c =
     let bytes : List ℕ = c.args.self.now.bytes.items in
-    let begun : Begun (line_bytes (finished_of c.args.line)) c.of-to_come.result bytes (g.O.ByteSink.sunk c.args.out.now) (g.O.ByteSink.sunk c.args.out.now) = record {
+    let begun : Begun (device_line c.args.columns (printed (finished_of c.args.line)) ++ replicate c.args.after 10) c.behind_columns-to_come.result bytes (g.O.ByteSink.sunk c.args.out.now) (g.O.ByteSink.sunk c.args.out.now) = record {
       front = [];
-      whole = c.of-to_come.ensures;
+      whole = c.behind_columns-to_come.ensures;
       so_far = record { front = []; split = sym c.args.self.now.empty; writes = Writes-nothing _ };
     } in
     record {
@@ -35,7 +35,7 @@ pub returns-in_err-push : goal.returns-in_err-push
 returns-in_err-push g c =
     let failed = err_from_is_err_and c.from_residual.result c.from_residual.ensures.1 in
     let begun = behind_pieces c.loop-byte.invariant.begun c.add_pieces.ensures.moves in
-    let whole : begun.front ++ (c.in-Some.byte ∷ c.next.new.self) ≡ line_bytes (finished_of c.args.line) = rw (← c.in-Some.ensures.steps) begun.whole in
+    let whole : begun.front ++ (c.in-Some.byte ∷ c.next.new.self) ≡ device_line c.args.columns (printed (finished_of c.args.line)) ++ replicate c.args.after 10 = rw (← c.in-Some.ensures.steps) begun.whole in
     rw failed.1 (record {
       ok = tt;
       err = rw (← whole) (Fails-held _ begun.so_far c.in_err-push.ensures.err);
@@ -44,7 +44,7 @@ returns-in_err-push g c =
 pub loop-byte-preserved : goal.loop-byte-preserved
 loop-byte-preserved g c =
     let begun = behind_pieces c.loop-byte.invariant.begun c.add_pieces.ensures.moves in
-    let whole : begun.front ++ (c.in-Some.byte ∷ c.next.new.self) ≡ line_bytes (finished_of c.args.line) = rw (← c.in-Some.ensures.steps) begun.whole in
+    let whole : begun.front ++ (c.in-Some.byte ∷ c.next.new.self) ≡ device_line c.args.columns (printed (finished_of c.args.line)) ++ replicate c.args.after 10 = rw (← c.in-Some.ensures.steps) begun.whole in
     record {
       room = omega (arith, c.in_ok-push.ensures.capacity, c.add_pieces.ensures.capacity);
       few = c.in_ok-push.ensures.few;
@@ -63,7 +63,7 @@ loop-byte-smaller g c =
 pub returns-in_default : goal.returns-in_default
 returns-in_default g c =
     let begun = behind_pieces c.loop-byte.invariant.begun c.add_pieces.ensures.moves in
-    let whole : begun.front ++ [] ≡ line_bytes (finished_of c.args.line) =
+    let whole : begun.front ++ [] ≡ device_line c.args.columns (printed (finished_of c.args.line)) ++ replicate c.args.after 10 =
     ap (λ (rest : List ℕ). begun.front ++ rest) (sym c.in_default.ensures.steps.0) ∙ begun.whole in
     record {
       ok = on_ok_weaker c.put.result (λ rest. rw (← whole, append-nil) (HoldsBack-put (g.O.ByteSink.sunk c.put.new.out) begun.so_far rest)) c.put.ensures.puts.ok;

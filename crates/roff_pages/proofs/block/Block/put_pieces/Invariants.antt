@@ -1,5 +1,5 @@
-use Rattle.std.proofs.Common.{◌≡◌, ◌≤◌, ◌++◌, ℕ, List, length, vec_capacity}
-use Rattle.roff_lines.specs.Columns.{finished_of, line_bytes}
+use Rattle.std.proofs.Common.{◌≡◌, ◌≤◌, ◌++◌, ℕ, List, length, replicate, vec_capacity}
+use Rattle.roff_lines.specs.Columns.{device_line, finished_of, printed}
 use Rattle.roff_pages.specs.Sinks.{Sunk, HoldsBack}
 use Rattle.roff_pages.proofs.block.Block.put_pieces.Given as goal
 
@@ -13,7 +13,7 @@ abbrev pub invariant-loop-byte : goal.invariant-loop-byte
 invariant-loop-byte g l = record {
   room : 8192 ≤ vec_capacity l.bytes;
   few : length l.bytes.items ≤ 8192;
-  begun : Begun (line_bytes (finished_of l.fn.line)) l.to_come l.bytes.items (g.O.ByteSink.sunk l.initial.out) (g.O.ByteSink.sunk l.out);
+  begun : Begun (device_line l.fn.columns (printed (finished_of l.fn.line)) ++ replicate l.fn.after 10) l.to_come l.bytes.items (g.O.ByteSink.sunk l.initial.out) (g.O.ByteSink.sunk l.out);
 }
 
 abbrev pub decreases-loop-byte : goal.decreases-loop-byte
