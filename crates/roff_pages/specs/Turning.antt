@@ -1,0 +1,182 @@
+-- The layout behind a happening, and where a page ends (manual, sections 3 and 7.4).
+use Rattle.std.specs.Prelude.{ℕ, ◌+◌, Bool, true, false, not, ◌&&◌, ◌||◌, ℤ, pos, ◌+ℤ◌, List, [], ◌∷◌, ◌++◌, length, max, nat_le, int_lt, int_le, Option, Some, None, if◌then◌else◌, ◌==◌}
+use Rattle.std.specs.List.{list_any}
+use Rattle.std.specs.Ordering.{int_eq}
+use Rattle.roff_num.specs.declared.num.Num.{Num}
+use Rattle.roff_num.specs.declared.short_name.ShortName.{ShortName}
+use Rattle.roff_lines.specs.Glyphs.{text_width}
+use Rattle.roff_lines.specs.Words.{is_empty}
+use Rattle.roff_pages.specs.declared.trap.Trap.{Trap}
+use Rattle.roff_pages.specs.Layout.{Box, Lined, Empty, Diversion, Layout, page_place, opened}
+use Rattle.roff_pages.specs.Happenings.{LayoutEvent, Happening, Does, Places, Titles, is_eject, ListPages, Begin, Close, Space, Need, Eject, EjectOn, EjectLast, Length, Offset, Next, Number, NoSpace, Plant, Uproot, MoveTrap, RemoveTrap, DiversionTrap, Divert, EndDivert}
+use Rattle.roff_pages.specs.Puts.{Put, puts, appended}
+
+-- a number and one more, up to the greatest one
+abbrev pub one_more : Num → Num
+one_more n = if int_lt n.0 (pos 2147483647) then record { 0 = n.0 +ℤ pos 1 } else n
+
+-- the number of the next page: the one that was set, or one more
+abbrev pub number_behind : Option Num → Num → Num
+number_behind None number = one_more number
+number_behind (Some next) number = next
+
+-- whether a page of this number is written: it lies in a range, or there is none
+abbrev pub is_in_ranges : List (Num × Num) → Num → Bool
+is_in_ranges ranges n = is_empty ranges || list_any (λ r. int_le r.0.0 n.0 && int_le n.0 r.1.0) ranges
+
+-- a page begins
+abbrev pub page_begun : Layout → Layout
+page_begun L = record L {
+  begun = L.begun + 1;
+  number = number_behind L.next L.number;
+  next = None;
+  boxes = [];
+  is_listed = is_in_ranges L.ranges (number_behind L.next L.number);
+}
+
+-- a page ends: the next one begins, but in the closing phase
+abbrev pub turned : Layout → Layout
+turned L = if L.is_closing then record L { is_over = true } else page_begun L
+
+-- a page ends whose place is at its length, or beyond it
+abbrev pub turned_if_full : Layout → Layout
+turned_if_full L = if nat_le L.length (page_place L) then turned L else L
+
+-- no-space mode behind boxes: they end it, but those of an eject
+abbrev pub no_space_behind : Bool → List Box → Bool → Bool
+no_space_behind by_eject boxes no_space = no_space && (by_eject || is_empty boxes)
+
+-- with boxes on the page
+abbrev pub on_page : Bool → List Box → Layout → Layout
+on_page by_eject boxes L = record L {
+  boxes = boxes ++ L.boxes;
+  no_space = no_space_behind by_eject boxes L.no_space;
+}
+
+-- with boxes in a diversion
+abbrev pub in_diversion : List Box → Diversion → Diversion
+in_diversion boxes d = record d {
+  boxes = boxes ++ d.boxes;
+  no_space = no_space_behind false boxes d.no_space;
+}
+
+-- with boxes in the innermost open diversion, or on the page
+abbrev pub in_innermost : List Diversion → List Box → Layout → Layout
+in_innermost [] boxes L = on_page false boxes L
+in_innermost (d ∷ ds) boxes L = record L { diversions = in_diversion boxes d ∷ ds }
+
+-- with boxes where a happening puts them
+abbrev pub with_boxes : Happening → List Box → Layout → Layout
+with_boxes x boxes L = if is_eject x then on_page true boxes L else in_innermost L.diversions boxes L
+
+-- the number that the next page gets: an eject may set it
+abbrev pub next_of_event : LayoutEvent → Option Num → Option Num
+next_of_event (Eject asked (Some n)) next = Some n
+next_of_event (_) next = next
+
+-- the same of a happening
+abbrev pub next_behind : Happening → Option Num → Option Num
+next_behind (Does e) next = next_of_event e next
+next_behind (Places line) next = next
+next_behind (Titles t) next = next
+
+-- behind what is put
+abbrev pub with_put : Happening → List Box → Layout → Layout
+with_put x boxes L = turned_if_full (with_boxes x boxes (record L { next = next_behind x L.next }))
+
+-- whether two names are the same
+abbrev pub same_second : Option ℕ → Option ℕ → Bool
+same_second None None = true
+same_second (Some m) (Some n) = m == n
+same_second (_) (_) = false
+
+abbrev pub same_name : ShortName → ShortName → Bool
+same_name m n = m.first == n.first && same_second m.second n.second
+
+-- with a trap planted: in the place of the first with the same place as given, or else as the last
+abbrev pub with_trap : Trap → List Trap → List Trap
+with_trap new [] = new ∷ []
+with_trap new (t ∷ traps) = if int_eq t.place new.place then new ∷ traps else t ∷ with_trap new traps
+
+-- without the first trap at a place as given
+abbrev pub without_place : ℤ → List Trap → List Trap
+without_place place [] = []
+without_place place (t ∷ traps) = if int_eq t.place place then traps else t ∷ without_place place traps
+
+-- with the first trap of a name moved
+abbrev pub with_moved : ShortName → ℤ → List Trap → List Trap
+with_moved name place [] = []
+with_moved name place (t ∷ traps) =
+    if same_name t.name name then record t { place = place } ∷ traps else t ∷ with_moved name place traps
+
+-- without the first trap of a name
+abbrev pub without_name : ShortName → List Trap → List Trap
+without_name name [] = []
+without_name name (t ∷ traps) = if same_name t.name name then traps else t ∷ without_name name traps
+
+-- no-space mode of the innermost open diversion, or of the page
+abbrev pub with_mode : Bool → List Diversion → Layout → Layout
+with_mode on [] L = record L { no_space = on }
+with_mode on (d ∷ ds) L = record L { diversions = record d { no_space = on } ∷ ds }
+
+-- the trap of the innermost open diversion
+abbrev pub with_diversion_trap : Option Trap → List Diversion → List Diversion
+with_diversion_trap trap [] = []
+with_diversion_trap trap (d ∷ ds) = record d { trap = trap } ∷ ds
+
+-- the width of what takes up a line
+abbrev pub box_width : Box → ℕ
+box_width (Lined text) = text_width text
+box_width Empty = 0
+
+-- the greatest width
+abbrev pub greatest_width : List Box → ℕ
+greatest_width [] = 0
+greatest_width (b ∷ boxes) = max (box_width b) (greatest_width boxes)
+
+-- the innermost open diversion ends, if there is one
+abbrev pub diversion_ended : List Diversion → Layout → Layout
+diversion_ended [] L = L
+diversion_ended (d ∷ ds) L = record L {
+  diversions = ds;
+  height = length d.boxes;
+  width = greatest_width d.boxes;
+}
+
+-- behind an event that puts nothing
+abbrev pub without_put : LayoutEvent → Layout → Layout
+without_put (ListPages first last) L = record L { ranges = L.ranges ++ (first, last) ∷ [] }
+without_put Begin L = page_begun L
+without_put Close L = record L { diversions = []; is_closing = true }
+without_put (Space k) L = L
+without_put (Need k) L = L
+without_put (Eject asked number) L = L
+without_put (EjectOn asked) L = L
+without_put EjectLast L = record L { is_over = true }
+without_put (Length k) L = record L { length = k }
+without_put (Offset k) L = record L { offset = k; previous_offset = L.offset }
+without_put (Next n) L = record L { next = Some n }
+without_put (Number n) L = record L { number = n }
+without_put (NoSpace on) L = with_mode on L.diversions L
+without_put (Plant t) L = record L { traps = with_trap t L.traps }
+without_put (Uproot place) L = record L { traps = without_place place L.traps }
+without_put (MoveTrap name place) L = record L { traps = with_moved name place L.traps }
+without_put (RemoveTrap name) L = record L { traps = without_name name L.traps }
+without_put (DiversionTrap trap) L = record L { diversions = with_diversion_trap trap L.diversions }
+without_put (Divert name appends) L = record L { diversions = opened name appends ∷ L.diversions }
+without_put EndDivert L = diversion_ended L.diversions L
+
+-- behind a happening that puts nothing
+abbrev pub unput : Happening → Layout → Layout
+unput (Does e) L = without_put e L
+unput (Places line) L = L
+unput (Titles t) L = L
+
+-- behind a happening, told whether it puts something
+abbrev pub behind_put : Happening → Option Put → List Box → Layout → Layout
+behind_put x None boxes L = unput x L
+behind_put x (Some p) boxes L = with_put x boxes L
+
+-- the layout behind a happening
+abbrev pub with_event : Happening → Layout → Layout
+with_event x L = behind_put x (puts x L) (appended x L) L
