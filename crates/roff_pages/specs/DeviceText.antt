@@ -1,9 +1,9 @@
 -- What a happening writes to the device: the boxes that it puts on a page that is written (manual, section 3).
 use Rattle.std.specs.Prelude.{ℕ, Bool, not, ◌||◌, List, [], ◌∷◌, ◌++◌, if◌then◌else◌}
 use Rattle.roff_lines.specs.Columns.{spaces, trimmed}
-use Rattle.roff_lines.specs.Words.{is_empty}
 use Rattle.roff_pages.specs.Layout.{Box, Lined, Empty, Layout}
-use Rattle.roff_pages.specs.Happenings.{Happening, is_eject}
+use Rattle.roff_pages.specs.Happenings.{Happening}
+use Rattle.roff_pages.specs.Stops.{is_diverted}
 use Rattle.roff_pages.specs.Puts.{appended}
 
 -- a box as it is written behind the page offset, without blanks at its end
@@ -15,10 +15,6 @@ device_line offset Empty = 10 ∷ []
 abbrev pub device_lines : ℕ → List Box → List ℕ
 device_lines offset [] = []
 device_lines offset (b ∷ boxes) = device_lines offset boxes ++ device_line offset b
-
--- whether a happening puts its boxes in a diversion
-abbrev pub is_diverted : Happening → Layout → Bool
-is_diverted x L = not (is_eject x || is_empty L.diversions)
 
 -- what a happening writes
 abbrev pub device_text : Happening → Layout → List ℕ

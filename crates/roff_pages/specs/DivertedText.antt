@@ -3,7 +3,7 @@ use Rattle.std.specs.Prelude.{ℕ, Bool, List, [], ◌∷◌, ◌++◌, codes, i
 use Rattle.roff_pages.specs.Layout.{Box, Lined, Empty, Layout}
 use Rattle.roff_pages.specs.Happenings.{Happening}
 use Rattle.roff_pages.specs.Puts.{appended}
-use Rattle.roff_pages.specs.DeviceText.{is_diverted}
+use Rattle.roff_pages.specs.Stops.{is_diverted}
 
 -- a byte so that reading gives it again: a blank isn't padded, a backslash begins no escape
 abbrev pub escaped_byte : ℕ → List ℕ

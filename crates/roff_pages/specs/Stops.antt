@@ -1,5 +1,6 @@
 -- Where spacing stops: at a trap or at the page's end (manual, section 7.5).
-use Rattle.std.specs.Prelude.{ℕ, ◌+◌, ◌-◌, min, Bool, ℤ, pos, negsuc, List, [], ◌∷◌, length, nat_lt, Option, Some, None, if◌then◌else◌}
+use Rattle.std.specs.Prelude.{ℕ, ◌+◌, ◌-◌, min, Bool, not, ◌||◌, ℤ, pos, negsuc, List, [], ◌∷◌, length, nat_lt, Option, Some, None, if◌then◌else◌}
+use Rattle.roff_lines.specs.Words.{is_empty}
 use Rattle.roff_pages.specs.declared.trap.Trap.{Trap}
 use Rattle.roff_pages.specs.Layout.{Box, Diversion, Layout, page_place}
 use Rattle.roff_pages.specs.Happenings.{Happening, is_eject}
@@ -60,3 +61,7 @@ innermost (d ∷ ds) page = diversion_target d
 -- the target of what happens: an eject's is the page
 abbrev pub target : Happening → Layout → Target
 target x L = if is_eject x then page_target L else innermost L.diversions (page_target L)
+
+-- whether a happening puts its boxes in a diversion
+abbrev pub is_diverted : Happening → Layout → Bool
+is_diverted x L = not (is_eject x || is_empty L.diversions)

@@ -9,6 +9,7 @@ use Rattle.roff_lines.specs.Words.{is_empty}
 use Rattle.roff_pages.specs.declared.trap.Trap.{Trap}
 use Rattle.roff_pages.specs.Layout.{Box, Lined, Empty, Diversion, Layout, page_place, opened}
 use Rattle.roff_pages.specs.Happenings.{LayoutEvent, Happening, Does, Places, Titles, is_eject, ListPages, Begin, Close, Space, Need, Eject, EjectOn, EjectLast, Length, Offset, Next, Number, NoSpace, Plant, Uproot, MoveTrap, RemoveTrap, DiversionTrap, Divert, EndDivert}
+use Rattle.roff_pages.specs.Stops.{is_diverted}
 use Rattle.roff_pages.specs.Puts.{Put, puts, appended}
 
 -- a number and one more, up to the greatest one
@@ -46,13 +47,6 @@ turned_if_full L = if nat_le L.length (page_place L) then turned L else L
 abbrev pub no_space_behind : Bool → List Box → Bool → Bool
 no_space_behind by_eject boxes no_space = no_space && (by_eject || is_empty boxes)
 
--- with boxes on the page
-abbrev pub on_page : Bool → List Box → Layout → Layout
-on_page by_eject boxes L = record L {
-  boxes = boxes ++ L.boxes;
-  no_space = no_space_behind by_eject boxes L.no_space;
-}
-
 -- with boxes in a diversion
 abbrev pub in_diversion : List Box → Diversion → Diversion
 in_diversion boxes d = record d {
@@ -60,14 +54,18 @@ in_diversion boxes d = record d {
   no_space = no_space_behind false boxes d.no_space;
 }
 
--- with boxes in the innermost open diversion, or on the page
-abbrev pub in_innermost : List Diversion → List Box → Layout → Layout
-in_innermost [] boxes L = on_page false boxes L
-in_innermost (d ∷ ds) boxes L = record L { diversions = in_diversion boxes d ∷ ds }
+-- with boxes in the innermost of open diversions
+abbrev pub in_innermost : List Box → List Diversion → List Diversion
+in_innermost boxes [] = []
+in_innermost boxes (d ∷ ds) = in_diversion boxes d ∷ ds
 
--- with boxes where a happening puts them
+-- with boxes where a happening puts them: in a diversion, or on the page
 abbrev pub with_boxes : Happening → List Box → Layout → Layout
-with_boxes x boxes L = if is_eject x then on_page true boxes L else in_innermost L.diversions boxes L
+with_boxes x boxes L = record L {
+  boxes = if is_diverted x L then L.boxes else boxes ++ L.boxes;
+  no_space = if is_diverted x L then L.no_space else no_space_behind (is_eject x) boxes L.no_space;
+  diversions = if is_diverted x L then in_innermost boxes L.diversions else L.diversions;
+}
 
 -- the number that the next page gets: an eject may set it
 abbrev pub next_of_event : LayoutEvent → Option Num → Option Num
@@ -114,10 +112,10 @@ abbrev pub without_name : ShortName → List Trap → List Trap
 without_name name [] = []
 without_name name (t ∷ traps) = if same_name t.name name then traps else t ∷ without_name name traps
 
--- no-space mode of the innermost open diversion, or of the page
-abbrev pub with_mode : Bool → List Diversion → Layout → Layout
-with_mode on [] L = record L { no_space = on }
-with_mode on (d ∷ ds) L = record L { diversions = record d { no_space = on } ∷ ds }
+-- no-space mode of the innermost of open diversions
+abbrev pub with_mode : Bool → List Diversion → List Diversion
+with_mode on [] = []
+with_mode on (d ∷ ds) = record d { no_space = on } ∷ ds
 
 -- the trap of the innermost open diversion
 abbrev pub with_diversion_trap : Option Trap → List Diversion → List Diversion
@@ -134,14 +132,19 @@ abbrev pub greatest_width : List Box → ℕ
 greatest_width [] = 0
 greatest_width (b ∷ boxes) = max (box_width b) (greatest_width boxes)
 
--- the innermost open diversion ends, if there is one
-abbrev pub diversion_ended : List Diversion → Layout → Layout
-diversion_ended [] L = L
-diversion_ended (d ∷ ds) L = record L {
-  diversions = ds;
-  height = length d.boxes;
-  width = greatest_width d.boxes;
-}
+-- the diversions behind the innermost one
+abbrev pub without_innermost : List Diversion → List Diversion
+without_innermost [] = []
+without_innermost (d ∷ ds) = ds
+
+-- the height and the width of the innermost one, or those that were told before where none is open
+abbrev pub innermost_height : List Diversion → ℕ → ℕ
+innermost_height [] height = height
+innermost_height (d ∷ ds) height = length d.boxes
+
+abbrev pub innermost_width : List Diversion → ℕ → ℕ
+innermost_width [] width = width
+innermost_width (d ∷ ds) width = greatest_width d.boxes
 
 -- behind an event that puts nothing
 abbrev pub without_put : LayoutEvent → Layout → Layout
@@ -157,14 +160,21 @@ without_put (Length k) L = record L { length = k }
 without_put (Offset k) L = record L { offset = k; previous_offset = L.offset }
 without_put (Next n) L = record L { next = Some n }
 without_put (Number n) L = record L { number = n }
-without_put (NoSpace on) L = with_mode on L.diversions L
+without_put (NoSpace on) L = record L {
+  no_space = if is_empty L.diversions then on else L.no_space;
+  diversions = with_mode on L.diversions;
+}
 without_put (Plant t) L = record L { traps = with_trap t L.traps }
 without_put (Uproot place) L = record L { traps = without_place place L.traps }
 without_put (MoveTrap name place) L = record L { traps = with_moved name place L.traps }
 without_put (RemoveTrap name) L = record L { traps = without_name name L.traps }
 without_put (DiversionTrap trap) L = record L { diversions = with_diversion_trap trap L.diversions }
 without_put (Divert name appends) L = record L { diversions = opened name appends ∷ L.diversions }
-without_put EndDivert L = diversion_ended L.diversions L
+without_put EndDivert L = record L {
+  diversions = without_innermost L.diversions;
+  height = innermost_height L.diversions L.height;
+  width = innermost_width L.diversions L.width;
+}
 
 -- behind a happening that puts nothing
 abbrev pub unput : Happening → Layout → Layout

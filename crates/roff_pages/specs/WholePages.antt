@@ -3,14 +3,14 @@ use Rattle.std.specs.Prelude.{◌≡◌, ℕ, ◌+◌, ◌<◌, ◌≤◌, Bool,
 use Rattle.roff_lines.specs.Lines.{Finished}
 use Rattle.roff_pages.specs.Layout.{Box, Lined, Empty, Layout, page_place}
 use Rattle.roff_pages.specs.Happenings.{LayoutEvent, Happening, Does, Places, Titles, Begin, Close, Length, Offset, EndDivert}
-use Rattle.roff_pages.specs.Stops.{target}
+use Rattle.roff_pages.specs.Stops.{is_diverted}
 use Rattle.roff_pages.specs.Puts.{puts, appended}
 use Rattle.roff_pages.specs.Turning.{with_event}
-use Rattle.roff_pages.specs.DeviceText.{is_diverted, device_text}
+use Rattle.roff_pages.specs.DeviceText.{device_text}
 
 -- the page's boxes with those that a happening puts on it, before it ends
 abbrev pub page_boxes : Happening → Layout → List Box
-page_boxes x L = (if is_diverted x L then [] else appended x L) ++ L.boxes
+page_boxes x L = if is_diverted x L then L.boxes else appended x L ++ L.boxes
 
 -- whether the page ends with a happening
 abbrev pub ends_page : Happening → Layout → Bool
@@ -26,11 +26,15 @@ abbrev pub written_on_page : List Happening → Layout → List ℕ
 written_on_page [] L = []
 written_on_page (x ∷ xs) L = device_text x L ++ (if ends_page x L then [] else written_on_page xs (with_event x L))
 
--- how many boxes the pages had that ended
+-- how many boxes the pages had that ended, told whether one ends and the layout is over, its boxes, and those behind it
+abbrev pub sizes_behind : Bool → Bool → ℕ → List ℕ → List ℕ
+sizes_behind ended over size sizes = let later = if over then [] else sizes in if ended then size ∷ later else later
+
+-- how many boxes the pages had that ended, until the layout is over
 abbrev pub page_sizes : List Happening → Layout → List ℕ
 page_sizes [] L = []
 page_sizes (x ∷ xs) L =
-    if ends_page x L then length (page_boxes x L) ∷ page_sizes xs (with_event x L) else page_sizes xs (with_event x L)
+    sizes_behind (ends_page x L) (with_event x L).is_over (length (page_boxes x L)) (page_sizes xs (with_event x L))
 
 -- what leaves the page length as it is
 abbrev pub keeps_length : Happening → Bool

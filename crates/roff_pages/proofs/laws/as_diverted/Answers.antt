@@ -1,0 +1,12 @@
+use Rattle.std.proofs.Common.{◌+◌, [], ◌∷◌}
+use Rattle.roff_pages.specs.Layout.{Lined}
+use Rattle.roff_pages.specs.Happenings.{Places}
+use Rattle.roff_pages.specs.Stops.{target}
+use Rattle.roff_pages.specs.Puts.{within_stop, printed}
+use Rattle.roff_pages.proofs.Pages.{texts-blank}
+use Rattle.roff_pages.proofs.laws.as_diverted.Goals as goal
+
+pub returns-clause-line : goal.returns-clause-line
+returns-clause-line c line L =
+    let t = target (Places line) L in
+    texts-blank (within_stop (t.place + 1) t.stop line.after) (Lined (printed line) ∷ [])
