@@ -19,7 +19,7 @@ use Rattle.roff_engine.specs.declared.running.Running.{Running as Coded}
 use Rattle.roff_engine.specs.Engine.Outcome.{Seen, IsLeftOf, IsRest, Reaches, Outcome, seen}
 use Rattle.roff_engine.specs.Formatter.Performing.{AllPerformed, Did, DoesTaking, Opens, Performs, PerformsOnly, acting, going, sinks}
 use Rattle.roff_engine.specs.Running.Turning.{Acts, Halts, IsAt, MayEnd, TookFrom, input_ends, line_told, state_at}
-use Rattle.roff_engine.specs.Sinks.{Sunk}
+use Rattle.roff_pages.specs.Sinks.{Sunk}
 use Rattle.roff_requests.specs.Environments.Standing.{StandFor}
 use Rattle.roff_requests.specs.declared.environments.Environments.{Environments as EnvironmentsOf}
 use Rattle.roff_run.specs.Output.{PageHistory}

@@ -9,8 +9,8 @@ use Rattle.roff_engine.specs.declared.halt.Halt.{Halt}
 use Rattle.roff_engine.specs.declared.halt.Halt.TheVariants.{Limit as Limited, Refused, Output, Messages}
 use Rattle.roff_engine.specs.Engine.Outcome.{Reaches, Seen, seen}
 use Rattle.roff_engine.specs.Formatter.Performing.{Did, Does, DoesMeaning, DoesTaking, Means, Opens, PerformsOnly, RefusedAt, Sinks, acting, going}
-use Rattle.roff_engine.specs.Sinks.{Sunk}
-use Rattle.roff_engine.proofs.Appending.{Writes-nothing}
+use Rattle.roff_pages.specs.Sinks.{Sunk}
+use Rattle.roff_pages.proofs.Appending.{Writes-nothing}
 use Rattle.roff_engine.proofs.Performed.{does_events, does_halted, messages_told}
 use Rattle.roff_requests.specs.Environments.Standing.{StandFor}
 use Rattle.roff_requests.specs.Events.Meant.{events_meant}

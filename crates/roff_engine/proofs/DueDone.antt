@@ -20,7 +20,7 @@ use Rattle.roff_run.proofs.InputCounts.{NoMore-leaving, NoMore-released, first_p
 use Rattle.roff_engine.specs.declared.running.Running.{Running as Coded}
 use Rattle.roff_engine.specs.Engine.Outcome.{Seen, IsLeftOf, IsRest, MessagesFail, seen}
 use Rattle.roff_engine.specs.Running.Turning.{Acts, IsAt, DoesDue, TookFrom, state_at}
-use Rattle.roff_engine.specs.Sinks.{Sunk, Writes, Fails}
+use Rattle.roff_pages.specs.Sinks.{Sunk, Writes, Fails}
 use Rattle.roff_engine.proofs.Acting.{IsLeftOf-looked_then}
 use Rattle.roff_engine.proofs.Calls.{Leaves}
 use Rattle.roff_engine.proofs.Items.{lost, moved, one_more}

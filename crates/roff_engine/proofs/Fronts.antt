@@ -11,7 +11,7 @@ use Rattle.roff_engine.specs.declared.formatter.Formatter.{Formatter}
 use Rattle.roff_engine.specs.declared.running.Running.{Running as Coded}
 use Rattle.roff_engine.specs.Engine.Outcome.{seen}
 use Rattle.roff_engine.specs.Running.Turning.{GoesPast}
-use Rattle.roff_engine.specs.Sinks.{Sunk}
+use Rattle.roff_pages.specs.Sinks.{Sunk}
 use Rattle.roff_engine.proofs.Telling.{first_of_front}
 use Rattle.roff_engine.proofs.Turned.{goes_past_turned}
 

@@ -12,8 +12,8 @@ use Rattle.roff_engine.specs.declared.halt.Halt.TheVariants.{Limit as ByLimit, R
 use Rattle.roff_engine.specs.Engine.Outcome.{Seen, IsLeftOf, IsRest, Completes, OutputFails, MessagesFail, seen}
 use Rattle.roff_run.specs.Run.{State, initial, stopped_by}
 use Rattle.roff_engine.specs.Running.Turning.{LimitStops, OutputStopsAt, Halts}
-use Rattle.roff_engine.specs.Sinks.{Sunk, Writes, Fails, Puts}
-use Rattle.roff_engine.proofs.Appending.{Appends-append}
+use Rattle.roff_pages.specs.Sinks.{Sunk, Writes, Fails, Puts}
+use Rattle.roff_pages.proofs.Appending.{Appends-append}
 use Rattle.roff_run.proofs.Leads.{Leads-to}
 use Rattle.roff_engine.proofs.Performed.{between, faults_of_err}
 

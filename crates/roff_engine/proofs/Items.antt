@@ -19,9 +19,9 @@ use Rattle.roff_run.specs.Run.Counts.{counts_in, first_passed}
 use Rattle.roff_engine.specs.declared.running.Running.{Running as Coded}
 use Rattle.roff_engine.specs.Engine.Outcome.{Seen, IsLeftOf, Reaches, MessagesFail, Outcome, seen}
 use Rattle.roff_engine.specs.Running.Turning.{Continues, IsAt, LimitStops, TookFrom, state_at}
-use Rattle.roff_engine.specs.Sinks.{Sunk, Writes, Fails, Puts}
+use Rattle.roff_pages.specs.Sinks.{Sunk, Writes, Fails, Puts}
 use Rattle.roff_engine.proofs.Acting.{IsLeftOf-looked_then}
-use Rattle.roff_engine.proofs.Appending.{Appends-append}
+use Rattle.roff_pages.proofs.Appending.{Appends-append}
 use Rattle.roff_engine.proofs.Calls.{EndsThere, Leaves}
 use Rattle.roff_engine.proofs.Performed.{between, faults_of_err}
 use Rattle.roff_run.proofs.Leads.{Leads-to}

@@ -1,4 +1,3 @@
-pub mod Appending
 pub mod Performed
 pub mod DoesTakings
 pub mod TakenAtOnce

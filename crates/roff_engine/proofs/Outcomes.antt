@@ -7,7 +7,7 @@ use Rattle.roff_engine.specs.Engine.Outcome.{Seen, AppendsBetween, Completes, Is
 use Rattle.roff_engine.specs.Outcomes.{Gives, EachOutcomeGives}
 use Rattle.roff_run.specs.Results.{last_state, output_of, messages_of}
 use Rattle.roff_run.specs.Run.{State, step, output, reported}
-use Rattle.roff_engine.specs.Sinks.{AppendsFront}
+use Rattle.roff_pages.specs.Sinks.{AppendsFront}
 use Rattle.roff_run.specs.declared.status.Status.{Status}
 use Rattle.roff_source.specs.Tape.{Tape}
 use Rattle.roff_laws.proofs.Beginnings.{IsBeginning-same}

@@ -24,7 +24,7 @@ use Rattle.roff_engine.specs.declared.running.Running.{Running as Coded}
 use Rattle.roff_engine.specs.Engine.Outcome.{Seen, seen}
 use Rattle.roff_engine.specs.Formatter.Performing.{going}
 use Rattle.roff_engine.specs.Running.Turning.{GoesPast, HasCome, IsAt, state_at}
-use Rattle.roff_engine.specs.Sinks.{Sunk}
+use Rattle.roff_pages.specs.Sinks.{Sunk}
 use Rattle.roff_engine.proofs.Waiting.{items_then-append}
 use Rattle.roff_run.proofs.Leads.{Leads-trans}
 use Rattle.roff_reader.proofs.PassingRuns.{IsPlain, IsPlain-lines_taken, after-passed, turns_within-lines_taken}

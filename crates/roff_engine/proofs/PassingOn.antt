@@ -16,7 +16,7 @@ use Rattle.roff_engine.specs.declared.formatter.Formatter.{Formatter}
 use Rattle.roff_engine.specs.declared.running.Running.{Running as Coded}
 use Rattle.roff_engine.specs.Engine.Outcome.{Seen, seen}
 use Rattle.roff_engine.specs.Running.Turning.{GoesFurther, GoesPast, IsAt}
-use Rattle.roff_engine.specs.Sinks.{Sunk}
+use Rattle.roff_pages.specs.Sinks.{Sunk}
 use Rattle.roff_engine.proofs.Turned.{goes_past_turned}
 use Rattle.roff_engine.proofs.Waiting.{items_then-append}
 

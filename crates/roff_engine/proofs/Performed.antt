@@ -27,8 +27,8 @@ use Rattle.roff_run.specs.declared.event.PageEvent.{PageEvent}
 use Rattle.roff_run.specs.declared.event.PageEvent.TheVariants.{Text, Space, Environment}
 use Rattle.roff_run.specs.Run.{State, initial, step, unless_refused}
 use Rattle.roff_run.specs.Run.Counts.{refusal}
-use Rattle.roff_engine.specs.Sinks.{Sunk, Writes, AppendsFront, Fails, Puts}
-use Rattle.roff_engine.proofs.Appending.{Appends-append, Writes-nothing}
+use Rattle.roff_pages.specs.Sinks.{Sunk, Writes, AppendsFront, Fails, Puts}
+use Rattle.roff_pages.proofs.Appending.{Appends-append, Writes-nothing}
 use Rattle.roff_run.proofs.Leads.{Leads-to}
 
 -- a beginning of a piece was written behind a text

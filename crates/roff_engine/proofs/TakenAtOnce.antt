@@ -3,8 +3,8 @@ use Rattle.std.proofs.Common.{◌≡◌, Bool, true, false, List, [], Result, Ok
 use Rattle.roff_engine.specs.declared.formatter.Formatter.{Formatter}
 use Rattle.roff_engine.specs.declared.halt.Halt.{Halt}
 use Rattle.roff_engine.specs.Formatter.Performing.{DoesTaking, PerformsOnly, Sinks, sinks}
-use Rattle.roff_engine.specs.Sinks.{Puts, Sunk}
-use Rattle.roff_engine.proofs.Appending.{Writes-nothing}
+use Rattle.roff_pages.specs.Sinks.{Puts, Sunk}
+use Rattle.roff_pages.proofs.Appending.{Writes-nothing}
 use Rattle.roff_engine.proofs.DoesTakings.{taking_done}
 use Rattle.roff_engine.proofs.Performed.{told_then_performed}
 use Rattle.roff_reader.specs.Reader.AtOnce.{TakesAtOnce, only_events}

@@ -39,7 +39,7 @@ use Rattle.roff_engine.specs.Engine.Outcome.{Seen, seen}
 use Rattle.roff_engine.specs.Formatter.Performing.{going}
 use Rattle.roff_engine.specs.Formatter.Telling.{TellsFront}
 use Rattle.roff_engine.specs.Running.Turning.{GoesPast, HasTape, IsAt, state_at}
-use Rattle.roff_engine.specs.Sinks.{Sunk}
+use Rattle.roff_pages.specs.Sinks.{Sunk}
 use Rattle.roff_engine.proofs.Passing.{IsAt-leads, all_by}
 use Rattle.roff_engine.proofs.PassingAhead.{has_tape}
 use Rattle.roff_engine.proofs.Performed.{with_lines}

@@ -28,7 +28,7 @@ use Rattle.roff_reader.proofs.TurnedRuns.{FitsAt, Turned-none, after-Turned, cou
 use Rattle.roff_engine.specs.declared.running.Running.{Running as Coded}
 use Rattle.roff_engine.specs.Engine.Outcome.{Seen, seen}
 use Rattle.roff_engine.specs.Running.Turning.{GoesPast, HasTape, IsAt, state_at, turns_left}
-use Rattle.roff_engine.specs.Sinks.{Sunk}
+use Rattle.roff_pages.specs.Sinks.{Sunk}
 use Rattle.roff_engine.proofs.Passing.{IsAt-leads}
 use Rattle.roff_engine.proofs.PassingAhead.{not_asked}
 

@@ -28,7 +28,7 @@ use Rattle.roff_engine.specs.declared.halt.Halt.TheVariants.{Refused}
 use Rattle.roff_engine.specs.declared.running.Running.{Running as Coded}
 use Rattle.roff_engine.specs.Engine.Outcome.{Seen, Outcome, seen}
 use Rattle.roff_engine.specs.Running.Turning.{Acts, AsksFirst, Continues, Halts, HasTape, IsAt, IsEnded, StepDoes, TookFrom, TurnsBy, input_ends, state_at, turns_left}
-use Rattle.roff_engine.specs.Sinks.{Sunk, Puts}
+use Rattle.roff_pages.specs.Sinks.{Sunk, Puts}
 use Rattle.roff_engine.proofs.Calls.{EndsThere, EndsThere-takes, Leaves, Leaves-takes}
 use Rattle.roff_engine.proofs.Items.{end_passed, moved, return_passed, returned, note_told, refused, source_failed, source_stopped, took}
 use Rattle.roff_run.proofs.InFront.{Given-asked, IsEnding, in_front, items_asked, over_unread, over_unread-ending, shown_step}

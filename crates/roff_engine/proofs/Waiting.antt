@@ -24,7 +24,7 @@ use Rattle.roff_run.specs.Run.{State, awaited, awaited_of_source, byte_taken, fr
 use Rattle.roff_engine.specs.declared.running.Running.{Running as Coded}
 use Rattle.roff_engine.specs.Engine.Outcome.{Seen, seen}
 use Rattle.roff_engine.specs.Running.Turning.{Acts, IsAt, StepDoes, TurnsBy, state_at, turns_left}
-use Rattle.roff_engine.specs.Sinks.{Sunk, Puts}
+use Rattle.roff_pages.specs.Sinks.{Sunk, Puts}
 use Rattle.roff_engine.proofs.Calls.{EndsThere, EndsThere-looks, IsEndingSeen, Leaves, Leaves-looks, Leaves-deciding}
 use Rattle.roff_engine.proofs.Items.{looked_at, moved, note_told, source_failed, source_stopped}
 use Rattle.roff_engine.proofs.Turns.{LeavesFewer, acted, asks_or_given, falls_front, leaves_front, on_ok, on_ok-then, shown_front, turned, turns_of}

@@ -21,7 +21,7 @@ use Rattle.roff_engine.specs.declared.running.Running.{Running as Coded}
 use Rattle.roff_engine.specs.Engine.Outcome.{Seen, Outcome, Runs}
 use Rattle.roff_engine.specs.Formatter.Performing.{going}
 use Rattle.roff_engine.specs.Running.Turning.{HasCome, HasTape, IsAt, IsFresh, DoesDue, TurnsBy, state_at, turns_left}
-use Rattle.roff_engine.proofs.Appending.{Appends-nothing}
+use Rattle.roff_pages.proofs.Appending.{Appends-nothing}
 use Rattle.roff_engine.proofs.Waiting.{items_then-append}
 use Rattle.roff_run.proofs.Leads.{Leads-refl}
 

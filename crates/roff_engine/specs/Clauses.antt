@@ -11,7 +11,7 @@ pub use Rattle.roff_run.specs.declared.line_state.Due.TheVariants.{Tells}
 pub use Rattle.roff_run.specs.declared.line_state.LineState.TheVariants.{LineStart}
 pub use Rattle.roff_run.specs.declared.event.PageEvent.TheVariants.{Text, Space, Environment}
 pub use Rattle.roff_engine.specs.Running.Turning.{Halts, IsFresh}
-pub use Rattle.roff_engine.specs.Sinks.{Puts, Sunk}
+pub use Rattle.roff_pages.specs.Sinks.{Puts, Sunk}
 pub use Rattle.roff_run.specs.declared.message.Message.TheVariants.{ReadFailed}
 pub use Rattle.roff_run.specs.declared.status.Status.TheVariants.{Device}
 pub use Rattle.roff_lines.specs.Columns.{finished_of}

@@ -1,5 +1,3 @@
-pub mod Blocks
-pub mod Sinks
 pub mod Formatter
 pub mod Engine
 pub mod Outcomes

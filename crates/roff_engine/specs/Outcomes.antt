@@ -4,7 +4,7 @@ use Rattle.std.specs.Io.KnownBytes.{Appends}
 use Rattle.roff_num.specs.declared.limits.Limits.{Limits}
 use Rattle.roff_engine.specs.Engine.Outcome.{IsRest, Outcome, Seen}
 use Rattle.roff_run.specs.Results.{last_state, output_of, messages_of, status_of}
-use Rattle.roff_engine.specs.Sinks.{Sunk, AppendsFront}
+use Rattle.roff_pages.specs.Sinks.{Sunk, AppendsFront}
 use Rattle.roff_run.specs.declared.status.Status.{Status}
 use Rattle.roff_run.specs.declared.status.Status.TheVariants.{Device}
 use Rattle.roff_source.specs.Tape.{Tape}

@@ -5,8 +5,8 @@ ghost use Rattle.roff_engine.specs.Clauses.{StandFor, Limits, Runs, seen, IsFres
 
 use crate::formatter::Formatter;
 use crate::running::Running;
-use crate::sink::ByteSink;
 use roff_num::Limits;
+use roff_pages::ByteSink;
 use roff_reader::first_unread;
 use roff_run::{PageEvent, Status};
 use roff_scan::{ByteSource, Unread};

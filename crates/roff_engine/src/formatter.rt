@@ -10,8 +10,8 @@ mod performing;
 mod taking;
 mod text_events;
 
-use crate::block::Block;
 use roff_num::Limits;
+use roff_pages::Block;
 use roff_reader::Reader;
 use roff_requests::Environments;
 use roff_run::{Due, PageEvent};

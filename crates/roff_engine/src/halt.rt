@@ -4,8 +4,8 @@ ghost use Rattle.std.specs.Prelude.{ℕ};
 ghost use Rattle.roff_engine.specs.Clauses.{Tape, Outcome, Seen, seen, Halts, Sunk};
 
 use crate::report::report;
-use crate::sink::ByteSink;
 use roff_num::{Limit, Limits};
+use roff_pages::ByteSink;
 use roff_run::{Message, Status};
 
 /// What ends a run early.

@@ -2,15 +2,12 @@
 //! each other.
 #![tactic(auto)]
 
-mod block;
 mod engine;
 mod formatter;
 mod halt;
 pub mod laws;
 mod report;
 mod running;
-mod sink;
 
 pub use engine::{Engine, Start};
 pub use roff_run::Status;
-pub use sink::{ByteSink, SinkFault, WriteSink};

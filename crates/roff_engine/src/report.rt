@@ -3,7 +3,7 @@
 ghost use Rattle.std.specs.Prelude.{◌≡◌};
 ghost use Rattle.roff_engine.specs.Clauses.{Puts, message_line, text_told, told_line};
 
-use crate::sink::{ByteSink, SinkFault};
+use roff_pages::{ByteSink, SinkFault};
 use roff_run::Message;
 
 /// Writes a message of this line of the input, in one piece.

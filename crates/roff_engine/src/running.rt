@@ -15,8 +15,8 @@ mod settling;
 
 use crate::formatter::Formatter;
 use crate::halt::Halt;
-use crate::sink::ByteSink;
 use roff_num::Limits;
+use roff_pages::ByteSink;
 use roff_run::{PageEvent, Status};
 use roff_scan::{ByteSource, Item, Note, Sight, Unread};
 

@@ -29,7 +29,7 @@ all_blanks most count behind bytes whole few none =
     (sym (take_all most (spaces count) (omega (arith, length-replicate {A = ℕ} count 32))))
 
 -- a blank is one of those in front
-blank_in_front : (bytes : List ℕ) → blanks_in_front (32 ∷ bytes) ≡ [] → ⊥
+pub blank_in_front : (bytes : List ℕ) → blanks_in_front (32 ∷ bytes) ≡ [] → ⊥
 blank_in_front bytes none =
     let e : 32 ∷ blanks_in_front bytes ≡ [] = sym (take_while-cons (λ b. b == 32) 32 bytes) ∙ none in cc
 

@@ -22,7 +22,7 @@ added_by_test false spare zero i some = cc
 added_by_test false spare (suc g) i some =
     rw some (le-div (i * spare / suc g) ((i + 1) * spare) (suc g) (omega arith) (omega (arith, div-mul-le_self (i * spare) (suc g))))
 
-added_columns-le : (spare gaps i : ℕ) → added_columns spare gaps i ≤ added_columns spare gaps (i + 1)
+pub added_columns-le : (spare gaps i : ℕ) → added_columns spare gaps i ≤ added_columns spare gaps (i + 1)
 added_columns-le spare gaps i = added_by_test (gaps == 0) spare gaps i refl
 
 -- a byte that stands for a blank is one column wide
@@ -72,7 +72,7 @@ spread-width spare gaps i [] =
 spread-width spare gaps i (b ∷ text) = spread_by_test (b == gap_blank) spare gaps i b text refl (λ j. spread-width spare gaps j text)
 
 -- before the first gap nothing is added
-added_before_none : (none : Bool) (spare gaps : ℕ) → (gaps == 0) ≡ none → added_columns spare gaps 0 ≡ 0
+pub added_before_none : (none : Bool) (spare gaps : ℕ) → (gaps == 0) ≡ none → added_columns spare gaps 0 ≡ 0
 added_before_none true spare gaps is_none = rw is_none refl
 added_before_none false spare gaps some = rw some (omega (arith, div-le_self (0 * spare) gaps))
 

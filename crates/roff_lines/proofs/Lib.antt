@@ -27,3 +27,5 @@ pub mod FirstLineOf
 pub mod ToldWords
 pub mod Paragraphs
 pub mod Columns
+pub mod Escaped
+pub mod DivertedLength

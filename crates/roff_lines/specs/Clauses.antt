@@ -15,7 +15,9 @@ pub use Rattle.roff_lines.specs.Fitting.{Word, gap_text, may_be_wide}
 pub use Rattle.roff_lines.specs.Words.{is_empty, has_open_word, is_closer, is_sentence_mark, ends_sentence_behind, ends_sentence_behind_words, line_glyphs, words, temporary_indent, indent_by}
 pub use Rattle.roff_lines.specs.Telling.{glyphs_told, words_told, bytes_told, text_line, finished_by_byte, QuietlyTold, IsOfText, IsWordUnder, IsClear}
 pub use Rattle.roff_lines.specs.Lines.{Finished, pending_length, laid_out, empty_line, finished}
-pub use Rattle.roff_lines.specs.Columns.{finished_of, added_columns, line_bytes, written_by_break, StandsInColumns}
+pub use Rattle.roff_lines.specs.Columns.{finished_of, added_columns, printed, line_bytes, device_line, written_by_break, StandsInColumns}
+pub use Rattle.roff_lines.specs.Diverted.{escaped, diverted}
+pub use Rattle.roff_lines.specs.TitleColumns.{title_columns}
 pub use Rattle.roff_lines.specs.Filling.{lines_of, FillsLines}
 pub use Rattle.roff_lines.specs.FirstLine.{MeasuredWord, width_with, first_line_count, TakesFirstLine}
 pub use Rattle.roff_lines.specs.Paragraphs.{finished_lines, until_break, full_lines, broken_lines, paragraph_lines, lines_written}

@@ -35,6 +35,10 @@ spread spare gaps i (b ∷ text) =
     else if b == further_blank || b == glyph_blank then 32 ∷ spread spare gaps i text
     else b ∷ spread spare gaps i text
 
+-- a line as it is printed: its lead, and its text with its blanks written
+abbrev pub printed : Finished → List ℕ
+printed l = spaces l.lead ++ spread l.spare l.gaps 0 l.text
+
 -- a text without its trailing blanks
 abbrev pub trimmed : List ℕ → List ℕ
 trimmed [] = []
@@ -42,7 +46,11 @@ trimmed (b ∷ text) = let rest = trimmed text in if b == 32 && is_empty rest th
 
 -- what a line writes: the lead, its text, and a newline, without trailing blanks; then its blank lines
 abbrev pub line_bytes : Finished → List ℕ
-line_bytes l = trimmed (spaces l.lead ++ spread l.spare l.gaps 0 l.text) ++ 10 ∷ replicate l.after 10
+line_bytes l = trimmed (printed l) ++ 10 ∷ replicate l.after 10
+
+-- what a printed text writes behind so many columns: without trailing blanks, and a newline
+abbrev pub device_line : ℕ → List ℕ → List ℕ
+device_line columns text = trimmed (spaces columns ++ text) ++ 10 ∷ []
 
 -- what a break writes, if it finishes a line
 abbrev pub written_by_break : History → Option (List ℕ)

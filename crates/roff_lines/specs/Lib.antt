@@ -9,11 +9,14 @@ pub mod Words
 pub mod Lines
 pub mod Telling
 pub mod Columns
+pub mod Diverted
+pub mod TitleColumns
 pub mod Stretch
 pub mod StopTable
 pub mod Env
 pub mod Shape
 pub mod LineBytes
+pub mod DivertedBytes
 pub mod Filling
 pub mod FirstLine
 pub mod Paragraphs

@@ -16,7 +16,8 @@ ghost use Rattle.roff_lines.specs.Clauses.{Centre, LineLength, Indent, last_widt
 ghost use Rattle.roff_lines.specs.Clauses.{finished, bytes_told, History, settings_after, fills};
 ghost use Rattle.roff_lines.specs.Clauses.{temporary_indent, glyphs_told, words_told, IsOfText};
 ghost use Rattle.roff_lines.specs.Clauses.{IsWordUnder, IsClear, finished_lines, until_break};
-ghost use Rattle.roff_lines.specs.Clauses.{full_lines, broken_lines, paragraph_lines};
+ghost use Rattle.roff_lines.specs.Clauses.{full_lines, broken_lines, paragraph_lines, printed};
+ghost use Rattle.roff_lines.specs.Clauses.{device_line, diverted, title_columns};
 
 /// Filling takes the longest fronts: the lines of a paragraph have its words in order; each word of
 /// a line but the first fits behind those before it; and the word that begins the next line didn't.
@@ -110,6 +111,36 @@ pub fn line_rows()
     ensures spaced { map line_bytes (finished_lines (text_line (codes "a")
         (LineEnd ∷ Set (Spacing 3) ∷ Set (Filling false) ∷ [])))
         ≡ (97 ∷ 10 ∷ 10 ∷ 10 ∷ []) ∷ (10 ∷ 10 ∷ 10 ∷ []) ∷ [] }
+{}
+
+/// Where the parts of worked titles stand, told the title's length and how wide they are.
+pub fn title_rows()
+    // `.lt 9n`: a centre part of five columns
+    ensures centred { title_columns 9 0 5 0 ≡ 0 ∷ 2 ∷ 9 ∷ [] }
+    // `.lt 5n`: an empty centre part has its place
+    ensures empty_centre { title_columns 5 1 0 2 ≡ 0 ∷ 2 ∷ 3 ∷ [] }
+    ensures held_back { title_columns 7 0 0 5 ≡ 0 ∷ 3 ∷ 3 ∷ [] }
+    // no part begins before the one in front of it ends, and none in front of the line
+    ensures behind { title_columns 9 6 4 3 ≡ 0 ∷ 6 ∷ 10 ∷ [] }
+    ensures too_wide { title_columns 9 0 12 0 ≡ 0 ∷ 0 ∷ 12 ∷ [] }
+{}
+
+/// What worked lines are as they are printed, what they write behind a page offset, and what a
+/// diversion keeps of them.
+pub fn printed_rows()
+    // two words, a gap that gets a column, and a blank of a glyph at the end
+    ensures printed { printed (record {
+      text = 97 ∷ 32 ∷ 98 ∷ 0 ∷ [];
+      lead = 1;
+      spare = 1;
+      gaps = 1;
+      after = 2;
+    }) ≡ codes " a  b " }
+    ensures offset { device_line 2 (codes " a  b ") ≡ codes "   a  b" ++ 10 ∷ [] }
+    ensures nothing { device_line 2 (codes "  ") ≡ 10 ∷ [] }
+    ensures diverted { diverted (codes " a  b ") ≡ codes "\\&\\ a\\ \\ b\\ " ++ 10 ∷ [] }
+    ensures backslash { diverted (codes "a\\n") ≡ codes "\\&a\\en" ++ 10 ∷ [] }
+    ensures empty { diverted [] ≡ codes "\\&" ++ 10 ∷ [] }
 {}
 
 /// A tab leads from the place on the line of the input to the nearest stop beyond it; where none

@@ -5,6 +5,7 @@
 //! finished.
 #![tactic(auto)]
 
+mod diverted_bytes;
 mod env;
 mod event;
 mod fill;
@@ -16,8 +17,10 @@ mod settings;
 mod shape;
 mod stops;
 mod stretch;
+mod title;
 mod words;
 
+pub use diverted_bytes::{DivertedBytes, diverted_len};
 pub use env::Env;
 pub use event::Event;
 pub use fill::{Word, fill_words};
@@ -25,3 +28,4 @@ pub use glyph::Glyph;
 pub use line::{FURTHER_BLANK, GAP, Line, UNPADDABLE};
 pub use line_bytes::{LineBytes, Piece};
 pub use settings::{AdjustMode, Param, Settings};
+pub use title::place_title;

@@ -1,10 +1,11 @@
 //! What a finished line writes.
 
-ghost use Rattle.std.specs.Prelude.{◌≡◌, ◌≤◌, length, take, ℕ};
-ghost use Rattle.roff_lines.specs.Clauses.{finished_of, line_bytes};
+ghost use Rattle.std.specs.Prelude.{◌≡◌, ◌≤◌, ◌++◌, length, replicate, take, ℕ};
+ghost use Rattle.roff_lines.specs.Clauses.{device_line, finished_of, line_bytes, printed};
 ghost use Rattle.roff_lines.specs.LineBytes.Fronts.{glyphs_in_front, is_blank_mark, without_blanks};
 ghost use Rattle.roff_lines.specs.LineBytes.Shares.{shared_out};
 
+mod escaping;
 mod pieces;
 mod spreading;
 
@@ -18,7 +19,7 @@ pub struct LineBytes<'a> {
     /// What is left of the text.
     text: &'a [u8],
     /// The blanks before it.
-    blanks: u64,
+    blanks: u128,
     /// How many gaps were passed.
     passed: u64,
     /// The columns that adjusting adds to each gap.
@@ -85,17 +86,27 @@ impl<'a> LineBytes<'a> {
     pub fn of(line: Line<'a>) -> Self
         ensures { result ≡ line_bytes (finished_of line.entry) }
     {
+        Self::behind_columns(line, 0, line.after)
+    }
+
+    /// The bytes of a line behind so many columns more, such as the page offset, and then so many
+    /// blank lines in place of its own.
+    pub fn behind_columns(line: Line<'a>, columns: u64, after: u64) -> Self
+        ensures { result
+            ≡ device_line columns (printed (finished_of line.entry)) ++ replicate after 10 }
+    {
         let text = without_trailing_blanks(line.text);
         let (each, rest, gaps) = shares(line.spare, line.gaps);
+        let lead = u128::from(columns) + u128::from(line.lead);
         LineBytes {
             text,
-            blanks: if text.is_empty() { 0 } else { line.lead },
+            blanks: if text.is_empty() { 0 } else { lead },
             passed: 0,
             each,
             rest,
             gaps,
             over: 0,
-            newlines: u128::from(line.after) + 1,
+            newlines: u128::from(after) + 1,
         }
     }
 }
@@ -166,7 +177,7 @@ fn without_trailing_blanks(text: &[u8]) -> &[u8]
 }
 
 /// Whether a byte of a text stands for a blank.
-fn is_blank(byte: u8) -> bool
+pub(crate) fn is_blank(byte: u8) -> bool
     ensures { result ≡ is_blank_mark byte }
 {
     byte == GAP || byte == FURTHER_BLANK || byte == UNPADDABLE

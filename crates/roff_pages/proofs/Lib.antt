@@ -1,2 +1,3 @@
+pub mod Appending
 pub mod NextStop
 pub mod Pages

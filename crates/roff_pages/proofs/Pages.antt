@@ -12,7 +12,7 @@ use Rattle.roff_pages.specs.Stops.{Target, next_stop, page_target, target, is_di
 use Rattle.roff_pages.specs.Puts.{Put, boxes_put, puts, appended, ejected_if}
 use Rattle.roff_pages.specs.Turning.{page_begun, turned, turned_if_full, with_boxes, with_put, next_behind, unput, without_put, behind_put, with_event}
 use Rattle.roff_pages.specs.Springs.{is_passed, is_on_top, first_met, passed, springs, goes_on}
-use Rattle.roff_pages.specs.DeviceText.{device_line, device_lines, device_text}
+use Rattle.roff_pages.specs.DeviceText.{box_line, device_lines, device_text}
 use Rattle.roff_pages.specs.Reach.{texts}
 use Rattle.roff_pages.specs.WholePages.{page_boxes, ends_page, boxes_of_page, written_on_page, sizes_behind, page_sizes, keeps_length, keeps_page}
 use Rattle.roff_pages.proofs.NextStop.{next_stop-end, next_stop-le, page_put-within, on_the_page, first_met-stop}
@@ -26,8 +26,8 @@ texts-blank (suc n) boxes = texts-blank n boxes
 device_lines-append : (offset : ℕ) (front back : List Box) → device_lines offset (front ++ back) ≡ device_lines offset back ++ device_lines offset front
 device_lines-append offset [] back = sym (append-nil (device_lines offset back))
 device_lines-append offset (b ∷ front) back =
-    ap (λ text. text ++ device_line offset b) (device_lines-append offset front back)
-    ∙ append_assoc (device_lines offset back) (device_lines offset front) (device_line offset b)
+    ap (λ text. text ++ box_line offset b) (device_lines-append offset front back)
+    ∙ append_assoc (device_lines offset back) (device_lines offset front) (box_line offset b)
 
 -- what a happening writes of a page that is written is what it puts there
 text_by_tests : (diverted listed : Bool) (offset : ℕ) (more boxes : List Box) → listed ≡ true

@@ -1,22 +1,14 @@
 -- What a happening adds to the text of the innermost open diversion (manual, section 7.3).
 use Rattle.std.specs.Prelude.{ℕ, Bool, List, [], ◌∷◌, ◌++◌, codes, if◌then◌else◌, ◌==◌}
+use Rattle.roff_lines.specs.Diverted.{diverted}
 use Rattle.roff_pages.specs.Layout.{Box, Lined, Empty, Layout}
 use Rattle.roff_pages.specs.Happenings.{Happening}
 use Rattle.roff_pages.specs.Puts.{appended}
 use Rattle.roff_pages.specs.Stops.{is_diverted}
 
--- a byte so that reading gives it again: a blank isn't padded, a backslash begins no escape
-abbrev pub escaped_byte : ℕ → List ℕ
-escaped_byte b = if b == 32 then codes "\\ " else if b == 92 then codes "\\e" else b ∷ []
-
--- the same of a text
-abbrev pub escaped : List ℕ → List ℕ
-escaped [] = []
-escaped (b ∷ text) = escaped_byte b ++ escaped text
-
 -- a box as a line of input, which begins no control line
 abbrev pub diverted_line : Box → List ℕ
-diverted_line (Lined text) = codes "\\&" ++ (escaped text ++ 10 ∷ [])
+diverted_line (Lined text) = diverted text
 diverted_line Empty = 10 ∷ []
 
 -- boxes, the newest first, as lines of input in order

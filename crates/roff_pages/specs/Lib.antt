@@ -1,3 +1,4 @@
+pub mod Sinks
 pub mod Layout
 pub mod Titles
 pub mod Happenings
@@ -11,3 +12,4 @@ pub mod Queries
 pub mod Rows
 pub mod WholePages
 pub mod Reach
+pub mod Pages

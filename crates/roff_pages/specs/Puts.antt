@@ -1,8 +1,7 @@
 -- What a happening puts: a box, and blank lines behind it (manual, sections 3, 5.3 and 7.5).
 use Rattle.std.specs.Prelude.{ℕ, ◌+◌, ◌-◌, min, Bool, true, false, not, ◌&&◌, ◌||◌, List, [], ◌∷◌, ◌++◌, length, replicate, nat_lt, Option, Some, None, is_some, if◌then◌else◌, ◌==◌}
 use Rattle.roff_num.specs.declared.num.Num.{Num}
-use Rattle.roff_lines.specs.Lines.{Finished}
-use Rattle.roff_lines.specs.Columns.{spaces, spread}
+use Rattle.roff_lines.specs.Columns.{printed}
 use Rattle.roff_pages.specs.Titles.{title_text}
 use Rattle.roff_pages.specs.Layout.{Box, Lined, Empty, Layout}
 use Rattle.roff_pages.specs.Happenings.{LayoutEvent, Happening, Does, Places, Titles, Space, Need, Eject, EjectOn, EjectLast}
@@ -16,10 +15,6 @@ pub record Put : Type 0 where
 -- blank lines alone
 abbrev pub blank_lines : ℕ → Put
 blank_lines k = record { first = None; space = k }
-
--- a finished line as it is printed, with the blanks of its indent
-abbrev pub printed : Finished → List ℕ
-printed line = spaces line.lead ++ spread line.spare line.gaps 0 line.text
 
 -- what is spaced where so many lines are needed: the way to the stop, if it is less
 abbrev pub needed : ℕ → ℕ → Option ℕ → ℕ

@@ -3,6 +3,7 @@ use Rattle.std.specs.Prelude.{ℕ, ◌+◌, ◌-◌, ◌/◌, max, List, [], ◌
 use Rattle.roff_lines.specs.Glyphs.{glyph_blank, text_width}
 use Rattle.roff_lines.specs.Words.{is_empty}
 use Rattle.roff_lines.specs.Columns.{spaces}
+use Rattle.roff_lines.specs.TitleColumns.{centre_column, right_column}
 
 -- A title: its three parts, its length in columns, and the page number as it is printed. In a part the byte of a glyph's blank
 -- is a blank, and 1 stands for the page number.
@@ -24,14 +25,6 @@ part_text number (b ∷ part) =
     if b == page_mark then number ++ part_text number part
     else (if b == glyph_blank then 32 else b) ∷ part_text number part
 
--- where a part of this width is centred in a length, behind what ends at a column
-abbrev pub centred_at : ℕ → ℕ → ℕ → ℕ
-centred_at length width end = max ((length - width) / 2) end
-
--- where it ends at the length
-abbrev pub ending_at : ℕ → ℕ → ℕ → ℕ
-ending_at length width end = max (length - width) end
-
 -- a part at a column, behind a text that ends at another one: an empty part shows no blanks
 abbrev pub part_at : ℕ → ℕ → List ℕ → List ℕ
 part_at column end part = if is_empty part then [] else spaces (column - end) ++ part
@@ -39,8 +32,8 @@ part_at column end part = if is_empty part then [] else spaces (column - end) ++
 -- three parts in a length: an empty one in the centre has its place
 abbrev pub parts_placed : ℕ → List ℕ → List ℕ → List ℕ → List ℕ
 parts_placed length left centre right =
-    let centre_at = centred_at length (text_width centre) (text_width left) in
-    let right_at = ending_at length (text_width right) (centre_at + text_width centre) in
+    let centre_at = centre_column length (text_width centre) (text_width left) in
+    let right_at = right_column length (text_width right) (centre_at + text_width centre) in
     let shown = left ++ part_at centre_at (text_width left) centre in
     shown ++ part_at right_at (text_width shown) right
 

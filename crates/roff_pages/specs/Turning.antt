@@ -91,26 +91,31 @@ same_second (_) (_) = false
 abbrev pub same_name : ShortName → ShortName → Bool
 same_name m n = m.first == n.first && same_second m.second n.second
 
--- with a trap planted: in the place of the first with the same place as given, or else as the last
+-- whether a trap was given this place, or has this name
+abbrev pub is_given : ℤ → Trap → Bool
+is_given place t = int_eq t.place place
+
+abbrev pub is_named : ShortName → Trap → Bool
+is_named name t = same_name t.name name
+
+-- with the first trap that passes a test changed
+abbrev pub with_first : (Trap → Bool) → (Trap → Trap) → List Trap → List Trap
+with_first is_it change [] = []
+with_first is_it change (t ∷ traps) = if is_it t then change t ∷ traps else t ∷ with_first is_it change traps
+
+-- without it
+abbrev pub without_first : (Trap → Bool) → List Trap → List Trap
+without_first is_it [] = []
+without_first is_it (t ∷ traps) = if is_it t then traps else t ∷ without_first is_it traps
+
+-- with a trap planted: in the place of the first that was given the same place, or else as the last
 abbrev pub with_trap : Trap → List Trap → List Trap
-with_trap new [] = new ∷ []
-with_trap new (t ∷ traps) = if int_eq t.place new.place then new ∷ traps else t ∷ with_trap new traps
+with_trap new traps =
+    if list_any (is_given new.place) traps then with_first (is_given new.place) (λ t. new) traps else traps ++ new ∷ []
 
--- without the first trap at a place as given
-abbrev pub without_place : ℤ → List Trap → List Trap
-without_place place [] = []
-without_place place (t ∷ traps) = if int_eq t.place place then traps else t ∷ without_place place traps
-
--- with the first trap of a name moved
-abbrev pub with_moved : ShortName → ℤ → List Trap → List Trap
-with_moved name place [] = []
-with_moved name place (t ∷ traps) =
-    if same_name t.name name then record t { place = place } ∷ traps else t ∷ with_moved name place traps
-
--- without the first trap of a name
-abbrev pub without_name : ShortName → List Trap → List Trap
-without_name name [] = []
-without_name name (t ∷ traps) = if same_name t.name name then traps else t ∷ without_name name traps
+-- a trap that is moved
+abbrev pub moved_to : ℤ → Trap → Trap
+moved_to place t = record t { place = place }
 
 -- no-space mode of the innermost of open diversions
 abbrev pub with_mode : Bool → List Diversion → List Diversion
@@ -165,9 +170,9 @@ without_put (NoSpace on) L = record L {
   diversions = with_mode on L.diversions;
 }
 without_put (Plant t) L = record L { traps = with_trap t L.traps }
-without_put (Uproot place) L = record L { traps = without_place place L.traps }
-without_put (MoveTrap name place) L = record L { traps = with_moved name place L.traps }
-without_put (RemoveTrap name) L = record L { traps = without_name name L.traps }
+without_put (Uproot place) L = record L { traps = without_first (is_given place) L.traps }
+without_put (MoveTrap name place) L = record L { traps = with_first (is_named name) (moved_to place) L.traps }
+without_put (RemoveTrap name) L = record L { traps = without_first (is_named name) L.traps }
 without_put (DiversionTrap trap) L = record L { diversions = with_diversion_trap trap L.diversions }
 without_put (Divert name appends) L = record L { diversions = opened name appends ∷ L.diversions }
 without_put EndDivert L = record L {

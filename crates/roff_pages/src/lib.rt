@@ -2,13 +2,21 @@
 //!
 //! A layout has pages with their traps, and diversions. It knows lines and no input: it is told what
 //! happens, one happening after another, and says what that puts, and which macro is sprung
-//! (manual, sections 3, 5, 7.4, 7.5 and 14).
+//! (manual, sections 3, 5, 7.4, 7.5 and 14). What is written goes to a sink, through a block.
 #![tactic(auto)]
 
-mod layout_event;
+mod block;
 pub mod laws;
+mod layout_event;
+mod open_diversion;
+mod pages;
 pub mod rows;
+mod sink;
 mod trap;
+mod traps;
 
+pub use block::Block;
 pub use layout_event::LayoutEvent;
+pub use pages::Pages;
+pub use sink::{ByteSink, SinkFault, WriteSink};
 pub use trap::Trap;

@@ -7,7 +7,7 @@ use Rattle.roff_num.specs.declared.limits.Limits.{Limits}
 use Rattle.roff_engine.specs.Engine.Outcome.{Outcome, Runs, Seen, seen}
 use Rattle.roff_engine.specs.Outcomes.{Gives, GivesAll, HadNoFault}
 use Rattle.roff_run.specs.Results.{output_of, messages_of, status_of}
-use Rattle.roff_engine.specs.Sinks.{AppendsFront}
+use Rattle.roff_pages.specs.Sinks.{AppendsFront}
 use Rattle.roff_run.specs.declared.status.Status.{Status}
 use Rattle.roff_engine.proofs.Outcomes.{each_outcome_gives}
 use Rattle.roff_source.specs.Tape.{Tape}

@@ -6,7 +6,7 @@ use Rattle.roff_source.specs.ReadSource.Reach.{ending_given, may_give, unread}
 use Rattle.roff_engine.specs.declared.engine.Start.{Start}
 use Rattle.roff_run.specs.declared.status.Status.{Status}
 use Rattle.roff_engine.specs.Engine.Outcome.{Runs, seen}
-use Rattle.roff_engine.specs.Sinks.{Sunk}
+use Rattle.roff_pages.specs.Sinks.{Sunk}
 use Rattle.roff_tools.specs.RunOver.{RunsOver, limits_of}
 use Rattle.roff_tools.specs.declared.job.Job.{Job}
 use Rattle.roff_tools.specs.declared.job.Job.TheVariants.{Nroff}

@@ -5,7 +5,7 @@ use Rattle.roff_source.specs.Tape.{Ending}
 use Rattle.roff_source.specs.ReadSource.Reach.{MayGive}
 use Rattle.roff_run.specs.declared.status.Status.{Status}
 use Rattle.roff_engine.specs.Engine.Outcome.{Runs, seen}
-use Rattle.roff_engine.specs.Sinks.{Sunk}
+use Rattle.roff_pages.specs.Sinks.{Sunk}
 use Rattle.roff_tools.specs.Exit.{exit_after}
 use Rattle.roff_tools.specs.Inputs.Part.{AreNamed}
 use Rattle.roff_tools.specs.Inputs.Remaining.{inputs_remaining}

@@ -3,8 +3,9 @@
 ghost use Rattle.std.specs.Prelude.{◌≡◌, IfOk, OnErr};
 ghost use Rattle.roff_tools.specs.Clauses.{Runs, seen};
 
-use roff_engine::{ByteSink, Engine, Start, Status};
+use roff_engine::{Engine, Start, Status};
 use roff_num::Limits;
+use roff_pages::ByteSink;
 use roff_scan::ByteSource;
 use std::alloc::{AllocError, Global};
 

@@ -18,6 +18,7 @@ pub use in_memory::{Formatted, Room, format_in_memory};
 pub use job::{Job, run};
 pub use memory::{MemSink, MemSource};
 pub use program::main_with;
-pub use roff_engine::{ByteSink, Engine, SinkFault, Start, Status, WriteSink};
+pub use roff_engine::{Engine, Start, Status};
 pub use roff_num::{Limit, Limits};
+pub use roff_pages::{ByteSink, SinkFault, WriteSink};
 pub use roff_scan::{ByteSource, Note, ReadSource, Taken};

@@ -4,7 +4,7 @@ ghost use Rattle.std.specs.Prelude.{◌≡◌, ℕ, length, Some, IfOk};
 ghost use Rattle.roff_tools.specs.Memory.{kept_by, room_of};
 
 use crate::MemSink;
-use roff_engine::{ByteSink, SinkFault};
+use roff_pages::{ByteSink, SinkFault};
 use std::alloc::{AllocError, Global};
 
 /// A sink in memory that knows the first byte for which it had no room.

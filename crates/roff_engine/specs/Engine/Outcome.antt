@@ -10,7 +10,7 @@ use Rattle.roff_run.specs.declared.line_state.LineState.TheVariants.{Exiting}
 use Rattle.roff_run.specs.declared.message.Message.TheVariants.{WriteFailed}
 use Rattle.roff_run.specs.Messages.{message_line}
 use Rattle.roff_run.specs.Run.{State, Leads, initial, step, output, reported}
-use Rattle.roff_engine.specs.Sinks.{Sunk}
+use Rattle.roff_pages.specs.Sinks.{Sunk}
 
 -- what the devices of a run have seen: how many faults the source has had, and what the sinks tell
 pub record Seen : Type 0 where

@@ -6,8 +6,8 @@ ghost use Rattle.roff_engine.specs.Clauses.{escape_ended};
 
 use super::Formatter;
 use crate::halt::Halt;
-use crate::sink::ByteSink;
 use roff_lines::Event;
+use roff_pages::ByteSink;
 use roff_reader::AtOnce;
 use roff_run::PageEvent;
 use roff_scan::Unread;

@@ -8,8 +8,8 @@ ghost use Rattle.roff_engine.specs.Clauses.{PerformsOnly, sinks, Text, Puts, Sun
 use super::Formatter;
 use crate::halt::Halt;
 use crate::report::report;
-use crate::sink::ByteSink;
 use roff_lines::Event;
+use roff_pages::ByteSink;
 use roff_reader::Meaning;
 use roff_requests::Events;
 use roff_run::{EnvironmentNumber, Message, PageEvent};

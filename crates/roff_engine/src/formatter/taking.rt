@@ -10,8 +10,8 @@ ghost use Rattle.roff_engine.specs.Clauses.{DoesTaking, sinks, taking};
 
 use super::Formatter;
 use crate::halt::Halt;
-use crate::sink::ByteSink;
 use roff_lines::Glyph;
+use roff_pages::ByteSink;
 use roff_reader::AtOnce;
 use roff_run::PageEvent;
 use roff_scan::{Found, Unread};

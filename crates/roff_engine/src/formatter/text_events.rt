@@ -9,10 +9,9 @@ ghost use Rattle.roff_lines.specs.declared.event.Event.TheVariants.{Count};
 ghost use Rattle.roff_engine.specs.Clauses.{PerformsOnly, Text, Space, Puts, Sunk, Tab};
 
 use super::Formatter;
-use crate::block::Block;
 use crate::halt::Halt;
-use crate::sink::ByteSink;
 use roff_lines::{Glyph, Line};
+use roff_pages::{Block, ByteSink};
 use roff_run::TextByte;
 
 impl Formatter {

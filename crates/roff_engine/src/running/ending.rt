@@ -8,7 +8,7 @@ ghost use Rattle.roff_engine.specs.Clauses.{ReadFailed, Device};
 use super::Running;
 use crate::halt::Halt;
 use crate::report::report;
-use crate::sink::{ByteSink, SinkFault};
+use roff_pages::{ByteSink, SinkFault};
 use roff_run::{Message, Status};
 
 impl Running {

@@ -5,7 +5,7 @@ ghost use Rattle.roff_engine.specs.Clauses.{Sunk, seen, due, Tells};
 
 use super::Running;
 use crate::report::report_text;
-use crate::sink::ByteSink;
+use roff_pages::ByteSink;
 use roff_run::{Due, Status};
 
 impl Running {

@@ -38,7 +38,7 @@ impl<'a> LineBytes<'a> {
 
     /// Takes the blanks in front, at most so many, and tells how many.
     #[inline(always)]
-    fn take_blanks(&mut self, most: usize) -> usize
+    pub(crate) fn take_blanks(&mut self, most: usize) -> usize
         ensures most { result ≤ most }
         ensures taken { spaces result ++ self.new ≡ self.old }
         ensures blanks { spaces result ≡ take most (blanks_in_front self.old) }
@@ -72,7 +72,7 @@ impl<'a> LineBytes<'a> {
         if byte == GAP {
             let (added, over) = added_to_gap(self.each, self.rest, self.gaps, self.over);
             self.text = behind;
-            self.blanks = added;
+            self.blanks = u128::from(added);
             self.passed += 1;
             self.over = over;
             return true;
@@ -90,7 +90,7 @@ impl<'a> LineBytes<'a> {
         ensures most { result ≤ most }
         ensures taken { spaces result ++ self.new ≡ self.old }
     {
-        let owed = self.blanks.min(most as u64);
+        let owed = self.blanks.min(most as u128);
         self.blanks -= owed;
         owed as usize
     }

@@ -24,10 +24,10 @@ impl<'a> LineBytes<'a> {
             .each
             .saturating_mul(self.gaps)
             .saturating_add(self.rest);
-        let needed = (self.text.len() as u64)
+        let needed = (self.text.len() as u128)
             .saturating_add(self.blanks)
-            .saturating_add(spare);
-        if needed > (most - start) as u64 {
+            .saturating_add(u128::from(spare));
+        if needed > (most - start) as u128 {
             return;
         }
         let needed = needed as usize;

@@ -7,7 +7,7 @@ use Rattle.roff_requests.specs.Environments.Standing.{StandFor}
 use Rattle.roff_run.specs.Output.{PageHistory}
 use Rattle.roff_run.specs.declared.event.PageEvent.{PageEvent}
 use Rattle.roff_run.specs.Run.{State}
-use Rattle.roff_engine.specs.Sinks.{Sunk}
+use Rattle.roff_pages.specs.Sinks.{Sunk}
 use Rattle.roff_engine.proofs.formatter.Formatter.perform_each.Given as goal
 
 abbrev pub invariant-loop-event : goal.invariant-loop-event

@@ -20,6 +20,6 @@ returns-then-byte-eq-GAP-clause-taken c =
     let shared = c.added_to_gap-added in
     let none : left.blanks ≡ 0 = omega arith in
     let gap : c.in-Some.field-0-0.now ≡ 32 = omega arith in
-    rw (← c.self.view_is)
+    rw (← c.self.view_is, c.from-self-inside.ensures)
     (next_gap (spare_columns left) left.gaps left.passed shared.result.0 left.over shared.result.1 c.in-Some.field-0-0.now left.blanks left.text.now c.in-Some.behind.now
     (replicate left.newlines 10) c.self.invariant.over shared.ensures.over shared.ensures.added none c.in-Some.ensures.cases.0 gap)

@@ -1,0 +1,3 @@
+pub mod FirstTraps
+pub mod Kept
+pub mod Stands

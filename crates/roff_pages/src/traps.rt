@@ -1,0 +1,109 @@
+//! The traps of a page: where they lie, and which are met (manual, section 7.5).
+
+ghost use Rattle.std.specs.Prelude.{◌≡◌, ◌≤◌, length, nat_lt};
+ghost use Rattle.roff_pages.specs.Stops.{place_of, next_stop, nearer_stop};
+ghost use Rattle.roff_pages.specs.Turning.{is_given, is_named, same_name};
+ghost use Rattle.roff_pages.specs.Springs.{first_met, is_on_top, is_passed};
+ghost use Rattle.roff_pages.specs.Pages.FirstTraps.{first_index};
+
+use crate::trap::Trap;
+use roff_num::ShortName;
+
+/// Where a place as it was given lies on a page of this length, in lines, if it lies there.
+fn place_of(length: u32, place: i32) -> Option<u64>
+    ensures { result ≡ place_of length place }
+{
+    if place >= 0 {
+        let down = place as u64;
+        return (down < u64::from(length)).then_some(down);
+    }
+    let up = u64::from(place.unsigned_abs());
+    u64::from(length).checked_sub(up)
+}
+
+/// The nearer of two stops beyond a place, of which the first may lie nowhere.
+fn nearer_stop(place: u64, trap: Option<u64>, stop: u64) -> u64
+    ensures { result ≡ nearer_stop place trap stop }
+{
+    match trap {
+        Some(n) if place < n => n.min(stop),
+        _ => stop,
+    }
+}
+
+/// The next stop beyond a place of a page: a trap, or the page's end.
+#[tactic(auto, using(crate::proofs::NextStop::nearer_assoc, crate::proofs::NextStop::next_stop-le, crate::proofs::NextStop::nearer_le))]
+pub(crate) fn next_stop(length: u32, place: u64, traps: &[Trap]) -> u64
+    ensures { result ≡ next_stop length place traps.now }
+{
+    let mut stop = u64::from(length);
+    let mut rest = traps;
+    while let Some((trap, others)) = rest.split_first() {
+        stop = nearer_stop(place, place_of(length, trap.place), stop);
+        rest = others;
+    }
+    stop
+}
+
+/// The name of the first trap that lies at a page's beginning.
+pub(crate) fn first_on_top(length: u32, traps: &[Trap]) -> Option<ShortName>
+    ensures { result ≡ first_met is_on_top length traps.now }
+{
+    let mut rest = traps;
+    while let Some((trap, others)) = rest.split_first() {
+        match place_of(length, trap.place) {
+            Some(0) => return Some(trap.name),
+            _ => rest = others,
+        }
+    }
+    None
+}
+
+/// The place in turn of the first trap that was given this place, or how many there are.
+pub(crate) fn index_given(traps: &[Trap], place: i32) -> usize
+    ensures index { result ≡ first_index (is_given place) traps.now }
+    ensures within { result ≤ length traps.now }
+{
+    let mut index = 0;
+    let mut rest = traps;
+    while let Some((trap, others)) = rest.split_first() {
+        if trap.place == place {
+            return index;
+        }
+        index += 1;
+        rest = others;
+    }
+    index
+}
+
+/// The place in turn of the first trap of this name, or how many there are.
+pub(crate) fn index_named(traps: &[Trap], name: ShortName) -> usize
+    ensures index { result ≡ first_index (is_named name) traps.now }
+    ensures within { result ≤ length traps.now }
+{
+    let mut index = 0;
+    let mut rest = traps;
+    while let Some((trap, others)) = rest.split_first() {
+        if is_same(trap.name, name) {
+            return index;
+        }
+        index += 1;
+        rest = others;
+    }
+    index
+}
+
+/// Whether two names are the same.
+fn is_same(one: ShortName, other: ShortName) -> bool
+    ensures { result ≡ same_name one other }
+{
+    if one.first != other.first {
+        return false;
+    }
+    match (one.second, other.second) {
+        (None, None) => true,
+        (Some(one), Some(other)) => one == other,
+        (None, Some(_)) => false,
+        (Some(_), None) => false,
+    }
+}
