@@ -1,3 +1,4 @@
 pub mod Appending
 pub mod NextStop
-pub mod Pages
+pub mod FirstTraps
+pub mod WholePages

@@ -1,8 +1,8 @@
 -- The next stop of a page, and the traps that lie before it.
-use Rattle.std.proofs.Common.{◌≡◌, ℕ, ◌+◌, ◌-◌, ◌<◌, ◌≤◌, min, Bool, true, false, not, ◌||◌, ltb, ℤ, pos, negsuc, List, [], ◌∷◌, ◌++◌, length, replicate, Option, Some, None, refl, sym, ◌∙◌, subst, arith, inl, inr}
+use Rattle.std.proofs.Common.{◌≡◌, ℕ, ◌+◌, ◌-◌, ◌<◌, ◌≤◌, min, Bool, true, false, not, ◌||◌, ltb, ℤ, pos, negsuc, List, [], ◌∷◌, ◌++◌, length, replicate, Option, Some, None, refl, sym, ap, ◌∙◌, subst, arith, inl, inr}
 use Rattle.std.specs.Prelude.{if◌then◌else◌, nat_lt, nat_le, is_some}
 use Rattle.std.specs.List.{AllByRecursion}
-use Rattle.std.proofs.lemmas.Bool.{cases_Bool, ltb-true, ltb-false, lt-ltb, leb-false, and_from, false≢true, cases_lt}
+use Rattle.std.proofs.lemmas.Bool.{cases_Bool, ltb-true, ltb-false, lt-ltb, leb-false, lt-leb, and_from, and_left, and_right, false≢true, cases_lt}
 use Rattle.std.proofs.lemmas.List.{length-replicate, length-append}
 use Rattle.roff_num.specs.declared.short_name.ShortName.{ShortName}
 use Rattle.roff_lines.specs.Words.{is_empty}
@@ -46,15 +46,24 @@ nearer_le_by_test : (b : Bool) (n stop : ℕ) → (if b then min n stop else sto
 nearer_le_by_test true n stop = omega arith
 nearer_le_by_test false n stop = omega arith
 
-nearer_le : (place : ℕ) (o : Option ℕ) (stop : ℕ) → nearer_stop place o stop ≤ stop
+pub nearer_le : (place : ℕ) (o : Option ℕ) (stop : ℕ) → nearer_stop place o stop ≤ stop
 nearer_le place None stop = omega arith
 nearer_le place (Some n) stop = nearer_le_by_test (nat_lt place n) n stop
 
+-- of three stops it doesn't matter which two are compared first
+nearer_assoc_by_test : (b : Bool) (n m stop : ℕ) → min (if b then min n m else m) stop ≡ min m (if b then min n stop else stop)
+nearer_assoc_by_test true n m stop = omega arith
+nearer_assoc_by_test false n m stop = refl
+
+pub nearer_assoc : (place : ℕ) (o : Option ℕ) (m stop : ℕ) → min (nearer_stop place o m) stop ≡ min m (nearer_stop place o stop)
+nearer_assoc place None m stop = refl
+nearer_assoc place (Some n) m stop = nearer_assoc_by_test (nat_lt place n) n m stop
+
 -- no stop lies behind the page's end
-pub next_stop-le : (length place : ℕ) (traps : List Trap) → next_stop length place traps ≤ length
-next_stop-le length place [] = omega arith
-next_stop-le length place (t ∷ traps) =
-    omega (arith, next_stop-le length place traps, nearer_le place (place_of length t.place) (next_stop length place traps))
+pub next_stop_le : (length place : ℕ) (traps : List Trap) → next_stop length place traps ≤ length
+next_stop_le length place [] = omega arith
+next_stop_le length place (t ∷ traps) =
+    omega (arith, next_stop_le length place traps, nearer_le place (place_of length t.place) (next_stop length place traps))
 
 -- what reaches no further than the nearer stop reaches no further than the second
 nearer_within_by_test : (b : Bool) (place to n stop : ℕ) → ltb place n ≡ b
@@ -157,3 +166,41 @@ pub first_met-stop : (length place to : ℕ) (traps : List Trap) → to ≡ next
 first_met-stop length place to [] is before = absurd (omega arith)
 first_met-stop length place to (t ∷ traps) is before =
     waits_at place to (place_of length t.place) (next_stop length place traps) (first_met (is_passed place to) length traps) t.name is (λ e. first_met-stop length place to traps e before)
+
+-- up to a place before the next stop no trap is met, and the next stop stays
+none_by_test : (b : Bool) (place to n stop : ℕ) → ltb place n ≡ b → to < (if b then min n stop else stop) → is_passed place to (Some n) ≡ false
+none_by_test true place to n stop e before = and_right (nat_lt place n) (nat_le n to) (lt-leb n to (omega arith))
+none_by_test false place to n stop e before = and_left (nat_lt place n) (nat_le n to) e
+
+none_at : (place to : ℕ) (o : Option ℕ) (stop : ℕ) → to < nearer_stop place o stop → is_passed place to o ≡ false
+none_at place to None stop before = refl
+none_at place to (Some n) stop before = none_by_test (nat_lt place n) place to n stop refl before
+
+before_second : (place to : ℕ) (o : Option ℕ) (stop : ℕ) → to < nearer_stop place o stop → to < stop
+before_second place to o stop before = omega (arith, nearer_le place o stop)
+
+pub first_met-none : (length place to : ℕ) (traps : List Trap) → to < next_stop length place traps
+    → first_met (is_passed place to) length traps ≡ None
+first_met-none length place to [] before = refl
+first_met-none length place to (t ∷ traps) before =
+    rw (none_at place to (place_of length t.place) (next_stop length place traps) before)
+    (first_met-none length place to traps (before_second place to (place_of length t.place) (next_stop length place traps) before))
+
+stays_by_tests : (b c : Bool) (place to n stop : ℕ) → ltb place n ≡ b → ltb to n ≡ c → place ≤ to → to < (if b then min n stop else stop)
+    → (if c then min n stop else stop) ≡ (if b then min n stop else stop)
+stays_by_tests true true place to n stop e f on before = refl
+stays_by_tests false false place to n stop e f on before = refl
+stays_by_tests true false place to n stop e f on before = absurd (omega (arith, ltb-false to n f))
+stays_by_tests false true place to n stop e f on before = absurd (omega (arith, ltb-false place n e, ltb-true to n f))
+
+stays_at : (place to : ℕ) (o : Option ℕ) (stop : ℕ) → place ≤ to → to < nearer_stop place o stop → nearer_stop to o stop ≡ nearer_stop place o stop
+stays_at place to None stop on before = refl
+stays_at place to (Some n) stop on before = stays_by_tests (nat_lt place n) (nat_lt to n) place to n stop refl refl on before
+
+pub next_stop-stays : (length place to : ℕ) (traps : List Trap) → place ≤ to → to < next_stop length place traps
+    → next_stop length to traps ≡ next_stop length place traps
+next_stop-stays length place to [] on before = refl
+next_stop-stays length place to (t ∷ traps) on before =
+    let o = place_of length t.place in
+    let stop = next_stop length place traps in
+    ap (nearer_stop to o) (next_stop-stays length place to traps on (before_second place to o stop before)) ∙ stays_at place to o stop on before

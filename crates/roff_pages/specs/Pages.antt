@@ -1,3 +1,4 @@
 pub mod FirstTraps
 pub mod Kept
 pub mod Stands
+pub mod Advancing

@@ -21,9 +21,13 @@ abbrev pub number_behind : Option Num → Num → Num
 number_behind None number = one_more number
 number_behind (Some next) number = next
 
+-- whether a number lies in a range
+abbrev pub is_in_range : Num → Num × Num → Bool
+is_in_range n range = int_le range.0.0 n.0 && int_le n.0 range.1.0
+
 -- whether a page of this number is written: it lies in a range, or there is none
 abbrev pub is_in_ranges : List (Num × Num) → Num → Bool
-is_in_ranges ranges n = is_empty ranges || list_any (λ r. int_le r.0.0 n.0 && int_le n.0 r.1.0) ranges
+is_in_ranges ranges n = is_empty ranges || list_any (is_in_range n) ranges
 
 -- a page begins
 abbrev pub page_begun : Layout → Layout

@@ -32,7 +32,7 @@ fn nearer_stop(place: u64, trap: Option<u64>, stop: u64) -> u64
 }
 
 /// The next stop beyond a place of a page: a trap, or the page's end.
-#[tactic(auto, using(crate::proofs::NextStop::nearer_assoc, crate::proofs::NextStop::next_stop-le, crate::proofs::NextStop::nearer_le))]
+#[tactic(auto, using(crate::proofs::NextStop::nearer_assoc, crate::proofs::NextStop::next_stop_le, crate::proofs::NextStop::nearer_le))]
 pub(crate) fn next_stop(length: u32, place: u64, traps: &[Trap]) -> u64
     ensures { result ≡ next_stop length place traps.now }
 {
@@ -53,6 +53,20 @@ pub(crate) fn first_on_top(length: u32, traps: &[Trap]) -> Option<ShortName>
     while let Some((trap, others)) = rest.split_first() {
         match place_of(length, trap.place) {
             Some(0) => return Some(trap.name),
+            _ => rest = others,
+        }
+    }
+    None
+}
+
+/// The name of the first trap that lies beyond a place of a page, and not beyond another one.
+pub(crate) fn first_passed(length: u32, from: u64, to: u64, traps: &[Trap]) -> Option<ShortName>
+    ensures { result ≡ first_met (is_passed from to) length traps.now }
+{
+    let mut rest = traps;
+    while let Some((trap, others)) = rest.split_first() {
+        match place_of(length, trap.place) {
+            Some(place) if from < place && place <= to => return Some(trap.name),
             _ => rest = others,
         }
     }

@@ -41,9 +41,13 @@ pub record StandsAs (L : Layout) (k : Kept) : Type 0 where
   pub is_closing : k.is_closing ≡ L.is_closing
   pub is_over : k.is_over ≡ L.is_over
 
+-- the limits stay
+pub record SameLimits (old new : Kept) : Type 0 where
+  pub traps : new.most_traps ≡ old.most_traps
+  pub diversions : new.most_diversions ≡ old.most_diversions
+
 -- a happening that writes nothing and that no limit refuses: whatever layout the old pages stand for, the new ones stand for
 -- the one behind it, within the same limits
 pub record Happens (x : Happening) (old new : Kept) : Type 0 where
   pub stands : (L : Layout) → StandsAs L old → StandsAs (with_event x L) new
-  pub most_traps : new.most_traps ≡ old.most_traps
-  pub most_diversions : new.most_diversions ≡ old.most_diversions
+  pub limits : SameLimits old new

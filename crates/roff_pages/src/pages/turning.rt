@@ -1,24 +1,71 @@
-//! Beginning a page.
+//! Where a page ends, and the next one begins (manual, section 3).
 
-ghost use Rattle.std.specs.Prelude.{◌≡◌};
-ghost use Rattle.roff_num.specs.declared.num.Num.{Num as NumOf};
-ghost use Rattle.roff_pages.specs.Layout.{Layout};
+ghost use Rattle.std.specs.Prelude.{◌≡◌, List, length, None, if◌then◌else◌};
+ghost use Rattle.roff_pages.specs.Layout.{Box, Layout};
 ghost use Rattle.roff_pages.specs.Happenings.{Does, Begin};
 ghost use Rattle.roff_pages.specs.Turning.{is_in_ranges, number_behind, one_more};
-ghost use Rattle.roff_pages.specs.Springs.{springs};
+ghost use Rattle.roff_pages.specs.Turning.{page_begun, turned, turned_if_full};
+ghost use Rattle.roff_pages.specs.Springs.{first_met, is_on_top, springs};
+ghost use Rattle.roff_pages.specs.Pages.Advancing.{sprung_by, with_lines};
 
-use super::{MOST_BEGUN, Pages};
-use crate::traps::{first_on_top, next_stop};
+use super::{MOST_BEGUN, MOST_COUNTED, Pages};
+use crate::traps::{first_on_top, first_passed, next_stop};
 use roff_num::{Num, ShortName};
 
 impl Pages {
-    ghost use Rattle.roff_pages.specs.Pages.Stands.{StandsAs, Happens};
+    ghost use Rattle.roff_pages.specs.Pages.Stands.{StandsAs, Happens, SameLimits};
 
     /// Begins the first page. The macro is sprung that is planted at a page's beginning.
     pub fn begin(&mut self) -> Option<ShortName>
         ensures happens { Happens (Does Begin) self.old self.new }
-        ensures springs { (L : Layout) → StandsAs L self.old → L.is_over ≡ false
-            → result ≡ springs (Does Begin) L }
+        ensures springs { (L : Layout) → StandsAs L self.old → result ≡ springs (Does Begin) L }
+    {
+        let sprung = self.begin_page();
+        if self.is_over { None } else { sprung }
+    }
+
+    /// The page with so many lines more: it ends where it is full. Answers what springs.
+    pub(super) fn advance(&mut self, lines: u64) -> Option<ShortName>
+        ensures stands { (L : Layout) (boxes : List Box) → StandsAs L self.old
+            → length boxes ≡ lines → StandsAs (turned_if_full (with_lines boxes L)) self.new }
+        ensures springs { (L : Layout) (boxes : List Box) → StandsAs L self.old
+            → length boxes ≡ lines → result ≡ sprung_by boxes L }
+        ensures limits { SameLimits self.old self.new }
+    {
+        let from = self.place;
+        self.place = from.saturating_add(lines).min(MOST_COUNTED);
+        if self.place < self.stop {
+            return None;
+        }
+        self.stop = next_stop(self.length, self.place, self.traps.as_slice());
+        if self.place >= u64::from(self.length) {
+            return self.turn();
+        }
+        first_passed(self.length, from, self.place, self.traps.as_slice())
+    }
+
+    /// Ends the page: the next one begins, but in the closing phase. Answers what springs.
+    fn turn(&mut self) -> Option<ShortName>
+        ensures stands { (L : Layout) → StandsAs L self.old → StandsAs (turned L) self.new }
+        ensures springs { (L : Layout) → StandsAs L self.old
+            → result ≡ (if (turned L).is_over then None else first_met is_on_top L.length L.traps) }
+        ensures limits { SameLimits self.old self.new }
+    {
+        if self.is_closing {
+            self.is_over = true;
+            return None;
+        }
+        let sprung = self.begin_page();
+        if self.is_over { None } else { sprung }
+    }
+
+    /// Begins a page. Answers what is met at its beginning.
+    fn begin_page(&mut self) -> Option<ShortName>
+        ensures stands { (L : Layout) → StandsAs L self.old → StandsAs (page_begun L) self.new }
+        ensures met { (L : Layout) → StandsAs L self.old
+            → result ≡ first_met is_on_top L.length L.traps }
+        ensures over { self.new.is_over ≡ self.old.is_over }
+        ensures limits { SameLimits self.old self.new }
     {
         let number = number_behind(self.next, self.number);
         self.begun = (self.begun + 1).min(MOST_BEGUN);

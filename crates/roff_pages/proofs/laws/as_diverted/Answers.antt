@@ -4,7 +4,7 @@ use Rattle.roff_pages.specs.Happenings.{Places}
 use Rattle.roff_pages.specs.Stops.{target}
 use Rattle.roff_lines.specs.Columns.{printed}
 use Rattle.roff_pages.specs.Puts.{within_stop}
-use Rattle.roff_pages.proofs.Pages.{texts-blank}
+use Rattle.roff_pages.proofs.WholePages.{texts-blank}
 use Rattle.roff_pages.proofs.laws.as_diverted.Goals as goal
 
 pub returns-clause-line : goal.returns-clause-line

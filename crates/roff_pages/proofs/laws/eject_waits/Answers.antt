@@ -1,4 +1,4 @@
-use Rattle.roff_pages.proofs.Pages.{waits}
+use Rattle.roff_pages.proofs.WholePages.{waits}
 use Rattle.roff_pages.proofs.laws.eject_waits.Goals as goal
 
 pub returns : goal.returns

@@ -1,4 +1,4 @@
-use Rattle.roff_pages.proofs.Pages.{all_full}
+use Rattle.roff_pages.proofs.WholePages.{all_full}
 use Rattle.roff_pages.proofs.laws.full_pages.Goals as goal
 
 pub returns : goal.returns

@@ -1,4 +1,4 @@
-use Rattle.roff_pages.proofs.Pages.{page_text}
+use Rattle.roff_pages.proofs.WholePages.{page_text}
 use Rattle.roff_pages.proofs.laws.page_texts.Goals as goal
 
 pub returns : goal.returns

@@ -15,7 +15,7 @@ use Rattle.roff_pages.specs.Springs.{is_passed, is_on_top, first_met, passed, sp
 use Rattle.roff_pages.specs.DeviceText.{box_line, device_lines, device_text}
 use Rattle.roff_pages.specs.Reach.{texts}
 use Rattle.roff_pages.specs.WholePages.{page_boxes, ends_page, boxes_of_page, written_on_page, sizes_behind, page_sizes, keeps_length, keeps_page}
-use Rattle.roff_pages.proofs.NextStop.{next_stop-end, next_stop-le, page_put-within, on_the_page, first_met-stop}
+use Rattle.roff_pages.proofs.NextStop.{next_stop-end, next_stop_le, page_put-within, on_the_page, first_met-stop}
 
 -- blank lines have no texts
 pub texts-blank : (n : ℕ) (boxes : List Box) → texts (replicate n Empty ++ boxes) ≡ texts boxes
@@ -157,7 +157,7 @@ size_by_test x L false d before full =
     let beyond : page_place L < stop = beyond_by L before in
     let reach : page_place L + length (appended x L) ≤ stop =
     subst (λ (t : Target). page_place L + length (boxes_put t (puts x L)) ≤ stop) (on_the_page (is_eject x) L.diversions (page_target L) d) (page_put-within L (puts x L) beyond) in
-    omega (arith, reach, next_stop-le L.length (page_place L) L.traps, length-append {A = Box} (appended x L) L.boxes, leb-true L.length (length (appended x L ++ L.boxes)) full)
+    omega (arith, reach, next_stop_le L.length (page_place L) L.traps, length-append {A = Box} (appended x L) L.boxes, leb-true L.length (length (appended x L ++ L.boxes)) full)
 
 -- the page that ends is full
 ended_size : (x : Happening) (L : Layout) → page_place L < L.length → ends_page x L ≡ true → length (page_boxes x L) ≡ L.length
