@@ -2,3 +2,4 @@ pub mod Appending
 pub mod NextStop
 pub mod FirstTraps
 pub mod WholePages
+pub mod Standing

@@ -1,13 +1,15 @@
 //! The traps of a page: where they lie, and which are met (manual, section 7.5).
 
-ghost use Rattle.std.specs.Prelude.{◌≡◌, ◌≤◌, length, nat_lt};
+ghost use Rattle.std.specs.Prelude.{◌≡◌, ◌≤◌, ◌<◌, length, vec_capacity, OnOk, IfErr};
+ghost use Rattle.roff_num.specs.declared.limit.Limit.TheVariants.{Traps};
 ghost use Rattle.roff_pages.specs.Stops.{place_of, next_stop, nearer_stop};
 ghost use Rattle.roff_pages.specs.Turning.{is_given, is_named, same_name};
+ghost use Rattle.roff_pages.specs.Turning.{moved_to, with_first, with_trap, without_first};
 ghost use Rattle.roff_pages.specs.Springs.{first_met, is_on_top, is_passed};
 ghost use Rattle.roff_pages.specs.Pages.FirstTraps.{first_index};
 
 use crate::trap::Trap;
-use roff_num::ShortName;
+use roff_num::{Limit, ShortName};
 
 /// Where a place as it was given lies on a page of this length, in lines, if it lies there.
 fn place_of(length: u32, place: i32) -> Option<u64>
@@ -71,6 +73,73 @@ pub(crate) fn first_passed(length: u32, from: u64, to: u64, traps: &[Trap]) -> O
         }
     }
     None
+}
+
+/// Plants a trap among others: in the place in turn of the first with the same place as given, or as
+/// the last one, if there are fewer than may be.
+pub(crate) fn plant_among(traps: &mut Vec<Trap>, trap: Trap, most: u32) -> Result<(), Limit>
+    requires room { most ≤ vec_capacity traps.old }
+    requires few { length traps.old.items ≤ most }
+    ensures traps { OnOk result (traps.new.items ≡ with_trap trap traps.old.items) }
+    ensures within { OnOk result (length (with_trap trap traps.old.items) ≤ most) }
+    ensures limit { IfErr result (λ l. l ≡ Traps) }
+    ensures same { IfErr result (λ l. traps.new ≡ traps.old) }
+    ensures full { IfErr result (λ l. most < length (with_trap trap traps.old.items)) }
+    ensures capacity { vec_capacity traps.old ≤ vec_capacity traps.new }
+{
+    let index = index_given(traps.as_slice(), trap.place);
+    if index < traps.len() {
+        traps[index] = trap;
+        return Ok(());
+    }
+    if traps.len() >= most as usize {
+        return Err(Limit::Traps);
+    }
+    traps.push(trap).unwrap();
+    Ok(())
+}
+
+/// Removes the first trap that was given this place.
+pub(crate) fn remove_given(traps: &mut Vec<Trap>, place: i32)
+    ensures traps { traps.new.items ≡ without_first (is_given place) traps.old.items }
+    ensures few { length traps.new.items ≤ length traps.old.items }
+    ensures capacity { vec_capacity traps.old ≤ vec_capacity traps.new }
+{
+    let index = index_given(traps.as_slice(), place);
+    if index >= traps.len() {
+        return;
+    }
+    traps.remove(index);
+}
+
+/// Removes the first trap of this name.
+pub(crate) fn remove_named(traps: &mut Vec<Trap>, name: ShortName)
+    ensures traps { traps.new.items ≡ without_first (is_named name) traps.old.items }
+    ensures few { length traps.new.items ≤ length traps.old.items }
+    ensures capacity { vec_capacity traps.old ≤ vec_capacity traps.new }
+{
+    let index = index_named(traps.as_slice(), name);
+    if index >= traps.len() {
+        return;
+    }
+    traps.remove(index);
+}
+
+/// Moves the first trap of this name.
+pub(crate) fn move_named(traps: &mut Vec<Trap>, name: ShortName, place: i32)
+    ensures traps { traps.new.items ≡ with_first (is_named name) (moved_to place) traps.old.items }
+    ensures few { length traps.new.items ≤ length traps.old.items }
+    ensures capacity { vec_capacity traps.old ≤ vec_capacity traps.new }
+{
+    let index = index_named(traps.as_slice(), name);
+    if index >= traps.len() {
+        return;
+    }
+    let found = traps[index];
+    traps[index] = Trap {
+        place,
+        name: found.name,
+    };
 }
 
 /// The place in turn of the first trap that was given this place, or how many there are.

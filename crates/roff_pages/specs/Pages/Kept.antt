@@ -1,5 +1,5 @@
 -- What the code keeps of a layout: boxes are counted.
-use Rattle.std.specs.Prelude.{◌≡◌, ℕ, ◌≤◌, ◌^◌, Bool, List, [], ◌∷◌, reverse, length, Option, Some, None, vec_capacity}
+use Rattle.std.specs.Prelude.{◌≡◌, ℕ, ◌<◌, ◌≤◌, ◌^◌, Bool, List, [], ◌∷◌, reverse, length, Option, Some, None, vec_capacity}
 use Rattle.roff_num.specs.declared.num.Num.{Num}
 use Rattle.roff_pages.specs.declared.trap.Trap.{Trap}
 use Rattle.roff_pages.specs.declared.open_diversion.OpenDiversion.{OpenDiversion}
@@ -60,6 +60,7 @@ kept_by a = record {
 -- no diversion is open none is left.
 pub record IsSound (a : Inside) : Type 0 where
   pub begun : a.begun ≤ 2 ^ 32
+  pub short : a.length < 2 ^ 32
   pub place : a.place ≤ 2 ^ 33
   pub stop : a.stop ≡ next_stop a.length a.place a.traps.items
   pub traps : length a.traps.items ≤ a.most_traps

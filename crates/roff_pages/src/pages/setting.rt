@@ -8,7 +8,7 @@ ghost use Rattle.roff_num.specs.declared.limit.Limit.TheVariants.{Traps};
 
 use super::Pages;
 use crate::trap::Trap;
-use crate::traps::{index_given, index_named, next_stop};
+use crate::traps::{move_named, next_stop, plant_among, remove_given, remove_named};
 use roff_num::{Limit, Num, ShortName};
 
 impl Pages {
@@ -73,14 +73,7 @@ impl Pages {
         ensures full { IfErr result
             (λ l. self.old.most_traps < length (with_trap trap self.old.traps)) }
     {
-        let index = index_given(self.traps.as_slice(), trap.place);
-        if index < self.traps.len() {
-            self.traps[index] = trap;
-        } else if self.traps.len() < self.most_traps as usize {
-            self.traps.push(trap).unwrap();
-        } else {
-            return Err(Limit::Traps);
-        }
+        plant_among(&mut self.traps, trap, self.most_traps)?;
         self.stop = next_stop(self.length, self.place, self.traps.as_slice());
         Ok(())
     }
@@ -89,36 +82,23 @@ impl Pages {
     pub fn uproot(&mut self, place: i32)
         ensures { Happens (Does (Uproot place)) self.old self.new }
     {
-        let index = index_given(self.traps.as_slice(), place);
-        if index < self.traps.len() {
-            self.traps.remove(index);
-            self.stop = next_stop(self.length, self.place, self.traps.as_slice());
-        }
+        remove_given(&mut self.traps, place);
+        self.stop = next_stop(self.length, self.place, self.traps.as_slice());
     }
 
     /// Moves the first trap of this name.
     pub fn move_trap(&mut self, name: ShortName, place: i32)
         ensures { Happens (Does (MoveTrap name place)) self.old self.new }
     {
-        let index = index_named(self.traps.as_slice(), name);
-        if index < self.traps.len() {
-            let found = self.traps[index];
-            self.traps[index] = Trap {
-                place,
-                name: found.name,
-            };
-            self.stop = next_stop(self.length, self.place, self.traps.as_slice());
-        }
+        move_named(&mut self.traps, name, place);
+        self.stop = next_stop(self.length, self.place, self.traps.as_slice());
     }
 
     /// Removes the first trap of this name.
     pub fn remove_trap(&mut self, name: ShortName)
         ensures { Happens (Does (RemoveTrap name)) self.old self.new }
     {
-        let index = index_named(self.traps.as_slice(), name);
-        if index < self.traps.len() {
-            self.traps.remove(index);
-            self.stop = next_stop(self.length, self.place, self.traps.as_slice());
-        }
+        remove_named(&mut self.traps, name);
+        self.stop = next_stop(self.length, self.place, self.traps.as_slice());
     }
 }

@@ -5,7 +5,7 @@ ghost use Rattle.roff_pages.specs.Layout.{Box, Layout};
 ghost use Rattle.roff_pages.specs.Happenings.{Does, Begin};
 ghost use Rattle.roff_pages.specs.Turning.{is_in_ranges, number_behind, one_more};
 ghost use Rattle.roff_pages.specs.Turning.{page_begun, turned, turned_if_full};
-ghost use Rattle.roff_pages.specs.Springs.{first_met, is_on_top, springs};
+ghost use Rattle.roff_pages.specs.Springs.{first_met, is_on_top, is_passed, springs};
 ghost use Rattle.roff_pages.specs.Pages.Advancing.{sprung_by, with_lines};
 
 use super::{MOST_BEGUN, MOST_COUNTED, Pages};
@@ -40,6 +40,17 @@ impl Pages {
         self.stop = next_stop(self.length, self.place, self.traps.as_slice());
         if self.place >= u64::from(self.length) {
             return self.turn();
+        }
+        self.passed_since(from)
+    }
+
+    /// What was passed since the page had come to a place, if it isn't over.
+    fn passed_since(&self, from: u64) -> Option<ShortName>
+        ensures { result ≡ (if self.now.is_over then None
+            else first_met (is_passed from self.now.place) self.now.length self.now.traps) }
+    {
+        if self.is_over {
+            return None;
         }
         first_passed(self.length, from, self.place, self.traps.as_slice())
     }
