@@ -1,5 +1,5 @@
 -- The next stop of a page, and the traps that lie before it.
-use Rattle.std.proofs.Common.{◌≡◌, ℕ, ◌+◌, ◌-◌, ◌<◌, ◌≤◌, min, Bool, true, false, not, ◌||◌, ltb, ℤ, pos, negsuc, List, [], ◌∷◌, ◌++◌, length, replicate, Option, Some, None, refl, sym, ap, ◌∙◌, subst, arith, inl, inr}
+use Rattle.std.proofs.Common.{◌≡◌, ℕ, ◌+◌, ◌-◌, ◌<◌, ◌≤◌, min, Bool, true, false, not, ◌||◌, ltb, ℤ, pos, negsuc, List, [], ◌∷◌, length, replicate, Option, Some, None, refl, sym, ap, ◌∙◌, subst, arith, inl, inr}
 use Rattle.std.specs.Prelude.{if◌then◌else◌, nat_lt, nat_le, is_some}
 use Rattle.std.specs.List.{AllByRecursion}
 use Rattle.std.proofs.lemmas.Bool.{cases_Bool, ltb-true, ltb-false, lt-ltb, leb-false, lt-leb, and_from, and_left, and_right, false≢true, cases_lt}
@@ -9,7 +9,7 @@ use Rattle.roff_lines.specs.Words.{is_empty}
 use Rattle.roff_pages.specs.declared.trap.Trap.{Trap}
 use Rattle.roff_pages.specs.Layout.{Box, Lined, Empty, Layout, Diversion, page_place}
 use Rattle.roff_pages.specs.Stops.{Target, place_of, nearer_stop, next_stop, page_target, innermost}
-use Rattle.roff_pages.specs.Puts.{Put, within_stop, boxes_behind, boxes_put}
+use Rattle.roff_pages.specs.Puts.{Put, boxes_behind, boxes_put}
 use Rattle.roff_pages.specs.Springs.{is_passed, first_met}
 use Rattle.roff_pages.specs.Reach.{IsMetAtEnd}
 
@@ -98,9 +98,10 @@ meets length place to (Some n) stop below at_end h = meets_by_test (nat_lt place
 pub met_at_end : (length place to : ℕ) (traps : List Trap) → (place < next_stop length place traps → to ≤ next_stop length place traps)
     → AllByRecursion (λ (t : Trap). IsMetAtEnd place to (place_of length t.place)) traps
 met_at_end length place to [] h = tt
-met_at_end length place to (t ∷ traps) h =
-    (meets length place to (place_of length t.place) (next_stop length place traps) (place_of-below length t.place) (next_stop-end length place traps) h,
-    met_at_end length place to traps (nearer_within place to (place_of length t.place) (next_stop length place traps) h))
+met_at_end length place to (t ∷ traps) h = (
+  meets length place to (place_of length t.place) (next_stop length place traps) (place_of-below length t.place) (next_stop-end length place traps) h,
+  met_at_end length place to traps (nearer_within place to (place_of length t.place) (next_stop length place traps) h),
+)
 
 -- boxes reach no further than the stop, where it lies beyond the place
 pub boxes_behind-within : (place stop : ℕ) (first : Option (List ℕ)) (k : ℕ) → place < stop

@@ -1,6 +1,6 @@
 -- Pages that stand for a layout, behind a change.
-use Rattle.std.proofs.Common.{◌≡◌, ℕ, ◌+◌, ◌<◌, ◌≤◌, min, Bool, true, false, List, ◌++◌, length, Option, None, refl, sym, ap, ◌∙◌, subst, arith, rules}
-use Rattle.std.specs.Prelude.{nat_le, nat_lt, ◌^◌, if◌then◌else◌}
+use Rattle.std.proofs.Common.{◌≡◌, ℕ, ◌+◌, ◌<◌, ◌≤◌, min, Bool, true, false, List, ◌++◌, length, Option, None, refl, sym, ap, ◌∙◌, subst, arith}
+use Rattle.std.specs.Prelude.{nat_le, ◌^◌, if◌then◌else◌}
 use Rattle.std.proofs.lemmas.Bool.{lt-leb, le-leb, eq-eqb, ne_eqb}
 use Rattle.std.proofs.lemmas.List.{length-append}
 use Rattle.roff_num.specs.declared.short_name.ShortName.{ShortName}
@@ -128,7 +128,7 @@ trap_sprung L boxes k place r s short is before answer =
     let reach : place ≡ page_place L + length boxes = omega arith in
     let below : length (boxes ++ L.boxes) < L.length = omega (arith, s.length) in
     let same : (if k.is_over then None else first_met (is_passed k.place place) k.length k.traps)
-        ≡ (if L.is_over then None else first_met (is_passed (page_place L) (page_place L + length boxes)) L.length L.traps) =
+    ≡ (if L.is_over then None else first_met (is_passed (page_place L) (page_place L + length boxes)) L.length L.traps) =
     rw (s.is_over, s.length, exact, reach, s.traps) refl in
     answer ∙ (same ∙ (sprung_here L N (page_place L) (page_place L + length boxes) L.is_over refl refl
     ∙ ap (λ (M : Layout). sprung_on L M (page_place L) (page_place L + length boxes)) (sym (not_full N (lt-leb L.length (length (boxes ++ L.boxes)) below)))))

@@ -1,17 +1,16 @@
 -- Pages from their beginning to their end.
-use Rattle.std.proofs.Common.{◌≡◌, ℕ, zero, suc, ◌+◌, ◌-◌, ◌<◌, ◌≤◌, min, Bool, true, false, not, ◌&&◌, ◌||◌, ltb, leb, List, [], ◌∷◌, ◌++◌, length, replicate, Option, Some, None, refl, sym, ◌∙◌, ap, subst, arith, inl, inr, append_assoc, append-nil}
-use Rattle.std.specs.Prelude.{if◌then◌else◌, nat_lt, nat_le, is_some, ◌==◌}
+use Rattle.std.proofs.Common.{◌≡◌, ℕ, zero, suc, ◌+◌, ◌-◌, ◌<◌, ◌≤◌, min, Bool, true, false, not, ◌&&◌, ◌||◌, List, [], ◌∷◌, ◌++◌, length, replicate, Option, Some, None, refl, sym, ◌∙◌, ap, subst, arith, inl, inr, append_assoc, append-nil}
+use Rattle.std.specs.Prelude.{if◌then◌else◌, nat_le, is_some, ◌==◌}
 use Rattle.std.specs.List.{AllByRecursion}
-use Rattle.std.proofs.lemmas.Bool.{cases_Bool, ltb-true, ltb-false, leb-true, leb-false, and_parts, eqb-true, not-true, false≢true, cases_lt}
+use Rattle.std.proofs.lemmas.Bool.{leb-true, leb-false, and_parts, eqb-true, false≢true, cases_lt}
 use Rattle.std.proofs.lemmas.List.{length-replicate, length-append}
 use Rattle.roff_num.specs.declared.short_name.ShortName.{ShortName}
-use Rattle.roff_lines.specs.Words.{is_empty}
-use Rattle.roff_pages.specs.Layout.{Box, Lined, Empty, Layout, Diversion, page_place}
-use Rattle.roff_pages.specs.Happenings.{LayoutEvent, Happening, Does, Places, Titles, is_eject, ListPages, Begin, Close, Space, Need, Eject, EjectOn, EjectLast, Length, Offset, Next, Number, NoSpace, Plant, Uproot, MoveTrap, RemoveTrap, DiversionTrap, Divert, EndDivert}
+use Rattle.roff_pages.specs.Layout.{Box, Empty, Layout, page_place}
+use Rattle.roff_pages.specs.Happenings.{LayoutEvent, Happening, Does, Places, Titles, is_eject, Begin, Eject, EjectOn, EjectLast, Length, Offset}
 use Rattle.roff_pages.specs.Stops.{Target, next_stop, page_target, target, is_diverted}
 use Rattle.roff_pages.specs.Puts.{Put, boxes_put, puts, appended, ejected_if}
-use Rattle.roff_pages.specs.Turning.{page_begun, turned, turned_if_full, with_boxes, with_put, next_behind, unput, without_put, behind_put, with_event}
-use Rattle.roff_pages.specs.Springs.{is_passed, is_on_top, first_met, passed, springs, goes_on}
+use Rattle.roff_pages.specs.Turning.{page_begun, turned, with_boxes, next_behind, unput, without_put, behind_put, with_event}
+use Rattle.roff_pages.specs.Springs.{is_passed, is_on_top, first_met, springs, goes_on}
 use Rattle.roff_pages.specs.DeviceText.{box_line, device_lines, device_text}
 use Rattle.roff_pages.specs.Reach.{texts}
 use Rattle.roff_pages.specs.WholePages.{page_boxes, ends_page, boxes_of_page, written_on_page, sizes_behind, page_sizes, keeps_length, keeps_page}
@@ -224,8 +223,8 @@ waits_full false closing L N on_top here b met h =
 -- the trap that a page comes to that isn't full then
 waits_here : (L : Layout)
     → let way = next_stop L.length (page_place L) L.traps - page_place L in
-      let boxes : List Box = replicate (min way way) Empty in
-      nat_le L.length (length (boxes ++ L.boxes)) ≡ false
+    let boxes : List Box = replicate (min way way) Empty in
+    nat_le L.length (length (boxes ++ L.boxes)) ≡ false
     → is_some (first_met (is_passed (page_place L) (page_place L + length boxes)) L.length L.traps) ≡ true
 waits_here L unended =
     let stop = next_stop L.length (page_place L) L.traps in

@@ -1,5 +1,5 @@
 -- What a happening writes to the device: the boxes that it puts on a page that is written (manual, section 3).
-use Rattle.std.specs.Prelude.{ℕ, Bool, not, ◌||◌, List, [], ◌∷◌, ◌++◌, if◌then◌else◌}
+use Rattle.std.specs.Prelude.{ℕ, not, ◌||◌, List, [], ◌∷◌, ◌++◌, if◌then◌else◌}
 use Rattle.roff_lines.specs.Columns.{device_line}
 use Rattle.roff_pages.specs.Layout.{Box, Lined, Empty, Layout}
 use Rattle.roff_pages.specs.Happenings.{Happening}

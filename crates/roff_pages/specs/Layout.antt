@@ -2,7 +2,7 @@
 --
 -- Vertical lengths and places are in lines, and horizontal ones in columns. A page, and a diversion, is a list of boxes, the
 -- newest first; its place is their number.
-use Rattle.std.specs.Prelude.{ℕ, Bool, false, ℤ, pos, List, [], length, Option, None}
+use Rattle.std.specs.Prelude.{ℕ, Bool, false, pos, List, [], length, Option, None}
 use Rattle.roff_num.specs.declared.num.Num.{Num}
 use Rattle.roff_num.specs.declared.short_name.ShortName.{ShortName}
 use Rattle.roff_pages.specs.declared.trap.Trap.{Trap}

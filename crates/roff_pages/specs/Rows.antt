@@ -1,12 +1,9 @@
 -- What layouts do on lists of happenings, the oldest first: worked rows are computed with these.
-use Rattle.std.specs.Prelude.{ℕ, Bool, ℤ, List, [], ◌∷◌, ◌++◌, codes, Option, Some, None}
-use Rattle.roff_num.specs.declared.num.Num.{Num}
+use Rattle.std.specs.Prelude.{ℕ, Bool, ℤ, List, [], ◌∷◌, ◌++◌, Option, Some, None}
 use Rattle.roff_num.specs.declared.short_name.ShortName.{ShortName}
-use Rattle.roff_lines.specs.Lines.{Finished}
 use Rattle.roff_pages.specs.declared.trap.Trap.{Trap}
-use Rattle.roff_pages.specs.Titles.{Title}
 use Rattle.roff_pages.specs.Layout.{Layout, first_layout}
-use Rattle.roff_pages.specs.Happenings.{Happening, Does, Places, Titles, Plant, DiversionTrap}
+use Rattle.roff_pages.specs.Happenings.{Happening, Places, Titles}
 use Rattle.roff_pages.specs.Turning.{with_event}
 use Rattle.roff_pages.specs.Springs.{springs, goes_on}
 use Rattle.roff_pages.specs.DeviceText.{device_text}

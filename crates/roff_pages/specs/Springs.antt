@@ -1,8 +1,8 @@
 -- What springs (manual, sections 7.4 and 7.5).
-use Rattle.std.specs.Prelude.{ℕ, ◌+◌, Bool, true, false, not, ◌&&◌, List, [], ◌∷◌, length, nat_lt, nat_le, Option, Some, None, is_some, if◌then◌else◌, ◌==◌}
+use Rattle.std.specs.Prelude.{ℕ, ◌+◌, Bool, false, not, ◌&&◌, List, [], ◌∷◌, length, nat_lt, nat_le, Option, Some, None, is_some, if◌then◌else◌, ◌==◌}
 use Rattle.roff_num.specs.declared.short_name.ShortName.{ShortName}
 use Rattle.roff_pages.specs.declared.trap.Trap.{Trap}
-use Rattle.roff_pages.specs.Layout.{Diversion, Layout, page_place}
+use Rattle.roff_pages.specs.Layout.{Diversion, Layout}
 use Rattle.roff_pages.specs.Happenings.{Happening, is_eject}
 use Rattle.roff_pages.specs.Stops.{place_of, stop_at, target}
 use Rattle.roff_pages.specs.Puts.{appended, puts}

@@ -2,7 +2,7 @@
 use Rattle.std.specs.Prelude.{ℕ, ◌+◌, ◌-◌, min, Bool, not, ◌||◌, ℤ, pos, negsuc, List, [], ◌∷◌, length, nat_lt, Option, Some, None, if◌then◌else◌}
 use Rattle.roff_lines.specs.Words.{is_empty}
 use Rattle.roff_pages.specs.declared.trap.Trap.{Trap}
-use Rattle.roff_pages.specs.Layout.{Box, Diversion, Layout, page_place}
+use Rattle.roff_pages.specs.Layout.{Diversion, Layout, page_place}
 use Rattle.roff_pages.specs.Happenings.{Happening, is_eject}
 
 -- where a place as it was given lies on a page of this length: below 0 it counts from the page's end. It lies nowhere above the

@@ -1,5 +1,5 @@
 -- Titles: three parts on a line (manual, section 14).
-use Rattle.std.specs.Prelude.{ℕ, ◌+◌, ◌-◌, ◌/◌, max, List, [], ◌∷◌, ◌++◌, map, if◌then◌else◌, ◌==◌}
+use Rattle.std.specs.Prelude.{ℕ, ◌+◌, ◌-◌, List, [], ◌∷◌, ◌++◌, if◌then◌else◌, ◌==◌}
 use Rattle.roff_lines.specs.Glyphs.{glyph_blank, text_width}
 use Rattle.roff_lines.specs.Words.{is_empty}
 use Rattle.roff_lines.specs.Columns.{spaces}

@@ -1,8 +1,7 @@
 -- Whole pages: the boxes of a page up to its end, and what is written of it.
-use Rattle.std.specs.Prelude.{◌≡◌, ℕ, ◌+◌, ◌<◌, ◌≤◌, Bool, true, false, not, ◌&&◌, List, [], ◌∷◌, ◌++◌, length, nat_le, Option, Some, None, is_some, if◌then◌else◌}
-use Rattle.roff_lines.specs.Lines.{Finished}
-use Rattle.roff_pages.specs.Layout.{Box, Lined, Empty, Layout, page_place}
-use Rattle.roff_pages.specs.Happenings.{LayoutEvent, Happening, Does, Places, Titles, Begin, Close, Length, Offset, EndDivert}
+use Rattle.std.specs.Prelude.{ℕ, Bool, true, false, ◌&&◌, List, [], ◌∷◌, ◌++◌, length, nat_le, is_some, if◌then◌else◌}
+use Rattle.roff_pages.specs.Layout.{Box, Layout}
+use Rattle.roff_pages.specs.Happenings.{Happening, Does, Begin, Close, Length, Offset, EndDivert}
 use Rattle.roff_pages.specs.Stops.{is_diverted}
 use Rattle.roff_pages.specs.Puts.{puts, appended}
 use Rattle.roff_pages.specs.Turning.{with_event}

@@ -1,5 +1,5 @@
 -- A page with more boxes: it may end, and something may spring.
-use Rattle.std.specs.Prelude.{ℕ, ◌+◌, Bool, not, List, ◌++◌, length, Option, None, if◌then◌else◌, ◌==◌}
+use Rattle.std.specs.Prelude.{ℕ, ◌+◌, not, List, ◌++◌, length, Option, None, if◌then◌else◌, ◌==◌}
 use Rattle.roff_num.specs.declared.short_name.ShortName.{ShortName}
 use Rattle.roff_pages.specs.Layout.{Box, Layout, page_place}
 use Rattle.roff_pages.specs.Turning.{turned_if_full}

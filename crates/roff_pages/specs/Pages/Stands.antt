@@ -1,5 +1,5 @@
 -- When pages stand for a layout, and what a call makes of them.
-use Rattle.std.specs.Prelude.{◌≡◌, ℕ, ◌^◌, min, List, length, map}
+use Rattle.std.specs.Prelude.{◌≡◌, ℕ, ◌^◌, min, length, map}
 use Rattle.roff_pages.specs.declared.open_diversion.OpenDiversion.{OpenDiversion}
 use Rattle.roff_pages.specs.Layout.{Layout, Diversion, page_place}
 use Rattle.roff_pages.specs.Happenings.{Happening}

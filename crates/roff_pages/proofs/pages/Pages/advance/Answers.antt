@@ -1,6 +1,5 @@
-use Rattle.std.proofs.Common.{◌≡◌, ◌<◌, ◌≤◌, ◌+◌, ◌^◌, ℕ, min, length, None, List, ap, sym, ◌∙◌, arith}
+use Rattle.std.proofs.Common.{◌≡◌, ◌<◌, ◌≤◌, None, ap, sym, ◌∙◌, arith}
 use Rattle.std.specs.Prelude.{if◌then◌else◌}
-use Rattle.roff_pages.specs.Layout.{Box}
 use Rattle.roff_pages.specs.Stops.{next_stop}
 use Rattle.roff_pages.specs.Springs.{first_met, is_passed}
 use Rattle.roff_pages.specs.Pages.Kept.{Kept}
