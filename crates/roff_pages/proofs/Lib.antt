@@ -3,3 +3,4 @@ pub mod NextStop
 pub mod FirstTraps
 pub mod WholePages
 pub mod Standing
+pub mod Blanking

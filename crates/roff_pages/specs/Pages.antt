@@ -2,3 +2,4 @@ pub mod FirstTraps
 pub mod Kept
 pub mod Stands
 pub mod Advancing
+pub mod Printing

@@ -9,6 +9,7 @@ mod block;
 pub mod laws;
 mod layout_event;
 mod open_diversion;
+mod page_fault;
 mod pages;
 pub mod rows;
 mod sink;
@@ -17,6 +18,7 @@ mod traps;
 
 pub use block::Block;
 pub use layout_event::LayoutEvent;
+pub use page_fault::PageFault;
 pub use pages::Pages;
 pub use sink::{ByteSink, SinkFault, WriteSink};
 pub use trap::Trap;

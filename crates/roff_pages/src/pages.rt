@@ -6,8 +6,10 @@ ghost use Rattle.roff_pages.specs.Layout.{Layout, started_with, page_place};
 mod diverting;
 mod queries;
 mod setting;
+mod spacing;
 mod turning;
 
+use crate::block::Block;
 use crate::open_diversion::OpenDiversion;
 use crate::trap::Trap;
 use arrayvec::ArrayVec;
@@ -58,6 +60,11 @@ pub struct Pages {
     width: u64,
     is_closing: bool,
     is_over: bool,
+    /// How many bytes were written.
+    written: u64,
+    /// How many may be.
+    output: u32,
+    block: Block,
 }
 
 impl Model for Pages {
@@ -86,6 +93,8 @@ impl Pages {
         ranges: ArrayVec<(Num, Num), 32>,
     ) -> Result<Self, AllocError>
         ensures stands { IfOk result (λ p. StandsAs (started_with first ranges.items) p) }
+        ensures written { IfOk result (λ p. p.written ≡ 0) }
+        ensures output { IfOk result (λ p. p.output ≡ limits.output) }
         ensures traps { IfOk result (λ p. p.most_traps ≡ limits.traps) }
         ensures diversions { IfOk result (λ p. p.most_diversions ≡ limits.diversions) }
     {
@@ -110,6 +119,9 @@ impl Pages {
             width: 0,
             is_closing: false,
             is_over: false,
+            written: 0,
+            output: limits.output,
+            block: Block::new(alloc)?,
         })
     }
 }

@@ -1,8 +1,10 @@
 -- A page with more boxes: it may end, and something may spring.
-use Rattle.std.specs.Prelude.{ℕ, ◌+◌, not, List, ◌++◌, length, Option, None, if◌then◌else◌, ◌==◌}
+use Rattle.std.specs.Prelude.{◌-◌, ℕ, ◌+◌, not, List, ◌++◌, length, Option, None, if◌then◌else◌, ◌==◌}
 use Rattle.roff_num.specs.declared.short_name.ShortName.{ShortName}
 use Rattle.roff_pages.specs.Layout.{Box, Layout, page_place}
 use Rattle.roff_pages.specs.Turning.{turned_if_full}
+use Rattle.roff_pages.specs.Stops.{next_stop}
+use Rattle.roff_pages.specs.Pages.Kept.{Kept}
 use Rattle.roff_pages.specs.Springs.{first_met, is_on_top, is_passed}
 
 -- the page with boxes more, before it ends
@@ -16,6 +18,10 @@ sprung_on L M from to =
     if M.is_over then None
     else if not (M.begun == L.begun) then first_met is_on_top M.length M.traps
     else first_met (is_passed from to) L.length L.traps
+
+-- how far the next stop is
+abbrev pub way_on : Kept → ℕ
+way_on k = next_stop k.length k.place k.traps - k.place
 
 -- what springs behind the boxes
 abbrev pub sprung_by : List Box → Layout → Option ShortName

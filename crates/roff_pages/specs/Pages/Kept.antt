@@ -27,6 +27,8 @@ pub record Kept : Type 0 where
   pub is_over : Bool
   pub most_traps : ℕ
   pub most_diversions : ℕ
+  pub written : ℕ
+  pub output : ℕ
 
 -- the open diversions, the innermost first
 abbrev pub open_diversions : Option OpenDiversion → List OpenDiversion → List OpenDiversion
@@ -54,6 +56,8 @@ kept_by a = record {
   is_over = a.is_over;
   most_traps = a.most_traps;
   most_diversions = a.most_diversions;
+  written = a.written;
+  output = a.output;
 }
 
 -- Counts are within what is counted, the stop is the next one beyond the place, and there is room for what may be there. Where
@@ -67,4 +71,5 @@ pub record IsSound (a : Inside) : Type 0 where
   pub traps_room : a.most_traps ≤ vec_capacity a.traps
   pub outer : length a.outer.items ≤ a.most_diversions
   pub outer_room : a.most_diversions ≤ vec_capacity a.outer
+  pub written : a.written ≤ a.output
   pub none_open : a.innermost ≡ None → a.outer.items ≡ []

@@ -41,10 +41,12 @@ pub record StandsAs (L : Layout) (k : Kept) : Type 0 where
   pub is_closing : k.is_closing ≡ L.is_closing
   pub is_over : k.is_over ≡ L.is_over
 
--- the limits stay
+-- the limits stay, and what was written
 pub record SameLimits (old new : Kept) : Type 0 where
   pub traps : new.most_traps ≡ old.most_traps
   pub diversions : new.most_diversions ≡ old.most_diversions
+  pub output : new.output ≡ old.output
+  pub written : new.written ≡ old.written
 
 -- a happening that writes nothing and that no limit refuses: whatever layout the old pages stand for, the new ones stand for
 -- the one behind it, within the same limits

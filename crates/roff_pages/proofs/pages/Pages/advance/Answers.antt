@@ -23,6 +23,7 @@ invariant_of-self c =
       traps_room = inv.traps_room;
       outer = inv.outer;
       outer_room = inv.outer_room;
+      written = inv.written;
       none_open = inv.none_open;
     }
 
