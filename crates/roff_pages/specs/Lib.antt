@@ -2,3 +2,16 @@ pub mod Sinks
 pub mod Titles
 pub mod TitleParts
 pub mod TitleLeft
+pub mod Layout
+pub mod Happenings
+pub mod Stops
+pub mod Puts
+pub mod Turning
+pub mod Springs
+pub mod DeviceText
+pub mod DivertedText
+pub mod Queries
+pub mod Rows
+pub mod WholePages
+pub mod Reach
+pub mod Pages

@@ -1,0 +1,13 @@
+use Rattle.std.proofs.Common.{◌+◌, [], ◌∷◌}
+use Rattle.roff_pages.specs.Layout.{Lined}
+use Rattle.roff_pages.specs.Happenings.{Places}
+use Rattle.roff_pages.specs.Stops.{target}
+use Rattle.roff_lines.specs.Columns.{printed}
+use Rattle.roff_pages.specs.Puts.{within_stop}
+use Rattle.roff_pages.proofs.WholePages.{texts-blank}
+use Rattle.roff_pages.proofs.laws.as_diverted.Goals as goal
+
+pub returns-clause-line : goal.returns-clause-line
+returns-clause-line c line L =
+    let t = target (Places line) L in
+    texts-blank (within_stop (t.place + 1) t.stop line.after) (Lined (printed line) ∷ [])

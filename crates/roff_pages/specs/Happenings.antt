@@ -1,0 +1,25 @@
+-- What happens to a layout: a line is placed, or a title, or something else.
+pub use Rattle.roff_pages.specs.declared.layout_event.LayoutEvent.{LayoutEvent}
+pub use Rattle.roff_pages.specs.declared.layout_event.LayoutEvent.TheVariants.{ListPages, Begin, Close, Space, Need, Eject, EjectOn, EjectLast, Length, Offset, Next, Number, NoSpace, Plant, Uproot, MoveTrap, RemoveTrap, DiversionTrap, Divert, EndDivert}
+use Rattle.std.specs.Prelude.{Bool, true, false}
+use Rattle.roff_lines.specs.Lines.{Finished}
+use Rattle.roff_pages.specs.Titles.{Title}
+
+-- a finished line is placed, or a title, or something else happens
+pub data Happening : Type 0 where
+  Does : LayoutEvent → Happening
+  Places : Finished → Happening
+  Titles : Title → Happening
+
+-- whether a page is ejected
+abbrev pub is_eject_event : LayoutEvent → Bool
+is_eject_event (Eject asked number) = true
+is_eject_event (EjectOn asked) = true
+is_eject_event EjectLast = true
+is_eject_event (_) = false
+
+-- the same of a happening
+abbrev pub is_eject : Happening → Bool
+is_eject (Does e) = is_eject_event e
+is_eject (Places line) = false
+is_eject (Titles t) = false

@@ -1,0 +1,5 @@
+pub mod FirstTraps
+pub mod Kept
+pub mod Stands
+pub mod Advancing
+pub mod Printing

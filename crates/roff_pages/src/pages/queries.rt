@@ -1,0 +1,111 @@
+//! What may be asked of pages (manual, section 8). Lengths are in lines, widths in columns.
+
+ghost use Rattle.std.specs.Prelude.{◌≡◌, not, min, Some, None, option_map};
+ghost use Rattle.roff_pages.specs.Layout.{Layout};
+ghost use Rattle.roff_pages.specs.Queries.{nl, place_now, way_to_trap, diversion_name};
+ghost use Rattle.roff_pages.specs.Queries.{is_diverting, takes_text};
+
+use super::Pages;
+use roff_num::{Num, ShortName};
+
+impl Pages {
+    ghost use Rattle.roff_pages.specs.Pages.Stands.{StandsAs, counted};
+
+    /// The place on the page; none before the first page begins. No more than 2^33 lines are
+    /// counted.
+    pub fn nl(&self) -> Option<u64>
+        ensures { (L : Layout) → StandsAs L self.now → result ≡ option_map counted (nl L) }
+    {
+        if self.begun == 0 {
+            return None;
+        }
+        Some(self.place)
+    }
+
+    /// The place where text goes: in the innermost open diversion, or on the page. No more than
+    /// 2^33 lines are counted.
+    pub fn place_now(&self) -> u64
+        ensures { (L : Layout) → StandsAs L self.now → result ≡ counted (place_now L) }
+    {
+        match self.innermost {
+            Some(diversion) => diversion.height,
+            None => self.place,
+        }
+    }
+
+    /// The page's number.
+    pub fn number(&self) -> Num
+        ensures { (L : Layout) → StandsAs L self.now → result ≡ L.number }
+    {
+        self.number
+    }
+
+    /// The page length.
+    pub fn length(&self) -> u32
+        ensures { (L : Layout) → StandsAs L self.now → result ≡ L.length }
+    {
+        self.length
+    }
+
+    /// The page offset.
+    pub fn offset(&self) -> u32
+        ensures { (L : Layout) → StandsAs L self.now → result ≡ L.offset }
+    {
+        self.offset
+    }
+
+    /// The page offset before the last one that was set.
+    pub fn previous_offset(&self) -> u32
+        ensures { (L : Layout) → StandsAs L self.now → result ≡ L.previous_offset }
+    {
+        self.previous_offset
+    }
+
+    /// The height of the diversion that ended last. No more than 2^33 lines are counted.
+    pub fn height(&self) -> u64
+        ensures { (L : Layout) → StandsAs L self.now → result ≡ counted L.height }
+    {
+        self.height
+    }
+
+    /// Its width: that of its widest line. No more than 2^33 columns are counted.
+    pub fn width(&self) -> u64
+        ensures { (L : Layout) → StandsAs L self.now → result ≡ counted L.width }
+    {
+        self.width
+    }
+
+    /// The name of the innermost open diversion.
+    pub fn diversion_name(&self) -> Option<ShortName>
+        ensures { (L : Layout) → StandsAs L self.now → result ≡ diversion_name L }
+    {
+        match self.innermost {
+            Some(diversion) => Some(diversion.name),
+            None => None,
+        }
+    }
+
+    /// Whether a diversion is open.
+    pub fn is_diverting(&self) -> bool
+        ensures { (L : Layout) → StandsAs L self.now → result ≡ is_diverting L }
+    {
+        self.innermost.is_some()
+    }
+
+    /// Whether text may be taken without a page beginning.
+    pub fn takes_text(&self) -> bool
+        ensures { (L : Layout) → StandsAs L self.now → result ≡ takes_text L }
+    {
+        if self.begun != 0 {
+            return true;
+        }
+        self.innermost.is_some()
+    }
+
+    /// Whether the last page has ended in the closing phase.
+    pub fn is_over(&self) -> bool
+        ensures { (L : Layout) → StandsAs L self.now → result ≡ L.is_over }
+    {
+        self.is_over
+    }
+}

@@ -1,0 +1,104 @@
+//! What is set: the page's length, offset and number, no-space mode, and the traps.
+
+ghost use Rattle.std.specs.Prelude.{◌≡◌, ◌≤◌, ◌<◌, length, OnOk, IfErr};
+ghost use Rattle.roff_pages.specs.Happenings.{Does, Length, Offset, Next, Number, NoSpace, Plant};
+ghost use Rattle.roff_pages.specs.Happenings.{Uproot, MoveTrap, RemoveTrap};
+ghost use Rattle.roff_pages.specs.Turning.{with_trap};
+ghost use Rattle.roff_num.specs.declared.limit.Limit.TheVariants.{Traps};
+
+use super::Pages;
+use crate::trap::Trap;
+use crate::traps::{move_named, next_stop, plant_among, remove_given, remove_named};
+use roff_num::{Limit, Num, ShortName};
+
+impl Pages {
+    ghost use Rattle.roff_pages.specs.Pages.Stands.{Happens};
+
+    /// Sets the page length, in lines. A page that is shorter than its place then ends at the next
+    /// line, space or title.
+    pub fn set_length(&mut self, lines: u32)
+        ensures { Happens (Does (Length lines)) self.old self.new }
+    {
+        self.length = lines;
+        self.stop = next_stop(lines, self.place, self.traps.as_slice());
+    }
+
+    /// Sets the page offset, in columns.
+    pub fn set_offset(&mut self, columns: u32)
+        ensures { Happens (Does (Offset columns)) self.old self.new }
+    {
+        self.previous_offset = self.offset;
+        self.offset = columns;
+    }
+
+    /// Sets the number of the next page.
+    pub fn set_next(&mut self, number: Num)
+        ensures { Happens (Does (Next number)) self.old self.new }
+    {
+        self.next = Some(number);
+    }
+
+    /// Sets the number of this page.
+    pub fn set_number(&mut self, number: Num)
+        ensures { Happens (Does (Number number)) self.old self.new }
+    {
+        self.number = number;
+    }
+
+    /// Turns no-space mode of the innermost open diversion, or of the page, on or off.
+    pub fn set_no_space(&mut self, on: bool)
+        ensures { Happens (Does (NoSpace on)) self.old self.new }
+    {
+        match self.innermost {
+            Some(mut diversion) => {
+                diversion.no_space = on;
+                self.innermost = Some(diversion);
+            }
+            None => self.no_space = on,
+        }
+    }
+
+    /// Plants a trap: in the place in turn of the first with the same place as given, or as the
+    /// last one.
+    ///
+    /// # Errors
+    ///
+    /// [`Limit::Traps`] if there would be more than may be.
+    pub fn plant(&mut self, trap: Trap) -> Result<(), Limit>
+        ensures ok { OnOk result (Happens (Does (Plant trap)) self.old self.new) }
+        ensures within { OnOk result
+            (length (with_trap trap self.old.traps) ≤ self.old.most_traps) }
+        ensures limit { IfErr result (λ l. l ≡ Traps) }
+        ensures same { IfErr result (λ l. self.new ≡ self.old) }
+        ensures full { IfErr result
+            (λ l. self.old.most_traps < length (with_trap trap self.old.traps)) }
+    {
+        plant_among(&mut self.traps, trap, self.most_traps)?;
+        self.stop = next_stop(self.length, self.place, self.traps.as_slice());
+        Ok(())
+    }
+
+    /// Removes the first trap that was given this place.
+    pub fn uproot(&mut self, place: i32)
+        ensures { Happens (Does (Uproot place)) self.old self.new }
+    {
+        remove_given(&mut self.traps, place);
+        self.stop = next_stop(self.length, self.place, self.traps.as_slice());
+    }
+
+    /// Moves the first trap of this name.
+    pub fn move_trap(&mut self, name: ShortName, place: i32)
+        ensures { Happens (Does (MoveTrap name place)) self.old self.new }
+    {
+        move_named(&mut self.traps, name, place);
+        self.stop = next_stop(self.length, self.place, self.traps.as_slice());
+    }
+
+    /// Removes the first trap of this name.
+    pub fn remove_trap(&mut self, name: ShortName)
+        ensures { Happens (Does (RemoveTrap name)) self.old self.new }
+    {
+        remove_named(&mut self.traps, name);
+        self.stop = next_stop(self.length, self.place, self.traps.as_slice());
+    }
+}

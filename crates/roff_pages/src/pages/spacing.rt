@@ -1,0 +1,189 @@
+//! Spacing, and ejecting pages (manual, sections 3 and 5.3).
+
+ghost use Rattle.std.specs.Prelude.{◌≡◌, ◌<◌, ◌≤◌, ◌^◌, [], OnOk, IfErr, nat_lt, ◌&&◌, ◌==◌};
+ghost use Rattle.std.specs.Prelude.{if◌then◌else◌};
+ghost use Rattle.roff_pages.specs.Layout.{Layout};
+ghost use Rattle.roff_pages.specs.Happenings.{Does, Eject, EjectOn, Need, Space};
+ghost use Rattle.roff_pages.specs.Pages.Printing.{BlankedTo, HappensWriting, IsUnprinted, Printed};
+ghost use Rattle.roff_pages.specs.Pages.Printing.{blank_text};
+ghost use Rattle.roff_pages.specs.Pages.Advancing.{way_on};
+
+use super::Pages;
+use crate::page_fault::PageFault;
+use crate::sink::ByteSink;
+use roff_num::{Num, ShortName};
+
+impl Pages {
+    ghost use Rattle.roff_pages.specs.Pages.Stands.{StandsAs, SameLimits};
+    ghost use Rattle.roff_pages.specs.Pages.Kept.{Kept};
+
+    /// Spaces so many lines on the page, up to the next trap or its end, unless no-space mode is
+    /// on. No diversion is open.
+    ///
+    /// # Errors
+    ///
+    /// [`PageFault`] if the limit on the output would be passed, or the sink fails.
+    pub fn space<O: ByteSink>(
+        &mut self,
+        lines: u32,
+        out: &mut O,
+    ) -> Result<Option<ShortName>, PageFault>
+        requires { self.old.diversions ≡ [] }
+        ensures { HappensWriting (Does (Space lines)) self.old self.new
+            (O.sunk out.old) (O.sunk out.new) result }
+    {
+        if self.no_space {
+            return Ok(None);
+        }
+        let next = self.next;
+        let count = self.way().min(u64::from(lines));
+        self.put_blank_lines(count, next, false, out)
+    }
+
+    /// Spaces what is left up to the next trap or the page's end, if that is less than so many
+    /// lines. No diversion is open.
+    ///
+    /// # Errors
+    ///
+    /// [`PageFault`] if the limit on the output would be passed, or the sink fails.
+    pub fn need<O: ByteSink>(
+        &mut self,
+        lines: u32,
+        out: &mut O,
+    ) -> Result<Option<ShortName>, PageFault>
+        requires { self.old.diversions ≡ [] }
+        ensures { HappensWriting (Does (Need lines)) self.old self.new
+            (O.sunk out.old) (O.sunk out.new) result }
+    {
+        let next = self.next;
+        let no_space = self.no_space;
+        let count = needed(self.way(), lines);
+        self.put_blank_lines(count, next, mode_behind(no_space, count), out)
+    }
+
+    /// Ejects the page that is the one of this number in turn, up to the next trap or its end,
+    /// unless no-space mode is on and no number is given; the next page gets the number.
+    ///
+    /// # Errors
+    ///
+    /// [`PageFault`] if the limit on the output would be passed, or the sink fails.
+    pub fn eject<O: ByteSink>(
+        &mut self,
+        asked: u32,
+        number: Option<Num>,
+        out: &mut O,
+    ) -> Result<Option<ShortName>, PageFault>
+        ensures { HappensWriting (Does (Eject asked number)) self.old self.new
+            (O.sunk out.old) (O.sunk out.new) result }
+    {
+        if self.begun != u64::from(asked) {
+            return Ok(None);
+        }
+        let next = self.next;
+        let no_space = self.no_space;
+        let way = self.way();
+        match number {
+            Some(_) => self.put_blank_lines(way, number, no_space, out),
+            None => {
+                if no_space {
+                    return Ok(None);
+                }
+                self.put_blank_lines(way, next, false, out)
+            }
+        }
+    }
+
+    /// Goes on ejecting that page, behind a macro that was sprung.
+    ///
+    /// # Errors
+    ///
+    /// [`PageFault`] if the limit on the output would be passed, or the sink fails.
+    pub fn eject_on<O: ByteSink>(
+        &mut self,
+        asked: u32,
+        out: &mut O,
+    ) -> Result<Option<ShortName>, PageFault>
+        ensures { HappensWriting (Does (EjectOn asked)) self.old self.new
+            (O.sunk out.old) (O.sunk out.new) result }
+    {
+        if self.begun != u64::from(asked) {
+            return Ok(None);
+        }
+        let next = self.next;
+        let no_space = self.no_space;
+        let way = self.way();
+        self.put_blank_lines(way, next, no_space, out)
+    }
+
+    /// How far the next stop is.
+    fn way(&self) -> u64
+        ensures way { result ≡ way_on self.now }
+        ensures most { result ≤ 2 ^ 32 }
+        ensures short { self.now.length < 2 ^ 32 }
+    {
+        self.stop.saturating_sub(self.place)
+    }
+
+    /// Puts so many blank lines on the page. The next page gets this number, if it gets one, and
+    /// no-space mode is so.
+    fn put_blank_lines<O: ByteSink>(
+        &mut self,
+        count: u64,
+        next: Option<Num>,
+        no_space: bool,
+        out: &mut O,
+    ) -> Result<Option<ShortName>, PageFault>
+        requires { count ≤ 2 ^ 32 }
+        ensures { (L : Layout) → StandsAs L self.old
+            → BlankedTo (record L { next = next; no_space = no_space }) count result self.old self.new (O.sunk out.old) (O.sunk out.new) }
+    {
+        match self.write_blank_lines(count, out) {
+            Ok(()) => {
+                self.next = next;
+                self.no_space = no_space;
+                Ok(self.advance(count))
+            }
+            Err(fault) => Err(fault),
+        }
+    }
+
+    /// Writes so many blank lines, if the page is written.
+    fn write_blank_lines<O: ByteSink>(&mut self, count: u64, out: &mut O) -> Result<(), PageFault>
+        requires { count ≤ 2 ^ 32 }
+        ensures ok { OnOk result (Printed self.old self.new (O.sunk out.old) (O.sunk out.new)
+            (blank_text self.old.is_listed count)) }
+        ensures kept { OnOk result
+            (self.new ≡ record self.old { written = self.new.written }) }
+        ensures err { IfErr result (λ f. IsUnprinted f self.old self.new
+            (O.sunk out.old) (O.sunk out.new) (blank_text self.old.is_listed count)) }
+    {
+        if !self.is_listed {
+            return Ok(());
+        }
+        if self.written + count > u64::from(self.output) {
+            return Err(PageFault::Output);
+        }
+        match self.block.put_newlines(count, out) {
+            Ok(()) => {
+                self.written += count;
+                Ok(())
+            }
+            Err(_) => Err(PageFault::Sink),
+        }
+    }
+}
+
+/// How much is spaced where so many lines are needed and the stop is so far.
+fn needed(way: u64, lines: u32) -> u64
+    ensures count { result ≡ (if nat_lt way lines then way else 0) }
+    ensures most { result ≤ way }
+{
+    if way < u64::from(lines) { way } else { 0 }
+}
+
+/// No-space mode behind so many lines.
+fn mode_behind(no_space: bool, count: u64) -> bool
+    ensures { result ≡ (no_space && count == 0) }
+{
+    if count == 0 { no_space } else { false }
+}

@@ -1,0 +1,128 @@
+//! Where a page ends, and the next one begins (manual, section 3).
+
+ghost use Rattle.std.specs.Prelude.{◌≡◌, List, length, None, if◌then◌else◌};
+ghost use Rattle.roff_pages.specs.Layout.{Box, Layout};
+ghost use Rattle.roff_pages.specs.Happenings.{Does, Begin};
+ghost use Rattle.roff_pages.specs.Turning.{is_in_ranges, number_behind, one_more};
+ghost use Rattle.roff_pages.specs.Turning.{page_begun, turned, turned_if_full};
+ghost use Rattle.roff_pages.specs.Springs.{first_met, is_on_top, is_passed, springs};
+ghost use Rattle.roff_pages.specs.Pages.Advancing.{sprung_by, with_lines};
+
+use super::{MOST_BEGUN, MOST_COUNTED, Pages};
+use crate::traps::{first_on_top, first_passed, next_stop};
+use roff_num::{Num, ShortName};
+
+impl Pages {
+    ghost use Rattle.roff_pages.specs.Pages.Stands.{StandsAs, Happens, SameLimits};
+
+    /// Begins the first page. The macro is sprung that is planted at a page's beginning.
+    pub fn begin(&mut self) -> Option<ShortName>
+        ensures happens { Happens (Does Begin) self.old self.new }
+        ensures springs { (L : Layout) → StandsAs L self.old → result ≡ springs (Does Begin) L }
+    {
+        let sprung = self.begin_page();
+        if self.is_over { None } else { sprung }
+    }
+
+    /// The page with so many lines more: it ends where it is full. Answers what springs.
+    pub(super) fn advance(&mut self, lines: u64) -> Option<ShortName>
+        ensures stands { (L : Layout) (boxes : List Box) → StandsAs L self.old
+            → length boxes ≡ lines → StandsAs (turned_if_full (with_lines boxes L)) self.new }
+        ensures springs { (L : Layout) (boxes : List Box) → StandsAs L self.old
+            → length boxes ≡ lines → result ≡ sprung_by boxes L }
+        ensures limits { SameLimits self.old self.new }
+    {
+        let from = self.place;
+        self.place = from.saturating_add(lines).min(MOST_COUNTED);
+        if self.place < self.stop {
+            return None;
+        }
+        self.stop = next_stop(self.length, self.place, self.traps.as_slice());
+        if self.place >= u64::from(self.length) {
+            return self.turn();
+        }
+        self.passed_since(from)
+    }
+
+    /// What was passed since the page had come to a place, if it isn't over.
+    fn passed_since(&self, from: u64) -> Option<ShortName>
+        ensures { result ≡ (if self.now.is_over then None
+            else first_met (is_passed from self.now.place) self.now.length self.now.traps) }
+    {
+        if self.is_over {
+            return None;
+        }
+        first_passed(self.length, from, self.place, self.traps.as_slice())
+    }
+
+    /// Ends the page: the next one begins, but in the closing phase. Answers what springs.
+    fn turn(&mut self) -> Option<ShortName>
+        ensures stands { (L : Layout) → StandsAs L self.old → StandsAs (turned L) self.new }
+        ensures springs { (L : Layout) → StandsAs L self.old
+            → result ≡ (if (turned L).is_over then None else first_met is_on_top L.length L.traps) }
+        ensures limits { SameLimits self.old self.new }
+    {
+        if self.is_closing {
+            self.is_over = true;
+            return None;
+        }
+        let sprung = self.begin_page();
+        if self.is_over { None } else { sprung }
+    }
+
+    /// Begins a page. Answers what is met at its beginning.
+    fn begin_page(&mut self) -> Option<ShortName>
+        ensures stands { (L : Layout) → StandsAs L self.old → StandsAs (page_begun L) self.new }
+        ensures met { (L : Layout) → StandsAs L self.old
+            → result ≡ first_met is_on_top L.length L.traps }
+        ensures over { self.new.is_over ≡ self.old.is_over }
+        ensures limits { SameLimits self.old self.new }
+    {
+        let number = number_behind(self.next, self.number);
+        self.begun = (self.begun + 1).min(MOST_BEGUN);
+        self.number = number;
+        self.next = None;
+        self.place = 0;
+        self.is_listed = is_in_ranges(self.ranges.as_slice(), number);
+        self.stop = next_stop(self.length, 0, self.traps.as_slice());
+        first_on_top(self.length, self.traps.as_slice())
+    }
+}
+
+/// The number of the next page: the one that was set, or one more.
+fn number_behind(next: Option<Num>, number: Num) -> Num
+    ensures { result ≡ number_behind next number }
+{
+    match next {
+        Some(next) => next,
+        None => one_more(number),
+    }
+}
+
+/// A number and one more, up to the greatest one.
+fn one_more(number: Num) -> Num
+    ensures { result ≡ one_more number }
+{
+    if number.0 < i32::MAX {
+        Num(number.0 + 1)
+    } else {
+        number
+    }
+}
+
+/// Whether a page of this number is written: it lies in a range, or there is none.
+fn is_in_ranges(ranges: &[(Num, Num)], number: Num) -> bool
+    ensures { result ≡ is_in_ranges ranges.now number }
+{
+    if ranges.is_empty() {
+        return true;
+    }
+    let mut rest = ranges;
+    while let Some((range, others)) = rest.split_first() {
+        if range.0.0 <= number.0 && number.0 <= range.1.0 {
+            return true;
+        }
+        rest = others;
+    }
+    false
+}

@@ -1,0 +1,192 @@
+//! The traps of a page: where they lie, and which are met (manual, section 7.5).
+
+ghost use Rattle.std.specs.Prelude.{◌≡◌, ◌≤◌, ◌<◌, length, vec_capacity, OnOk, IfErr};
+ghost use Rattle.roff_num.specs.declared.limit.Limit.TheVariants.{Traps};
+ghost use Rattle.roff_pages.specs.Stops.{place_of, next_stop, nearer_stop};
+ghost use Rattle.roff_pages.specs.Turning.{is_given, is_named, same_name};
+ghost use Rattle.roff_pages.specs.Turning.{moved_to, with_first, with_trap, without_first};
+ghost use Rattle.roff_pages.specs.Springs.{first_met, is_on_top, is_passed};
+ghost use Rattle.roff_pages.specs.Pages.FirstTraps.{first_index};
+
+use crate::trap::Trap;
+use roff_num::{Limit, ShortName};
+
+/// Where a place as it was given lies on a page of this length, in lines, if it lies there.
+fn place_of(length: u32, place: i32) -> Option<u64>
+    ensures { result ≡ place_of length place }
+{
+    if place >= 0 {
+        let down = place as u64;
+        return (down < u64::from(length)).then_some(down);
+    }
+    let up = u64::from(place.unsigned_abs());
+    u64::from(length).checked_sub(up)
+}
+
+/// The nearer of two stops beyond a place, of which the first may lie nowhere.
+fn nearer_stop(place: u64, trap: Option<u64>, stop: u64) -> u64
+    ensures { result ≡ nearer_stop place trap stop }
+{
+    match trap {
+        Some(n) if place < n => n.min(stop),
+        _ => stop,
+    }
+}
+
+/// The next stop beyond a place of a page: a trap, or the page's end.
+#[tactic(auto, using(crate::proofs::NextStop::nearer_assoc, crate::proofs::NextStop::next_stop_le, crate::proofs::NextStop::nearer_le))]
+pub(crate) fn next_stop(length: u32, place: u64, traps: &[Trap]) -> u64
+    ensures { result ≡ next_stop length place traps.now }
+{
+    let mut stop = u64::from(length);
+    let mut rest = traps;
+    while let Some((trap, others)) = rest.split_first() {
+        stop = nearer_stop(place, place_of(length, trap.place), stop);
+        rest = others;
+    }
+    stop
+}
+
+/// The name of the first trap that lies at a page's beginning.
+pub(crate) fn first_on_top(length: u32, traps: &[Trap]) -> Option<ShortName>
+    ensures { result ≡ first_met is_on_top length traps.now }
+{
+    let mut rest = traps;
+    while let Some((trap, others)) = rest.split_first() {
+        match place_of(length, trap.place) {
+            Some(0) => return Some(trap.name),
+            _ => rest = others,
+        }
+    }
+    None
+}
+
+/// The name of the first trap that lies beyond a place of a page, and not beyond another one.
+pub(crate) fn first_passed(length: u32, from: u64, to: u64, traps: &[Trap]) -> Option<ShortName>
+    ensures { result ≡ first_met (is_passed from to) length traps.now }
+{
+    let mut rest = traps;
+    while let Some((trap, others)) = rest.split_first() {
+        match place_of(length, trap.place) {
+            Some(place) if from < place && place <= to => return Some(trap.name),
+            _ => rest = others,
+        }
+    }
+    None
+}
+
+/// Plants a trap among others: in the place in turn of the first with the same place as given, or as
+/// the last one, if there are fewer than may be.
+pub(crate) fn plant_among(traps: &mut Vec<Trap>, trap: Trap, most: u32) -> Result<(), Limit>
+    requires room { most ≤ vec_capacity traps.old }
+    requires few { length traps.old.items ≤ most }
+    ensures traps { OnOk result (traps.new.items ≡ with_trap trap traps.old.items) }
+    ensures within { OnOk result (length (with_trap trap traps.old.items) ≤ most) }
+    ensures limit { IfErr result (λ l. l ≡ Traps) }
+    ensures same { IfErr result (λ l. traps.new ≡ traps.old) }
+    ensures full { IfErr result (λ l. most < length (with_trap trap traps.old.items)) }
+    ensures capacity { vec_capacity traps.old ≤ vec_capacity traps.new }
+{
+    let index = index_given(traps.as_slice(), trap.place);
+    if index < traps.len() {
+        traps[index] = trap;
+        return Ok(());
+    }
+    if traps.len() >= most as usize {
+        return Err(Limit::Traps);
+    }
+    traps.push(trap).unwrap();
+    Ok(())
+}
+
+/// Removes the first trap that was given this place.
+pub(crate) fn remove_given(traps: &mut Vec<Trap>, place: i32)
+    ensures traps { traps.new.items ≡ without_first (is_given place) traps.old.items }
+    ensures few { length traps.new.items ≤ length traps.old.items }
+    ensures capacity { vec_capacity traps.old ≤ vec_capacity traps.new }
+{
+    let index = index_given(traps.as_slice(), place);
+    if index >= traps.len() {
+        return;
+    }
+    traps.remove(index);
+}
+
+/// Removes the first trap of this name.
+pub(crate) fn remove_named(traps: &mut Vec<Trap>, name: ShortName)
+    ensures traps { traps.new.items ≡ without_first (is_named name) traps.old.items }
+    ensures few { length traps.new.items ≤ length traps.old.items }
+    ensures capacity { vec_capacity traps.old ≤ vec_capacity traps.new }
+{
+    let index = index_named(traps.as_slice(), name);
+    if index >= traps.len() {
+        return;
+    }
+    traps.remove(index);
+}
+
+/// Moves the first trap of this name.
+pub(crate) fn move_named(traps: &mut Vec<Trap>, name: ShortName, place: i32)
+    ensures traps { traps.new.items ≡ with_first (is_named name) (moved_to place) traps.old.items }
+    ensures few { length traps.new.items ≤ length traps.old.items }
+    ensures capacity { vec_capacity traps.old ≤ vec_capacity traps.new }
+{
+    let index = index_named(traps.as_slice(), name);
+    if index >= traps.len() {
+        return;
+    }
+    let found = traps[index];
+    traps[index] = Trap {
+        place,
+        name: found.name,
+    };
+}
+
+/// The place in turn of the first trap that was given this place, or how many there are.
+pub(crate) fn index_given(traps: &[Trap], place: i32) -> usize
+    ensures index { result ≡ first_index (is_given place) traps.now }
+    ensures within { result ≤ length traps.now }
+{
+    let mut index = 0;
+    let mut rest = traps;
+    while let Some((trap, others)) = rest.split_first() {
+        if trap.place == place {
+            return index;
+        }
+        index += 1;
+        rest = others;
+    }
+    index
+}
+
+/// The place in turn of the first trap of this name, or how many there are.
+pub(crate) fn index_named(traps: &[Trap], name: ShortName) -> usize
+    ensures index { result ≡ first_index (is_named name) traps.now }
+    ensures within { result ≤ length traps.now }
+{
+    let mut index = 0;
+    let mut rest = traps;
+    while let Some((trap, others)) = rest.split_first() {
+        if is_same(trap.name, name) {
+            return index;
+        }
+        index += 1;
+        rest = others;
+    }
+    index
+}
+
+/// Whether two names are the same.
+fn is_same(one: ShortName, other: ShortName) -> bool
+    ensures { result ≡ same_name one other }
+{
+    if one.first != other.first {
+        return false;
+    }
+    match (one.second, other.second) {
+        (None, None) => true,
+        (Some(one), Some(other)) => one == other,
+        (None, Some(_)) => false,
+        (Some(_), None) => false,
+    }
+}
