@@ -16,7 +16,7 @@ use Rattle.roff_pages.specs.Springs.{first_met, is_on_top, is_passed, passed, pa
 use Rattle.roff_pages.specs.DeviceText.{device_lines, device_text}
 use Rattle.roff_pages.specs.Pages.Kept.{Kept}
 use Rattle.roff_pages.specs.Pages.Stands.{StandsAs, kept_diversion}
-use Rattle.roff_pages.specs.Pages.Advancing.{sprung_by, sprung_on, way_on, with_lines}
+use Rattle.roff_pages.specs.Pages.Advancing.{sprung_by, way_on, with_lines}
 use Rattle.roff_pages.specs.Pages.Printing.{Blanked, BlankedTo, DidTo, IsUnprinted, Printed, blank_text}
 use Rattle.roff_pages.specs.declared.page_fault.PageFault.{PageFault}
 use Rattle.roff_pages.specs.Sinks.{Sunk}

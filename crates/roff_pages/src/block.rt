@@ -146,7 +146,11 @@ impl Block {
 
     /// Writes so many newlines, a block of them at a time.
     #[inline(never)]
-    pub(crate) fn put_newlines<O: ByteSink>(&mut self, count: u64, out: &mut O) -> Result<(), SinkFault>
+    pub(crate) fn put_newlines<O: ByteSink>(
+        &mut self,
+        count: u64,
+        out: &mut O,
+    ) -> Result<(), SinkFault>
         ensures { Puts (O.sunk out.old) (O.sunk out.new) (replicate count 10) result }
     {
         let bytes = &mut self.bytes;

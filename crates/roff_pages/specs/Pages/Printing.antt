@@ -4,7 +4,7 @@ use Rattle.roff_num.specs.declared.short_name.ShortName.{ShortName}
 use Rattle.roff_pages.specs.declared.page_fault.PageFault.{PageFault}
 use Rattle.roff_pages.specs.declared.page_fault.PageFault.TheVariants.{Output, Sink}
 use Rattle.roff_pages.specs.Sinks.{Sunk, Writes, Fails}
-use Rattle.roff_pages.specs.Layout.{Box, Empty, Layout}
+use Rattle.roff_pages.specs.Layout.{Empty, Layout}
 use Rattle.roff_pages.specs.Happenings.{Happening}
 use Rattle.roff_pages.specs.Turning.{turned_if_full, with_event}
 use Rattle.roff_pages.specs.Springs.{springs}

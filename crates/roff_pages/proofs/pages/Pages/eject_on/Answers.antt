@@ -1,11 +1,7 @@
-use Rattle.std.proofs.Common.{◌≡◌, ◌≤◌, ◌<◌, ◌∙◌, ℕ, Bool, false, true, Option, Some, None, refl, ap, arith, sym, subst}
+use Rattle.std.proofs.Common.{◌≡◌, ◌≤◌, ◌<◌, ◌∙◌, ap, arith, sym, subst}
 use Rattle.std.specs.Prelude.{◌^◌}
-use Rattle.roff_num.specs.declared.num.Num.{Num}
-use Rattle.roff_pages.specs.Happenings.{Does, Eject}
-use Rattle.roff_pages.specs.Layout.{Layout}
 use Rattle.roff_pages.specs.Pages.Kept.{Kept}
 use Rattle.roff_pages.specs.Pages.Advancing.{way_on}
-use Rattle.roff_pages.specs.Pages.Printing.{BlankedTo, HappensWriting}
 use Rattle.roff_pages.proofs.Blanking.{did_blank_as, did_nothing, eject_on_nothing, eject_on_puts}
 use Rattle.roff_pages.proofs.pages.Pages.eject_on.Goals as goal
 

@@ -1,9 +1,5 @@
-use Rattle.std.proofs.Common.{◌≡◌, ◌≤◌, ◌<◌, ◌∙◌, ℕ, Bool, false, true, Option, Some, None, refl, ap, arith, sym, subst}
-use Rattle.roff_num.specs.declared.num.Num.{Num}
-use Rattle.roff_pages.specs.Happenings.{Does, Eject}
-use Rattle.roff_pages.specs.Layout.{Layout}
+use Rattle.std.proofs.Common.{◌≡◌, ◌≤◌, ◌∙◌, false, true, refl, ap, arith, sym, subst}
 use Rattle.roff_pages.specs.Pages.Kept.{Kept}
-use Rattle.roff_pages.specs.Pages.Printing.{BlankedTo, HappensWriting}
 use Rattle.roff_pages.proofs.Blanking.{did_blank_as, did_nothing, space_nothing, space_puts}
 use Rattle.roff_pages.proofs.pages.Pages.space.Goals as goal
 
