@@ -50,7 +50,7 @@ STAGES = {
         "roff_engine::formatter::Formatter::end_word",
         "roff_engine::formatter::Formatter::perform_text",
     ],
-    "writing": ["roff_engine::block", "roff_engine::sink", "roff_lines::line_bytes", "roff_lines::stretch"],
+    "writing": ["roff_pages", "roff_lines::line_bytes", "roff_lines::stretch"],
     "store": ["roff_store"],
 }
 REST = "rest"
