@@ -31,7 +31,7 @@ KINDS = ("text", "requests", "registers", "code", "macros", "loop", "skipped")
 # the calls of the environment into functions of `Formatter`.
 STAGES = {
     "turn": ["roff_tools::job", "roff_engine::engine", "roff_engine::running"],
-    "source": ["roff_source::source", "roff_tools"],
+    "source": ["roff_source::source", "roff_devices", "roff_tools"],
     "unread": ["roff_scan::unread", "roff_ahead"],
     "reader": [
         "roff_reader",

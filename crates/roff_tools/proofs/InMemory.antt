@@ -11,11 +11,11 @@ use Rattle.roff_pages.specs.Sinks.{AppendsFront}
 use Rattle.roff_run.specs.declared.status.Status.{Status}
 use Rattle.roff_engine.proofs.Outcomes.{each_outcome_gives}
 use Rattle.roff_source.specs.Tape.{Tape}
-use Rattle.roff_tools.specs.Memory.{kept_by, room_of, tape_of}
-use Rattle.roff_tools.specs.WatchedSink.Telling.{IsSound, given_to, nothing_told, told_by}
-use Rattle.roff_tools.specs.declared.memory.MemSource.{MemSource}
-use Rattle.roff_tools.specs.declared.watched.WatchedSink.{WatchedSink}
-use Rattle.roff_tools.proofs.Overflows.{overflow_or_not, kept-first, kept-all, given-longer}
+use Rattle.roff_devices.specs.Memory.{kept_by, room_of, tape_of}
+use Rattle.roff_devices.specs.WatchedSink.Telling.{IsSound, given_to, nothing_told, told_by}
+use Rattle.roff_devices.specs.declared.memory.MemSource.{MemSource}
+use Rattle.roff_devices.specs.declared.watched.WatchedSink.{WatchedSink}
+use Rattle.roff_devices.proofs.Overflows.{overflow_or_not, kept-first, kept-all, given-longer}
 
 -- a run in memory: what it gives, and the sinks behind it
 pub record RunInMemory (l : Limits) (t : Tape) (status : Status) (out_room err_room : ℕ) (out err : WatchedSink) : Type 0 where

@@ -2,8 +2,8 @@
 use Rattle.std.proofs.Common.{◌≡◌, ℕ, ◌+◌, ◌<◌, List, [], ◌∷◌, ◌++◌, map, take, length, get_or}
 use Rattle.std.proofs.lemmas.List.{map-append, take_more}
 use Rattle.std.specs.Borrow.{Bor}
-use Rattle.roff_tools.specs.declared.inputs.Part.{Part}
-use Rattle.roff_tools.specs.Inputs.Part.{AreNamed, IsNamed}
+use Rattle.roff_devices.specs.declared.inputs.Part.{Part}
+use Rattle.roff_devices.specs.Inputs.Part.{AreNamed, IsNamed}
 
 -- one more name, and one more part that it stands for
 AreNamed-push : {F S : Type 0} (opens : List ℕ → F → Type 0) (stands : S → Type 0) (names : List (List ℕ)) (parts : List (Part F S)) (name : List ℕ) (part : Part F S)

@@ -1,19 +1,12 @@
 -- Runs over readers.
-use Rattle.std.proofs.Common.{◌≡◌, ℕ, List, Option, None, refl}
+use Rattle.std.proofs.Common.{◌≡◌, ℕ, List, Option, None}
 use Rattle.roff_num.specs.declared.limits.Limits.{Limits}
 use Rattle.roff_source.specs.declared.source.ReadSource.{ReadSource}
 use Rattle.roff_source.specs.ReadSource.Reach.{ending_given, may_give, unread}
-use Rattle.roff_engine.specs.declared.engine.Start.{Start}
 use Rattle.roff_run.specs.declared.status.Status.{Status}
 use Rattle.roff_engine.specs.Engine.Outcome.{Runs, seen}
 use Rattle.roff_pages.specs.Sinks.{Sunk}
-use Rattle.roff_tools.specs.RunOver.{RunsOver, limits_of}
-use Rattle.roff_tools.specs.declared.job.Job.{Job}
-use Rattle.roff_tools.specs.declared.job.Job.TheVariants.{Nroff}
-
--- a job is the formatter's, with its limits
-pub job-limits_of : (job : Job) → (start : Start) × (job ≡ Nroff (limits_of job) start)
-job-limits_of (Nroff limits start) = (start, refl)
+use Rattle.roff_tools.specs.RunOver.{RunsOver}
 
 -- a run over a source of which nothing was read yet
 pub unread-RunsOver : {R : Type 0} (remaining : R → Option (List ℕ)) (known : Option (List ℕ)) (s s' : ReadSource R) (l : Limits) (status : Status) (out out' err err' : Sunk)

@@ -1,12 +1,7 @@
 pub use Rattle.roff_source.specs.Tape
 pub use Rattle.roff_engine.specs.Engine
-pub mod Memory
 pub mod InMemory
-pub mod WatchedSink
-pub mod Inputs
 pub mod StartFault
-pub mod CommandLine
-pub mod CommandRows
 pub mod Exit
 pub mod RunOver
 pub mod Program

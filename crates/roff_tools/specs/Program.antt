@@ -2,7 +2,7 @@
 use Rattle.std.specs.Prelude.{◌≡◌, ℕ, List, Option, Some, None, codes}
 use Rattle.clap.specs.Words.{Row, Text}
 use Rattle.roff_pages.specs.Sinks.{Sunk}
-use Rattle.roff_tools.specs.CommandLine.{files_asked, limits_asked}
+use Rattle.roff_command.specs.CommandLine.{files_asked, limits_asked}
 use Rattle.roff_tools.specs.RunOver.{Formats}
 use Rattle.roff_tools.specs.declared.exit.Exit.{Exit}
 

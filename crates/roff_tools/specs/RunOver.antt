@@ -7,16 +7,10 @@ use Rattle.roff_run.specs.declared.status.Status.{Status}
 use Rattle.roff_engine.specs.Engine.Outcome.{Runs, seen}
 use Rattle.roff_pages.specs.Sinks.{Sunk}
 use Rattle.roff_tools.specs.Exit.{exit_after}
-use Rattle.roff_tools.specs.Inputs.Part.{AreNamed}
-use Rattle.roff_tools.specs.Inputs.Remaining.{inputs_remaining}
+use Rattle.roff_devices.specs.Inputs.Part.{AreNamed}
+use Rattle.roff_devices.specs.Inputs.Remaining.{inputs_remaining}
 use Rattle.roff_tools.specs.declared.exit.Exit.{Exit}
-use Rattle.roff_tools.specs.declared.job.Job.{Job}
-use Rattle.roff_tools.specs.declared.job.Job.TheVariants.{Nroff}
-use Rattle.roff_tools.specs.declared.inputs.Part.{Part}
-
--- the limits that a job stays within
-abbrev pub limits_of : Job → Limits
-limits_of (Nroff limits start) = limits
+use Rattle.roff_devices.specs.declared.inputs.Part.{Part}
 
 -- a run over the bytes of a reader, of which these are to come where they are known; the sinks tell one thing
 -- before it and another behind it

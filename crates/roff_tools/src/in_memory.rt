@@ -4,8 +4,8 @@ ghost use Rattle.std.specs.Prelude.{◌≡◌, ◌≤◌, length, take, IfOk};
 ghost use Rattle.roff_tools.specs.Clauses.{IsBeginning, IsWholeResult, messages_of, output_of};
 ghost use Rattle.roff_tools.specs.Clauses.{tape_of_bytes};
 
-use crate::watched::WatchedSink;
-use crate::{Job, MemSource, run};
+use crate::{Job, run};
+use roff_devices::{MemSource, WatchedSink};
 use roff_engine::{Start, Status};
 use roff_num::Limits;
 use std::alloc::{AllocError, Global};

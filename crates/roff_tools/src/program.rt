@@ -3,16 +3,16 @@
 ghost use Rattle.std.specs.Prelude.{◌≡◌, ◌≢◌, ◌≤◌, ◌⊎◌, true, is_ok, IfOk, IfErr, OnErr, map};
 ghost use Rattle.roff_tools.specs.Clauses.{AreMistaken, AreNamed, AskForHelp, Formats};
 ghost use Rattle.roff_tools.specs.Clauses.{FormatsAsked, IsNamed, NamesFile, NamesOneOf};
-ghost use Rattle.roff_tools.specs.Clauses.{exit_flushed, exit_status, fault_of, kind_of, limits_of};
+ghost use Rattle.roff_tools.specs.Clauses.{exit_flushed, exit_status, fault_of, kind_of};
 ghost use Rattle.roff_tools.specs.Clauses.{roff_app, subcommand_of, takes};
 
-use crate::command::{Request, STANDARD_INPUT, parse_words};
 use crate::exit::Exit;
 use crate::fault::StartFault;
-use crate::inputs::{Inputs, Part, Readers};
 use crate::text_sink::TextSink;
-use crate::{ByteSink, ReadSource, SinkFault, WriteSink, run};
+use crate::{ByteSink, Job, ReadSource, SinkFault, Start, WriteSink, run};
 use clap::error::ErrorKind;
+use roff_command::{Request, STANDARD_INPUT, parse_words};
+use roff_devices::{Inputs, Part, Readers};
 use std::convert::AsStr;
 use std::fmt::Write as _;
 use std::io::{BufWriter, Write};
@@ -131,7 +131,7 @@ fn show<O: ByteSink, E: ByteSink>(shown: &clap::Error, out: &mut O, err: &mut E)
     }
 }
 
-/// Opens all files and then runs the job over them.
+/// Opens all files and then runs the formatter over them.
 fn perform<R, O, E>(
     rt: &R,
     request: &Request<'_>,
@@ -144,14 +144,15 @@ where
     E: ByteSink,
     ensures formats { IfOk result (λ exit. Formats (R.opens rt.now) (R.stands rt.now)
         R.File.remaining R.Standard.remaining (map (λ name. name.now) request.now.files.items)
-        (limits_of request.now.job) exit
+        request.now.limits exit
         (O.sunk out.old) (O.sunk out.new) (E.sunk err.old) (E.sunk err.new)) }
     ensures fault { IfErr result (NamesOneOf (map (λ name. name.now) request.now.files.items)) }
     ensures unwritten { OnErr result ((out.new ≡ out.old) × (err.new ≡ err.old)) }
 {
     let inputs = open_all(rt, request.files.as_slice())?;
     let mut source = ReadSource::new(rt.alloc(), inputs)?;
-    let status = run(rt.alloc(), request.job, &mut source, out, err)?;
+    let job = Job::Nroff(request.limits, Start::default());
+    let status = run(rt.alloc(), job, &mut source, out, err)?;
     Ok(Exit::after(status))
 }
 

@@ -1,5 +1,5 @@
 use Rattle.std.proofs.Common.{refl, ◌∙◌}
-use Rattle.roff_tools.specs.Memory.{faults_of_source, tape_of_bytes}
+use Rattle.roff_devices.specs.Memory.{faults_of_source, tape_of_bytes}
 use Rattle.roff_tools.proofs.InMemory.{RunInMemory, RunInMemory-Runs, output_begins, output_has_room, output_kept, messages_kept, status_given, output_first}
 use Rattle.roff_tools.proofs.in_memory.format_in_memory.Goals as goal
 

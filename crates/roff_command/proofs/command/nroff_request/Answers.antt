@@ -1,0 +1,12 @@
+use Rattle.std.proofs.Common.{◌∙◌, codes, refl}
+use Rattle.clap.specs.Words.{found_of}
+use Rattle.clap.proofs.WalkLemmas.{raw_values-rows}
+use Rattle.roff_command.proofs.CommandLine.{lent-files}
+use Rattle.roff_command.proofs.command.nroff_request.Goals as goal
+
+pub returns : goal.returns
+returns c = record {
+  files = rw (c.in_ok-extend_from_slice.ensures.items, c.new-files.ensures.items, c.unwrap_or.ensures)
+      (lent-files c.get_strs.result _ _ refl (c.get_strs.ensures ∙ raw_values-rows (found_of c.args.nroff.now) (codes "FILE")));
+  limits = c.read_limits.ensures;
+}

@@ -1,0 +1,23 @@
+use Rattle.std.proofs.Common.{◌≡◌, ◌∙◌, true, ap, ap₂, codes, refl}
+use Rattle.std.proofs.lemmas.Result.{IfOk-weaker}
+use Rattle.clap.specs.Words.{App, app_of, new_app, with_subcommand}
+use Rattle.clap.proofs.SimpleLemmas.{plain_fields}
+use Rattle.roff_command.specs.CommandLine.{nroff_app, roff_app}
+use Rattle.roff_command.proofs.command.roff_command.Goals as goal
+
+abbrev alone : App
+alone = let roff = new_app (codes "roff") in record roff { top = record roff.top { has_version = true; subcommand_required = true } }
+
+nroff_app-is_plain : nroff_app.top.is_plain ≡ true
+unfolding nroff_app
+nroff_app-is_plain = refl
+
+pub returns : goal.returns
+unfolding roff_app
+returns c =
+    let empty : app_of c.subcommand_required.result ≡ alone =
+    rw (c.subcommand_required.ensures, c.after_help.ensures, c.about.ensures, c.version.ensures)
+    (ap (λ (a : App). record a { top = record a.top { has_version = true; subcommand_required = true } }) c.new.ensures.app) in
+    let nroff : app_of c.in_ok-nroff_command.field-0 ≡ nroff_app = c.in_ok-nroff_command.ensures in
+    let plain = plain_fields c.in_ok-nroff_command.field-0 (ap (λ (a : App). a.top.is_plain) nroff ∙ nroff_app-is_plain) in
+    IfOk-weaker c.subcommand.result _ _ (λ r adds. adds.shape plain.globals ∙ ap₂ with_subcommand empty (ap (λ (a : App). a.top) nroff)) c.subcommand.ensures

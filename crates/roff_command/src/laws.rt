@@ -1,0 +1,46 @@
+//! Facts about the definitions alone, as contracts of functions that do nothing.
+
+ghost use Rattle.std.specs.Prelude.{◌≡◌, [], ◌∷◌, codes};
+ghost use Rattle.roff_command.specs.Clauses.{ArgumentConflict, DisplayHelp, DisplayVersion};
+ghost use Rattle.roff_command.specs.Clauses.{EachOptionSetsItsLimit, InvalidValue, MissingSubcommand};
+ghost use Rattle.roff_command.specs.Clauses.{UnknownArgument, ValueValidation, asked, default_limits};
+ghost use Rattle.roff_command.specs.Clauses.{fault, formats, limited, numbered};
+
+/// Each limit of the formatter has an option, which sets it alone.
+pub fn limit_options()
+    ensures each { EachOptionSetsItsLimit }
+{}
+
+/// What command lines ask for: files and limits.
+pub fn command_lines()
+    ensures nothing { asked (codes "nroff" ∷ []) ≡ formats (codes "-" ∷ []) default_limits }
+    ensures options { asked (codes "nroff" ∷ codes "a" ∷ codes "--line=0" ∷ codes " b"
+        ∷ codes "--bytes" ∷ codes "7" ∷ codes "-" ∷ [])
+        ≡ formats (codes "a" ∷ codes " b" ∷ codes "-" ∷ []) (limited 7 0) }
+    ensures greatest { asked (codes "nroff" ∷ codes "--bytes=1000000000"
+        ∷ codes "--line" ∷ codes "1000000000" ∷ [])
+        ≡ formats (codes "-" ∷ []) (limited 1000000000 1000000000) }
+    ensures all { asked (codes "nroff" ∷ codes "--conditions=11" ∷ codes "--environments=10"
+        ∷ codes "--diversions=9" ∷ codes "--output=8" ∷ codes "--traps=7" ∷ codes "--line=6"
+        ∷ codes "--names=5" ∷ codes "--depth=4" ∷ codes "--stack=3" ∷ codes "--store=2"
+        ∷ codes "--bytes=1" ∷ []) ≡ formats (codes "-" ∷ []) numbered }
+    ensures operands { asked (codes "nroff" ∷ codes "--" ∷ codes "--line" ∷ codes "-" ∷ [])
+        ≡ formats (codes "--line" ∷ codes "-" ∷ []) default_limits }
+{}
+
+/// The faults of command lines.
+pub fn command_line_faults()
+    ensures no_command { fault [] ≡ MissingSubcommand ∷ [] }
+    ensures help { fault (codes "--help" ∷ []) ≡ DisplayHelp ∷ [] }
+    ensures version { fault (codes "-V" ∷ []) ≡ DisplayVersion ∷ [] }
+    ensures help_of_nroff { fault (codes "nroff" ∷ codes "a" ∷ codes "-h" ∷ []) ≡ DisplayHelp ∷ [] }
+    ensures unknown { fault (codes "nroff" ∷ codes "--page" ∷ []) ≡ UnknownArgument ∷ [] }
+    ensures no_number { fault (codes "nroff" ∷ codes "--line=x" ∷ []) ≡ ValueValidation ∷ [] }
+    ensures too_great { fault (codes "nroff" ∷ codes "--bytes=1000000001" ∷ [])
+        ≡ ValueValidation ∷ [] }
+    ensures too_great_later { fault (codes "nroff" ∷ codes "--conditions=1000000001" ∷ [])
+        ≡ ValueValidation ∷ [] }
+    ensures no_value { fault (codes "nroff" ∷ codes "--bytes" ∷ []) ≡ InvalidValue ∷ [] }
+    ensures twice { fault (codes "nroff" ∷ codes "--line=1" ∷ codes "--line=2" ∷ [])
+        ≡ ArgumentConflict ∷ [] }
+{}

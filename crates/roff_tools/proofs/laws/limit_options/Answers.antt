@@ -1,5 +1,0 @@
-use Rattle.roff_tools.proofs.Options.{each_option_sets_its_limit}
-use Rattle.roff_tools.proofs.laws.limit_options.Goals as goal
-
-pub returns : goal.returns
-returns c = record { each = each_option_sets_its_limit }
