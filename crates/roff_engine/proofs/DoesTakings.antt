@@ -1,6 +1,5 @@
 -- What the code takes: the definition's step to what a taking means, what was done of it, and limits that refuse it.
 use Rattle.std.proofs.Common.{◌≡◌, ℕ, Bool, List, [], ◌++◌, None, Some, Result, Ok, Err, OnOk, ap, append-nil, refl, subst, sym, ◌∙◌}
-use Rattle.std.specs.Option.{option_to_list}
 use Rattle.roff_num.specs.declared.limit.Limit.{Limit}
 use Rattle.roff_num.specs.declared.limits.Limits.{Limits}
 use Rattle.roff_source.specs.Tape.{Tape}
@@ -10,23 +9,21 @@ use Rattle.roff_engine.specs.declared.halt.Halt.TheVariants.{Limit as Limited, R
 use Rattle.roff_engine.specs.Engine.Outcome.{Reaches, Seen, seen}
 use Rattle.roff_engine.specs.Formatter.Performing.{TakingDone, MeaningDone, DoesMeaning, DoesTaking, Means, Opens, PerformsOnly, RefusedAt, Sinks, acting, going}
 use Rattle.roff_pages.specs.Sinks.{Sunk}
-use Rattle.roff_pages.proofs.Appending.{Writes-nothing}
-use Rattle.roff_engine.proofs.Performed.{does_events, does_halted, messages_told}
+use Rattle.roff_engine.proofs.Performed.{does_events, does_halted}
 use Rattle.roff_requests.specs.Environments.Standing.{StandFor}
-use Rattle.roff_requests.specs.Events.Meant.{events_meant}
 use Rattle.roff_requests.specs.declared.environments.Environments.{Environments as EnvironmentsOf}
 use Rattle.roff_run.specs.Output.{PageHistory}
 use Rattle.roff_reader.specs.Reader.Taken.{CameTo, IsReady, TakesAs}
 use Rattle.roff_run.specs.Reading.Items.{PageUnread}
-use Rattle.roff_reader.specs.Reader.State.{ReaderState}
-use Rattle.roff_run.specs.Reading.Items.{PageInput, Taking, meaning_events}
+use Rattle.roff_run.specs.Reading.Items.{PageInput, Taking}
 use Rattle.roff_run.specs.Registers.{AllRegisters, Known, changed_by_all}
 use Rattle.roff_run.specs.Run.{State, known_at, taken_as, unless_refused}
 use Rattle.roff_run.specs.Run.Counts.{counts_in, first_passed}
+use Rattle.roff_run.specs.Events.Steps.{events_of, messages_of}
 use Rattle.roff_run.specs.declared.event.PageEvent.{PageEvent}
+use Rattle.roff_run.specs.declared.step.Step.{Step}
 use Rattle.roff_run.specs.declared.message.Message.{Message}
 use Rattle.roff_run.specs.declared.line_state.LineState.{LineState}
-use Rattle.roff_reader.specs.declared.reader.Meaning.{Meaning}
 
 -- what was done of a meaning was done of the taking
 did_does : (l : Limits) (t : Tape) (before now : Seen) (from s : State) (rest : List PageEvent) (r : Result (Unit {0}) Halt) (es : EnvironmentsOf)
@@ -78,13 +75,8 @@ refused_taking t more old new before behind told limit takes = record {
       t0 start (seen failures told.out told.err) limit reached (takes.takes before.limits h stood ready);
 }
 
--- what the code took is what its answer says
-pub took_so : {t : Known → Taking} {es : EnvironmentsOf} {old new : ReaderState} {before behind : PageUnread} (r s : Result Meaning Limit) → TakesAs t es old new before behind r → r ≡ s
-    → TakesAs t es old new before behind s
-took_so {t} {es} {old} {new} {before} {behind} r s takes same = subst (λ (x : Result Meaning Limit). TakesAs t es old new before behind x) same takes
-
 -- the code took something, and has come to what it means
-module _ (t : Known → Taking) (old mid : Formatter) (before behind : PageUnread) (m : Meaning) (takes : TakesAs t old.environments old.reader mid.reader before behind (Ok m)) (same : mid.environments ≡ old.environments)
+module _ (t : Known → Taking) (old mid : Formatter) (before behind : PageUnread) (m : Step) (takes : TakesAs t old.environments old.reader mid.reader before behind (Ok m)) (same : mid.environments ≡ old.environments)
     (line : ℕ) (is_line : line ≡ behind.input.line) where
   -- where something was done of that, it became what it becomes
   became_taken : (new : Formatter) (r : Result (Unit {0}) Halt) → new.reader ≡ mid.reader
@@ -93,7 +85,7 @@ module _ (t : Known → Taking) (old mid : Formatter) (before behind : PageUnrea
   became_taken new r kept l h stood ready = on_ok r (rw kept (takes.takes l h stood ready).became)
 
   -- what it means was done, as far as it was done
-  done_taken : (new : Formatter) (told_old told_new : Sinks) (r : Result (Unit {0}) Halt) → DoesMeaning line (option_to_list m.message) (events_meant mid.reader.requested m.events) mid new told_old told_new r
+  done_taken : (new : Formatter) (told_old told_new : Sinks) (r : Result (Unit {0}) Halt) → DoesMeaning line (messages_of mid.reader.meaning.message m) (events_of mid.reader.meaning.events m) mid new told_old told_new r
       → (t0 : Tape) (start : Seen) (failures : ℕ) (from : State) (tape : Tape) (h : PageHistory) (messages : List ℕ) (is_closing : Bool) (to_do : List PageEvent)
       → StandFor before.limits h old.environments → IsReady old.reader.registers before
       → Reaches before.limits t0 start (seen failures told_old.out told_old.err) from
@@ -107,7 +99,7 @@ module _ (t : Known → Taking) (old mid : Formatter) (before behind : PageUnrea
       line _ _ took.became.within (is_line ∙ ap (λ (u : PageUnread). u.input.line) took.became.input) took.messages took.events)
 
   -- it was done, and nothing more was to be done
-  pub taking_done : (new : Formatter) (told_old told_new : Sinks) (r : Result (Unit {0}) Halt) → DoesMeaning line (option_to_list m.message) (events_meant mid.reader.requested m.events) mid new told_old told_new r
+  pub taking_done : (new : Formatter) (told_old told_new : Sinks) (r : Result (Unit {0}) Halt) → DoesMeaning line (messages_of mid.reader.meaning.message m) (events_of mid.reader.meaning.events m) mid new told_old told_new r
       → DoesTaking t [] old new before behind told_old told_new r
   taking_done new told_old told_new r done = record {
     became = became_taken new r done.reader;
@@ -117,7 +109,7 @@ module _ (t : Known → Taking) (old mid : Formatter) (before behind : PageUnrea
   }
 
   -- doing it halted, and so nothing more was done
-  pub taking_halted : (more : List PageEvent) (new : Formatter) (told_old told_new : Sinks) (halt : Halt) → DoesMeaning line (option_to_list m.message) (events_meant mid.reader.requested m.events) mid new told_old told_new (Err halt)
+  pub taking_halted : (more : List PageEvent) (new : Formatter) (told_old told_new : Sinks) (halt : Halt) → DoesMeaning line (messages_of mid.reader.meaning.message m) (events_of mid.reader.meaning.events m) mid new told_old told_new (Err halt)
       → DoesTaking t more old new before behind told_old told_new (Err halt)
   taking_halted more new told_old told_new halt done = record {
     became = became_taken new (Err halt) done.reader;
@@ -129,7 +121,7 @@ module _ (t : Known → Taking) (old mid : Formatter) (before behind : PageUnrea
 
   -- it was done, and then events more were performed
   pub taking_done_and_more : (more : List PageEvent) (next new : Formatter) (told_old : Sinks) (out_next out_new err_new : Sunk) (r : Result (Unit {0}) Halt)
-      → DoesMeaning line (option_to_list m.message) (events_meant mid.reader.requested m.events) mid next told_old (record { out = out_next; err = err_new }) (Ok tt)
+      → DoesMeaning line (messages_of mid.reader.meaning.message m) (events_of mid.reader.meaning.events m) mid next told_old (record { out = out_next; err = err_new }) (Ok tt)
       → PerformsOnly more next new out_next out_new r → DoesTaking t more old new before behind told_old (record { out = out_new; err = err_new }) r
   taking_done_and_more more next new told_old out_next out_new err_new r done performed = record {
     became = became_taken new r (performed.reader ∙ done.reader);
@@ -139,23 +131,3 @@ module _ (t : Known → Taking) (old mid : Formatter) (before behind : PageUnrea
         (does_events before.limits t0 start _ from _ rest r new.environments
         (performed.events_performed.performs before.limits t0 start failures err_new _ first.history rest first.stands first.reaches));
   }
-
--- events alone were performed, and the input stayed as it was
-pub taking_performed : (t : Known → Taking) (events : List PageEvent) (old new : Formatter) (unread : PageUnread) (out_old out_new err : Sunk) (r : Result (Unit {0}) Halt)
-    → ((k : Known) → t k ≡ meaning_events unread.input old.reader.reading events) → PerformsOnly events old new out_old out_new r
-    → DoesTaking t [] old new unread unread (record { out = out_old; err = err }) (record { out = out_new; err = err }) r
-taking_performed t events old new unread out_old out_new err r is_taking performed = record {
-  became = λ l h stood ready.
-      let k = known_at h old.reader.registers.all unread.input in
-      on_ok r (rw (is_taking k, performed.reader) (record { input = refl; reading = refl; registers = refl; within = ready.within }));
-  does = λ t0 start failures from tape h messages is_closing rest stood ready reached opens.
-      let k = known_at h old.reader.registers.all unread.input in
-      let read = meaning_events unread.input old.reader.reading events in
-      let state = going tape unread.input old.reader.reading old.reader.registers.all h messages is_closing rest in
-      let opened : Opens unread.limits from (taken_as read state) h messages = rw (is_taking k) at opens in
-      let means = means_taken unread.limits from tape unread.input old.reader.reading old.reader.registers.all h messages is_closing rest read opened unread.input.line [] events ready.within refl refl refl in
-      let told = messages_told unread.limits t0 start failures out_old err err from (taken_as read state) h unread.input.line [] events rest reached means (Writes-nothing err) in
-      rw (is_taking k) (did_does unread.limits t0 start _ from (taken_as read state) rest r new.environments
-      (does_events unread.limits t0 start _ from (taken_as read state) rest r new.environments
-      (performed.events_performed.performs unread.limits t0 start failures err (taken_as read state) h rest stood told)));
-}

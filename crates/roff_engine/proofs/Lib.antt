@@ -1,6 +1,5 @@
 pub mod Performed
 pub mod DoesTakings
-pub mod TakenAtOnce
 pub mod Halting
 pub mod Acting
 pub mod Calls
@@ -18,3 +17,5 @@ pub mod PassingEnds
 pub mod Telling
 pub mod Fronts
 pub mod DueDone
+pub mod NamedSteps
+pub mod EventsLeft

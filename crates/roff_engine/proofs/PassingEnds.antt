@@ -32,7 +32,7 @@ use Rattle.roff_reader.proofs.TakesAs.{few_names}
 use Rattle.roff_engine.specs.declared.formatter.Formatter.{Formatter}
 use Rattle.roff_engine.specs.declared.running.Running.{Running as Coded}
 use Rattle.roff_engine.specs.Engine.Outcome.{Seen}
-use Rattle.roff_engine.specs.Running.Turning.{GoesFurther, GoesPast, HasTape, IsAt, state_at}
+use Rattle.roff_engine.specs.Running.Turning.{GoesFurther, HasTape, IsAt, state_at}
 use Rattle.roff_engine.proofs.Passing.{IsAt-leads}
 use Rattle.roff_engine.proofs.PassingOn.{goes_further_none, goes_past_none}
 

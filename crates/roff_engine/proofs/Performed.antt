@@ -295,3 +295,12 @@ not_told line messages events f out err err_new halt puts is_messages = record {
       rw is_messages (messages_lost l t before failures out err err_new from s h line messages events rest reached means puts.err);
   reader = refl;
 }
+
+-- no event is performed by doing nothing
+pub performs_nothing : (f : Formatter) (out : Sunk) → PerformsOnly [] f f out out (Ok tt)
+performs_nothing f out = record {
+  events_performed = record {
+    performs = λ l t before failures err s h rest stood reached. record { history = h; reaches = reached; stands = stood };
+  };
+  reader = refl;
+}

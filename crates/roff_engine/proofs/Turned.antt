@@ -6,7 +6,7 @@ use Rattle.roff_ahead.specs.Input.{Ahead, ByteAhead, is_none_ahead}
 use Rattle.roff_source.specs.Tape.{Tape, OneByte, items_then}
 use Rattle.roff_scan.specs.Unread.{Stays, input_refusal, looked_then}
 use Rattle.roff_scan.specs.Unread.Calls.{OfSource, OfTexts, PassesFront, PassesSource, PassesTexts}
-use Rattle.roff_reader.specs.Reader.State.{ReaderState}
+use Rattle.roff_reader.specs.Reader.State.{MeaningKept, ReaderState}
 use Rattle.roff_reader.specs.Reader.Taken.{IsReady}
 use Rattle.roff_run.specs.Reading.Items.{PageUnread}
 use Rattle.roff_run.specs.Reading.Ends.{due}
@@ -191,10 +191,10 @@ unread-past : (before after : PageUnread) (input passed : PageInput) → record 
     → after ≡ record before { input = after.input }
 unread-past before after input passed same = ap (λ (u : PageUnread). record u { input = after.input }) same
 
-reader-past : (old new : ReaderState) → new.registers ≡ old.registers → new.requested ≡ old.requested → new ≡ record old { reading = new.reading }
-reader-past old new same requested =
+reader-past : (old new : ReaderState) → new.registers ≡ old.registers → new.meaning ≡ old.meaning → new ≡ record old { reading = new.reading }
+reader-past old new same kept =
     ap (λ (registers : Capped). record new { registers = registers }) same
-    ∙ ap (λ (events : List PageEvent). record new { registers = old.registers; requested = events }) requested
+    ∙ ap (λ (m : MeaningKept). record new { registers = old.registers; meaning = m }) kept
 
 past-read : (gave gives : Tape → Type 0) (notes : ℕ) (now : Seen) (old : Coded) (after : PageUnread) (new : ReaderState)
     → (past : ReadsPast gave gives old.formatter.reader new old.unread after)
@@ -206,7 +206,7 @@ past-read gave gives notes now old after new past (OfSource passes) =
     let within : input_refusal old.unread.limits after.input ≡ None = subst (λ (l : Limits). input_refusal l after.input ≡ None) limits (IsWithin-allowed after past.within) in
     subst (λ (u : PageUnread). GoesPast gave gives notes notes old (record old { unread = u; formatter = record old.formatter { reader = new } }) now now) (sym left)
     (subst (λ (r : ReaderState). GoesPast gave gives notes notes old (record old { unread = record old.unread { input = after.input }; formatter = record old.formatter { reader = r } }) now now)
-    (sym (reader-past old.formatter.reader new past.registers past.requested))
+    (sym (reader-past old.formatter.reader new past.registers past.meaning))
     (past-source gave gives notes now old new.reading after.input past.bytes (read-source gave gives old after new past passes within) passes.looked passes.in_front passes.some))
 past-read gave gives notes now old after new past (OfTexts passes) =
     let left : after ≡ record old.unread { input = after.input } = unread-past old.unread after _ _ passes.input in
@@ -214,7 +214,7 @@ past-read gave gives notes now old after new past (OfTexts passes) =
     let within : input_refusal old.unread.limits after.input ≡ None = subst (λ (l : Limits). input_refusal l after.input ≡ None) limits (IsWithin-allowed after past.within) in
     subst (λ (u : PageUnread). GoesPast gave gives notes notes old (record old { unread = u; formatter = record old.formatter { reader = new } }) now now) (sym left)
     (subst (λ (r : ReaderState). GoesPast gave gives notes notes old (record old { unread = record old.unread { input = after.input }; formatter = record old.formatter { reader = r } }) now now)
-    (sym (reader-past old.formatter.reader new past.registers past.requested))
+    (sym (reader-past old.formatter.reader new past.registers past.meaning))
     (past-texts gave gives notes now old new.reading after.input passes.behind past.bytes (read-texts gave gives old after new past passes within) passes.stays))
 
 -- the run goes past the bytes that were read, as the source counts

@@ -75,7 +75,7 @@ impl Running {
         }
         let line = self.unread.line();
         match self.unread.take_waiting(source) {
-            Some(byte) => self.take_above(byte, line, out, err),
+            Some(byte) => self.take(byte, line, out, err),
             None => self.turn_looking(source, out, err),
         }
     }
@@ -165,7 +165,7 @@ impl Running {
     {
         let line = self.unread.line();
         match self.unread.take_ready(source) {
-            Some(byte) => self.take_above(byte, line, out, err),
+            Some(byte) => self.take(byte, line, out, err),
             None => self.turn_item(source, out, err),
         }
     }
@@ -221,26 +221,6 @@ impl Running {
         }
     }
 
-    /// The same above what is half read.
-    #[inline(always)]
-    fn take_above<O: ByteSink, E: ByteSink>(
-        &mut self,
-        byte: u8,
-        line_before: u32,
-        out: &mut O,
-        err: &mut E,
-    ) -> Result<(), Status>
-        ensures { (failures : ℕ) → DoesItem line_before (byte_taken byte) self.old self.new
-            (seen failures (O.sunk out.old) (E.sunk err.old))
-            (seen failures (O.sunk out.new) (E.sunk err.new)) result }
-    {
-        let line = self.unread.line();
-        match self.formatter.take_above(byte, &mut self.unread, out, err) {
-            Ok(()) => Ok(()),
-            Err(halt) => Err(self.halted(halt, line_before, line, err)),
-        }
-    }
-
     /// Performs an event that was put back.
     fn perform<O: ByteSink, E: ByteSink>(
         &mut self,
@@ -255,7 +235,7 @@ impl Running {
     {
         let line = self.unread.line();
         self.formatter.interrupt(&mut self.unread);
-        match self.formatter.perform(event, out) {
+        match self.formatter.perform_event(event, out) {
             Ok(()) => Ok(()),
             Err(halt) => Err(self.halted(halt, line_before, line, err)),
         }

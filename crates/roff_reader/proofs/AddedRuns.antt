@@ -114,7 +114,7 @@ reads-added gave gives r before after none_half none_due adds added within =
           (subst (λ (q : Stage). Turned i.names (stage_with r.reading i.arguments i.open_texts) added.bytes q) (sym behind) turned);
       passes = subst (λ (there : PageInput). PassesFront gave gives added.bytes before (record after { input = there })) same added.passes;
       registers = refl;
-      requested = refl;
+      meaning = refl;
       within = within;
     }
 
@@ -141,5 +141,5 @@ turns-ignored front count r none_due ignores counted =
           subst (λ (half : List OpenEscape). Turned names (record (stage_of r.reading i) { escapes = half }) bytes (record (stage_of r.reading i) { escapes = half })) (sym none_half)
           (turned-ignored names r.reading i.arguments i.open_texts bytes none_due ignores plain);
       registers = refl;
-      requested = refl;
+      meaning = refl;
     }

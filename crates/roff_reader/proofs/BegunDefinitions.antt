@@ -19,7 +19,7 @@ use Rattle.roff_run.specs.Reading.Definitions.{definition_begun, definition_grow
 use Rattle.roff_run.specs.Reading.Items.{PageInput, Taking}
 use Rattle.roff_run.specs.Registers.{Known}
 use Rattle.roff_num.specs.ShortNames.{name_or_none}
-use Rattle.roff_reader.specs.declared.reader.Meaning.{Meaning}
+use Rattle.roff_run.specs.declared.step.Step.{Step}
 use Rattle.roff_num.specs.declared.short_name.ShortName.{ShortName}
 use Rattle.roff_run.specs.declared.request.LineReading.{LineReading}
 use Rattle.roff_run.specs.declared.request.LineReading.TheVariants.{ByArguments, ByCondition, ByElse, ByLastLine, ByMessage, ByString, ByLines}
@@ -57,7 +57,7 @@ definition_begun-finished i None appends end = refl
 definition_begun-finished i (Some name) appends end = refl
 
 pub TakesAs-behind_line : (name : Option ShortName) (appends : Bool) (end : Option ShortName) (es : EnvironmentsOf) (old new : ReaderState) (before mid behind : PageUnread)
-    (result : Result Meaning Limit) → mid ≡ line_finished before → TakesAs (λ k. definition_begun mid.input name appends end) es old new mid behind result
+    (result : Result Step Limit) → mid ≡ line_finished before → TakesAs (λ k. definition_begun mid.input name appends end) es old new mid behind result
     → TakesAs (λ k. definition_begun before.input name appends end) es old new before behind result
 TakesAs-behind_line name appends end es old new before mid behind result finishes takes =
     let i : PageInput = with_arguments (finished before.input.arguments) before.input in

@@ -17,7 +17,7 @@ use Rattle.roff_scan.specs.Unread.Calls.{NoNewline, PassesFront}
 use Rattle.roff_store.specs.Named.{Named}
 use Rattle.roff_store.specs.Texts.{Entry}
 use Rattle.roff_reader.proofs.HeldRuns.{passed-counted}
-use Rattle.roff_reader.proofs.TextTaken.{text_line-reads}
+use Rattle.roff_reader.proofs.TextTaken.{plain-found}
 use Rattle.roff_reader.specs.Reader.State.{ReaderState}
 use Rattle.roff_run.specs.Reading.Items.{PageUnread}
 use Rattle.roff_run.specs.Reading.{taking}
@@ -42,7 +42,7 @@ counts-blank k i line n b none_half no_glyph some is =
     let next : LineState = InText (led line (min (n + 1) most_leading)) in
     let more : (n == 0) ≡ false = ne_eqb n 0 (λ none. absurd (omega (arith, none, some))) in
     subst (λ (c : ℕ). taking k (InText (led line n)) i c ≡ going_on i next) (sym (eqb-true b blank is))
-    (text_line-reads k i (led line n) blank none_half refl refl
+    (sym (plain-found k (InText (led line n)) i blank refl none_half refl)
     ∙ ap (λ (c : Bool). if c then meaning_events i (InText (led line n)) (Text WordEnd ∷ Text (Gap 1) ∷ []) else meaning_events i next (if n == 0 then Text WordEnd ∷ Text Break ∷ [] else [])) no_glyph
     ∙ ap (λ (c : Bool). meaning_events i next (if c then Text WordEnd ∷ Text Break ∷ [] else [])) more)
 
@@ -119,7 +119,7 @@ turns-blanks front line behind count old new is so counted led_on came =
           (sym none_half)
           (turned-blanks names line i.arguments i.open_texts line.leading last (take count front) bare.0 some taken blanks)));
       registers = ap (λ (r : ReaderState). r.registers) came;
-      requested = ap (λ (r : ReaderState). r.requested) came;
+      meaning = ap (λ (r : ReaderState). r.meaning) came;
     }
 
 -- bytes that change only what is read were read past
@@ -146,6 +146,6 @@ reads-turned gave gives front count old new before after none_half turns passes 
       turned = subst (λ (q : Stage). Turned i.names (stage_of old.reading i) (take count front) q) (sym behind) (turns.turned i.names i none_half);
       passes = subst (λ (there : PageInput). PassesFront gave gives (take count front) before (record after { input = there })) same passes;
       registers = turns.registers;
-      requested = turns.requested;
+      meaning = turns.meaning;
       within = within;
     }

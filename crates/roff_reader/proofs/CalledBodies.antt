@@ -1,5 +1,5 @@
 -- What the code does where a line calls a body, as the definition does it.
-use Rattle.std.proofs.Common.{◌≡◌, ◌<◌, ◌≤◌, ℕ, ◌-◌, Bool, true, false, List, [], ◌∷◌, length, None, Result, Ok, Err, refl, sym, subst, ap, ◌==◌, arith}
+use Rattle.std.proofs.Common.{◌≡◌, ◌<◌, ◌≤◌, ℕ, ◌-◌, Bool, true, false, List, [], ◌∷◌, length, Result, Ok, Err, refl, sym, subst, ap, ◌==◌, arith}
 use Rattle.std.specs.Prelude.{◌&&◌, get_or, if◌then◌else◌, nat_le}
 use Rattle.std.proofs.lemmas.Bool.{le-leb, leb-true, lt-leb}
 use Rattle.roff_requests.specs.declared.environments.Environments.{Environments as EnvironmentsOf}
@@ -9,7 +9,6 @@ use Rattle.roff_escape.specs.declared.open_escape.CopyUnit.{CopyUnit}
 use Rattle.roff_escape.specs.declared.open_escape.CopyUnit.TheVariants.{Byte, Kept}
 use Rattle.roff_escape.specs.declared.open_escape.Found.{Found}
 use Rattle.roff_escape.specs.declared.open_escape.Found.TheVariants.{GoesOn, Unit as OneUnit, Holds, Escape, Asks, Motion, Measures, Tells, Decides}
-use Rattle.roff_requests.specs.Events.Meant.{none_meant}
 use Rattle.roff_reader.specs.Reader.State.{ReaderState}
 use Rattle.roff_reader.specs.Reader.Taken.{TakesAs}
 use Rattle.roff_run.specs.Reading.Items.{PageUnread}
@@ -18,7 +17,8 @@ use Rattle.roff_run.specs.Reading.Escapes.{argument_named}
 use Rattle.roff_run.specs.Reading.Items.{PageInput, going_on}
 use Rattle.roff_run.specs.Reading.Units.{holding, no_unit_found, settling}
 use Rattle.roff_run.specs.Registers.{Known}
-use Rattle.roff_reader.specs.declared.reader.Meaning.{Meaning}
+use Rattle.roff_run.specs.declared.step.Step.{Step}
+use Rattle.roff_run.specs.declared.step.Step.TheVariants.{Nothing}
 use Rattle.roff_run.specs.declared.line_state.LineState.TheVariants.{Calling}
 use Rattle.roff_num.specs.declared.short_name.ShortName.{ShortName}
 use Rattle.roff_reader.proofs.Strings.{other}
@@ -58,12 +58,12 @@ module _ (unit : CopyUnit) (name : ShortName) (es : EnvironmentsOf) (old new : R
   holding_few few =
       ap (λ (full : Bool). going_on (if full then u.input else holding unit u.input) (Calling name)) (sym (lt-leb 9 (length u.input.arguments.whole) few))
 
-  pub TakesAs-call_held : (m : Meaning) (done : Unit {0}) → length u.input.arguments.whole < 9 → (Ok done, behind) ≡ changing (holding unit u.input) u
-      → new ≡ record old { reading = Calling name } → m.message ≡ None → m.events ≡ none_meant
+  pub TakesAs-call_held : (m : Step) (done : Unit {0}) → length u.input.arguments.whole < 9 → (Ok done, behind) ≡ changing (holding unit u.input) u
+      → new ≡ record old { reading = Calling name } → m ≡ Nothing
       → TakesAs (λ k. going_on (holding_call unit u.input) (Calling name)) es old new u behind (Ok m)
-  TakesAs-call_held m done few changes came silent none =
+  TakesAs-call_held m done few changes came none =
       subst (λ (t : _). TakesAs (λ k. t) es old new u behind (Ok m)) (holding_few few)
-      (TakesAs-changed (holding unit u.input) (Calling name) es old new u behind m done changes came silent none)
+      (TakesAs-changed (holding unit u.input) (Calling name) es old new u behind m done changes came none)
 
   -- or a limit refuses it
   pub TakesAs-call_not_held : (limit : Limit) → length u.input.arguments.whole < 9 → (Err limit, behind) ≡ changing (holding unit u.input) u
@@ -73,13 +73,13 @@ module _ (unit : CopyUnit) (name : ShortName) (es : EnvironmentsOf) (old new : R
       (TakesAs-not_changed (holding unit u.input) (Calling name) es old new u behind limit changes)
 
 -- behind nine arguments nothing is held
-pub TakesAs-call_full : (unit : CopyUnit) (name : ShortName) (es : EnvironmentsOf) (old new : ReaderState) (u : PageUnread) (m : Meaning) → 9 ≤ length u.input.arguments.whole
-    → new ≡ record old { reading = Calling name } → m.message ≡ None → m.events ≡ none_meant
+pub TakesAs-call_full : (unit : CopyUnit) (name : ShortName) (es : EnvironmentsOf) (old new : ReaderState) (u : PageUnread) (m : Step) → 9 ≤ length u.input.arguments.whole
+    → new ≡ record old { reading = Calling name } → m ≡ Nothing
     → TakesAs (λ k. going_on (holding_call unit u.input) (Calling name)) es old new u u (Ok m)
-TakesAs-call_full unit name es old new u m full came silent none =
-    TakesAs-meant (λ k. going_on (holding_call unit u.input) (Calling name)) (Calling name) [] es old new u m
+TakesAs-call_full unit name es old new u m full came none =
+    TakesAs-meant (λ k. going_on (holding_call unit u.input) (Calling name)) (Calling name) es old new u m
     (λ k. ap (λ (full : Bool). going_on (if full then u.input else holding unit u.input) (Calling name)) (le-leb 9 (length u.input.arguments.whole) full))
-    came silent none
+    came none
 
 -- a digit names an argument
 pub argument_named-digit : (name : List ℕ) (arguments : List (List ℕ)) → length name ≡ 1 → 49 ≤ get_or name 0 0 → get_or name 0 0 ≤ 57
@@ -102,7 +102,7 @@ argument_named-other (digit ∷ []) arguments not =
     unless_both (nat_le 49 digit) (nat_le digit 57) (get_or arguments (digit - 49) []) (λ above below. not refl (leb-true 49 digit above) (leb-true digit 57 below))
 argument_named-other (first ∷ second ∷ others) arguments not = refl
 
-module _ (unit : CopyUnit) (name : ShortName) (es : EnvironmentsOf) (old new : ReaderState) (u mid behind : PageUnread) (result : Result Meaning Limit) where
+module _ (unit : CopyUnit) (name : ShortName) (es : EnvironmentsOf) (old new : ReaderState) (u mid behind : PageUnread) (result : Result Step Limit) where
   -- a quote behind a call's name, as it is read where the line is
   pub TakesAs-call_quote : mid ≡ u → unit ≡ Byte 34 → TakesAs (λ k. going_on (holding_call unit mid.input) (Calling name)) es old new mid behind result
       → TakesAs (λ k. call_unit u.input name unit) es old new u behind result

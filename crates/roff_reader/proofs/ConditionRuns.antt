@@ -85,6 +85,6 @@ reads-condition gave gives r before after none_due does took within =
           (turned-taken i.names r.reading i.arguments i.open_texts i.escapes j.escapes took.bytes none_due does took.taken);
       passes = subst (λ (there : PageInput). PassesFront gave gives took.bytes before (record after { input = there })) same took.passes;
       registers = refl;
-      requested = refl;
+      meaning = refl;
       within = within;
     }

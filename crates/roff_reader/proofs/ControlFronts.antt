@@ -151,7 +151,7 @@ reads-front gave gives r there bytes before passed none_half turned passes withi
       turned = subst (λ (q : Stage). Turned i.names (stage_of r.reading i) bytes q) (sym behind) led;
       passes = subst (λ (j : PageInput). PassesFront gave gives bytes before (record passed { input = j })) same passes;
       registers = refl;
-      requested = refl;
+      meaning = refl;
       within = within;
     }
 

@@ -35,7 +35,8 @@ use Rattle.roff_run.specs.Registers.Capped.{Capped}
 use Rattle.roff_run.specs.declared.event.PageEvent.{PageEvent}
 use Rattle.roff_run.specs.Run.{known_at}
 use Rattle.roff_run.specs.Run.Counts.{counts_in, first_passed}
-use Rattle.roff_reader.specs.declared.reader.Meaning.{Meaning}
+use Rattle.roff_run.specs.declared.step.Step.{Step}
+use Rattle.roff_run.specs.declared.step.Step.TheVariants.{Nothing}
 use Rattle.roff_run.specs.declared.line_state.LineState.TheVariants.{Branch, Deciding}
 use Rattle.roff_run.specs.declared.line_state.TextLine.{TextLine}
 use Rattle.roff_run.proofs.InputCounts.{first_passed-few_names}
@@ -183,7 +184,7 @@ record Begun (t : Taking) (old : Capped) (before mid : PageUnread) : Type 0 wher
   came : mid ≡ record before { input = t.input }
   few : nat_lt before.limits.names (length (changed_by_all t.effect.changes old.all).named) ≡ false
 
-Begun-took : (t : Taking) (old : Capped) (new : ReaderState) (before mid : PageUnread) (m : Meaning) → Took t old new before mid m → Begun t old before mid
+Begun-took : (t : Taking) (old : Capped) (new : ReaderState) (before mid : PageUnread) (m : Step) → Took t old new before mid m → Begun t old before mid
 Begun-took t old new before mid m took = record {
   came = took.became.input;
   few = few_names-of Names (input_refusal before.limits t.input) _ took.became.within;
@@ -197,7 +198,7 @@ passed_by-kept so t old before mid begun =
     ∙ ap (λ (u : PageUnread). input_refusal u.limits (with_result so u.input)) (sym begun.came)
 
 -- a branch began, and a limit refuses to keep the result
-pub TakesAs-not_kept : (so : Bool) (freed : Option ℕ) (es : EnvironmentsOf) (old new : ReaderState) (before mid behind : PageUnread) (m : Meaning) (limit : Limit)
+pub TakesAs-not_kept : (so : Bool) (freed : Option ℕ) (es : EnvironmentsOf) (old new : ReaderState) (before mid behind : PageUnread) (m : Step) (limit : Limit)
     → TakesAs (λ k. decided k before.input so freed) es old new before mid (Ok m) → (Err limit, behind) ≡ changing (with_result so mid.input) mid
     → TakesAs (λ k. decided k (with_result so before.input) so freed) es old new before behind (Err limit)
 TakesAs-not_kept so freed es old new before mid behind m limit begins keeps = record {
@@ -211,7 +212,7 @@ TakesAs-not_kept so freed es old new before mid behind m limit begins keeps = re
 }
 
 -- or the result is kept
-pub TakesAs-kept : (so : Bool) (freed : Option ℕ) (es : EnvironmentsOf) (old new : ReaderState) (before mid behind : PageUnread) (m : Meaning) (done : Unit {0})
+pub TakesAs-kept : (so : Bool) (freed : Option ℕ) (es : EnvironmentsOf) (old new : ReaderState) (before mid behind : PageUnread) (m : Step) (done : Unit {0})
     → TakesAs (λ k. decided k before.input so freed) es old new before mid (Ok m) → (Ok done, behind) ≡ changing (with_result so mid.input) mid
     → TakesAs (λ k. decided k (with_result so before.input) so freed) es old new before behind (Ok m)
 TakesAs-kept so freed es old new before mid behind m done begins keeps = record {
@@ -235,7 +236,7 @@ TakesAs-kept so freed es old new before mid behind m done begins keeps = record 
 }
 
 -- what a condition decides by these registers, that it decides
-pub TakesAs-decides : (keeps so : Bool) (decision : Decision) (freed : Option ℕ) (es : EnvironmentsOf) (old new : ReaderState) (before behind : PageUnread) (result : Result Meaning Limit)
+pub TakesAs-decides : (keeps so : Bool) (decision : Decision) (freed : Option ℕ) (es : EnvironmentsOf) (old new : ReaderState) (before behind : PageUnread) (result : Result Step Limit)
     → ((k : Known) → k.registers ≡ old.registers.all → so ≡ is_so k decision)
     → TakesAs (λ k. decided k (with_result_if keeps so before.input) so freed) es old new before behind result
     → TakesAs (λ k. condition_found k before.input keeps (Decides decision freed)) es old new before behind result

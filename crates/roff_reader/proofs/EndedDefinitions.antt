@@ -29,7 +29,7 @@ use Rattle.roff_run.specs.Registers.{AllRegisters, Known, changed_by_all}
 use Rattle.roff_run.specs.Run.{known_at}
 use Rattle.roff_run.specs.declared.definition.DefinitionLine.{DefinitionLine}
 use Rattle.roff_run.specs.declared.definition.DefinitionLine.TheVariants.{IsText}
-use Rattle.roff_reader.specs.declared.reader.Meaning.{Meaning}
+use Rattle.roff_run.specs.declared.step.Step.{Step}
 use Rattle.roff_run.specs.declared.line_state.LineState.TheVariants.{Defining}
 use Rattle.roff_num.specs.declared.short_name.ShortName.{ShortName}
 use Rattle.roff_reader.proofs.DefinitionEnds.{LeavesTexts, LeavesTexts-behind_definition, NamesAndTexts, names_and_texts}
@@ -131,7 +131,7 @@ TakesAs-not_entered name appends end b es old new before behind limit ends refus
 
 -- what is taken once the text has entered its name
 pub TakesAs-entered : (t : Known → PageInput → Taking) (name : Option ShortName) (appends : Bool) (es : EnvironmentsOf) (old new : ReaderState) (before mid behind : PageUnread)
-    (done : Unit {0}) (result : Result Meaning Limit) → InputCameTo (string_entered name appends before.input) before mid (Ok done)
+    (done : Unit {0}) (result : Result Step Limit) → InputCameTo (string_entered name appends before.input) before mid (Ok done)
     → TakesAs (λ k. t k mid.input) es old new mid behind result
     → TakesAs (λ k. t k (string_entered name appends before.input)) es old new before behind result
 TakesAs-entered t name appends es old new before mid behind done result became takes = record {
@@ -151,7 +151,7 @@ NoMore-beginning : (i : PageInput) → NoMore (beginning_line i) i
 NoMore-beginning i = record { bytes = omega arith; texts = omega arith; results = omega arith; stored = omega arith; names = omega arith; open_texts = omega arith }
 
 -- what is taken once a line begins
-pub TakesAs-line_begun : (t : Known → PageInput → Taking) (es : EnvironmentsOf) (old new : ReaderState) (before mid behind : PageUnread) (result : Result Meaning Limit)
+pub TakesAs-line_begun : (t : Known → PageInput → Taking) (es : EnvironmentsOf) (old new : ReaderState) (before mid behind : PageUnread) (result : Result Step Limit)
     → mid ≡ record before { input = beginning_line before.input } → TakesAs (λ k. t k mid.input) es old new mid behind result
     → TakesAs (λ k. t k (beginning_line before.input)) es old new before behind result
 TakesAs-line_begun t es old new before mid behind result begins takes =

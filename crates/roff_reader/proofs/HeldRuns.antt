@@ -116,7 +116,7 @@ reads-fewer most gave gives r before after none_half none_due holds holds_fewer 
           (subst (λ (q : Stage). Turned i.names (stage_with r.reading i.open_texts i.arguments) held.bytes q) (sym behind) turned);
       passes = subst (λ (there : PageInput). PassesFront gave gives held.bytes before (record after { input = there })) same held.passes;
       registers = refl;
-      requested = refl;
+      meaning = refl;
       within = within;
     }
 

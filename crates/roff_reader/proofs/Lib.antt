@@ -2,10 +2,8 @@ pub mod StringRefusals
 pub mod Strings
 pub mod DefinitionEnds
 pub mod EndedDefinitions
-pub mod RequestEnds
 pub mod TakesAs
 pub mod Placed
-pub mod ReadAtOnce
 pub mod Obeying
 pub mod Deciding
 pub mod RemovedRegisters

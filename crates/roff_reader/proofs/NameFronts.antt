@@ -84,6 +84,6 @@ reads-names gave gives r before after none_due does read within =
           (turned-read i.names r.reading i.arguments i.open_texts i.escapes j.escapes read.bytes none_due does read.read);
       passes = subst (λ (there : PageInput). PassesFront gave gives read.bytes before (record after { input = there })) same read.passes;
       registers = refl;
-      requested = refl;
+      meaning = refl;
       within = within;
     }

@@ -1,6 +1,5 @@
 -- A request that is obeyed, and how it changes registers, as the definition takes its line's end.
 use Rattle.std.proofs.Common.{◌≡◌, ℕ, ◌≤◌, Bool, true, false, List, [], ◌∷◌, length, fold, Some, None, Ok, Err, sym, subst, ap, ◌∙◌, arith}
-use Rattle.std.specs.Option.{option_to_list}
 use Rattle.std.proofs.lemmas.Bool.{le-ltb, ltb-false}
 use Rattle.std.specs.Prelude.{reverse, nat_lt, if◌then◌else◌}
 use Rattle.roff_num.specs.declared.limits.Limits.{Limits}
@@ -16,7 +15,7 @@ use Rattle.roff_store.proofs.Calls.{length-without_entry_le}
 use Rattle.roff_store.specs.Named.{without_entry}
 use Rattle.roff_store.specs.Registers.{Registers}
 use Rattle.roff_store.specs.TextCalls.{Call}
-use Rattle.roff_requests.specs.Events.Meant.{events_meant}
+use Rattle.roff_run.specs.Events.Steps.{events_of, messages_of}
 use Rattle.roff_run.specs.Output.{PageHistory}
 use Rattle.roff_reader.specs.Reader.State.{ReaderState}
 use Rattle.roff_reader.specs.Reader.Taken.{ChangedTo, Refused, TakesAs, Took, behind_changes}
@@ -29,7 +28,7 @@ use Rattle.roff_requests.specs.Request.Coded.{calls_of, changes_of, effect_of}
 use Rattle.roff_run.specs.Requests.{Effect, request_effect, row_of}
 use Rattle.roff_run.specs.Run.{known_at}
 use Rattle.roff_run.specs.Run.Counts.{counts_in, first_passed}
-use Rattle.roff_reader.specs.declared.reader.Meaning.{Meaning}
+use Rattle.roff_run.specs.declared.step.Step.{Step}
 use Rattle.roff_run.specs.declared.request.Request.{Request}
 use Rattle.roff_requests.specs.declared.requests.effects.Effect.{Effect as CodedEffect}
 use Rattle.roff_reader.proofs.FewerNames.{NoMore-calls}
@@ -83,12 +82,12 @@ few_behind : (changes : List Change) (old : Capped) (u : PageUnread) (passes : B
 few_behind changes old u passes cap is = ap (λ (n : ℕ). nat_lt n (length (changed_by_all changes old.all).named)) (sym cap) ∙ is
 
 -- a request was obeyed, its changes made, and its arguments released
-pub TakesAs-obeyed : (es : EnvironmentsOf) (old new : ReaderState) (before mid change behind : PageUnread) (breaks : Bool) (request : Request) (e : CodedEffect) (m : Meaning)
+pub TakesAs-obeyed : (es : EnvironmentsOf) (old new : ReaderState) (before mid change behind : PageUnread) (breaks : Bool) (request : Request) (e : CodedEffect) (m : Step)
     → mid ≡ line_finished before → Obeys es old.registers.all mid breaks request e
     → ChangedTo (changes_of (texts_read mid) e.changes) old.registers new.registers
     → change ≡ called (calls_of (texts_read mid) e.changes) mid → behind ≡ released change
-    → new.reading ≡ reading_behind (row_of request).line → option_to_list m.message ≡ (effect_of (texts_read mid) e).messages
-    → events_meant new.requested m.events ≡ (effect_of (texts_read mid) e).events
+    → new.reading ≡ reading_behind (row_of request).line → messages_of new.meaning.message m ≡ (effect_of (texts_read mid) e).messages
+    → events_of new.meaning.events m ≡ (effect_of (texts_read mid) e).events
     → TakesAs (λ k. line_ended k before.input breaks request) es old new before behind (Ok m)
 TakesAs-obeyed es old new before mid change behind breaks request e m finishes obeying changed calls releases begins says means = record {
   takes = λ l h stands ready.

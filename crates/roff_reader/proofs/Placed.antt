@@ -2,7 +2,6 @@
 use Rattle.std.proofs.Common.{◌≡◌, ℕ, Bool, true, Option, refl}
 use Rattle.roff_escape.specs.OpenEscapes.{byte_read}
 use Rattle.roff_escape.specs.declared.open_escape.Found.{Found}
-use Rattle.roff_run.specs.Reading.Items.{reads_above}
 use Rattle.roff_run.specs.Reading.{undropped_taking}
 use Rattle.roff_run.specs.Reading.Found.{found_in, has_place, place_in, read_in}
 use Rattle.roff_run.specs.Reading.Items.{PageInput, going_on}
@@ -92,23 +91,3 @@ placed Dropped control named skips dropped told left = absurd (dropped refl)
 placed (Telling aborts is_front) control named skips dropped told left = refl
 placed (Told aborts) control named skips dropped told left = absurd (told aborts refl)
 placed Exiting control named skips dropped told left = absurd (left refl)
-
--- what is read where most that is found means nothing may
-pub above-placed : (r : LineState) → reads_above r ≡ true → has_place r ≡ true
-above-placed LineStart is = refl
-above-placed Branch is = cc
-above-placed Braced is = cc
-above-placed (InText line) is = refl
-above-placed (Control breaks) is = cc
-above-placed (Name breaks first) is = cc
-above-placed (InArguments breaks request) is = cc
-above-placed (Deciding keeps) is = refl
-above-placed (StringName appends) is = cc
-above-placed (StringText name appends is_front) is = cc
-above-placed (Calling name) is = cc
-above-placed (Defining name appends end matched) is = cc
-above-placed (Skipping opened closed behind) is = cc
-above-placed Dropped is = cc
-above-placed (Telling aborts is_front) is = cc
-above-placed (Told aborts) is = cc
-above-placed Exiting is = cc

@@ -8,17 +8,16 @@ use Rattle.roff_num.specs.Names.{name_of}
 use Rattle.roff_arguments.specs.Arguments.{has_byte}
 use Rattle.roff_store.specs.Named.{without_entry}
 use Rattle.roff_store.specs.Registers.{Registers}
-use Rattle.roff_reader.specs.Reader.State.{ReaderState}
+use Rattle.roff_reader.specs.Reader.State.{MeaningKept, ReaderState}
 use Rattle.roff_run.specs.Registers.{AllRegisters, Remove}
 use Rattle.roff_run.specs.Registers.Capped.{Capped, with_change}
 use Rattle.roff_run.specs.Requests.Numbering.{name_given, names_given}
-use Rattle.roff_run.specs.declared.event.PageEvent.{PageEvent}
 use Rattle.roff_run.specs.declared.line_state.LineState.{LineState}
 
 -- the registers that the first so many arguments name are gone
-pub record Removed (n : ℕ) (texts : List (List ℕ)) (old : ReaderState) (reading : LineState) (requested : List PageEvent) (now : Capped) : Type 0 where
+pub record Removed (n : ℕ) (texts : List (List ℕ)) (old : ReaderState) (reading : LineState) (meaning : MeaningKept) (now : Capped) : Type 0 where
   pub reading_is : reading ≡ old.reading
-  pub requested_is : requested ≡ old.requested
+  pub meaning_is : meaning ≡ old.meaning
   pub registers_are : now ≡ with_change (Remove (names_given (take n texts))) old.registers
 
 -- some texts and the next one
@@ -65,12 +64,12 @@ removed-append names others r =
     (sym (fold-append without r.all.named names others))
 
 -- behind an argument that names one
-pub Removed-named : (n : ℕ) (texts : List (List ℕ)) (old : ReaderState) (reading : LineState) (requested : List PageEvent) (now behind : Capped) (text name : List ℕ)
-    → Removed n texts old reading requested now → slice_get texts n ≡ Some text → name_of (name_given text) ≡ Some name
-    → behind ≡ with_change (Remove (name ∷ [])) now → Removed (n + 1) texts old reading requested behind
-Removed-named n texts old reading requested now behind text name removed is named goes = record {
+pub Removed-named : (n : ℕ) (texts : List (List ℕ)) (old : ReaderState) (reading : LineState) (meaning : MeaningKept) (now behind : Capped) (text name : List ℕ)
+    → Removed n texts old reading meaning now → slice_get texts n ≡ Some text → name_of (name_given text) ≡ Some name
+    → behind ≡ with_change (Remove (name ∷ [])) now → Removed (n + 1) texts old reading meaning behind
+Removed-named n texts old reading meaning now behind text name removed is named goes = record {
   reading_is = removed.reading_is;
-  requested_is = removed.requested_is;
+  meaning_is = removed.meaning_is;
   registers_are =
       let names : names_given (take (n + 1) texts) ≡ names_given (take n texts) ++ name ∷ [] =
       ap (λ m. names_given (take m texts)) (add-one n) ∙ names_given-next n texts text is
@@ -82,12 +81,12 @@ Removed-named n texts old reading requested now behind text name removed is name
 }
 
 -- behind another
-pub Removed-unnamed : (n : ℕ) (texts : List (List ℕ)) (old : ReaderState) (reading : LineState) (requested : List PageEvent) (now : Capped) (text : List ℕ)
-    → Removed n texts old reading requested now → slice_get texts n ≡ Some text → name_of (name_given text) ≡ None
-    → Removed (n + 1) texts old reading requested now
-Removed-unnamed n texts old reading requested now text removed is unnamed = record {
+pub Removed-unnamed : (n : ℕ) (texts : List (List ℕ)) (old : ReaderState) (reading : LineState) (meaning : MeaningKept) (now : Capped) (text : List ℕ)
+    → Removed n texts old reading meaning now → slice_get texts n ≡ Some text → name_of (name_given text) ≡ None
+    → Removed (n + 1) texts old reading meaning now
+Removed-unnamed n texts old reading meaning now text removed is unnamed = record {
   reading_is = removed.reading_is;
-  requested_is = removed.requested_is;
+  meaning_is = removed.meaning_is;
   registers_are =
       let names : names_given (take (n + 1) texts) ≡ names_given (take n texts) ++ [] =
       ap (λ m. names_given (take m texts)) (add-one n) ∙ names_given-next n texts text is
@@ -98,11 +97,11 @@ Removed-unnamed n texts old reading requested now text removed is unnamed = reco
 }
 
 -- where there is none
-pub Removed-past : (n : ℕ) (texts : List (List ℕ)) (old : ReaderState) (reading : LineState) (requested : List PageEvent) (now : Capped)
-    → Removed n texts old reading requested now → slice_get texts n ≡ None → Removed (n + 1) texts old reading requested now
-Removed-past n texts old reading requested now removed past = record {
+pub Removed-past : (n : ℕ) (texts : List (List ℕ)) (old : ReaderState) (reading : LineState) (meaning : MeaningKept) (now : Capped)
+    → Removed n texts old reading meaning now → slice_get texts n ≡ None → Removed (n + 1) texts old reading meaning now
+Removed-past n texts old reading meaning now removed past = record {
   reading_is = removed.reading_is;
-  requested_is = removed.requested_is;
+  meaning_is = removed.meaning_is;
   registers_are =
       removed.registers_are
       ∙ ap (λ (taken : List (List ℕ)). removed_from (names_given taken) old.registers) (sym (ap (λ m. take m texts) (add-one n) ∙ take_past n texts past));

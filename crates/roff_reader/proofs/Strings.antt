@@ -1,6 +1,5 @@
 -- What the code does where a string's name and text are read, as the definition does it.
 use Rattle.std.proofs.Common.{◌≡◌, ℕ, Bool, true, false, [], Option, Some, None, Result, Ok, Err, inl, inr, refl, sym, subst, ap, ◌∙◌, ◌==◌}
-use Rattle.std.specs.Option.{option_to_list}
 use Rattle.std.specs.Prelude.{is_some, option_map, ◌&&◌}
 use Rattle.std.proofs.lemmas.Bool.{cases_Bool, eqb-true}
 use Rattle.roff_requests.specs.declared.environments.Environments.{Environments as EnvironmentsOf}
@@ -18,7 +17,7 @@ use Rattle.roff_escape.specs.declared.open_escape.CopyUnit.{CopyUnit}
 use Rattle.roff_escape.specs.declared.open_escape.CopyUnit.TheVariants.{Byte, Kept}
 use Rattle.roff_escape.specs.declared.open_escape.Found.{Found}
 use Rattle.roff_escape.specs.declared.open_escape.Found.TheVariants.{GoesOn, Unit as OneUnit, Holds, Escape, Asks, Motion, Measures, Tells, Decides}
-use Rattle.roff_requests.specs.Events.Meant.{events_meant, none_meant}
+use Rattle.roff_run.specs.Events.Steps.{events_of, messages_of}
 use Rattle.roff_reader.specs.Reader.State.{ReaderState}
 use Rattle.roff_reader.specs.Reader.Taken.{InputCameTo, IsInputNow, IsReady, TakesAs}
 use Rattle.roff_run.specs.Reading.Items.{PageUnread}
@@ -29,8 +28,8 @@ use Rattle.roff_run.specs.Reading.Units.{no_unit_found, settling}
 use Rattle.roff_num.specs.ShortNames.{name_bytes}
 use Rattle.roff_run.specs.Registers.{Known}
 use Rattle.roff_run.specs.Registers.Capped.{Capped}
-use Rattle.roff_run.specs.declared.message.Message.{Message}
-use Rattle.roff_reader.specs.declared.reader.Meaning.{Meaning}
+use Rattle.roff_run.specs.declared.step.Step.{Step}
+use Rattle.roff_run.specs.declared.step.Step.TheVariants.{Nothing}
 use Rattle.roff_run.specs.declared.line_state.LineState.{LineState}
 use Rattle.roff_run.specs.declared.line_state.LineState.TheVariants.{StringName, StringText, Telling}
 use Rattle.roff_num.specs.declared.short_name.ShortName.{ShortName}
@@ -73,21 +72,15 @@ pub InputCameTo-changing : (i : PageInput) (before behind : PageUnread) (result 
     → InputCameTo i before behind result
 InputCameTo-changing i before behind result changes = record { becomes = λ within. IsInputNow-changing i before behind result changes }
 
--- so does one behind another change that no limit is asked for
-IsInputNow-elsewhere : (i j : PageInput) (before behind : PageUnread) (result : Result (Unit {0}) Limit)
-    → IsInputNow i (record before { input = j }) behind result → IsInputNow i before behind result
-IsInputNow-elsewhere i j before behind (Ok done) now = now
-IsInputNow-elsewhere i j before behind (Err limit) now = now
-
 -- no limit refuses the input of a reader that is ready
 pub refused_none : (r : Capped) (u : PageUnread) → IsReady r u → input_refusal u.limits u.input ≡ None
 refused_none r u ready = sym (first_passed-few_names u.limits r.all u.input (few_names r u ready)) ∙ ready.within
 
 -- the input became this, and this is read on
-pub TakesAs-became : (i : PageInput) (place : LineState) (es : EnvironmentsOf) (old new : ReaderState) (before behind : PageUnread) (m : Meaning) (done : Unit {0})
-    → InputCameTo i before behind (Ok done) → new ≡ record old { reading = place } → m.message ≡ None → m.events ≡ none_meant
+pub TakesAs-became : (i : PageInput) (place : LineState) (es : EnvironmentsOf) (old new : ReaderState) (before behind : PageUnread) (m : Step) (done : Unit {0})
+    → InputCameTo i before behind (Ok done) → new ≡ record old { reading = place } → m ≡ Nothing
     → TakesAs (λ k. going_on i place) es old new before behind (Ok m)
-TakesAs-became i place es old new before behind m done became came silent none = record {
+TakesAs-became i place es old new before behind m done became came none = record {
   takes = λ l h stands ready.
       let now = became.becomes (refused_none old.registers before ready) in
       record {
@@ -97,8 +90,8 @@ TakesAs-became i place es old new before behind m done became came silent none =
           registers = ap (λ (s : ReaderState). s.registers) came;
           within = first_passed-few_names before.limits old.registers.all i (few_names old.registers before ready) ∙ now.1;
         };
-        messages = ap (λ (message : Option Message). option_to_list message) silent;
-        events = ap (events_meant new.requested) none;
+        messages = ap (messages_of new.meaning.message) none;
+        events = ap (events_of new.meaning.events) none;
       };
 }
 
@@ -181,7 +174,7 @@ InputCameTo-new name appends kind before behind result same no_body changes =
 
 -- what is taken once the input became another
 pub TakesAs-elsewhere : (t : PageInput → Taking) (i : PageInput) (es : EnvironmentsOf) (old new : ReaderState) (before mid behind : PageUnread) (done : Unit {0})
-    (result : Result Meaning Limit) → InputCameTo i before mid (Ok done) → TakesAs (λ k. t mid.input) es old new mid behind result
+    (result : Result Step Limit) → InputCameTo i before mid (Ok done) → TakesAs (λ k. t mid.input) es old new mid behind result
     → TakesAs (λ k. t i) es old new before behind result
 TakesAs-elsewhere t i es old new before mid behind done result became takes = record {
   takes = λ l h stands ready.

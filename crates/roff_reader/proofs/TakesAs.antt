@@ -5,7 +5,7 @@ use Rattle.std.specs.Prelude.{nat_lt, ◌&&◌, drop, is_some, if◌then◌else�
 use Rattle.roff_num.specs.declared.limits.Limits.{Limits}
 use Rattle.roff_run.specs.Environments.{interrupted_line}
 use Rattle.roff_run.specs.Events.Lines.{line_events}
-use Rattle.roff_requests.specs.Events.Meant.{events_meant, few_meant, none_meant}
+use Rattle.roff_run.specs.Events.Steps.{events_of, messages_of}
 use Rattle.roff_requests.specs.Environments.Standing.{StandFor}
 use Rattle.roff_requests.specs.declared.environments.Environments.{Environments as EnvironmentsOf}
 use Rattle.roff_num.specs.declared.limit.Limit.{Limit}
@@ -16,7 +16,7 @@ use Rattle.roff_escape.specs.OpenEscape.{OpenEscape, texts_held}
 use Rattle.roff_escape.specs.OpenEscapes.{Reads, byte_read, reading_ended}
 use Rattle.roff_ahead.specs.Input.{choosing, pushing, with_escapes}
 use Rattle.roff_ahead.specs.Input.Calls.{without_last}
-use Rattle.roff_scan.specs.Unread.{changing, input_refusal, reading, unless_passed}
+use Rattle.roff_scan.specs.Unread.{EndsDecided, changing, input_refusal, reading, unless_passed}
 use Rattle.roff_escape.specs.declared.open_escape.CopyUnit.{CopyUnit}
 use Rattle.roff_escape.specs.declared.open_escape.Found.{Found}
 use Rattle.roff_escape.specs.declared.open_escape.Found.TheVariants.{GoesOn, Unit as OneUnit, Holds, Escape, Asks, Motion, Measures, Tells, Decides}
@@ -31,13 +31,17 @@ use Rattle.roff_run.specs.Output.{PageHistory}
 use Rattle.roff_reader.specs.Reader.State.{ReaderState}
 use Rattle.roff_reader.specs.Reader.Taken.{IsReady, Takes, TakesAs, Took}
 use Rattle.roff_run.specs.Reading.Items.{PageUnread}
-use Rattle.roff_run.specs.Reading.{interrupted, undropped_taking, taking}
+use Rattle.roff_run.specs.Reading.{escape_ended, interrupted, undropped_taking, taking}
+use Rattle.roff_run.specs.Reading.Branches.{branch_of}
+use Rattle.roff_run.specs.Reading.Found.{found_in, place_in}
+use Rattle.roff_escape.specs.declared.open_escape.Decision.TheVariants.{Is}
+use Rattle.roff_escape.specs.declared.open_escape.Surroundings.TheVariants.{Arguments as AboveArguments}
 use Rattle.roff_run.specs.Reading.Arguments.{arguments_found}
 use Rattle.roff_run.specs.Reading.Beginnings.{beginning_text, escape_begun, first_escape, first_taking, going_on_told, line_begun, line_begun_as}
 use Rattle.roff_run.specs.Reading.ControlLines.{line_taking}
 use Rattle.roff_run.specs.Reading.Ends.{end_taking, last_line_ended}
 use Rattle.roff_run.specs.Reading.Escapes.{interpolating}
-use Rattle.roff_run.specs.Reading.Items.{PageInput, Taking, behind_events, going_on, meaning_events}
+use Rattle.roff_run.specs.Reading.Items.{PageInput, Taking, behind_events, going_on}
 use Rattle.roff_run.specs.Reading.Messages.{message_found}
 use Rattle.roff_run.specs.Reading.Strings.{string_line_ended}
 use Rattle.roff_run.specs.Reading.Units.{no_unit_found, settling}
@@ -49,7 +53,10 @@ use Rattle.roff_run.specs.Requests.{row_of}
 use Rattle.roff_run.specs.Run.{known_at}
 use Rattle.roff_run.specs.Run.Counts.{counts_in, first_passed}
 use Rattle.roff_run.specs.declared.message.Message.{Message}
-use Rattle.roff_reader.specs.declared.reader.Meaning.{Meaning}
+use Rattle.roff_run.specs.declared.step.Step.{Step}
+use Rattle.roff_run.specs.declared.step.Step.TheVariants.{Nothing}
+use Rattle.roff_run.specs.Requests.{saying}
+use Rattle.roff_reader.specs.Reader.State.{MeaningKept}
 use Rattle.roff_run.specs.declared.line_state.LineState.{LineState}
 use Rattle.roff_run.specs.declared.line_state.LineState.TheVariants.{StringName, StringText, LineStart, Branch, Braced, Text as InText, Control, Name, Arguments as InArguments, Deciding, Skipping, Dropped, Telling, Told, Exiting, Calling, Defining}
 use Rattle.roff_num.specs.declared.short_name.ShortName.{ShortName}
@@ -63,7 +70,7 @@ use Rattle.roff_reader.specs.ControlFronts.{half_begun}
 use Rattle.roff_run.proofs.InputCounts.{NoMore, NoMore-interrupted, NoMore-same, NoMore-settling, first_passed-few_names, first_passed-no_more, one_of}
 
 -- what is taken where other units are half read, and something else was read of the line
-pub Takes-elsewhere : (t : Taking) (old : Capped) (new : ReaderState) (before behind : PageUnread) (i : PageInput) (result : Result Meaning Limit)
+pub Takes-elsewhere : (t : Taking) (old : Capped) (new : ReaderState) (before behind : PageUnread) (i : PageInput) (result : Result Step Limit)
     → Takes t old new (record before { input = i }) behind result → Takes t old new before behind result
 Takes-elsewhere t old new before behind i (Ok m) took = record {
   became = record {
@@ -103,7 +110,7 @@ NoMore-without_last i =
 
 -- what something reads, with what is half read then
 pub TakesAs-read : (t : Known → PageInput → Found → Taking) (r : Reads) (es : EnvironmentsOf) (old new : ReaderState) (before mid behind : PageUnread)
-    (found : Found) (result : Result Meaning Limit) → (found, mid) ≡ reading r before → texts_held r.1 ≤ texts_held before.input.escapes
+    (found : Found) (result : Result Step Limit) → (found, mid) ≡ reading r before → texts_held r.1 ≤ texts_held before.input.escapes
     → TakesAs (λ k. t k mid.input found) es old new mid behind result
     → TakesAs (λ k. t k (with_escapes r.1 before.input) r.0) es old new before behind result
 TakesAs-read t r es old new before mid behind found result reads fewer takes =
@@ -119,7 +126,7 @@ TakesAs-read t r es old new before mid behind found result reads fewer takes =
     }
 
 -- the same from where something else is read of the line
-pub TakesAs-set : (t : Known → Taking) (es : EnvironmentsOf) (old set new : ReaderState) (before behind : PageUnread) (result : Result Meaning Limit)
+pub TakesAs-set : (t : Known → Taking) (es : EnvironmentsOf) (old set new : ReaderState) (before behind : PageUnread) (result : Result Step Limit)
     → set.registers ≡ old.registers → TakesAs t es set new before behind result → TakesAs t es old new before behind result
 TakesAs-set t es old set new before behind result same takes = record {
   takes = λ l h stands ready.
@@ -128,13 +135,13 @@ TakesAs-set t es old set new before behind result same takes = record {
 }
 
 -- what is taken where this is being read
-pub TakesAs-where : (t : Known → LineState → Taking) (place : LineState) (es : EnvironmentsOf) (old new : ReaderState) (before behind : PageUnread) (result : Result Meaning Limit)
+pub TakesAs-where : (t : Known → LineState → Taking) (place : LineState) (es : EnvironmentsOf) (old new : ReaderState) (before behind : PageUnread) (result : Result Step Limit)
     → old.reading ≡ place → TakesAs (λ k. t k place) es old new before behind result → TakesAs (λ k. t k old.reading) es old new before behind result
 TakesAs-where t place es old new before behind result is takes =
     subst (λ (r : LineState). TakesAs (λ k. t k r) es old new before behind result) (sym is) takes
 
 -- what is taken as one of two that are equal is taken as the other
-pub TakesAs-as : (s t : Known → Taking) (es : EnvironmentsOf) (old new : ReaderState) (before behind : PageUnread) (result : Result Meaning Limit)
+pub TakesAs-as : (s t : Known → Taking) (es : EnvironmentsOf) (old new : ReaderState) (before behind : PageUnread) (result : Result Step Limit)
     → ((k : Known) → s k ≡ t k) → TakesAs s es old new before behind result → TakesAs t es old new before behind result
 TakesAs-as s t es old new before behind result same takes = record {
   takes = λ l h stands ready.
@@ -143,7 +150,7 @@ TakesAs-as s t es old new before behind result same takes = record {
 }
 
 -- what is taken once no quote follows the quote before
-pub TakesAs-settled : (t : Known → PageInput → Taking) (es : EnvironmentsOf) (old new : ReaderState) (before mid behind : PageUnread) (result : Result Meaning Limit)
+pub TakesAs-settled : (t : Known → PageInput → Taking) (es : EnvironmentsOf) (old new : ReaderState) (before mid behind : PageUnread) (result : Result Step Limit)
     → mid ≡ record before { input = settling before.input } → TakesAs (λ k. t k mid.input) es old new mid behind result
     → TakesAs (λ k. t k (settling before.input)) es old new before behind result
 TakesAs-settled t es old new before mid behind result settles takes =
@@ -165,7 +172,7 @@ known_at-same h rs now before newlines calls =
     ∙ ap (λ (calls : List (List (List ℕ))). known_at h rs (record now { newlines = before.newlines; calls = calls })) calls
 
 -- what is taken once the input is another one, of no more counts, as many newlines and the same calls
-pub TakesAs-less : (i : PageInput) (t : Known → Taking) (es : EnvironmentsOf) (old new : ReaderState) (before behind : PageUnread) (result : Result Meaning Limit)
+pub TakesAs-less : (i : PageInput) (t : Known → Taking) (es : EnvironmentsOf) (old new : ReaderState) (before behind : PageUnread) (result : Result Step Limit)
     → NoMore i before.input → i.newlines ≡ before.input.newlines → i.calls ≡ before.input.calls
     → TakesAs t es old new (record before { input = i }) behind result → TakesAs t es old new before behind result
 TakesAs-less i t es old new before behind result less newlines calls takes = record {
@@ -179,7 +186,7 @@ TakesAs-less i t es old new before behind result less newlines calls takes = rec
 }
 
 -- what the first byte behind a name does, by how the line of its request is read
-pub TakesAs-line : (line : LineReading) (breaks : Bool) (request : Request) (b : ℕ) (es : EnvironmentsOf) (old new : ReaderState) (before behind : PageUnread) (result : Result Meaning Limit)
+pub TakesAs-line : (line : LineReading) (breaks : Bool) (request : Request) (b : ℕ) (es : EnvironmentsOf) (old new : ReaderState) (before behind : PageUnread) (result : Result Step Limit)
     → (row_of request).line ≡ line → TakesAs (λ k. line_taking k before.input breaks request line b) es old new before behind result
     → TakesAs (λ k. line_taking k before.input breaks request (row_of request).line b) es old new before behind result
 TakesAs-line line breaks request b es old new before behind result is takes =
@@ -245,18 +252,18 @@ text_at es rs i step name text knows l h stands =
     knows.text_is ∙ ap (λ (k : Known). text_of_register (known_behind (step_changes step name) k) name) (knows.known l h rs stands)
 
 -- a register is read in the place of its escape
-pub TakesAs-interpolated : (es : EnvironmentsOf) (old : ReaderState) (registers : Capped) (before behind : PageUnread) (step : Option Direction) (name text : List ℕ) (m : Meaning) (done : Unit {0})
+pub TakesAs-interpolated : (es : EnvironmentsOf) (old new : ReaderState) (registers : Capped) (before behind : PageUnread) (step : Option Direction) (name text : List ℕ) (m : Step) (done : Unit {0})
     → KnowsText es old.registers.all before.input step name text
     → registers ≡ record old.registers { all = changed_by_all (step_changes step name) old.registers.all }
-    → option_to_list m.message ≡ step_messages step name old.registers.all → m.events ≡ none_meant
+    → new ≡ record old { registers = registers; meaning = new.meaning }
+    → messages_of new.meaning.message m ≡ step_messages step name old.registers.all → events_of new.meaning.events m ≡ []
     → (Ok done, behind) ≡ changing (pushing text before.input) before
-    → TakesAs (λ k. interpolating k before.input old.reading step name) es old (record old { registers = registers }) before behind (Ok m)
-TakesAs-interpolated es old registers before behind step name text m done knows changed messages events pushes = record {
+    → TakesAs (λ k. interpolating k before.input old.reading step name) es old new before behind (Ok m)
+TakesAs-interpolated es old new registers before behind step name text m done knows changed came messages events pushes = record {
   takes = λ l h stands ready.
       let known : text ≡ text_of_register (known_behind (step_changes step name) (known_at h old.registers.all before.input)) name =
       text_at es old.registers.all before.input step name text knows l h stands in
       let passed = passed_none (input_refusal before.limits (pushing text before.input)) (pushing text before.input) before behind done pushes in
-      let new : ReaderState = record old { registers = registers } in
       let at : List ℕ → Taking = λ t. record {
         input = pushing t before.input;
         reading = old.reading;
@@ -266,12 +273,12 @@ TakesAs-interpolated es old registers before behind step name text m done knows 
       (record {
         became = record {
           input = passed.0;
-          reading = refl;
-          registers = changed;
+          reading = ap (λ (s : ReaderState). s.reading) came;
+          registers = ap (λ (s : ReaderState). s.registers) came ∙ changed;
           within = passed-stepped step name old.registers before (pushing text before.input) ready ∙ passed.1;
         };
         messages = messages;
-        events = ap (events_meant old.requested) events;
+        events = events;
       });
 }
 
@@ -290,9 +297,9 @@ TakesAs-not_interpolated es old new before behind step name text limit knows pus
 }
 
 -- a byte that isn't one of the line is taken
-pub TakesAs-interrupted : (es : EnvironmentsOf) (old : ReaderState) (u behind : PageUnread) (m : Meaning) → behind ≡ record u { input = interrupted old.reading u.input }
-    → m.message ≡ None → m.events ≡ none_meant → TakesAs (λ k. going_on (interrupted old.reading u.input) old.reading) es old old u behind (Ok m)
-TakesAs-interrupted es old u behind m came silent none = record {
+pub TakesAs-interrupted : (es : EnvironmentsOf) (old : ReaderState) (u behind : PageUnread) → behind ≡ record u { input = interrupted old.reading u.input }
+    → TakesAs (λ k. going_on (interrupted old.reading u.input) old.reading) es old old u behind (Ok Nothing)
+TakesAs-interrupted es old u behind came = record {
   takes = λ l h stands ready. record {
     became = record {
       input = came;
@@ -300,16 +307,17 @@ TakesAs-interrupted es old u behind m came silent none = record {
       registers = refl;
       within = first_passed-no_more u.limits old.registers.all (interrupted old.reading u.input) u.input (NoMore-interrupted old.reading u.input) ready.within;
     };
-    messages = ap (λ (message : Option Message). option_to_list message) silent;
-    events = ap (events_meant old.requested) none;
+    messages = refl;
+    events = refl;
   };
 }
 
--- this is read on, and some events are meant
-pub TakesAs-meant : (t : Known → Taking) (behind : LineState) (events : List PageEvent) (es : EnvironmentsOf) (old new : ReaderState) (u : PageUnread) (m : Meaning)
-    → ((k : Known) → t k ≡ meaning_events u.input behind events) → new ≡ record old { reading = behind } → m.message ≡ None → m.events ≡ few_meant events
-    → TakesAs t es old new u u (Ok m)
-TakesAs-meant t behind events es old new u m as_defined came silent means = record {
+-- This is read on, and some messages and events are meant.
+pub TakesAs-said : (t : Known → Taking) (behind : LineState) (messages : List Message) (events : List PageEvent) (es : EnvironmentsOf) (old new : ReaderState) (u : PageUnread) (m : Step)
+    → ((k : Known) → t k ≡ record { input = u.input; reading = behind; effect = saying messages events })
+    → new ≡ record old { reading = behind; meaning = new.meaning }
+    → messages_of new.meaning.message m ≡ messages → events_of new.meaning.events m ≡ events → TakesAs t es old new u u (Ok m)
+TakesAs-said t behind messages events es old new u m as_defined came says means = record {
   takes = λ l h stands ready.
       subst (λ (taking : Taking). Took taking old.registers new u u m) (sym (as_defined (known_at h old.registers.all u.input)))
       (record {
@@ -319,35 +327,37 @@ TakesAs-meant t behind events es old new u m as_defined came silent means = reco
           registers = ap (λ (s : ReaderState). s.registers) came;
           within = ready.within;
         };
-        messages = ap (λ (message : Option Message). option_to_list message) silent;
-        events = ap (events_meant new.requested) means;
+        messages = says;
+        events = means;
       });
 }
+
+-- what is kept stays where only this is read on
+pub keeps-meaning : (behind : LineState) (old new : ReaderState) → new ≡ record old { reading = behind } → new ≡ record old { reading = behind; meaning = new.meaning }
+keeps-meaning behind old new came = came ∙ ap (λ (m : MeaningKept). record old { reading = behind; meaning = m }) (sym (ap (λ (s : ReaderState). s.meaning) came))
+
+-- this is read on, and nothing is meant
+pub TakesAs-meant : (t : Known → Taking) (behind : LineState) (es : EnvironmentsOf) (old new : ReaderState) (u : PageUnread) (m : Step)
+    → ((k : Known) → t k ≡ going_on u.input behind) → new ≡ record old { reading = behind } → m ≡ Nothing
+    → TakesAs t es old new u u (Ok m)
+TakesAs-meant t behind es old new u m as_defined came none =
+    TakesAs-said t behind [] [] es old new u m as_defined (keeps-meaning behind old new came)
+    (ap (messages_of new.meaning.message) none) (ap (events_of new.meaning.events) none)
 
 -- a step of a text line
-pub TakesAs-stepped : (t : PageInput → Taking) (step : TextStep) (es : EnvironmentsOf) (old new : ReaderState) (u : PageUnread) (m : Meaning)
-    → ((i : PageInput) → step_at i step ≡ t i) → new ≡ record old { reading = step.reading } → m.message ≡ step.message → m.events ≡ few_meant (line_events step.events)
+pub TakesAs-stepped : (t : PageInput → Taking) (step : TextStep) (es : EnvironmentsOf) (old new : ReaderState) (u : PageUnread) (m : Step)
+    → ((i : PageInput) → step_at i step ≡ t i) → new ≡ record old { reading = step.reading; meaning = new.meaning }
+    → messages_of new.meaning.message m ≡ option_to_list step.message → events_of new.meaning.events m ≡ line_events step.events
     → TakesAs (λ k. t u.input) es old new u u (Ok m)
-TakesAs-stepped t step es old new u m as_defined came says means = record {
-  takes = λ l h stands ready.
-      subst (λ (taking : Taking). Took taking old.registers new u u m) (as_defined u.input)
-      (record {
-        became = record {
-          input = refl;
-          reading = ap (λ (s : ReaderState). s.reading) came;
-          registers = ap (λ (s : ReaderState). s.registers) came;
-          within = ready.within;
-        };
-        messages = ap (λ (message : Option Message). option_to_list message) says;
-        events = ap (events_meant new.requested) means;
-      });
-}
+TakesAs-stepped t step es old new u m as_defined came says means =
+    TakesAs-said (λ k. t u.input) step.reading (option_to_list step.message) (line_events step.events) es old new u m
+    (λ k. sym (as_defined u.input)) came says means
 
 -- the input changes, and this is read on
-pub TakesAs-changed : (i : PageInput) (place : LineState) (es : EnvironmentsOf) (old new : ReaderState) (before behind : PageUnread) (m : Meaning) (done : Unit {0})
-    → (Ok done, behind) ≡ changing i before → new ≡ record old { reading = place } → m.message ≡ None → m.events ≡ none_meant
+pub TakesAs-changed : (i : PageInput) (place : LineState) (es : EnvironmentsOf) (old new : ReaderState) (before behind : PageUnread) (m : Step) (done : Unit {0})
+    → (Ok done, behind) ≡ changing i before → new ≡ record old { reading = place } → m ≡ Nothing
     → TakesAs (λ k. going_on i place) es old new before behind (Ok m)
-TakesAs-changed i place es old new before behind m done changes came silent none = record {
+TakesAs-changed i place es old new before behind m done changes came none = record {
   takes = λ l h stands ready.
       let passed = passed_none (input_refusal before.limits i) i before behind done changes in
       record {
@@ -357,9 +367,25 @@ TakesAs-changed i place es old new before behind m done changes came silent none
           registers = ap (λ (s : ReaderState). s.registers) came;
           within = first_passed-few_names before.limits old.registers.all i (few_names old.registers before ready) ∙ passed.1;
         };
-        messages = ap (λ (message : Option Message). option_to_list message) silent;
-        events = ap (events_meant new.requested) none;
+        messages = ap (messages_of new.meaning.message) none;
+        events = ap (events_of new.meaning.events) none;
       };
+}
+
+-- the input changes so that no more is counted, and this is read on
+pub TakesAs-gone_on : (i : PageInput) (place : LineState) (es : EnvironmentsOf) (old new : ReaderState) (before behind : PageUnread) → NoMore i before.input
+    → behind ≡ record before { input = i } → new ≡ record old { reading = place } → TakesAs (λ k. going_on i place) es old new before behind (Ok Nothing)
+TakesAs-gone_on i place es old new before behind less is came = record {
+  takes = λ l h stands ready. record {
+    became = record {
+      input = is;
+      reading = ap (λ (s : ReaderState). s.reading) came;
+      registers = ap (λ (s : ReaderState). s.registers) came;
+      within = first_passed-no_more before.limits old.registers.all i before.input less ready.within;
+    };
+    messages = refl;
+    events = refl;
+  };
 }
 
 -- or a limit refuses the change
@@ -373,7 +399,7 @@ TakesAs-not_changed i place es old new before behind limit changes = record {
 
 -- what asks something of the run, from the answer that the environments give
 pub TakesAs-asked : {A : Type 0} (t : Known → A → Taking) (asked : Known → A) (answer : A) (es : EnvironmentsOf) (old new : ReaderState)
-    (before behind : PageUnread) (result : Result Meaning Limit)
+    (before behind : PageUnread) (result : Result Step Limit)
     → ((l : Limits) (h : PageHistory) (rs : AllRegisters) (i : PageInput) → StandFor l h es → answer ≡ asked (known_at h rs i))
     → TakesAs (λ k. t k answer) es old new before behind result
     → TakesAs (λ k. t k (asked k)) es old new before behind result
@@ -386,7 +412,7 @@ TakesAs-asked t asked answer es old new before behind result answers takes = rec
 -- how a byte is read, by the place on the line
 module _ (found_at : Known → PageInput → Found → Taking) (place : Known → Surroundings) (answer : Surroundings) (es : EnvironmentsOf)
     (answers : (l : Limits) (h : PageHistory) (rs : AllRegisters) (i : PageInput) → StandFor l h es → answer ≡ place (known_at h rs i))
-    (old new : ReaderState) (before mid behind : PageUnread) (found : Found) (result : Result Meaning Limit) where
+    (old new : ReaderState) (before mid behind : PageUnread) (found : Found) (result : Result Step Limit) where
   -- a byte of the line
   pub TakesAs-read_at : (b : ℕ) → (found, mid) ≡ reading (byte_read answer before.input.escapes b) before
       → TakesAs (λ k. found_at k mid.input found) es old new mid behind result
@@ -415,10 +441,10 @@ module _ (found_at : Known → PageInput → Found → Taking) (place : Known �
 
 -- a step that begins a text line, by the interrupted line that the environments have
 pub TakesAs-begun : (t : PageInput → TextLine → Taking) (step : TextStep) (interrupted : Option TextLine) (line : TextLine)
-    (es : EnvironmentsOf) (old new : ReaderState) (u : PageUnread) (m : Meaning)
+    (es : EnvironmentsOf) (old new : ReaderState) (u : PageUnread) (m : Step)
     → ((l : Limits) (h : PageHistory) → StandFor l h es → interrupted ≡ interrupted_line h) → line ≡ line_begun_as interrupted
-    → ((i : PageInput) → step_at i step ≡ t i line) → new ≡ record old { reading = step.reading } → m.message ≡ step.message
-    → m.events ≡ few_meant (going_on_told interrupted ++ line_events step.events)
+    → ((i : PageInput) → step_at i step ≡ t i line) → new ≡ record old { reading = step.reading; meaning = new.meaning }
+    → messages_of new.meaning.message m ≡ option_to_list step.message → events_of new.meaning.events m ≡ going_on_told interrupted ++ line_events step.events
     → TakesAs (λ k. beginning_text k (t u.input)) es old new u u (Ok m)
 TakesAs-begun t step interrupted line es old new u m asked begun steps came says means =
     let at : Option TextLine → Taking = λ l. behind_events (going_on_told l) (t u.input (line_begun_as l)) in
@@ -434,8 +460,8 @@ TakesAs-begun t step interrupted line es old new u m asked begun steps came says
               registers = ap (λ (s : ReaderState). s.registers) came;
               within = ready.within;
             };
-            messages = ap (λ (message : Option Message). option_to_list message) says;
-            events = ap (events_meant new.requested) means;
+            messages = says;
+            events = means;
           });
     })
 
@@ -491,6 +517,14 @@ pub taking-of : (k : Known) (r : LineState) (i : PageInput) (b : ℕ) (c : Bool)
     → (if c then going_on (interrupted r i) r else undropped_taking k r i b) ≡ taking k r i b
 taking-of k r i b c is = ap (λ (dropped : Bool). if dropped then going_on (interrupted r i) r else undropped_taking k r i b) is
 
+-- a byte that isn't dropped
+pub TakesAs-undropped : (b : ℕ) (es : EnvironmentsOf) (old new : ReaderState) (before behind : PageUnread) (result : Result Step Limit) → false ≡ is_dropped b
+    → TakesAs (λ k. undropped_taking k old.reading before.input b) es old new before behind result
+    → TakesAs (λ k. taking k old.reading before.input b) es old new before behind result
+TakesAs-undropped b es old new before behind result is takes =
+    TakesAs-as (λ k. undropped_taking k old.reading before.input b) (λ k. taking k old.reading before.input b) es old new before behind result
+    (λ k. taking-of k old.reading before.input b false is) takes
+
 -- within a line the end of the input is a newline, where no interrupted line ends with it, but of a definition
 pub end_taking-newline : (k : Known) (r : LineState) (i : PageInput) → (r ≡ LineStart → ⊥) → (r ≡ Dropped → ⊥) → (r ≡ Exiting → ⊥)
     → (r ≡ Braced → ⊥) → ((breaks : Bool) → r ≡ Control breaks → ⊥) → ((appends : Bool) → r ≡ StringName appends → ⊥)
@@ -529,7 +563,7 @@ string_line_ended-going i appends (Some name) = refl
 
 -- a line ends, and then an interrupted one
 pub TakesAs-last_line : (t : Taking) (es : EnvironmentsOf) (old mid new : ReaderState)
-    (before behind : PageUnread) (ends m : Meaning)
+    (before behind : PageUnread) (ends m : Step)
     → t ≡ going_on t.input LineStart → TakesAs (λ k. t) es old mid before behind (Ok ends)
     → ((u : PageUnread) → TakesAs (λ k. last_line_ended k u.input) es mid new u u (Ok m))
     → TakesAs (λ k. last_line_ended k t.input) es old new before behind (Ok m)
@@ -593,3 +627,14 @@ message_found-no_unit k i aborts is_front (Motion columns remark) no_unit no_esc
 message_found-no_unit k i aborts is_front (Measures width) no_unit no_escape = refl
 message_found-no_unit k i aborts is_front (Tells remark) no_unit no_escape = refl
 message_found-no_unit k i aborts is_front (Decides decision freed) no_unit no_escape = refl
+
+-- a condition that is read and asks nothing more decides
+pub TakesAs-decided : (so : Bool) (es : EnvironmentsOf) (old new : ReaderState) (before behind : PageUnread) → old.reading ≡ Deciding false
+    → EndsDecided (Some so) before behind → new ≡ record old { reading = branch_of so }
+    → TakesAs (λ k. escape_ended k old.reading before.input) es old new before behind (Ok Nothing)
+TakesAs-decided so es old new before behind deciding ends came =
+    let found : Found = Decides (Is so) None in
+    TakesAs-ended_at (λ k i f. found_in k i old.reading f) (λ k. place_in k old.reading) AboveArguments es
+    (λ l h rs i stands. ap (place_in (known_at h rs i)) (sym deciding)) old new before behind behind found (Ok Nothing) (ends AboveArguments)
+    (TakesAs-where (λ k r. found_in k behind.input r found) (Deciding false) es old new behind behind (Ok Nothing) deciding
+    (TakesAs-meant (λ k. found_in k behind.input (Deciding false) found) (branch_of so) es old new behind Nothing (λ k. refl) came refl))

@@ -1,43 +1,63 @@
--- Bytes of a text line that are read as themselves: neither dropped nor a backslash, where nothing is half read.
-use Rattle.std.proofs.Common.{◌≡◌, ℕ, ◌==◌, Bool, true, false, List, [], ◌∷◌, Option, None, sym, ap, ◌∙◌}
-use Rattle.std.specs.Prelude.{if◌then◌else◌}
-use Rattle.roff_source.specs.Bytes.{apostrophe, backslash, dot, is_dropped}
+-- Bytes that are read as themselves: neither dropped nor a backslash, where nothing is half read.
+use Rattle.std.proofs.Common.{◌≡◌, ℕ, ◌==◌, Bool, true, false, List, [], ◌∷◌, Option, Ok, refl, sym, ap, ◌∙◌}
+use Rattle.std.specs.Prelude.{if◌then◌else◌, length, not}
+use Rattle.std.proofs.lemmas.Bool.{eqb-true, not-false}
+use Rattle.std.proofs.lemmas.List.{nil_from_length}
+use Rattle.roff_num.specs.declared.limits.Limits.{Limits}
+use Rattle.roff_source.specs.Bytes.{apostrophe, backslash, dot}
 use Rattle.roff_escape.specs.OpenEscape.{OpenEscape, Backslash}
 use Rattle.roff_escape.specs.OpenEscapes.{byte_read}
 use Rattle.roff_escape.specs.declared.open_escape.CopyUnit.TheVariants.{Byte}
 use Rattle.roff_escape.specs.declared.open_escape.Found.TheVariants.{GoesOn, Unit as GivesUnit}
-use Rattle.roff_run.specs.Reading.{interrupted, undropped_taking, taking}
-use Rattle.roff_run.specs.Reading.Beginnings.{at_start, beginning_text, going_on_told, line_begun, line_begun_as}
-use Rattle.roff_run.specs.Reading.Items.{PageInput, behind_events, going_on}
-use Rattle.roff_run.specs.Reading.TextLines.{fresh_line, on_line, text_taking}
-use Rattle.roff_run.specs.Reading.Found.{read_in}
-use Rattle.roff_run.specs.Registers.{Known}
-use Rattle.roff_run.specs.declared.line_state.LineState.TheVariants.{Control, LineStart, Text as InText}
+use Rattle.roff_run.specs.Environments.{PageHistory, interrupted_line}
+use Rattle.roff_run.specs.Events.Steps.{events_of, messages_of}
+use Rattle.roff_run.specs.Reading.{undropped_taking}
+use Rattle.roff_run.specs.Reading.Beginnings.{beginning_text, going_on_told, line_begun, line_begun_as}
+use Rattle.roff_run.specs.Reading.Found.{found_in, has_place, place_in, read_in}
+use Rattle.roff_run.specs.Reading.Items.{PageInput, PageUnread, Taking, behind_events, meaning_events}
+use Rattle.roff_run.specs.Reading.TextLines.{text_taking}
+use Rattle.roff_run.specs.Registers.{AllRegisters, Known}
+use Rattle.roff_run.specs.declared.event.PageEvent.{PageEvent}
+use Rattle.roff_run.specs.declared.line_state.LineState.{LineState}
 use Rattle.roff_run.specs.declared.line_state.TextLine.{TextLine}
+use Rattle.roff_run.specs.declared.message.Message.{Message}
+use Rattle.roff_run.specs.declared.step.Step.{Step}
+use Rattle.roff_requests.specs.Environments.Standing.{StandFor}
+use Rattle.roff_requests.specs.declared.environments.Environments.{Environments as EnvironmentsOf}
+use Rattle.roff_reader.specs.Reader.State.{ReaderState}
+use Rattle.roff_reader.specs.Reader.Taken.{TakesAs}
+use Rattle.roff_reader.proofs.Placed.{kept-placed}
+use Rattle.roff_reader.proofs.TakesAs.{TakesAs-as, TakesAs-asked, TakesAs-said, keeps-meaning}
 
--- on a text line
-pub text_line-reads : (k : Known) (i : PageInput) (line : TextLine) (b : ℕ) → i.escapes ≡ [] → is_dropped b ≡ false → (b == backslash) ≡ false
-    → taking k (InText line) i b ≡ text_taking i line b
-text_line-reads k i line b none_half kept no_escape =
-    ap (λ (c : Bool). if c then going_on (interrupted (InText line) i) (InText line) else undropped_taking k (InText line) i b) kept
-    ∙ ap (λ (half : List OpenEscape). read_in k (InText line) i (byte_read (on_line k line) half b)) none_half
-    ∙ ap (λ (c : Bool). read_in k (InText line) i (if c then (GoesOn, Backslash ∷ []) else (GivesUnit (Byte b), []))) no_escape
-    ∙ ap (λ (half : List OpenEscape). text_taking (record i { escapes = half }) line b) (sym none_half)
+-- where it isn't so that something is half read, nothing is
+pub none_half : (half : List OpenEscape) → not (length half == 0) ≡ false → half ≡ []
+none_half half is = nil_from_length half (eqb-true (length half) 0 (not-false (length half == 0) is))
 
--- where a line begins
-pub line_start-reads : (k : Known) (i : PageInput) (b : ℕ) → i.escapes ≡ [] → is_dropped b ≡ false → (b == backslash) ≡ false
-    → line_begun k i b ≡ taking k LineStart i b
-line_start-reads k i b none_half kept no_escape =
+-- a byte that is no backslash is found as itself, where something may be half read
+pub plain-found : (k : Known) (r : LineState) (i : PageInput) (b : ℕ) → has_place r ≡ true → i.escapes ≡ [] → (b == backslash) ≡ false
+    → found_in k i r (GivesUnit (Byte b)) ≡ undropped_taking k r i b
+plain-found k r i b placed none_half no_escape =
     sym
-    (ap (λ (c : Bool). if c then going_on (interrupted LineStart i) LineStart else undropped_taking k LineStart i b) kept
-    ∙ ap (λ (half : List OpenEscape). read_in k LineStart i (byte_read (at_start k) half b)) none_half
-    ∙ ap (λ (c : Bool). read_in k LineStart i (if c then (GoesOn, Backslash ∷ []) else (GivesUnit (Byte b), []))) no_escape
-    ∙ ap (λ (half : List OpenEscape). line_begun k (record i { escapes = half }) b) (sym none_half))
+    (ap (λ (half : List OpenEscape). read_in k r i (byte_read (place_in k r) half b)) none_half
+    ∙ ap (λ (c : Bool). read_in k r i (if c then (GoesOn, Backslash ∷ []) else (GivesUnit (Byte b), []))) no_escape
+    ∙ ap (λ (half : List OpenEscape). found_in k (record i { escapes = half }) r (GivesUnit (Byte b))) (sym none_half))
+    ∙ kept-placed k i r b placed
 
--- the first of a text line, if it is no dot and no apostrophe, and no interrupted line goes on
-pub begins-fresh : (k : Known) (i : PageInput) (b : ℕ) → k.interrupted ≡ None → (b == dot) ≡ false → (b == apostrophe) ≡ false
-    → line_begun k i b ≡ text_taking i fresh_line b
-begins-fresh k i b none no_dot no_apostrophe =
-    ap (λ (c : Bool). if c then going_on i (Control true) else if b == apostrophe then going_on i (Control false) else beginning_text k (λ line. text_taking i line b)) no_dot
-    ∙ ap (λ (c : Bool). if c then going_on i (Control false) else beginning_text k (λ line. text_taking i line b)) no_apostrophe
-    ∙ ap (λ (line : Option TextLine). behind_events (going_on_told line) (text_taking i (line_begun_as line) b)) none
+-- a byte of a text line, or the first of one: what its step means, whatever is kept
+pub TakesAs-named : (t : Known → Taking) (behind : LineState) (es : EnvironmentsOf) (old new : ReaderState) (u : PageUnread) (m : Step)
+    → ((kept : List PageEvent) (k : Known) → t k ≡ meaning_events u.input behind (events_of kept m))
+    → ((kept : Option Message) → messages_of kept m ≡ []) → new ≡ record old { reading = behind } → TakesAs t es old new u u (Ok m)
+TakesAs-named t behind es old new u m as_defined quiet came =
+    TakesAs-said t behind [] (events_of new.meaning.events m) es old new u m (as_defined new.meaning.events)
+    (keeps-meaning behind old new came) (quiet new.meaning.message) refl
+
+-- the first byte of a text line, if it is no dot and no apostrophe, by the interrupted line that the environments have
+pub begins-text : (b : ℕ) (u : PageUnread) (es : EnvironmentsOf) (old new : ReaderState) (m : Step) → (b == dot) ≡ false → (b == apostrophe) ≡ false
+    → (interrupted : Option TextLine)
+    → ((l : Limits) (h : PageHistory) (rs : AllRegisters) (i : PageInput) → StandFor l h es → interrupted ≡ interrupted_line h)
+    → TakesAs (λ k. behind_events (going_on_told interrupted) (text_taking u.input (line_begun_as interrupted) b)) es old new u u (Ok m)
+    → TakesAs (λ k. line_begun k u.input b) es old new u u (Ok m)
+begins-text b u es old new m no_dot no_apostrophe interrupted asked takes =
+    TakesAs-as (λ k. beginning_text k (λ line. text_taking u.input line b)) (λ k. line_begun k u.input b) es old new u u (Ok m)
+    (λ k. rw (no_dot, no_apostrophe) refl)
+    (TakesAs-asked (λ k line. behind_events (going_on_told line) (text_taking u.input (line_begun_as line) b)) (λ k. k.interrupted) interrupted es old new u u (Ok m) asked takes)

@@ -1,5 +1,4 @@
 -- What the code reads, as the definition reads it.
 pub mod State
 pub mod Taken
-pub mod AtOnce
 pub mod Stages

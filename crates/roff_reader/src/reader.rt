@@ -1,15 +1,17 @@
 //! Reading: what each item of the input means, before it is done.
 
-ghost use Rattle.std.specs.Prelude.{◌≡◌, None, IfOk, IfSome, Ok};
-ghost use Rattle.roff_requests.specs.Events.Meant.{none_meant};
-ghost use Rattle.roff_reader.specs.Clauses.{EnvironmentsOf, LineStart, PageUnread, TakesAs, fresh_reader};
+ghost use Rattle.std.specs.Prelude.{◌≡◌, ◌==◌, ◌≤◌, ◌∷◌, [], IfOk, IfSome, false, slice_get, true};
+ghost use Rattle.std.specs.Option.{option_to_list};
+ghost use Rattle.roff_source.specs.Bytes.{backslash, is_dropped};
+ghost use Rattle.roff_run.specs.Events.Steps.{events_of, messages_of};
+ghost use Rattle.roff_run.specs.declared.step.Step.TheVariants.{Nothing};
+ghost use Rattle.roff_reader.specs.Clauses.{LineStart, TakesAs, fresh_reader};
 ghost use Rattle.roff_reader.specs.Clauses.{interrupted, first_unread, taking, due, line_ends_first};
 ghost use Rattle.roff_reader.specs.Clauses.{behind_return};
 
-mod above;
 mod ahead;
 mod arguments;
-mod at_once;
+mod blanks;
 mod bytes;
 mod calls;
 mod conditions;
@@ -26,44 +28,24 @@ mod string_names;
 mod strings;
 mod text_lines;
 
+use crate::meaning::Meaning;
 use roff_num::{Limit, Limits, Name};
-use roff_requests::{AllEvents, Environments, Events, FewEvents, RequestedEvents, RunRegisters};
-use roff_run::{Due, LineState, Message, PageEvent, Request};
-use roff_scan::{Found, Unread, is_dropped};
+use roff_requests::{Environments, RunRegisters};
+use roff_run::{Due, LineEvents, LineState, Message, PageEvent, Request, Step};
+use roff_scan::{Unread, is_dropped};
 use roff_store::Entry;
 use std::alloc::{AllocError, Global};
 use std::marker::Model;
 
-/// What is being read, the number registers, and the events of the request that was obeyed last.
-///
-/// Those are many at most and rare, and are kept here: so what other items mean is small.
+/// What is being read, the number registers, and what the last step means that has no name of its own:
+/// that may be much and is rare, so it is kept here, and steps are small.
 ///
 /// All its memory is reserved as it is made.
 #[derive(Drop)]
 pub struct Reader {
     reading: LineState,
     registers: RunRegisters,
-    requested: RequestedEvents,
-}
-
-/// What an item means: a message, and then events.
-#[derive(Drop)]
-pub struct Meaning {
-    /// The message, which stands on the line of the last byte taken.
-    pub message: Option<Message>,
-    /// The events, in order; the reader keeps those of a request.
-    pub events: Events,
-}
-
-/// How far a byte was read at once.
-#[derive(Drop)]
-pub enum AtOnce {
-    /// It wasn't.
-    Not,
-    /// It was, and means nothing.
-    Done,
-    /// It was read as this, of which [`Reader::read_found`] is the rest.
-    Unfinished(Found),
+    meaning: Meaning,
 }
 
 impl Model for Reader {
@@ -74,7 +56,7 @@ impl Model for Reader {
     ghost view = { λ r. record {
       reading = r.reading;
       registers = r.registers;
-      requested = r.requested.items;
+      meaning = r.meaning;
     } };
 }
 
@@ -86,27 +68,52 @@ impl Reader {
         Ok(Reader {
             reading: LineState::LineStart,
             registers: RunRegisters::new(alloc, names_cap)?,
-            requested: RequestedEvents::new(),
+            meaning: Meaning::new(),
         })
     }
 
-    /// What a byte does that was taken: the input behind it, what is read, and what it means.
+    /// What a byte does that was taken: the input behind it, what is read, and what it means. Most
+    /// bytes are glyphs or gaps of a text line, and change nothing of these.
     ///
     /// # Errors
     ///
     /// A limit that it would pass; what was changed then is of no more use.
+    #[inline(always)]
     pub fn read(
         &mut self,
         byte: u8,
         environments: &Environments,
         unread: &mut Unread<PageEvent>,
-    ) -> Result<Meaning, Limit>
+    ) -> Result<Step, Limit>
+        ensures { TakesAs (λ k. taking k self.old.reading unread.old.input byte)
+            environments.now self.old self.new unread.old unread.new result }
+    {
+        if self.goes_on_with(byte, unread) {
+            return Ok(Step::Glyph(byte, 0));
+        }
+        if self.goes_on_with_gap(byte, unread) {
+            return Ok(Step::Gap);
+        }
+        if is_read_alone(byte, unread) {
+            return self.read_alone(byte, environments, unread);
+        }
+        self.read_any(byte, environments, unread)
+    }
+
+    /// The same of any byte.
+    #[inline(never)]
+    fn read_any(
+        &mut self,
+        byte: u8,
+        environments: &Environments,
+        unread: &mut Unread<PageEvent>,
+    ) -> Result<Step, Limit>
         ensures { TakesAs (λ k. taking k self.old.reading unread.old.input byte)
             environments.now self.old self.new unread.old unread.new result }
     {
         if is_dropped(byte) {
             self.interrupt(unread);
-            return Ok(Meaning::nothing());
+            return Ok(Step::Nothing);
         }
         self.read_undropped(byte, environments, unread)
     }
@@ -155,45 +162,79 @@ impl Reader {
         }
     }
 
-    /// The events of the request that was obeyed last, if it had any, unless those of tab stops are
-    /// among them.
-    pub fn few_requested(&self) -> Option<FewEvents>
-        ensures { IfSome result (λ few. few.items ≡ self.now.requested) }
+    /// The event at an index of the meaning that is kept, if there are so many: 35 at most.
+    pub fn event(&self, index: usize) -> Option<PageEvent>
+        ensures at { result ≡ slice_get self.now.meaning.events index }
+        ensures few { IfSome result (λ event. index ≤ 34) }
     {
-        self.requested.few()
+        self.meaning.event(index)
     }
 
-    /// The events of the request that was obeyed last, if it had any.
-    pub fn requested(&self) -> AllEvents
-        ensures { result.items ≡ self.now.requested }
+    /// Its message, on the line of the last byte taken, if it has one.
+    pub fn message(&self) -> Option<Message>
+        ensures { result ≡ self.now.meaning.message }
     {
-        self.requested.all()
+        self.meaning.message()
+    }
+
+    /// A message is reported.
+    fn report(&mut self, message: Message) -> Step
+        ensures says { messages_of self.new.meaning.message result ≡ message ∷ [] }
+        ensures none { events_of self.new.meaning.events result ≡ [] }
+        ensures others { self.new ≡ record self.old { meaning = self.new.meaning } }
+    {
+        self.meaning
+            .keep_line(Some(message), false, LineEvents::Nothing);
+        Step::Meaning
+    }
+
+    /// A message is reported, if there is one.
+    #[inline(always)]
+    fn say(&mut self, message: Option<Message>) -> Step
+        ensures says { messages_of self.new.meaning.message result ≡ option_to_list message }
+        ensures none { events_of self.new.meaning.events result ≡ [] }
+        ensures others { self.new ≡ record self.old { meaning = self.new.meaning } }
+    {
+        match message {
+            None => Step::Nothing,
+            Some(message) => self.report(message),
+        }
     }
 
     /// This is read on, and nothing is meant.
     #[inline(always)]
-    fn read_on(&mut self, reading: LineState) -> Meaning
+    fn read_on(&mut self, reading: LineState) -> Step
         ensures reading { self.new ≡ record self.old { reading = reading } }
-        ensures message { result.message ≡ None }
-        ensures events { result.events ≡ none_meant }
+        ensures step { result ≡ Nothing }
     {
         self.reading = reading;
-        Meaning::nothing()
+        Step::Nothing
+    }
+
+    /// This is read on.
+    #[inline(always)]
+    pub(super) fn go_on(&mut self, reading: LineState)
+        ensures { self.new ≡ record self.old { reading = reading } }
+    {
+        self.reading = reading;
     }
 }
 
-impl Meaning {
-    /// Nothing.
-    #[inline(always)]
-    fn nothing() -> Self
-        ensures message { result.message ≡ None }
-        ensures events { result.events ≡ none_meant }
-    {
-        Meaning {
-            message: None,
-            events: Events::new(),
-        }
+/// Whether a byte is read by itself: it is neither dropped nor a backslash, and nothing is half read.
+#[inline(always)]
+#[tactic(auto, using(crate::proofs::TextTaken::none_half))]
+fn is_read_alone(byte: u8, unread: &Unread<PageEvent>) -> bool
+    ensures kept { result ≡ true → is_dropped byte ≡ false }
+    ensures no_escape { result ≡ true → (byte == backslash) ≡ false }
+    ensures none_half { result ≡ true → unread.now.input.escapes ≡ [] }
+{
+    if is_dropped(byte) {
+        return false;
     }
+    if byte == b'\\' {
+        return false;
+    }
+    !unread.has_open_escape()
 }
 
 /// The unread input before anything is read: the requests have their names.

@@ -2,3 +2,4 @@ pub mod EnvironmentRing
 pub mod TabStops
 pub mod RegisterTables
 pub mod Numbering
+pub mod EventsAt

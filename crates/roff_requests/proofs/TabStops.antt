@@ -1,5 +1,5 @@
 -- Tab stops that are read one after another, each beside the one before.
-use Rattle.std.proofs.Common.{◌≡◌, ◌≤◌, ◌<◌, ◌+◌, Bool, ℕ, zero, suc, ℤ, pos, List, [], ◌∷◌, ◌++◌, length, length-append, map, drop, take, slice_get, Some, Result, Ok, Err, refl, sym, ap, ◌∙◌, add-one, append_assoc, arith}
+use Rattle.std.proofs.Common.{◌≡◌, ◌≤◌, ◌<◌, ◌+◌, Bool, ℕ, zero, suc, ℤ, pos, List, [], ◌∷◌, ◌++◌, length, length-append, map, drop, take, slice_get, Some, Result, Ok, Err, refl, sym, ap, ◌∙◌, add-one, arith}
 use Rattle.std.specs.Prelude.{◌/◌}
 use Rattle.std.proofs.Math.Seq.{append_snoc}
 use Rattle.std.proofs.lemmas.List.{append-nil, drop_all, map-append}
@@ -111,17 +111,3 @@ slice_get-take n zero texts less = absurd (omega (arith, less))
 slice_get-take n (suc most) [] less = refl
 slice_get-take zero (suc most) (text ∷ texts) less = refl
 slice_get-take (suc n) (suc most) (text ∷ texts) less = slice_get-take n most texts (omega (arith, less))
-
--- the events of stops that are added: those of the first of them, and of the others
-abbrev pub stop_events : List ℕ → List PageEvent
-stop_events columns = map stop_at columns
-
-pub stop_events-split : (events now : List PageEvent) (columns others : List ℕ) (column : ℕ) → columns ≡ column ∷ others → now ≡ events ++ stop_at column ∷ []
-    → now ++ stop_events others ≡ events ++ stop_events columns
-stop_events-split events now columns others column split is =
-    ap (λ (es : List PageEvent). es ++ stop_events others) is ∙ append_assoc events (stop_at column ∷ []) (stop_events others)
-    ∙ ap (λ (cs : List ℕ). events ++ stop_events cs) (sym split)
-
--- behind the last
-pub stop_events-none : (events : List PageEvent) (columns : List ℕ) → columns ≡ [] → events ++ stop_events columns ≡ events
-stop_events-none events columns none = ap (λ (cs : List ℕ). events ++ stop_events cs) none ∙ append-nil events

@@ -1,13 +1,12 @@
--- The events of a byte or request, as the code puts them together.
-use Rattle.std.specs.Prelude.{ℕ, Bool, List, [], ◌∷◌, map, if◌then◌else◌}
-use Rattle.roff_lines.specs.declared.event.Event.TheVariants.{Resume, Set}
+-- The events of a request, as the code puts them together.
+use Rattle.std.specs.Prelude.{ℕ, List, [], ◌∷◌, map}
+use Rattle.roff_lines.specs.declared.event.Event.TheVariants.{Set}
 use Rattle.roff_lines.specs.declared.settings.Param.TheVariants.{NoStops, Stop}
 use Rattle.roff_run.specs.declared.event.PageEvent.{PageEvent}
 use Rattle.roff_run.specs.declared.event.PageEvent.TheVariants.{Text}
 use Rattle.roff_requests.specs.declared.events.RequestEvents.{RequestEvents}
 use Rattle.roff_requests.specs.declared.events.RequestEvents.TheVariants.{Nothing, One, Two}
 pub mod Kept
-pub mod Meant
 
 -- the event of a stop, by its column
 abbrev pub stop_at : ℕ → PageEvent
@@ -22,7 +21,3 @@ abbrev pub request_events : RequestEvents → List PageEvent
 request_events Nothing = []
 request_events (One event) = event ∷ []
 request_events (Two first second) = first ∷ second ∷ []
-
--- behind the event that an interrupted line goes on, if it does
-abbrev pub resumed_if : Bool → List PageEvent → List PageEvent
-resumed_if goes_on events = if goes_on then Text Resume ∷ events else events

@@ -1,22 +1,15 @@
-//! The events of a byte or a request, as code tells them.
+//! The events of a request, as code keeps them.
 
-ghost use Rattle.std.specs.Prelude.{◌≡◌, [], true, IfSome};
-ghost use Rattle.roff_requests.specs.Events.{request_events, resumed_if, stops_set};
-ghost use Rattle.roff_run.specs.Events.Lines.{line_events};
-ghost use Rattle.roff_requests.specs.Events.Meant.{few_meant, none_meant, requested_meant};
+ghost use Rattle.std.specs.Prelude.{◌≡◌, ◌≤◌, ◌∷◌, [], true, map, IfSome, slice_get, if◌then◌else◌};
+ghost use Rattle.roff_requests.specs.Events.{request_events, stop_at, stops_set};
+ghost use Rattle.roff_lines.specs.declared.event.Event.TheVariants.{Break};
+ghost use Rattle.roff_run.specs.declared.event.PageEvent.TheVariants.{Text};
 ghost use Rattle.roff_run.specs.Requests.Effects.{behind_break};
 
-mod adding;
-
-use adding::{break_events, few_behind, push_line, push_stops};
 use arrayvec::ArrayVec;
 use roff_lines::{Event, Param};
-use roff_run::{LineEvents, PageEvent};
+use roff_run::PageEvent;
 use std::marker::Model;
-
-/// The events of something of a text line behind one that tells that an interrupted line goes on, or
-/// the events of a request and of its break.
-pub type FewEvents = ArrayVec<PageEvent, 6>;
 
 /// The events of a request behind its break, but for tab stops.
 #[derive(Clone, Copy, Debug, PartialEq, Eq)]
@@ -29,20 +22,8 @@ pub enum RequestEvents {
     Two(PageEvent, PageEvent),
 }
 
-/// All events of a request: a few, and those of tab stops.
-pub type AllEvents = ArrayVec<PageEvent, 39>;
-
 /// Tab stops, in columns.
 pub(crate) type Stops = ArrayVec<u32, 32>;
-
-/// The events of one byte or request: those of a text line, or those of a request, which the reader
-/// keeps.
-#[derive(Drop)]
-pub struct Events {
-    line: LineEvents,
-    goes_on: bool,
-    are_requested: bool,
-}
 
 /// The events of a request: those of its break, if it breaks, and behind them a few, or those of tab
 /// stops. The stops are large and seldom set: they stay where they are until others are.
@@ -54,91 +35,12 @@ pub struct RequestedEvents {
     stops: Stops,
 }
 
-impl Model for Events {
-    ghost use Rattle.roff_requests.specs.Events.Meant.{Meant, meant_by};
-
-    ghost Value = { Meant };
-
-    ghost view = { meant_by };
-}
-
 impl Model for RequestedEvents {
     ghost use Rattle.roff_requests.specs.Events.Kept.{Told, told_by};
 
     ghost Value = { Told };
 
     ghost view = { told_by };
-}
-
-impl Events {
-    /// None.
-    #[inline(always)]
-    pub fn new() -> Self
-        ensures { result ≡ none_meant }
-    {
-        Events {
-            line: LineEvents::Nothing,
-            goes_on: false,
-            are_requested: false,
-        }
-    }
-
-    /// Those of a text line, which may go on with an interrupted one.
-    #[inline(always)]
-    pub fn of_line(goes_on: bool, line: LineEvents) -> Self
-        ensures { result ≡ few_meant (resumed_if goes_on (line_events line)) }
-    {
-        Events {
-            line,
-            goes_on,
-            are_requested: false,
-        }
-    }
-
-    /// Those of a request, which the reader keeps.
-    pub fn requested() -> Self
-        ensures { result ≡ requested_meant }
-    {
-        Events {
-            line: LineEvents::Nothing,
-            goes_on: false,
-            are_requested: true,
-        }
-    }
-
-    /// Whether there are none. Where there are none of a request, that may be unknown.
-    #[inline(always)]
-    pub fn are_none(&self) -> bool
-        ensures { result ≡ true → self.now ≡ none_meant }
-    {
-        if self.goes_on || self.are_requested {
-            return false;
-        }
-        match self.line {
-            LineEvents::Nothing => true,
-            _ => false,
-        }
-    }
-
-    /// Whether they are those of a request, which the reader keeps.
-    #[inline(always)]
-    pub fn are_requested(&self) -> bool
-        ensures { result ≡ self.now.are_requested }
-    {
-        self.are_requested
-    }
-
-    /// Those of a text line.
-    pub fn few(&self) -> FewEvents
-        ensures { result.items ≡ self.now.few }
-    {
-        let mut few = FewEvents::new();
-        if self.goes_on {
-            few.push(PageEvent::Text(Event::Resume));
-        }
-        push_line(&mut few, self.line);
-        few
-    }
 }
 
 impl RequestedEvents {
@@ -173,31 +75,78 @@ impl RequestedEvents {
         self.stops = stops;
     }
 
-    /// The events, unless those of stops are among them.
-    pub fn few(&self) -> Option<FewEvents>
-        ensures { IfSome result (λ few. few.items ≡ self.now.items) }
+    /// The event at an index, if there are so many: 35 at most.
+    pub fn at(&self, index: usize) -> Option<PageEvent>
+        ensures at { result ≡ slice_get self.now.items index }
+        ensures few { IfSome result (λ event. index ≤ 34) }
     {
-        if self.sets_stops {
-            return None;
+        if !self.breaks {
+            return kept_at(self.behind, self.sets_stops, &self.stops, index);
         }
-        Some(few_behind(self.breaks, self.behind))
+        if index == 0 {
+            return Some(PageEvent::Text(Event::WordEnd));
+        }
+        break_at(self.behind, self.sets_stops, &self.stops, index - 1)
     }
+}
 
-    /// All, one after another.
-    pub fn all(&self) -> AllEvents
-        ensures { result.items ≡ self.now.items }
-    {
-        let mut all = AllEvents::new();
-        if self.sets_stops {
-            all.try_extend_from_slice(&break_events(self.breaks))
-                .unwrap();
-            all.push(PageEvent::Text(Event::Set(Param::NoStops)));
-            push_stops(&mut all, &self.stops);
-            return all;
-        }
-        all.try_extend_from_slice(&few_behind(self.breaks, self.behind))
-            .unwrap();
-        all
+/// The event at an index of a break and what is kept behind it.
+fn break_at(few: RequestEvents, sets_stops: bool, stops: &Stops, index: usize) -> Option<PageEvent>
+    ensures at { result ≡ slice_get
+        (Text Break ∷ (if sets_stops then stops_set stops.now.items else request_events few)) index }
+    ensures few { IfSome result (λ event. index ≤ 33) }
+{
+    if index == 0 {
+        return Some(PageEvent::Text(Event::Break));
+    }
+    kept_at(few, sets_stops, stops, index - 1)
+}
+
+/// The event at an index of those that set these stops, if they are set, or of a few.
+fn kept_at(few: RequestEvents, sets_stops: bool, stops: &Stops, index: usize) -> Option<PageEvent>
+    ensures at { result ≡ slice_get
+        (if sets_stops then stops_set stops.now.items else request_events few) index }
+    ensures few { IfSome result (λ event. index ≤ 32) }
+{
+    if sets_stops {
+        stops_at(stops, index)
+    } else {
+        few_at(few, index)
+    }
+}
+
+/// The event at an index of a few.
+fn few_at(few: RequestEvents, index: usize) -> Option<PageEvent>
+    ensures at { result ≡ slice_get (request_events few) index }
+    ensures few { IfSome result (λ event. index ≤ 32) }
+{
+    match (few, index) {
+        (RequestEvents::One(event), 0) => Some(event),
+        (RequestEvents::Two(first, _), 0) => Some(first),
+        (RequestEvents::Two(_, second), 1) => Some(second),
+        _ => None,
+    }
+}
+
+/// The event at an index of those that set these stops in place of those in force.
+fn stops_at(stops: &Stops, index: usize) -> Option<PageEvent>
+    ensures at { result ≡ slice_get (stops_set stops.now.items) index }
+    ensures few { IfSome result (λ event. index ≤ 32) }
+{
+    if index == 0 {
+        return Some(PageEvent::Text(Event::Set(Param::NoStops)));
+    }
+    stop_at(stops, index - 1)
+}
+
+/// The event of the stop at an index.
+fn stop_at(stops: &Stops, index: usize) -> Option<PageEvent>
+    ensures at { result ≡ slice_get (map stop_at stops.now.items) index }
+    ensures few { IfSome result (λ event. index ≤ 31) }
+{
+    match stops.get(index) {
+        Some(column) => Some(PageEvent::Text(Event::Set(Param::Stop(*column)))),
+        None => None,
     }
 }
 

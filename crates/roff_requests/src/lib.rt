@@ -9,7 +9,7 @@ mod registers;
 mod requests;
 
 pub use environments::{Environment, Environments, Left};
-pub use events::{AllEvents, Events, FewEvents, RequestEvents, RequestedEvents, are_none};
+pub use events::{RequestEvents, RequestedEvents, are_none};
 pub use registers::{Facts, RunRegisters};
 pub use requests::{
     Changes, Effect, Given, RequestFacts, effect, name_given, register_named, tab_stops,

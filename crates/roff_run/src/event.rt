@@ -1,5 +1,9 @@
 //! The events that bytes and requests mean.
 
+ghost use Rattle.std.specs.Prelude.{◌≡◌, ◌≤◌, ◌<◌, ◌++◌, IfSome, length, map, slice_get};
+ghost use Rattle.roff_run.specs.Events.Lines.{line_events, print_event};
+ghost use Rattle.roff_run.specs.Reading.TextLines.{leading_glyph};
+
 use crate::environment_number::EnvironmentNumber;
 use roff_lines::{Event, Glyph};
 
@@ -24,7 +28,7 @@ impl Default for PageEvent {
     }
 }
 
-/// The events of something of a text line: small, as they are told of each byte.
+/// The events of something of a text line.
 #[derive(Clone, Copy, Debug, PartialEq, Eq)]
 pub enum LineEvents {
     /// None.
@@ -43,12 +47,119 @@ pub enum LineEvents {
     Tab(u32),
     /// So many leading blanks alone.
     Leading(u32),
-    /// A glyph behind so many leading blanks.
-    Print(u32, Glyph),
+    /// A printed byte behind so many leading blanks.
+    Printed(u32, u8),
+    /// So many blanks that stay together, behind so many leading ones.
+    Blanks(u32, u32),
     /// Two printed bytes behind so many leading blanks.
     Two(u32, [u8; 2]),
     /// Three printed bytes behind so many leading blanks.
     Three(u32, [u8; 3]),
     /// Four printed bytes behind so many leading blanks.
     Four(u32, [u8; 4]),
+}
+
+impl LineEvents {
+    /// The event at an index, if there are so many: five at most.
+    pub fn at(self, index: usize) -> Option<PageEvent>
+        ensures at { result ≡ slice_get (line_events self) index }
+        ensures few { IfSome result (λ event. index ≤ 4) }
+    {
+        match self {
+            LineEvents::Nothing => None,
+            LineEvents::LineEnd => nth(
+                &[
+                    PageEvent::Text(Event::WordEnd),
+                    PageEvent::Text(Event::LineEnd),
+                    PageEvent::Text(Event::Count),
+                ],
+                index,
+            ),
+            LineEvents::Break => nth(
+                &[
+                    PageEvent::Text(Event::WordEnd),
+                    PageEvent::Text(Event::Break),
+                ],
+                index,
+            ),
+            LineEvents::BlankLine => nth(
+                &[
+                    PageEvent::Text(Event::WordEnd),
+                    PageEvent::Text(Event::Break),
+                    PageEvent::Space(1),
+                ],
+                index,
+            ),
+            LineEvents::Gap => nth(
+                &[
+                    PageEvent::Text(Event::WordEnd),
+                    PageEvent::Text(Event::Gap(1)),
+                ],
+                index,
+            ),
+            LineEvents::Interrupt(untold) => nth(&[PageEvent::Interrupt(untold)], index),
+            LineEvents::Tab(leading) => {
+                nth_behind(leading, &[PageEvent::Text(Event::Tab)], index)
+            }
+            LineEvents::Leading(leading) => nth_behind(leading, &[], index),
+            LineEvents::Printed(leading, byte) => nth_printed(leading, &[byte], index),
+            LineEvents::Blanks(leading, columns) => {
+                nth_behind(
+                    leading,
+                    &[PageEvent::Text(Event::Print(Glyph::Blanks(columns)))],
+                    index,
+                )
+            }
+            LineEvents::Two(leading, bytes) => nth_printed(leading, &bytes, index),
+            LineEvents::Three(leading, bytes) => nth_printed(leading, &bytes, index),
+            LineEvents::Four(leading, bytes) => nth_printed(leading, &bytes, index),
+        }
+    }
+}
+
+/// The event at an index.
+fn nth(events: &[PageEvent], index: usize) -> Option<PageEvent>
+    ensures at { result ≡ slice_get events.now index }
+    ensures few { IfSome result (λ event. index < length events.now) }
+{
+    events.get(index).copied()
+}
+
+/// The event at an index of these behind the leading blanks, which are a glyph of their own.
+fn nth_behind(leading: u32, events: &[PageEvent], index: usize) -> Option<PageEvent>
+    ensures at { result ≡ slice_get (leading_glyph leading ++ events.now) index }
+    ensures few { IfSome result (λ event. index ≤ length events.now) }
+{
+    if leading == 0 {
+        return nth(events, index);
+    }
+    if index == 0 {
+        return Some(PageEvent::Text(Event::Print(Glyph::Blanks(leading))));
+    }
+    nth(events, index - 1)
+}
+
+/// The event at an index of bytes that are printed behind the leading blanks.
+fn nth_printed(leading: u32, bytes: &[u8], index: usize) -> Option<PageEvent>
+    ensures at { result ≡ slice_get (leading_glyph leading ++ map print_event bytes.now) index }
+    ensures few { IfSome result (λ event. index ≤ length bytes.now) }
+{
+    if leading == 0 {
+        return print_nth(bytes, index);
+    }
+    if index == 0 {
+        return Some(PageEvent::Text(Event::Print(Glyph::Blanks(leading))));
+    }
+    print_nth(bytes, index - 1)
+}
+
+/// The event of the byte at an index, which is printed.
+fn print_nth(bytes: &[u8], index: usize) -> Option<PageEvent>
+    ensures at { result ≡ slice_get (map print_event bytes.now) index }
+    ensures few { IfSome result (λ event. index < length bytes.now) }
+{
+    match bytes.get(index) {
+        Some(byte) => Some(PageEvent::Text(Event::Print(Glyph::Printed(*byte)))),
+        None => None,
+    }
 }

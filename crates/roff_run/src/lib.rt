@@ -10,12 +10,14 @@ mod message;
 mod query;
 mod request;
 mod status;
+mod step;
 
 pub use definition::{DefinitionLine, EndMark, matched_behind};
 pub use environment_number::EnvironmentNumber;
 pub use event::{LineEvents, PageEvent};
-pub use line_state::{Due, LineState, TextByte, TextLine, TextStep, blanks_in_front, ends_name};
+pub use line_state::{Due, LineState, TextLine, TextStep, blanks_in_front, ends_name};
 pub use message::{CharacterName, Message, MessageLine};
 pub use query::Query;
 pub use request::{Called, LineReading, LinesFor, Request};
 pub use status::Status;
+pub use step::Step;

@@ -6,7 +6,6 @@ ghost use Rattle.roff_num.specs.ShortNames.{name_bytes};
 ghost use Rattle.roff_num.specs.ShortNames.{short_name};
 ghost use Rattle.roff_run.specs.Reading.ControlLines.{ends_name};
 ghost use Rattle.roff_source.specs.Bytes.{blank};
-ghost use Rattle.roff_run.specs.Reading.Items.{reads_above};
 
 mod behind;
 mod text_line;
@@ -104,21 +103,6 @@ pub enum Due {
     Leaves,
 }
 
-/// What a byte of a text line is, of those that are taken at once.
-#[derive(Clone, Copy, Debug, PartialEq, Eq)]
-pub enum TextByte {
-    /// A glyph behind so many leading blanks.
-    Glyph(u32),
-    /// A tab behind so many leading blanks.
-    Tab(u32),
-    /// A leading blank behind so many others.
-    LeadingBlank(u32),
-    /// The end of a line that isn't blank.
-    LineEnd,
-    /// The end of a blank line.
-    BlankLine,
-}
-
 /// What stands on a text line so far.
 #[derive(Clone, Copy, Debug, PartialEq, Eq)]
 pub struct TextLine {
@@ -165,19 +149,6 @@ impl LineState {
             LineState::Calling { .. } => true,
             LineState::Telling { .. } => true,
             LineState::Defining { .. } => true,
-            _ => false,
-        }
-    }
-
-    /// Whether what is found above it means nothing where nothing is found, or a unit of a text that
-    /// is being read: where a line begins, on a text line and in a condition.
-    pub fn reads_above(self) -> bool
-        ensures { result ≡ reads_above self }
-    {
-        match self {
-            LineState::LineStart => true,
-            LineState::Text(_) => true,
-            LineState::Deciding { .. } => true,
             _ => false,
         }
     }

@@ -6,17 +6,9 @@ ghost use Rattle.roff_engine.specs.Clauses.{escape_ended};
 
 use super::Formatter;
 use crate::halt::Halt;
-use roff_lines::Event;
 use roff_pages::ByteSink;
-use roff_reader::AtOnce;
-use roff_run::PageEvent;
+use roff_run::{PageEvent, Step};
 use roff_scan::Unread;
-
-/// What finishes the last line.
-const CLOSING: [PageEvent; 2] = [
-    PageEvent::Text(Event::WordEnd),
-    PageEvent::Text(Event::Break),
-];
 
 impl Formatter {
     /// Ends what is half read, before a newline that stays or at the end of the input.
@@ -31,50 +23,9 @@ impl Formatter {
             (sinks (O.sunk out.old) (E.sunk err.old))
             (sinks (O.sunk out.new) (E.sunk err.new)) result }
     {
-        if self.reader.decides(unread) {
-            return Ok(());
-        }
-        self.end_above(unread, out, err)
-    }
-
-    /// The same where that decides no condition, or where the result is kept: in a condition it
-    /// most often means nothing.
-    #[inline(always)]
-    fn end_above<O: ByteSink, E: ByteSink>(
-        &mut self,
-        unread: &mut Unread<PageEvent>,
-        out: &mut O,
-        err: &mut E,
-    ) -> Result<(), Halt>
-        ensures { DoesTaking (λ k. escape_ended k self.old.reader.reading unread.old.input) []
-            self.old self.new unread.old unread.new
-            (sinks (O.sunk out.old) (E.sunk err.old))
-            (sinks (O.sunk out.new) (E.sunk err.new)) result }
-    {
-        match self.reader.end_above(unread) {
-            AtOnce::Done => Ok(()),
-            AtOnce::Unfinished(found) => self.take_found(found, unread, out, err),
-            AtOnce::Not => self.end_as_read(unread, out, err),
-        }
-    }
-
-    /// The same by what the reader makes of it.
-    #[inline(never)]
-    fn end_as_read<O: ByteSink, E: ByteSink>(
-        &mut self,
-        unread: &mut Unread<PageEvent>,
-        out: &mut O,
-        err: &mut E,
-    ) -> Result<(), Halt>
-        ensures { DoesTaking (λ k. escape_ended k self.old.reader.reading unread.old.input) []
-            self.old self.new unread.old unread.new
-            (sinks (O.sunk out.old) (E.sunk err.old))
-            (sinks (O.sunk out.new) (E.sunk err.new)) result }
-    {
-        let read = self.reader.end_escape(&self.environments, unread);
-        match &read {
-            Ok(meaning) => self.act(meaning, unread.line(), out, err),
-            Err(limit) => Err(Halt::Refused(*limit)),
+        match self.reader.end_escape(&self.environments, unread) {
+            Ok(step) => self.perform(step, unread.line(), out, err),
+            Err(limit) => Err(Halt::Refused(limit)),
         }
     }
 
@@ -91,7 +42,7 @@ impl Formatter {
             (sinks (O.sunk out.new) (E.sunk err.new)) result }
     {
         match self.reader.end_line_of_input(&self.environments, unread) {
-            Ok(meaning) => self.act(&meaning, unread.line(), out, err),
+            Ok(step) => self.perform(step, unread.line(), out, err),
             Err(limit) => Err(Halt::Refused(limit)),
         }
     }
@@ -109,8 +60,8 @@ impl Formatter {
             (sinks (O.sunk out.new) (E.sunk err.new)) result }
     {
         match self.reader.end_line_of_input(&self.environments, unread) {
-            Ok(meaning) => match self.act(&meaning, unread.line(), out, err) {
-                Ok(()) => self.perform_each(&CLOSING, out),
+            Ok(step) => match self.perform(step, unread.line(), out, err) {
+                Ok(()) => self.perform_line(Step::Break, out),
                 Err(halt) => Err(halt),
             },
             Err(limit) => Err(Halt::Refused(limit)),

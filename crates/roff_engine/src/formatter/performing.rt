@@ -1,102 +1,98 @@
 //! What is meant is done: the message is told, and the events are performed.
 
 ghost use Rattle.std.specs.Prelude.{[], ◌∷◌, IsOkUnless};
-ghost use Rattle.roff_requests.specs.Events.Meant.{events_meant};
+ghost use Rattle.roff_run.specs.Events.Steps.{events_of, messages_of};
 ghost use Rattle.roff_engine.specs.Clauses.{option_to_list, message_lines, DoesMeaning};
 ghost use Rattle.roff_engine.specs.Clauses.{PerformsOnly, sinks, Text, Puts, Sunk, Environment};
 
 use super::Formatter;
 use crate::halt::Halt;
 use crate::report::report;
-use roff_lines::Event;
+use roff_lines::{Event, Glyph};
 use roff_pages::ByteSink;
-use roff_reader::Meaning;
-use roff_requests::Events;
-use roff_run::{EnvironmentNumber, Message, PageEvent};
+use roff_run::{EnvironmentNumber, Message, PageEvent, Step};
 
 impl Formatter {
-    /// Does what was meant on this line of the input: its message is told, and then its events are
-    /// performed.
-    #[tactic(auto, using(crate::proofs::Performed::told_then_performed))]
-    pub(super) fn act<O: ByteSink, E: ByteSink>(
+    /// Does what an item means that ended on this line of the input: its message is reported, and then
+    /// its events are performed.
+    #[inline(always)]
+    pub(super) fn perform<O: ByteSink, E: ByteSink>(
         &mut self,
-        meaning: &Meaning,
+        step: Step,
         line: u32,
         out: &mut O,
         err: &mut E,
     ) -> Result<(), Halt>
-        ensures { DoesMeaning line (option_to_list meaning.now.message)
-            (events_meant self.old.reader.requested meaning.now.events) self.old self.new
+        ensures { DoesMeaning line (messages_of self.old.reader.meaning.message step)
+            (events_of self.old.reader.meaning.events step) self.old self.new
             (sinks (O.sunk out.old) (E.sunk err.old))
             (sinks (O.sunk out.new) (E.sunk err.new)) result }
     {
-        match report_message(meaning.message, line, err) {
-            Ok(()) => self.perform_all(&meaning.events, out),
+        match step {
+            Step::Meaning => self.report_and_perform(line, out, err),
+            _ => self.perform_line(step, out),
+        }
+    }
+
+    /// The same of the meaning that the reader keeps.
+    #[inline(never)]
+    #[tactic(auto, using(crate::proofs::Performed::told_then_performed))]
+    fn report_and_perform<O: ByteSink, E: ByteSink>(
+        &mut self,
+        line: u32,
+        out: &mut O,
+        err: &mut E,
+    ) -> Result<(), Halt>
+        ensures { DoesMeaning line (option_to_list self.old.reader.meaning.message)
+            self.old.reader.meaning.events self.old self.new
+            (sinks (O.sunk out.old) (E.sunk err.old))
+            (sinks (O.sunk out.new) (E.sunk err.new)) result }
+    {
+        match report_message(self.reader.message(), line, err) {
+            Ok(()) => self.perform_each(out),
             Err(halt) => Err(halt),
         }
     }
 
-    /// Performs the events of a byte or request.
-    #[inline(always)]
-    fn perform_all<O: ByteSink>(&mut self, events: &Events, out: &mut O) -> Result<(), Halt>
-        ensures { PerformsOnly (events_meant self.old.reader.requested events.now)
-            self.old self.new (O.sunk out.old) (O.sunk out.new) result }
-    {
-        if events.are_none() {
-            return Ok(());
-        }
-        self.perform_some(events, out)
-    }
-
-    /// The same where there may be some.
-    #[inline(never)]
-    fn perform_some<O: ByteSink>(&mut self, events: &Events, out: &mut O) -> Result<(), Halt>
-        ensures { PerformsOnly (events_meant self.old.reader.requested events.now)
-            self.old self.new (O.sunk out.old) (O.sunk out.new) result }
-    {
-        if events.are_requested() {
-            return self.perform_requested(out);
-        }
-        self.perform_each(&events.few(), out)
-    }
-
-    /// Performs the events of the request that was obeyed last.
-    #[inline(never)]
-    fn perform_requested<O: ByteSink>(&mut self, out: &mut O) -> Result<(), Halt>
-        ensures { PerformsOnly self.old.reader.requested self.old self.new
+    /// Performs the events of the meaning that the reader keeps, one after another.
+    fn perform_each<O: ByteSink>(&mut self, out: &mut O) -> Result<(), Halt>
+        ensures { PerformsOnly self.old.reader.meaning.events self.old self.new
             (O.sunk out.old) (O.sunk out.new) result }
     {
-        match self.reader.few_requested() {
-            Some(few) => self.perform_each(&few, out),
-            None => {
-                let all = self.reader.requested();
-                self.perform_each(&all, out)
-            }
-        }
-    }
-
-    /// Performs events, one after another.
-    pub(super) fn perform_each<O: ByteSink>(
-        &mut self,
-        events: &[PageEvent],
-        out: &mut O,
-    ) -> Result<(), Halt>
-        ensures { PerformsOnly events.now self.old self.new
-            (O.sunk out.old) (O.sunk out.new) result }
-    {
-        let mut rest = events;
-        while let Some((event, others)) = rest.split_first() {
-            match self.perform(*event, out) {
-                Ok(()) => rest = others,
+        let mut index = 0;
+        while let Some(event) = self.reader.event(index) {
+            match self.perform_event(event, out) {
+                Ok(()) => index += 1,
                 Err(halt) => return Err(halt),
             }
         }
         Ok(())
     }
 
-    /// Performs an event.
+    /// Performs the events of a step that has a name of its own.
     #[inline(always)]
-    pub(crate) fn perform<O: ByteSink>(&mut self, event: PageEvent, out: &mut O) -> Result<(), Halt>
+    pub(super) fn perform_line<O: ByteSink>(&mut self, step: Step, out: &mut O) -> Result<(), Halt>
+        ensures { PerformsOnly (events_of [] step) self.old self.new
+            (O.sunk out.old) (O.sunk out.new) result }
+    {
+        match step {
+            Step::Nothing => Ok(()),
+            Step::Glyph(byte, leading) => self.glyph_behind(leading, Glyph::Printed(byte)),
+            Step::Tab(leading) => self.tab_behind(leading),
+            Step::Gap => self.gap_behind_word(out),
+            Step::Break => self.break_behind_word(out),
+            Step::LineEnd => self.end_text_line(out),
+            Step::BlankLine => self.blank_line(out),
+            Step::Meaning => Ok(()),
+        }
+    }
+
+    /// Performs an event.
+    pub(crate) fn perform_event<O: ByteSink>(
+        &mut self,
+        event: PageEvent,
+        out: &mut O,
+    ) -> Result<(), Halt>
         ensures { PerformsOnly (event ∷ []) self.old self.new
             (O.sunk out.old) (O.sunk out.new) result }
     {

@@ -1,8 +1,7 @@
 //! The events of the text, and those of a text line one behind another.
 
 ghost use Rattle.std.specs.Prelude.{[], ◌∷◌, ◌++◌, IsOkUnless, option_map};
-ghost use Rattle.roff_run.specs.Reading.TextLines.{blank_line, leading_blank_events, leading_glyph};
-ghost use Rattle.roff_run.specs.Events.Lines.{text_byte_events};
+ghost use Rattle.roff_run.specs.Reading.TextLines.{blank_line, leading_glyph};
 ghost use Rattle.roff_engine.specs.Clauses.{finished_of, Gap, Print, WordEnd, LineEnd, Break};
 ghost use Rattle.roff_engine.specs.Clauses.{finished_bytes};
 ghost use Rattle.roff_lines.specs.declared.event.Event.TheVariants.{Count};
@@ -12,32 +11,11 @@ use super::Formatter;
 use crate::halt::Halt;
 use roff_lines::{Glyph, Line};
 use roff_pages::{Block, ByteSink};
-use roff_run::TextByte;
 
 impl Formatter {
-    /// Performs what a byte of a text line means.
-    #[inline(always)]
-    pub(super) fn perform_text_byte<O: ByteSink>(
-        &mut self,
-        byte: u8,
-        means: TextByte,
-        out: &mut O,
-    ) -> Result<(), Halt>
-        ensures { PerformsOnly (text_byte_events byte means) self.old self.new
-            (O.sunk out.old) (O.sunk out.new) result }
-    {
-        match means {
-            TextByte::Glyph(leading) => self.glyph_behind(leading, Glyph::Printed(byte)),
-            TextByte::Tab(leading) => self.tab_behind(leading),
-            TextByte::LeadingBlank(before) => self.leading_blank(before, out),
-            TextByte::LineEnd => self.end_text_line(out),
-            TextByte::BlankLine => self.blank_line(out),
-        }
-    }
-
     /// Prints a glyph behind so many leading blanks.
     #[inline(always)]
-    fn glyph_behind(&mut self, leading: u32, glyph: Glyph) -> Result<(), Halt>
+    pub(super) fn glyph_behind(&mut self, leading: u32, glyph: Glyph) -> Result<(), Halt>
         ensures { (told : Sunk) →
             PerformsOnly (leading_glyph leading ++ Text (Print glyph) ∷ [])
             self.old self.new told told result }
@@ -52,7 +30,7 @@ impl Formatter {
     }
 
     /// Moves to the next tab stop behind so many leading blanks.
-    fn tab_behind(&mut self, leading: u32) -> Result<(), Halt>
+    pub(super) fn tab_behind(&mut self, leading: u32) -> Result<(), Halt>
         ensures { (told : Sunk) → PerformsOnly (leading_glyph leading ++ Text Tab ∷ [])
             self.old self.new told told result }
     {
@@ -65,20 +43,8 @@ impl Formatter {
         }
     }
 
-    /// A leading blank behind so many others: the first is a break.
-    #[inline(always)]
-    fn leading_blank<O: ByteSink>(&mut self, before: u32, out: &mut O) -> Result<(), Halt>
-        ensures { PerformsOnly (leading_blank_events before) self.old self.new
-            (O.sunk out.old) (O.sunk out.new) result }
-    {
-        if before == 0 {
-            return self.break_behind_word(out);
-        }
-        Ok(())
-    }
-
     /// Ends the open word, and breaks.
-    fn break_behind_word<O: ByteSink>(&mut self, out: &mut O) -> Result<(), Halt>
+    pub(super) fn break_behind_word<O: ByteSink>(&mut self, out: &mut O) -> Result<(), Halt>
         ensures { PerformsOnly (Text WordEnd ∷ Text Break ∷ []) self.old self.new
             (O.sunk out.old) (O.sunk out.new) result }
     {
@@ -90,7 +56,7 @@ impl Formatter {
 
     /// The end of a text line that isn't blank: the open word ends, and the line counts.
     #[inline(always)]
-    fn end_text_line<O: ByteSink>(&mut self, out: &mut O) -> Result<(), Halt>
+    pub(super) fn end_text_line<O: ByteSink>(&mut self, out: &mut O) -> Result<(), Halt>
         ensures { PerformsOnly (Text WordEnd ∷ Text LineEnd ∷ Text Count ∷ []) self.old self.new
             (O.sunk out.old) (O.sunk out.new) result }
     {
@@ -116,7 +82,7 @@ impl Formatter {
     }
 
     /// The end of a blank line: the open word ends, and a break and a blank line come.
-    fn blank_line<O: ByteSink>(&mut self, out: &mut O) -> Result<(), Halt>
+    pub(super) fn blank_line<O: ByteSink>(&mut self, out: &mut O) -> Result<(), Halt>
         ensures { PerformsOnly blank_line self.old self.new
             (O.sunk out.old) (O.sunk out.new) result }
     {

@@ -16,7 +16,7 @@ pub record ReadsPast (gave gives : Tape → Type 0) (old new : ReaderState) (bef
   pub turned : Turned before.input.names (stage_of old.reading before.input) bytes (stage_of new.reading after.input)
   pub passes : PassesFront gave gives bytes before (record after { input = with_stage_of before.input after.input })
   pub registers : new.registers ≡ old.registers
-  pub requested : new.requested ≡ old.requested
+  pub meaning : new.meaning ≡ old.meaning
   pub within : IsWithin after
 
 -- So many of these bytes, from the first on, lead from what was read to what is read now, where nothing is half read. None is a
@@ -27,4 +27,4 @@ pub record TurnsFront (front : List ℕ) (count : ℕ) (old new : ReaderState) :
   pub turned : (names : Named Entry) (i : PageInput) → i.escapes ≡ []
       → Turned names (stage_of old.reading i) (take count front) (stage_of new.reading i)
   pub registers : new.registers ≡ old.registers
-  pub requested : new.requested ≡ old.requested
+  pub meaning : new.meaning ≡ old.meaning

@@ -1,12 +1,11 @@
 -- What the code takes, as the definition takes it.
 use Rattle.std.specs.Prelude.{◌≡◌, true, false, List, None, Some, Result, Ok, Err}
-use Rattle.std.specs.Option.{option_to_list}
 use Rattle.roff_num.specs.declared.limit.Limit.{Limit}
 use Rattle.roff_num.specs.declared.limit.Limit.TheVariants.{Names}
 use Rattle.roff_num.specs.declared.limits.Limits.{Limits}
 use Rattle.roff_scan.specs.Unread.{input_refusal}
 use Rattle.roff_run.specs.Environments.{PageHistory}
-use Rattle.roff_requests.specs.Events.Meant.{events_meant}
+use Rattle.roff_run.specs.Events.Steps.{events_of, messages_of}
 use Rattle.roff_requests.specs.Environments.Standing.{StandFor}
 use Rattle.roff_requests.specs.declared.environments.Environments.{Environments as EnvironmentsOf}
 use Rattle.roff_run.specs.Registers.{Change, Known, changed_by_all}
@@ -14,7 +13,7 @@ use Rattle.roff_run.specs.Registers.Capped.{Capped, is_past_cap}
 use Rattle.roff_run.specs.Run.{known_at}
 use Rattle.roff_run.specs.Run.Counts.{counts_in, first_passed}
 use Rattle.roff_reader.specs.Reader.State.{ReaderState}
-use Rattle.roff_reader.specs.declared.reader.Meaning.{Meaning}
+use Rattle.roff_run.specs.declared.step.Step.{Step}
 use Rattle.roff_run.specs.Reading.Items.{PageInput, Taking, PageUnread}
 
 -- registers behind some changes
@@ -44,15 +43,15 @@ pub record CameTo (t : Taking) (old : Capped) (new : ReaderState) (before behind
   pub registers : new.registers ≡ behind_changes t.effect.changes old
   pub within : first_passed before.limits (counts_in (changed_by_all t.effect.changes old.all) t.input) ≡ None
 
--- and it means what the taking means, with the events that are kept of a request
-pub record Took (t : Taking) (old : Capped) (new : ReaderState) (before behind : PageUnread) (m : Meaning) : Type 0 where
+-- and its step means what the taking means, with the meaning that is kept
+pub record Took (t : Taking) (old : Capped) (new : ReaderState) (before behind : PageUnread) (step : Step) : Type 0 where
   pub became : CameTo t old new before behind
-  pub messages : option_to_list m.message ≡ t.effect.messages
-  pub events : events_meant new.requested m.events ≡ t.effect.events
+  pub messages : messages_of new.meaning.message step ≡ t.effect.messages
+  pub events : events_of new.meaning.events step ≡ t.effect.events
 
 -- or a count would be above this limit, and none above an earlier one
-abbrev pub Takes : Taking → Capped → ReaderState → PageUnread → PageUnread → Result Meaning Limit → Type 0
-Takes t old new before behind (Ok m) = Took t old new before behind m
+abbrev pub Takes : Taking → Capped → ReaderState → PageUnread → PageUnread → Result Step Limit → Type 0
+Takes t old new before behind (Ok step) = Took t old new before behind step
 Takes t old new before behind (Err limit) =
     first_passed before.limits (counts_in (changed_by_all t.effect.changes old.all) t.input) ≡ Some limit
 
@@ -72,6 +71,6 @@ pub record IsReady (r : Capped) (u : PageUnread) : Type 0 where
 
 -- The code took what the definition takes, by what is known of the run, wherever the environments stand for a history.
 pub record TakesAs (t : Known → Taking) (es : EnvironmentsOf) (old new : ReaderState) (before behind : PageUnread)
-    (result : Result Meaning Limit) : Type 0 where
+    (result : Result Step Limit) : Type 0 where
   pub takes : (l : Limits) (h : PageHistory) → StandFor l h es → IsReady old.registers before
       → Takes (t (known_at h old.registers.all before.input)) old.registers new before behind result

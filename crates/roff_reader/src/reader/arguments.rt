@@ -1,49 +1,17 @@
 //! The arguments of requests, and the names that they give.
 
-ghost use Rattle.std.specs.Prelude.{◌≡◌, None, IfSome};
+ghost use Rattle.std.specs.Prelude.{◌≡◌};
 ghost use Rattle.roff_reader.specs.Clauses.{EnvironmentsOf, TakesAs, arguments_found, going_on, holding, listed};
-ghost use Rattle.roff_reader.specs.Clauses.{row_of, no_unit_found, unit_found, arguments_ended, taking};
+ghost use Rattle.roff_reader.specs.Clauses.{row_of, no_unit_found, unit_found, arguments_ended};
 ghost use Rattle.roff_reader.specs.Clauses.{name_at as name_given_at};
 
-use super::{Meaning, Reader};
+use super::Reader;
 use roff_num::{Limit, ShortName};
 use roff_requests::Environments;
-use roff_run::{LineReading, LineState, PageEvent, Request};
+use roff_run::{LineReading, LineState, PageEvent, Request, Step};
 use roff_scan::{ArgumentList, CopyUnit, Found, Unread};
 
 impl Reader {
-    /// Takes a newline that ends a request's line, with nothing half read: the request is obeyed, or
-    /// its lines begin. Another byte does nothing.
-    ///
-    /// # Errors
-    ///
-    /// A limit that it would pass; what was changed then is of no more use.
-    #[inline(always)]
-    pub fn end_request(
-        &mut self,
-        byte: u8,
-        environments: &Environments,
-        unread: &mut Unread<PageEvent>,
-    ) -> Option<Result<Meaning, Limit>>
-        ensures takes { IfSome result (λ read.
-            TakesAs (λ k. taking k self.old.reading unread.old.input byte) environments.now
-            self.old self.new unread.old unread.new read) }
-        ensures unchanged { result ≡ None → (self.new ≡ self.old) × (unread.new ≡ unread.old) }
-    {
-        if byte != b'\n' {
-            return None;
-        }
-        if unread.has_open_escape() {
-            return None;
-        }
-        match self.reading {
-            LineState::Arguments { breaks, request } => {
-                Some(self.end_arguments(breaks, request, environments, unread))
-            }
-            _ => None,
-        }
-    }
-
     /// Something behind a request's name.
     pub(super) fn read_arguments(
         &mut self,
@@ -52,7 +20,7 @@ impl Reader {
         found: Found,
         environments: &Environments,
         unread: &mut Unread<PageEvent>,
-    ) -> Result<Meaning, Limit>
+    ) -> Result<Step, Limit>
         ensures { TakesAs (λ k. arguments_found k unread.old.input breaks request found)
             environments.now self.old self.new unread.old unread.new result }
     {
@@ -70,14 +38,15 @@ impl Reader {
     }
 
     /// A unit behind a request's name: a newline ends the line, and all else is held.
-    fn read_unit(
+    #[inline(always)]
+    pub(super) fn read_unit(
         &mut self,
         breaks: bool,
         request: Request,
         unit: CopyUnit,
         environments: &Environments,
         unread: &mut Unread<PageEvent>,
-    ) -> Result<Meaning, Limit>
+    ) -> Result<Step, Limit>
         ensures { TakesAs (λ k. unit_found k unread.old.input breaks request unit)
             environments.now self.old self.new unread.old unread.new result }
     {
@@ -94,7 +63,7 @@ impl Reader {
         request: Request,
         environments: &Environments,
         unread: &mut Unread<PageEvent>,
-    ) -> Result<Meaning, Limit>
+    ) -> Result<Step, Limit>
         ensures { TakesAs (λ k. arguments_ended k unread.old.input breaks request
             (row_of request).line)
             environments.now self.old self.new unread.old unread.new result }
@@ -111,7 +80,7 @@ impl Reader {
         unit: CopyUnit,
         reading: LineState,
         unread: &mut Unread<PageEvent>,
-    ) -> Result<Meaning, Limit>
+    ) -> Result<Step, Limit>
         ensures { (es : EnvironmentsOf)
             → TakesAs (λ k. going_on (holding unit unread.old.input) reading)
             es self.old self.new unread.old unread.new result }
@@ -121,13 +90,14 @@ impl Reader {
     }
 
     /// Something behind the name of a request that is no unit of an argument, and decides nothing.
+    #[inline(always)]
     pub(super) fn read_in_arguments(
         &mut self,
         reading: LineState,
         found: Found,
         environments: &Environments,
         unread: &mut Unread<PageEvent>,
-    ) -> Result<Meaning, Limit>
+    ) -> Result<Step, Limit>
         ensures { TakesAs (λ k. no_unit_found k unread.old.input reading found)
             environments.now self.old self.new unread.old unread.new result }
     {

@@ -1,6 +1,7 @@
 //! A byte that was taken: what it means, and whether it means little.
 
-ghost use Rattle.std.specs.Prelude.{◌≡◌, ℕ, [], ◌∷◌, None, Some, false, true, IfSome};
+ghost use Rattle.std.specs.Prelude.{◌≡◌, ◌==◌, ℕ, [], ◌∷◌, None, Some, false, true, IfSome};
+ghost use Rattle.roff_source.specs.Bytes.{backslash};
 ghost use Rattle.roff_lines.specs.declared.event.Event.TheVariants.{Gap, Print, WordEnd};
 ghost use Rattle.roff_lines.specs.declared.glyph.Glyph.TheVariants.{Printed};
 ghost use Rattle.roff_run.specs.declared.event.PageEvent.TheVariants.{Text};
@@ -14,17 +15,17 @@ ghost use Rattle.roff_run.specs.Stages.{TakesHalf};
 ghost use Rattle.roff_source.specs.Bytes.{is_argument_byte};
 ghost use Rattle.roff_source.specs.Bytes.{is_text_byte};
 
+use super::Reader;
 use super::calls::CALL_ARGUMENTS;
-use super::{Meaning, Reader};
 use roff_num::Limit;
 use roff_requests::Environments;
-use roff_run::{LineState, PageEvent};
-use roff_scan::Unread;
+use roff_run::{LineState, PageEvent, Step};
+use roff_scan::{CopyUnit, Unread};
 
 impl Reader {
     /// Whether a byte is a glyph behind another on a text line, and does nothing else. Most are.
     #[inline(always)]
-    pub fn goes_on_with(&self, byte: u8, unread: &Unread<PageEvent>) -> bool
+    pub(super) fn goes_on_with(&self, byte: u8, unread: &Unread<PageEvent>) -> bool
         ensures { result ≡ true → (k : Known) → taking k self.now.reading unread.now.input byte
             ≡ meaning_events unread.now.input self.now.reading (Text (Print (Printed byte)) ∷ []) }
     {
@@ -36,7 +37,7 @@ impl Reader {
 
     /// Whether a byte is a gap behind a glyph on a text line, and does nothing else.
     #[inline(always)]
-    pub fn goes_on_with_gap(&self, byte: u8, unread: &Unread<PageEvent>) -> bool
+    pub(super) fn goes_on_with_gap(&self, byte: u8, unread: &Unread<PageEvent>) -> bool
         ensures { result ≡ true → (k : Known) → taking k self.now.reading unread.now.input byte
             ≡ meaning_events unread.now.input self.now.reading
             (Text WordEnd ∷ Text (Gap 1) ∷ []) }
@@ -181,13 +182,41 @@ impl Reader {
         }
     }
 
-    /// The same of a byte that isn't dropped.
+    /// What a byte does that is neither dropped nor a backslash, where nothing is half read.
+    #[inline(always)]
+    pub(super) fn read_alone(
+        &mut self,
+        byte: u8,
+        environments: &Environments,
+        unread: &mut Unread<PageEvent>,
+    ) -> Result<Step, Limit>
+        requires no_escape { (byte == backslash) ≡ false }
+        requires none_half { unread.old.input.escapes ≡ [] }
+        ensures { TakesAs (λ k. undropped_taking k self.old.reading unread.old.input byte)
+            environments.now self.old self.new unread.old unread.new result }
+    {
+        let unit = CopyUnit::Byte(byte);
+        match self.reading {
+            LineState::LineStart => {
+                Ok(self.begin_with(LineState::LineStart, byte, environments))
+            }
+            LineState::Text(line) => Ok(self.step_on(line.taking(byte))),
+            LineState::Arguments { breaks, request } => {
+                self.read_unit(breaks, request, unit, environments, unread)
+            }
+            LineState::Calling { name } => self.read_unit_of_call(name, unit, unread),
+            _ => self.read_undropped(byte, environments, unread),
+        }
+    }
+
+    /// What a byte does that isn't dropped.
+    #[inline(always)]
     pub(super) fn read_undropped(
         &mut self,
         byte: u8,
         environments: &Environments,
         unread: &mut Unread<PageEvent>,
-    ) -> Result<Meaning, Limit>
+    ) -> Result<Step, Limit>
         ensures { TakesAs (λ k. undropped_taking k self.old.reading unread.old.input byte)
             environments.now self.old self.new unread.old unread.new result }
     {
@@ -215,12 +244,13 @@ impl Reader {
     }
 
     /// The same where something may be half read.
+    #[inline(always)]
     fn read_placed(
         &mut self,
         byte: u8,
         environments: &Environments,
         unread: &mut Unread<PageEvent>,
-    ) -> Result<Meaning, Limit>
+    ) -> Result<Step, Limit>
         requires { has_place self.old.reading ≡ true }
         ensures { TakesAs (λ k. undropped_taking k self.old.reading unread.old.input byte)
             environments.now self.old self.new unread.old unread.new result }

@@ -2,10 +2,10 @@
 
 ghost use Rattle.roff_reader.specs.Clauses.{EnvironmentsOf, TakesAs, call_found, call_unit};
 
-use super::{Meaning, Reader};
+use super::Reader;
 use roff_num::{Limit, ShortName};
 use roff_requests::Environments;
-use roff_run::{LineState, PageEvent};
+use roff_run::{LineState, PageEvent, Step};
 use roff_scan::{CopyUnit, Found, Unread};
 
 /// How many arguments a body gets that a line calls.
@@ -19,7 +19,7 @@ impl Reader {
         found: Found,
         environments: &Environments,
         unread: &mut Unread<PageEvent>,
-    ) -> Result<Meaning, Limit>
+    ) -> Result<Step, Limit>
         ensures { TakesAs (λ k. call_found k unread.old.input name found)
             environments.now self.old self.new unread.old unread.new result }
     {
@@ -35,12 +35,12 @@ impl Reader {
 
     /// A unit behind the name of a body that a line calls: a newline ends the line, and the body is
     /// read.
-    fn read_unit_of_call(
+    pub(super) fn read_unit_of_call(
         &mut self,
         name: ShortName,
         unit: CopyUnit,
         unread: &mut Unread<PageEvent>,
-    ) -> Result<Meaning, Limit>
+    ) -> Result<Step, Limit>
         ensures { (es : EnvironmentsOf)
             → TakesAs (λ k. call_unit unread.old.input name unit)
             es self.old self.new unread.old unread.new result }

@@ -1,16 +1,16 @@
 //! Conditions: whether one is so, and its branch.
 
-ghost use Rattle.std.specs.Prelude.{◌≡◌, []};
+ghost use Rattle.std.specs.Prelude.{◌≡◌, true, false, Ok};
+ghost use Rattle.roff_reader.specs.Clauses.{EnvironmentsOf, escape_ended};
+ghost use Rattle.roff_run.specs.declared.step.Step.TheVariants.{Nothing};
 ghost use Rattle.roff_run.specs.Registers.{Known};
 ghost use Rattle.roff_reader.specs.Clauses.{TakesAs, condition_found, decided, is_so, condition_begun};
-ghost use Rattle.roff_reader.specs.Clauses.{escape_ended};
-ghost use Rattle.roff_reader.specs.Reader.AtOnce.{TakesAtOnce};
 
+use super::Reader;
 use super::places::at_start;
-use super::{Meaning, Reader};
 use roff_num::Limit;
 use roff_requests::Environments;
-use roff_run::{LineState, PageEvent};
+use roff_run::{LineState, PageEvent, Step};
 use roff_scan::{Decision, Found, Surroundings, Unread};
 
 impl Reader {
@@ -21,7 +21,7 @@ impl Reader {
         byte: u8,
         environments: &Environments,
         unread: &mut Unread<PageEvent>,
-    ) -> Result<Meaning, Limit>
+    ) -> Result<Step, Limit>
         ensures { TakesAs (λ k. condition_begun k unread.old.input keeps byte)
             environments.now self.old self.new unread.old unread.new result }
     {
@@ -35,13 +35,14 @@ impl Reader {
     }
 
     /// Something of a condition.
+    #[inline(always)]
     pub(super) fn read_condition(
         &mut self,
         keeps: bool,
         found: Found,
         environments: &Environments,
         unread: &mut Unread<PageEvent>,
-    ) -> Result<Meaning, Limit>
+    ) -> Result<Step, Limit>
         ensures { TakesAs (λ k. condition_found k unread.old.input keeps found)
             environments.now self.old self.new unread.old unread.new result }
     {
@@ -49,11 +50,11 @@ impl Reader {
             Found::Decides(decision, freed) => {
                 let so = self.is_so(decision);
                 // The limit on results is the last that is looked at.
-                let meaning = self.begin_branch(so, freed, environments, unread)?;
+                let step = self.begin_branch(so, freed, environments, unread)?;
                 if keeps {
                     unread.keep_result(so)?;
                 }
-                Ok(meaning)
+                Ok(step)
             }
             _ => self.read_in_arguments(LineState::Deciding { keeps }, found, environments, unread),
         }
@@ -62,9 +63,11 @@ impl Reader {
     /// Decides a condition that is read and asks nothing more, whose result isn't kept, and reads
     /// its branch or skips it. Whether there was one; else nothing happens.
     #[inline(always)]
-    pub fn decides(&mut self, unread: &mut Unread<PageEvent>) -> bool
-        ensures { TakesAtOnce (λ k. escape_ended k self.old.reading unread.old.input) []
-            self.old self.new unread.old unread.new result }
+    pub(super) fn decides(&mut self, unread: &mut Unread<PageEvent>) -> bool
+        ensures decides { result ≡ true → (es : EnvironmentsOf)
+            → TakesAs (λ k. escape_ended k self.old.reading unread.old.input)
+            es self.old self.new unread.old unread.new (Ok Nothing) }
+        ensures unchanged { result ≡ false → (self.new ≡ self.old) × (unread.new ≡ unread.old) }
     {
         match self.reading {
             LineState::Deciding { keeps: false } => match unread.end_decided() {
@@ -96,7 +99,7 @@ impl Reader {
         freed: Option<u8>,
         environments: &Environments,
         unread: &mut Unread<PageEvent>,
-    ) -> Result<Meaning, Limit>
+    ) -> Result<Step, Limit>
         ensures { TakesAs (λ k. decided k unread.old.input so freed)
             environments.now self.old self.new unread.old unread.new result }
     {

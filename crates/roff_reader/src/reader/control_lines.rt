@@ -1,16 +1,16 @@
 //! The names of control lines, and how what is behind one is read.
 
-ghost use Rattle.std.specs.Prelude.{◌≡◌, [], None, Ok, IfSome};
+ghost use Rattle.std.specs.Prelude.{◌≡◌, None, Ok, IfSome};
 ghost use Rattle.roff_run.specs.Reading.ControlLines.{behind_called};
-ghost use Rattle.roff_reader.specs.Reader.AtOnce.{only_events};
+ghost use Rattle.roff_run.specs.declared.step.Step.TheVariants.{Nothing};
 ghost use Rattle.roff_reader.specs.ControlFronts.{LeadsTo, LeadsToElse, input_begun};
 ghost use Rattle.roff_reader.specs.Clauses.{EnvironmentsOf, NameOf, TakesAs, behind_name, undropped_taking};
 ghost use Rattle.roff_reader.specs.Clauses.{line_taking, row_of, name_ended_taking, called_by};
 
-use super::{Meaning, Reader};
+use super::Reader;
 use roff_num::{Limit, ShortName};
 use roff_requests::Environments;
-use roff_run::{Called, LineReading, LineState, PageEvent, Request, ends_name};
+use roff_run::{Called, LineReading, LineState, PageEvent, Request, Step, ends_name};
 use roff_scan::{Surroundings, Unread};
 use roff_store::Kind;
 
@@ -23,7 +23,7 @@ impl Reader {
         byte: u8,
         environments: &Environments,
         unread: &mut Unread<PageEvent>,
-    ) -> Result<Meaning, Limit>
+    ) -> Result<Step, Limit>
         ensures { TakesAs (λ k. undropped_taking k (NameOf breaks first) unread.old.input byte)
             environments.now self.old self.new unread.old unread.new result }
     {
@@ -39,7 +39,7 @@ impl Reader {
             second: Some(byte),
         };
         self.begin_called(breaks, called_by(name, unread), unread);
-        Ok(Meaning::nothing())
+        Ok(Step::Nothing)
     }
 
     /// The first byte behind a name, which doesn't belong to it.
@@ -50,7 +50,7 @@ impl Reader {
         byte: u8,
         environments: &Environments,
         unread: &mut Unread<PageEvent>,
-    ) -> Result<Meaning, Limit>
+    ) -> Result<Step, Limit>
         ensures { TakesAs (λ k. name_ended_taking k unread.old.input breaks name byte)
             environments.now self.old self.new unread.old unread.new result }
     {
@@ -78,7 +78,7 @@ impl Reader {
         byte: u8,
         environments: &Environments,
         unread: &mut Unread<PageEvent>,
-    ) -> Result<Meaning, Limit>
+    ) -> Result<Step, Limit>
         ensures { TakesAs (λ k. line_taking k unread.old.input breaks request
             (row_of request).line byte)
             environments.now self.old self.new unread.old unread.new result }
@@ -126,7 +126,7 @@ impl Reader {
     )
         ensures { (es : EnvironmentsOf)
             → TakesAs (λ k. behind_called unread.old.input breaks called)
-            es self.old self.new unread.old unread.new (Ok (only_events [])) }
+            es self.old self.new unread.old unread.new (Ok Nothing) }
     {
         match behind_called(breaks, called) {
             Some(reading) => {

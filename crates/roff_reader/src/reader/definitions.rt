@@ -6,13 +6,13 @@ ghost use Rattle.roff_reader.specs.Clauses.{string_entered, lines_begun, behind_
 ghost use Rattle.roff_reader.specs.Clauses.{definition_begun, definition_found, definition_grown};
 ghost use Rattle.roff_reader.specs.Clauses.{definition_line, ends_mark, unit_bytes};
 
+use super::Reader;
 use super::arguments::short_name_at;
 use super::strings::{begin_string, enter_string};
-use super::{Meaning, Reader};
 use arrayvec::ArrayVec;
 use roff_num::{Limit, ShortName};
 use roff_requests::Environments;
-use roff_run::{DefinitionLine, EndMark, LineState, LinesFor, PageEvent, matched_behind};
+use roff_run::{DefinitionLine, EndMark, LineState, LinesFor, PageEvent, Step, matched_behind};
 use roff_scan::{CopyUnit, Found, Unread};
 
 impl Reader {
@@ -21,7 +21,7 @@ impl Reader {
         &mut self,
         lines: LinesFor,
         unread: &mut Unread<PageEvent>,
-    ) -> Result<Meaning, Limit>
+    ) -> Result<Step, Limit>
         ensures { (es : EnvironmentsOf)
             → TakesAs (λ k. lines_begun unread.old.input lines (arguments_given unread.old.input))
             es self.old self.new unread.old unread.new result }
@@ -48,7 +48,7 @@ impl Reader {
         appends: bool,
         end: Option<ShortName>,
         unread: &mut Unread<PageEvent>,
-    ) -> Result<Meaning, Limit>
+    ) -> Result<Step, Limit>
         ensures { (es : EnvironmentsOf)
             → TakesAs (λ k. definition_begun unread.old.input name appends end)
             es self.old self.new unread.old unread.new result }
@@ -72,7 +72,7 @@ impl Reader {
         found: Found,
         environments: &Environments,
         unread: &mut Unread<PageEvent>,
-    ) -> Result<Meaning, Limit>
+    ) -> Result<Step, Limit>
         ensures { TakesAs (λ k. definition_found k unread.old.input name appends end matched found)
             environments.now self.old self.new unread.old unread.new result }
     {
@@ -123,7 +123,7 @@ impl Reader {
         unit: CopyUnit,
         environments: &Environments,
         unread: &mut Unread<PageEvent>,
-    ) -> Result<Meaning, Limit>
+    ) -> Result<Step, Limit>
         ensures { TakesAs (λ k. definition_line k unread.old.input name appends end matched unit)
             environments.now self.old self.new unread.old unread.new result }
     {
@@ -155,7 +155,7 @@ impl Reader {
         byte: u8,
         environments: &Environments,
         unread: &mut Unread<PageEvent>,
-    ) -> Result<Meaning, Limit>
+    ) -> Result<Step, Limit>
         requires { ends_mark byte ≡ true }
         ensures { TakesAs (λ k. behind_definition k
             (string_entered name appends unread.old.input) end byte)
@@ -173,7 +173,7 @@ impl Reader {
         byte: u8,
         environments: &Environments,
         unread: &mut Unread<PageEvent>,
-    ) -> Result<Meaning, Limit>
+    ) -> Result<Step, Limit>
         ensures { TakesAs (λ k. behind_definition k unread.old.input end byte)
             environments.now self.old self.new unread.old unread.new result }
     {

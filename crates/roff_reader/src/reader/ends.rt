@@ -5,10 +5,10 @@ ghost use Rattle.roff_reader.specs.Clauses.{EnvironmentsOf, PageUnread, TakesAs,
 ghost use Rattle.roff_reader.specs.Clauses.{end_taking, escape_ended, interrupted_end};
 ghost use Rattle.roff_reader.specs.Clauses.{meaning_events};
 
-use super::{Meaning, Reader};
+use super::Reader;
 use roff_num::{Limit, ShortName};
-use roff_requests::{Environments, Events};
-use roff_run::{LineState, Message, PageEvent, TextStep};
+use roff_requests::Environments;
+use roff_run::{LineState, Message, PageEvent, Step, TextStep};
 use roff_scan::{CopyUnit, Unread};
 
 impl Reader {
@@ -21,7 +21,22 @@ impl Reader {
         &mut self,
         environments: &Environments,
         unread: &mut Unread<PageEvent>,
-    ) -> Result<Meaning, Limit>
+    ) -> Result<Step, Limit>
+        ensures { TakesAs (λ k. escape_ended k self.old.reading unread.old.input)
+            environments.now self.old self.new unread.old unread.new result }
+    {
+        if self.decides(unread) {
+            return Ok(Step::Nothing);
+        }
+        self.end_any(environments, unread)
+    }
+
+    /// The same, whatever was half read.
+    fn end_any(
+        &mut self,
+        environments: &Environments,
+        unread: &mut Unread<PageEvent>,
+    ) -> Result<Step, Limit>
         ensures { TakesAs (λ k. escape_ended k self.old.reading unread.old.input)
             environments.now self.old self.new unread.old unread.new result }
     {
@@ -39,7 +54,7 @@ impl Reader {
         &mut self,
         environments: &Environments,
         unread: &mut Unread<PageEvent>,
-    ) -> Result<Meaning, Limit>
+    ) -> Result<Step, Limit>
         ensures { TakesAs (λ k. end_taking k self.old.reading unread.old.input)
             environments.now self.old self.new unread.old unread.new result }
     {
@@ -75,31 +90,23 @@ impl Reader {
     }
 
     /// An interrupted line that no text line went on with ends, and this is read.
-    fn end_interrupted(&mut self, behind: LineState, environments: &Environments) -> Meaning
+    fn end_interrupted(&mut self, behind: LineState, environments: &Environments) -> Step
         ensures { (u : PageUnread) → TakesAs
             (λ k. meaning_events u.input behind (interrupted_end k.interrupted))
             environments.now self.old self.new u u (Ok result) }
     {
         self.reading = behind;
         match environments.interrupted_line() {
-            None => Meaning::nothing(),
+            None => Step::Nothing,
             Some(line) => {
-                let step = TextStep {
-                    reading: behind,
-                    message: None,
-                    events: line.end(),
-                };
-                self.begin_text(step, Some(line))
+                self.meaning.keep_line(None, true, line.end().line());
+                Step::Meaning
             }
         }
     }
 
     /// A definition that ends with the input is dropped.
-    fn drop_definition(
-        &mut self,
-        name: Option<ShortName>,
-        unread: &mut Unread<PageEvent>,
-    ) -> Meaning
+    fn drop_definition(&mut self, name: Option<ShortName>, unread: &mut Unread<PageEvent>) -> Step
         ensures { (es : EnvironmentsOf)
             → TakesAs (λ k. definition_cut unread.old.input name)
             es self.old self.new unread.old unread.new (Ok result) }
@@ -109,9 +116,6 @@ impl Reader {
             unread.stays_within();
         }
         self.reading = LineState::LineStart;
-        Meaning {
-            message: Some(Message::DefinitionNotEnded),
-            events: Events::new(),
-        }
+        self.report(Message::DefinitionNotEnded)
     }
 }

@@ -5,30 +5,32 @@ ghost use Rattle.roff_reader.specs.Clauses.{EnvironmentsOf, PageUnread, TakesAs,
 ghost use Rattle.roff_reader.specs.Clauses.{measuring, putting_nothing, telling, putting_string};
 ghost use Rattle.roff_reader.specs.Clauses.{putting_argument};
 
-use super::{Meaning, Reader};
+use super::Reader;
 use itoa::Buffer;
 use roff_num::{Limit, Name};
-use roff_requests::{Environments, Events};
-use roff_run::{LineState, Message, PageEvent};
+use roff_requests::Environments;
+use roff_run::{LineState, Message, PageEvent, Step};
 use roff_scan::{CopyUnit, NameUse, Remark, Unread};
 
 impl Reader {
     /// What the name behind an escape asks for is read in the escape's place.
+    #[inline(always)]
     pub(super) fn ask(
         &mut self,
         purpose: NameUse,
         name: Option<Name>,
         environments: &Environments,
         unread: &mut Unread<PageEvent>,
-    ) -> Result<Meaning, Limit>
+    ) -> Result<Step, Limit>
         ensures { TakesAs (λ k. asking k unread.old.input self.old.reading purpose name)
             environments.now self.old self.new unread.old unread.new result }
     {
         let name = match name {
-            None => return Ok(Meaning::nothing()),
+            None => return Ok(Step::Nothing),
             Some(name) => name,
         };
         match purpose {
+            NameUse::Register(None) => self.put_register(&name, environments, unread),
             NameUse::Register(step) => self.interpolate(step, &name, environments, unread),
             NameUse::Text => self.put_string(&name, unread),
             NameUse::Argument => self.put_argument(&name, unread),
@@ -40,17 +42,17 @@ impl Reader {
     }
 
     /// A string is put in front.
-    fn put_string(&self, name: &Name, unread: &mut Unread<PageEvent>) -> Result<Meaning, Limit>
+    fn put_string(&self, name: &Name, unread: &mut Unread<PageEvent>) -> Result<Step, Limit>
         ensures { (es : EnvironmentsOf)
             → TakesAs (λ k. putting_string unread.old.input self.now.reading name.now)
             es self.now self.now unread.old unread.new result }
     {
         unread.push_body(name)?;
-        Ok(Meaning::nothing())
+        Ok(Step::Nothing)
     }
 
     /// An argument is put in front.
-    fn put_argument(&self, name: &Name, unread: &mut Unread<PageEvent>) -> Result<Meaning, Limit>
+    fn put_argument(&self, name: &Name, unread: &mut Unread<PageEvent>) -> Result<Step, Limit>
         ensures { (es : EnvironmentsOf)
             → TakesAs (λ k. putting_argument unread.old.input self.now.reading name.now)
             es self.now self.now unread.old unread.new result }
@@ -59,16 +61,16 @@ impl Reader {
             [digit @ b'1'..=b'9'] => unread.push_argument((*digit - b'1') as usize)?,
             _ => unread.push(&[])?,
         }
-        Ok(Meaning::nothing())
+        Ok(Step::Nothing)
     }
 
     /// An empty text is put in front.
-    fn put_nothing(&self, unread: &mut Unread<PageEvent>) -> Result<Meaning, Limit>
+    fn put_nothing(&self, unread: &mut Unread<PageEvent>) -> Result<Step, Limit>
         ensures { (es : EnvironmentsOf) → TakesAs (λ k. putting_nothing unread.old.input self.now.reading)
             es self.now self.now unread.old unread.new result }
     {
         unread.push(&[])?;
-        Ok(Meaning::nothing())
+        Ok(Step::Nothing)
     }
 
     /// A unit of a text is held, and this is read on.
@@ -77,7 +79,7 @@ impl Reader {
         unit: CopyUnit,
         reading: LineState,
         unread: &mut Unread<PageEvent>,
-    ) -> Result<Meaning, Limit>
+    ) -> Result<Step, Limit>
         ensures { (es : EnvironmentsOf)
             → TakesAs (λ k. going_on (holding_text unit unread.old.input) reading)
             es self.old self.new unread.old unread.new result }
@@ -92,7 +94,7 @@ impl Reader {
         width: u32,
         reading: LineState,
         unread: &mut Unread<PageEvent>,
-    ) -> Result<Meaning, Limit>
+    ) -> Result<Step, Limit>
         ensures { (es : EnvironmentsOf)
             → TakesAs (λ k. measuring unread.old.input reading width)
             es self.old self.new unread.old unread.new result }
@@ -103,14 +105,11 @@ impl Reader {
 
     /// This is said of something within a text that is measured or a condition, and this is read
     /// on.
-    pub(super) fn tell(&mut self, remark: Remark, reading: LineState) -> Meaning
+    pub(super) fn tell(&mut self, remark: Remark, reading: LineState) -> Step
         ensures { (es : EnvironmentsOf) (u : PageUnread)
             → TakesAs (λ k. telling u.input reading remark) es self.old self.new u u (Ok result) }
     {
         self.reading = reading;
-        Meaning {
-            message: Some(Message::of_remark(remark)),
-            events: Events::new(),
-        }
+        self.report(Message::of_remark(remark))
     }
 }

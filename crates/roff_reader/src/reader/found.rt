@@ -6,11 +6,11 @@ ghost use Rattle.roff_run.specs.Reading.Found.{found_in, place_in};
 ghost use Rattle.roff_reader.specs.Clauses.{AllRegisters, PageHistory, PageInput, StandFor, TakesAs};
 ghost use Rattle.roff_reader.specs.Clauses.{known_at};
 
+use super::Reader;
 use super::places::{at_start, on_line};
-use super::{Meaning, Reader};
 use roff_num::Limit;
 use roff_requests::Environments;
-use roff_run::{LineState, PageEvent};
+use roff_run::{LineState, PageEvent, Step};
 use roff_scan::{Found, Surroundings, Unread};
 
 impl Reader {
@@ -46,12 +46,12 @@ impl Reader {
     /// # Errors
     ///
     /// A limit that it would pass; what was changed then is of no more use.
-    pub fn read_found(
+    pub(super) fn read_found(
         &mut self,
         found: Found,
         environments: &Environments,
         unread: &mut Unread<PageEvent>,
-    ) -> Result<Meaning, Limit>
+    ) -> Result<Step, Limit>
         ensures { TakesAs (λ k. found_in k unread.old.input self.old.reading found)
             environments.now self.old self.new unread.old unread.new result }
     {
@@ -89,7 +89,7 @@ impl Reader {
                 end,
                 matched,
             } => self.read_definition(name, appends, end, matched, found, environments, unread),
-            _ => Ok(Meaning::nothing()),
+            _ => Ok(Step::Nothing),
         }
     }
 }

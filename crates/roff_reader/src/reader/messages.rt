@@ -4,10 +4,10 @@ ghost use Rattle.std.specs.Prelude.{false};
 ghost use Rattle.roff_reader.specs.Clauses.{EnvironmentsOf, Telling, TakesAs, going_on, holding_plain};
 ghost use Rattle.roff_reader.specs.Clauses.{message_found, message_unit};
 
-use super::{Meaning, Reader};
+use super::Reader;
 use roff_num::Limit;
 use roff_requests::Environments;
-use roff_run::{LineState, PageEvent};
+use roff_run::{LineState, PageEvent, Step};
 use roff_scan::{CopyUnit, Found, Unread};
 
 impl Reader {
@@ -19,7 +19,7 @@ impl Reader {
         found: Found,
         environments: &Environments,
         unread: &mut Unread<PageEvent>,
-    ) -> Result<Meaning, Limit>
+    ) -> Result<Step, Limit>
         ensures { TakesAs (λ k. message_found k unread.old.input aborts is_front found)
             environments.now self.old self.new unread.old unread.new result }
     {
@@ -42,7 +42,7 @@ impl Reader {
         is_front: bool,
         unit: CopyUnit,
         unread: &mut Unread<PageEvent>,
-    ) -> Result<Meaning, Limit>
+    ) -> Result<Step, Limit>
         ensures { (es : EnvironmentsOf)
             → TakesAs (λ k. message_unit unread.old.input aborts is_front unit)
             es self.old self.new unread.old unread.new result }
@@ -63,7 +63,7 @@ impl Reader {
         unit: CopyUnit,
         aborts: bool,
         unread: &mut Unread<PageEvent>,
-    ) -> Result<Meaning, Limit>
+    ) -> Result<Step, Limit>
         ensures { (es : EnvironmentsOf)
             → TakesAs (λ k. going_on (holding_plain unit unread.old.input) (Telling aborts false))
             es self.old self.new unread.old unread.new result }

@@ -1,25 +1,23 @@
 //! The end of a request's line: what it means, and what it changes.
 
 ghost use Rattle.std.specs.Prelude.{◌≡◌, ℕ, List, IfSome, reverse, slice_get};
-ghost use Rattle.std.specs.Option.{option_copied, option_to_list};
+ghost use Rattle.std.specs.Option.{option_copied};
 ghost use Rattle.roff_num.specs.declared.limits.Limits.{Limits};
 ghost use Rattle.roff_reader.specs.Clauses.{Changed, calling_all, calls_of, name_in, removals};
 ghost use Rattle.roff_reader.specs.Clauses.{PageHistory, StandFor, TakesAs, changes_of, effect_of};
 ghost use Rattle.roff_reader.specs.Clauses.{listed, register_named, value_in_force};
-ghost use Rattle.roff_requests.specs.Events.{request_events};
-ghost use Rattle.roff_requests.specs.Events.Meant.{events_meant};
-ghost use Rattle.roff_run.specs.Requests.Effects.{behind_break, meant_by};
+ghost use Rattle.roff_run.specs.Events.Steps.{events_of, messages_of};
+ghost use Rattle.roff_run.specs.Requests.Effects.{meant_by};
 ghost use Rattle.roff_run.specs.Requests.Tabs.{tab_stops};
 ghost use Rattle.roff_reader.specs.Clauses.{known_at, line_ended, names_given, request_effect};
 ghost use Rattle.roff_run.specs.declared.request.Request.TheVariants.{NumberRegister};
 
-use super::{Meaning, Reader};
+use super::Reader;
 use roff_num::{Limit, Name, Num};
 use roff_requests::{
-    Changes, Effect, Environments, Events, Given, RequestEvents, RequestFacts, are_none, effect,
-    name_given, tab_stops,
+    Changes, Effect, Environments, Given, RequestFacts, are_none, effect, name_given, tab_stops,
 };
-use roff_run::{LineState, Message, PageEvent, Request};
+use roff_run::{LineState, Message, PageEvent, Request, Step};
 use roff_scan::{ArgumentList, Unread};
 
 impl Reader {
@@ -30,72 +28,54 @@ impl Reader {
         request: Request,
         environments: &Environments,
         unread: &mut Unread<PageEvent>,
-    ) -> Result<Meaning, Limit>
+    ) -> Result<Step, Limit>
         ensures { TakesAs (λ k. line_ended k unread.old.input breaks request)
             environments.now self.old self.new unread.old unread.new result }
     {
         unread.finish_arguments();
         let effect = self.effect(breaks, request, environments, unread);
-        let meaning = self.keep(&effect, unread.arguments());
+        let step = self.keep(&effect, unread.arguments());
         self.change(&effect.changes, unread)?;
         let behind = LineState::behind_line(request.row().line);
         unread.begin_arguments();
         self.reading = behind;
-        Ok(meaning)
+        Ok(step)
     }
 
-    /// Keeps the events of a request that was given these arguments. What it says, and whether it has
-    /// any.
-    fn keep(&mut self, effect: &Effect, given: ArgumentList<'_>) -> Meaning
-        ensures says { option_to_list result.message
+    /// Keeps what a request means that was given these arguments.
+    fn keep(&mut self, effect: &Effect, given: ArgumentList<'_>) -> Step
+        ensures says { messages_of self.new.meaning.message result
             ≡ (effect_of (listed given.entry) effect.now).messages }
-        ensures kept { events_meant self.new.requested result.events
+        ensures kept { events_of self.new.meaning.events result
             ≡ (effect_of (listed given.entry) effect.now).events }
-        ensures others { self.new ≡ record self.old { requested = self.new.requested } }
+        ensures others { self.new ≡ record self.old { meaning = self.new.meaning } }
     {
         if effect.sets_stops {
             return self.keep_stops(effect.breaks, given);
         }
-        Meaning {
-            message: effect.message,
-            events: self.keep_events(effect.breaks, effect.events),
+        if are_none(effect.breaks, effect.events) {
+            return self.say(effect.message);
         }
-    }
-
-    /// Keeps the events of a break, if there is one, and these behind it, if there are any.
-    fn keep_events(&mut self, breaks: bool, events: RequestEvents) -> Events
-        ensures kept { events_meant self.new.requested result
-            ≡ behind_break breaks (request_events events) }
-        ensures others { self.new ≡ record self.old { requested = self.new.requested } }
-    {
-        if are_none(breaks, events) {
-            return Events::new();
-        }
-        self.requested.keep(breaks, events);
-        Events::requested()
+        self.meaning
+            .keep_request(effect.message, effect.breaks, effect.events);
+        Step::Meaning
     }
 
     /// Keeps the events of a break, if there is one, and behind it those that set these stops, if they
     /// are good.
-    fn keep_stops(&mut self, breaks: bool, given: ArgumentList<'_>) -> Meaning
-        ensures says { option_to_list result.message
+    fn keep_stops(&mut self, breaks: bool, given: ArgumentList<'_>) -> Step
+        ensures says { messages_of self.new.meaning.message result
             ≡ (meant_by breaks (tab_stops (listed given.entry))).messages }
-        ensures kept { events_meant self.new.requested result.events
+        ensures kept { events_of self.new.meaning.events result
             ≡ (meant_by breaks (tab_stops (listed given.entry))).events }
-        ensures others { self.new ≡ record self.old { requested = self.new.requested } }
+        ensures others { self.new ≡ record self.old { meaning = self.new.meaning } }
     {
         match tab_stops(given) {
             Some(stops) => {
-                self.requested.keep_stops(breaks, stops);
-                Meaning {
-                    message: None,
-                    events: Events::requested(),
-                }
+                self.meaning.keep_stops(breaks, stops);
+                Step::Meaning
             }
-            None => Meaning {
-                message: Some(Message::BadNumber),
-                events: Events::new(),
-            },
+            None => self.report(Message::BadNumber),
         }
     }
 

@@ -1,16 +1,16 @@
 //! Number registers: their values and texts, and those that go.
 
-ghost use Rattle.std.specs.Prelude.{◌≡◌, ℕ, List, IfSome, slice_get};
+ghost use Rattle.std.specs.Prelude.{◌≡◌, ℕ, List, None, IfSome, slice_get};
 ghost use Rattle.std.specs.Option.{option_copied};
 ghost use Rattle.roff_num.specs.declared.limits.Limits.{Limits};
 ghost use Rattle.roff_reader.specs.Clauses.{AllRegisters, PageHistory, Remove, StandFor, TakesAs};
 ghost use Rattle.roff_reader.specs.Clauses.{changed_by, interpolating, known_at, known_of, listed};
 ghost use Rattle.roff_reader.specs.Clauses.{names_given, register_named, value_in_force};
 
-use super::{Meaning, Reader};
+use super::Reader;
 use roff_num::{Direction, Limit, Name, Num};
-use roff_requests::{Environments, Events, Facts, name_given, register_named};
-use roff_run::PageEvent;
+use roff_requests::{Environments, Facts, name_given, register_named};
+use roff_run::{PageEvent, Step};
 use roff_scan::{ArgumentList, Unread};
 
 impl Reader {
@@ -21,17 +21,29 @@ impl Reader {
         name: &Name,
         environments: &Environments,
         unread: &mut Unread<PageEvent>,
-    ) -> Result<Meaning, Limit>
+    ) -> Result<Step, Limit>
         ensures { TakesAs (λ k. interpolating k unread.old.input self.old.reading step name.now)
             environments.now self.old self.new unread.old unread.new result }
     {
         let facts = facts(environments, unread);
         let given = self.registers.interpolate(step, name, facts);
         unread.push(&given.text)?;
-        Ok(Meaning {
-            message: given.message,
-            events: Events::new(),
-        })
+        Ok(self.say(given.message))
+    }
+
+    /// The text of a register that isn't stepped is put in front.
+    pub(super) fn put_register(
+        &self,
+        name: &Name,
+        environments: &Environments,
+        unread: &mut Unread<PageEvent>,
+    ) -> Result<Step, Limit>
+        ensures { TakesAs (λ k. interpolating k unread.old.input self.now.reading None name.now)
+            environments.now self.now self.now unread.old unread.new result }
+    {
+        let text = self.registers.text(name, facts(environments, unread));
+        unread.push(&text)?;
+        Ok(Step::Nothing)
     }
 
     /// The value in force of the register that a first argument names; 0 if it names none.

@@ -8,12 +8,12 @@ ghost use Rattle.roff_reader.specs.Clauses.{string_emptied, string_line_ended, s
 ghost use Rattle.roff_reader.specs.Clauses.{string_name_found, string_name_or_text, string_name_unit};
 ghost use Rattle.roff_reader.specs.Clauses.{name_at as name_given_at};
 
+use super::Reader;
 use super::arguments::first_name;
 use super::strings::begin_string;
-use super::{Meaning, Reader};
 use roff_num::{Limit, ShortName};
 use roff_requests::Environments;
-use roff_run::{LineState, PageEvent};
+use roff_run::{LineState, PageEvent, Step};
 use roff_scan::{CopyUnit, Found, Unread};
 use roff_store::{Entry, Kind};
 
@@ -25,7 +25,7 @@ impl Reader {
         found: Found,
         environments: &Environments,
         unread: &mut Unread<PageEvent>,
-    ) -> Result<Meaning, Limit>
+    ) -> Result<Step, Limit>
         ensures { TakesAs (λ k. string_name_found k unread.old.input appends found)
             environments.now self.old self.new unread.old unread.new result }
     {
@@ -52,7 +52,7 @@ impl Reader {
         appends: bool,
         unit: CopyUnit,
         unread: &mut Unread<PageEvent>,
-    ) -> Result<Meaning, Limit>
+    ) -> Result<Step, Limit>
         ensures { (es : EnvironmentsOf)
             → TakesAs (λ k. string_name_unit unread.old.input appends unit)
             es self.old self.new unread.old unread.new result }
@@ -73,7 +73,7 @@ impl Reader {
         appends: bool,
         unit: CopyUnit,
         unread: &mut Unread<PageEvent>,
-    ) -> Result<Meaning, Limit>
+    ) -> Result<Step, Limit>
         requires line_goes_on { unit ≢ Byte 10 }
         requires apart { unit ≢ Byte 34 → unread.old.input.arguments.place ≢ BehindQuote }
         ensures { (es : EnvironmentsOf)
@@ -98,7 +98,7 @@ impl Reader {
         &mut self,
         appends: bool,
         unread: &mut Unread<PageEvent>,
-    ) -> Result<Meaning, Limit>
+    ) -> Result<Step, Limit>
         ensures { (es : EnvironmentsOf)
             → TakesAs (λ k. string_name_behind unread.old.input appends
             (name_read unread.old.input))
@@ -122,7 +122,7 @@ impl Reader {
         &mut self,
         appends: bool,
         unread: &mut Unread<PageEvent>,
-    ) -> Result<Meaning, Limit>
+    ) -> Result<Step, Limit>
         ensures { (es : EnvironmentsOf)
             → TakesAs (λ k. string_line_ended unread.old.input appends
             (name_given_at 0 (arguments_given unread.old.input)))

@@ -3,10 +3,10 @@
 ghost use Rattle.roff_reader.specs.Clauses.{EnvironmentsOf, TakesAs, InputCameTo, string_begun, string_entered};
 ghost use Rattle.roff_reader.specs.Clauses.{string_grown, string_text_found, string_unit};
 
-use super::{Meaning, Reader};
+use super::Reader;
 use roff_num::{Limit, ShortName};
 use roff_requests::Environments;
-use roff_run::{LineState, PageEvent};
+use roff_run::{LineState, PageEvent, Step};
 use roff_scan::{CopyUnit, Found, Unread};
 
 impl Reader {
@@ -19,7 +19,7 @@ impl Reader {
         found: Found,
         environments: &Environments,
         unread: &mut Unread<PageEvent>,
-    ) -> Result<Meaning, Limit>
+    ) -> Result<Step, Limit>
         ensures { TakesAs (λ k. string_text_found k unread.old.input name appends is_front found)
             environments.now self.old self.new unread.old unread.new result }
     {
@@ -48,7 +48,7 @@ impl Reader {
         is_front: bool,
         unit: CopyUnit,
         unread: &mut Unread<PageEvent>,
-    ) -> Result<Meaning, Limit>
+    ) -> Result<Step, Limit>
         ensures { (es : EnvironmentsOf)
             → TakesAs (λ k. string_unit unread.old.input name appends is_front unit)
             es self.old self.new unread.old unread.new result }

@@ -1,15 +1,18 @@
 //! The beginning of a line, and text lines.
 
-ghost use Rattle.std.specs.Prelude.{◌≡◌, ◌++◌, Ok};
+ghost use Rattle.std.specs.Prelude.{◌≡◌, ◌++◌, Ok, Some};
 ghost use Rattle.roff_run.specs.Events.Lines.{line_events};
-ghost use Rattle.roff_requests.specs.Events.Meant.{few_meant};
-ghost use Rattle.roff_reader.specs.Clauses.{PageUnread, TakesAs, beginning_found, first_escape, first_name};
+ghost use Rattle.std.specs.Option.{option_to_list};
+ghost use Rattle.roff_run.specs.Events.Steps.{events_of, messages_of};
+ghost use Rattle.roff_run.specs.Reading.Items.{behind_events};
+ghost use Rattle.roff_run.specs.Reading.TextLines.{text_taking};
+ghost use Rattle.roff_reader.specs.Clauses.{EnvironmentsOf, PageUnread, TakesAs, beginning_found, first_escape, first_name};
 ghost use Rattle.roff_reader.specs.Clauses.{first_taking, going_on_told, line_begun, name_taking, text_found};
 
-use super::{Meaning, Reader};
+use super::Reader;
 use roff_num::{Limit, Name};
-use roff_requests::{Environments, Events};
-use roff_run::{LineState, PageEvent, TextLine, TextStep};
+use roff_requests::Environments;
+use roff_run::{LineEvents, LineState, PageEvent, Step, TextLine, TextStep};
 use roff_scan::{CopyUnit, Found, NameUse, Unread};
 
 impl Reader {
@@ -20,7 +23,7 @@ impl Reader {
         found: Found,
         environments: &Environments,
         unread: &mut Unread<PageEvent>,
-    ) -> Result<Meaning, Limit>
+    ) -> Result<Step, Limit>
         ensures { TakesAs (λ k. beginning_found k unread.old.input at found)
             environments.now self.old self.new unread.old unread.new result }
     {
@@ -46,7 +49,13 @@ impl Reader {
     }
 
     /// A byte where a line begins, or a branch, or its rest behind its brace.
-    fn begin_with(&mut self, at: LineState, byte: u8, environments: &Environments) -> Meaning
+    #[inline(always)]
+    pub(super) fn begin_with(
+        &mut self,
+        at: LineState,
+        byte: u8,
+        environments: &Environments,
+    ) -> Step
         ensures { (u : PageUnread) → TakesAs (λ k. first_taking k u.input at byte)
             environments.now self.old self.new u u (Ok result) }
     {
@@ -59,7 +68,8 @@ impl Reader {
     }
 
     /// The first byte of a line: a dot or an apostrophe begins a control line, another a text line.
-    fn begin_with_any(&mut self, byte: u8, environments: &Environments) -> Meaning
+    #[inline(always)]
+    fn begin_with_any(&mut self, byte: u8, environments: &Environments) -> Step
         ensures { (u : PageUnread) → TakesAs (λ k. line_begun k u.input byte)
             environments.now self.old self.new u u (Ok result) }
     {
@@ -67,15 +77,16 @@ impl Reader {
             b'.' => self.read_on(LineState::Control { breaks: true }),
             b'\'' => self.read_on(LineState::Control { breaks: false }),
             _ => {
-                let interrupted = environments.interrupted_line();
-                let step = TextLine::begun_as(interrupted).taking(byte);
-                self.begin_text(step, interrupted)
+                match environments.interrupted_line() {
+                    None => self.step_on(TextLine::new().taking(byte)),
+                    Some(line) => self.go_on_with(line, byte),
+                }
             }
         }
     }
 
     /// An escape where a line begins, or a branch, or its rest behind its brace.
-    fn begin_with_escape(&mut self, at: LineState, byte: u8, environments: &Environments) -> Meaning
+    fn begin_with_escape(&mut self, at: LineState, byte: u8, environments: &Environments) -> Step
         ensures { (u : PageUnread) → TakesAs (λ k. first_escape k u.input at byte)
             environments.now self.old self.new u u (Ok result) }
     {
@@ -97,13 +108,13 @@ impl Reader {
         found: Found,
         environments: &Environments,
         unread: &mut Unread<PageEvent>,
-    ) -> Result<Meaning, Limit>
+    ) -> Result<Step, Limit>
         ensures { TakesAs (λ k. text_found k unread.old.input line found)
             environments.now self.old self.new unread.old unread.new result }
     {
         match found {
             Found::GoesOn => Ok(self.read_on(LineState::Text(line))),
-            Found::Unit(CopyUnit::Byte(byte)) => Ok(self.step(line.taking(byte))),
+            Found::Unit(CopyUnit::Byte(byte)) => Ok(self.step_on(line.taking(byte))),
             Found::Unit(CopyUnit::Kept(byte)) | Found::Escape(byte) => {
                 Ok(self.step(line.escape(byte)))
             }
@@ -127,7 +138,7 @@ impl Reader {
         name: Option<Name>,
         environments: &Environments,
         unread: &mut Unread<PageEvent>,
-    ) -> Result<Meaning, Limit>
+    ) -> Result<Step, Limit>
         ensures { TakesAs (λ k. first_name k unread.old.input self.old.reading purpose name)
             environments.now self.old self.new unread.old unread.new result }
     {
@@ -151,7 +162,7 @@ impl Reader {
         name: Option<Name>,
         environments: &Environments,
         unread: &mut Unread<PageEvent>,
-    ) -> Result<Meaning, Limit>
+    ) -> Result<Step, Limit>
         ensures { TakesAs (λ k. name_taking k unread.old.input self.old.reading line purpose name)
             environments.now self.old self.new unread.old unread.new result }
     {
@@ -165,30 +176,50 @@ impl Reader {
         }
     }
 
-    /// What something of a text line does.
-    pub(super) fn step(&mut self, step: TextStep) -> Meaning
-        ensures reading { self.new ≡ record self.old { reading = step.reading } }
-        ensures message { result.message ≡ step.message }
-        ensures events { result.events ≡ few_meant (line_events step.events) }
+    /// What a byte of a text line does: this is read behind it.
+    #[inline(always)]
+    pub(super) fn step_on(&mut self, taken: (LineState, Step)) -> Step
+        ensures reading { self.new ≡ record self.old { reading = taken.0 } }
+        ensures step { result ≡ taken.1 }
     {
-        self.reading = step.reading;
-        Meaning {
-            message: step.message,
-            events: Events::of_line(false, step.events),
-        }
+        self.reading = taken.0;
+        taken.1
+    }
+
+    /// The first byte of a text line with which an interrupted one goes on.
+    #[inline(never)]
+    fn go_on_with(&mut self, line: TextLine, byte: u8) -> Step
+        ensures { (es : EnvironmentsOf) (u : PageUnread)
+            → TakesAs (λ k. behind_events (going_on_told (Some line)) (text_taking u.input line byte))
+            es self.old self.new u u (Ok result) }
+    {
+        let (reading, step) = line.taking(byte);
+        self.reading = reading;
+        self.meaning.keep_line(None, true, step.line());
+        Step::Meaning
+    }
+
+    /// What something of a text line does.
+    pub(super) fn step(&mut self, step: TextStep) -> Step
+        ensures now { self.new
+            ≡ record self.old { reading = step.reading; meaning = self.new.meaning } }
+        ensures says { messages_of self.new.meaning.message result ≡ option_to_list step.message }
+        ensures events { events_of self.new.meaning.events result ≡ line_events step.events }
+    {
+        self.begin_text(step, None)
     }
 
     /// The same where it begins a text line: an interrupted one goes on, and that is told first.
-    pub(super) fn begin_text(&mut self, step: TextStep, interrupted: Option<TextLine>) -> Meaning
-        ensures reading { self.new ≡ record self.old { reading = step.reading } }
-        ensures message { result.message ≡ step.message }
-        ensures events { result.events
-            ≡ few_meant (going_on_told interrupted ++ line_events step.events) }
+    pub(super) fn begin_text(&mut self, step: TextStep, interrupted: Option<TextLine>) -> Step
+        ensures now { self.new
+            ≡ record self.old { reading = step.reading; meaning = self.new.meaning } }
+        ensures says { messages_of self.new.meaning.message result ≡ option_to_list step.message }
+        ensures events { events_of self.new.meaning.events result
+            ≡ going_on_told interrupted ++ line_events step.events }
     {
         self.reading = step.reading;
-        Meaning {
-            message: step.message,
-            events: Events::of_line(interrupted.is_some(), step.events),
-        }
+        self.meaning
+            .keep_line(step.message, interrupted.is_some(), step.events);
+        Step::Meaning
     }
 }

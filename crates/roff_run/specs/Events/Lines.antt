@@ -1,15 +1,12 @@
--- The events of something of a text line, and of a byte of one, as the code tells them.
+-- The events of something of a text line, as the code tells them.
 use Rattle.std.specs.Prelude.{ℕ, List, [], ◌∷◌, ◌++◌, map}
-use Rattle.roff_lines.specs.declared.event.Event.TheVariants.{Break as PageBreak, Count, Gap as PageGap, LineEnd as PageLineEnd, Print as PagePrint, Tab as PageTab, WordEnd, LineEnd, Print, Tab}
-use Rattle.roff_lines.specs.declared.glyph.Glyph.TheVariants.{Printed}
-use Rattle.roff_run.specs.Reading.TextLines.{blank_line, leading_glyph, leading_blank_events}
+use Rattle.roff_lines.specs.declared.event.Event.TheVariants.{Break as PageBreak, Count, Gap as PageGap, LineEnd as PageLineEnd, Print as PagePrint, Tab as PageTab, WordEnd}
+use Rattle.roff_lines.specs.declared.glyph.Glyph.TheVariants.{Blanks, Printed}
+use Rattle.roff_run.specs.Reading.TextLines.{blank_line, leading_glyph}
 use Rattle.roff_run.specs.declared.event.LineEvents.{LineEvents}
-use Rattle.roff_run.specs.declared.event.LineEvents.TheVariants.{Nothing, LineEnd, Break, BlankLine, Gap, Interrupt, Tab, Leading, Print, Two, Three, Four}
+use Rattle.roff_run.specs.declared.event.LineEvents.TheVariants.{Nothing, LineEnd, Break, BlankLine, Gap, Interrupt, Tab, Leading, Printed as PrintedByte, Blanks as PrintedBlanks, Two, Three, Four}
 use Rattle.roff_run.specs.declared.event.PageEvent.{PageEvent}
 use Rattle.roff_run.specs.declared.event.PageEvent.TheVariants.{Text, Interrupt as PageInterrupt}
-use Rattle.roff_run.specs.Requests.{PageEvent, Text}
-use Rattle.roff_run.specs.declared.line_state.TextByte.{TextByte}
-use Rattle.roff_run.specs.declared.line_state.TextByte.TheVariants.{Glyph, Tab as IsTab, LeadingBlank, LineEnd as EndsLine, BlankLine}
 
 -- the event of a byte that is printed
 abbrev pub print_event : ℕ → PageEvent
@@ -25,15 +22,8 @@ line_events Gap = Text WordEnd ∷ Text (PageGap 1) ∷ []
 line_events (Interrupt untold) = PageInterrupt untold ∷ []
 line_events (Tab leading) = leading_glyph leading ++ Text PageTab ∷ []
 line_events (Leading leading) = leading_glyph leading
-line_events (Print leading glyph) = leading_glyph leading ++ Text (PagePrint glyph) ∷ []
+line_events (PrintedByte leading b) = leading_glyph leading ++ print_event b ∷ []
+line_events (PrintedBlanks leading columns) = leading_glyph leading ++ Text (PagePrint (Blanks columns)) ∷ []
 line_events (Two leading bytes) = leading_glyph leading ++ map print_event bytes
 line_events (Three leading bytes) = leading_glyph leading ++ map print_event bytes
 line_events (Four leading bytes) = leading_glyph leading ++ map print_event bytes
-
--- what a byte of a text line means, by what it is
-abbrev pub text_byte_events : ℕ → TextByte → List PageEvent
-text_byte_events b (Glyph leading) = leading_glyph leading ++ Text (Print (Printed b)) ∷ []
-text_byte_events b (IsTab leading) = leading_glyph leading ++ Text Tab ∷ []
-text_byte_events b (LeadingBlank before) = leading_blank_events before
-text_byte_events b EndsLine = Text WordEnd ∷ Text LineEnd ∷ Text Count ∷ []
-text_byte_events b BlankLine = blank_line

@@ -1,5 +1,5 @@
 -- What one item of the input does: what is read behind it, and what it means (manual, section 1.1).
-use Rattle.std.specs.Prelude.{List, [], ◌∷◌, ◌++◌, Bool, true, false}
+use Rattle.std.specs.Prelude.{List, [], ◌∷◌, ◌++◌}
 use Rattle.roff_escape.specs.OpenEscapes.{Reads}
 use Rattle.roff_ahead.specs.Input.{Input}
 use Rattle.roff_escape.specs.declared.open_escape.Found.{Found}
@@ -8,7 +8,6 @@ use Rattle.roff_run.specs.Messages.{remark_message}
 use Rattle.roff_run.specs.declared.line_state.LineState.{LineState}
 use Rattle.roff_run.specs.Requests.{PageEvent, Effect, doing, saying}
 use Rattle.roff_scan.specs.Unread.{Unread}
-use Rattle.roff_run.specs.declared.line_state.LineState.TheVariants.{Deciding, LineStart, Text as InText}
 
 -- the input, as a run of the formatter has it
 abbrev pub PageInput : Type 0
@@ -47,10 +46,3 @@ read_by does i r = does (record i { escapes = r.1 }) r.0
 -- the unread input of a run
 abbrev pub PageUnread : Type 0
 PageUnread = Unread PageEvent
-
--- whether what was found there means nothing where nothing was, or a unit of a text that is read
-abbrev pub reads_above : LineState → Bool
-reads_above LineStart = true
-reads_above (InText line) = true
-reads_above (Deciding keeps) = true
-reads_above (_) = false

@@ -1,24 +1,20 @@
-//! A text line, and its bytes that are taken at once.
+//! A text line, and which of its bytes are told as they are.
 
-ghost use Rattle.std.specs.Prelude.{◌≡◌, ℕ, ◌∷◌, [], true, IfSome};
+ghost use Rattle.std.specs.Prelude.{◌≡◌, ℕ, ◌∷◌, [], true};
 ghost use Rattle.roff_lines.specs.declared.event.Event.TheVariants.{Gap, Print, WordEnd};
 ghost use Rattle.roff_lines.specs.declared.glyph.Glyph.TheVariants.{Printed};
 ghost use Rattle.roff_run.specs.Reading.Items.{PageInput, meaning_events};
-ghost use Rattle.roff_run.specs.Reading.TextLines.{fresh_line, blank_taking};
+ghost use Rattle.roff_run.specs.Reading.TextLines.{fresh_line};
 ghost use Rattle.roff_run.specs.Reading.{taking};
-ghost use Rattle.roff_run.specs.Reading.TextLines.{text_line_end, text_taking};
 ghost use Rattle.roff_run.specs.Reading.Beginnings.{line_begun_as};
 ghost use Rattle.roff_run.specs.Requests.{Text};
 ghost use Rattle.roff_run.specs.Stages.{blanks_counted, counts_blanks};
 ghost use Rattle.roff_run.specs.Telling.{Prints};
 ghost use Rattle.roff_source.specs.Bytes.{is_text_byte};
 ghost use Rattle.roff_run.specs.Registers.{Known};
-ghost use Rattle.roff_run.specs.Events.Lines.{text_byte_events};
-ghost use Rattle.roff_run.specs.declared.line_state.LineState.TheVariants.{LineStart};
 ghost use Rattle.roff_run.specs.declared.line_state.LineState.TheVariants.{Text as InText};
 
-use super::{LineState, TextByte, TextLine};
-use roff_scan::is_silent;
+use super::{LineState, TextLine};
 
 /// A count of leading blanks above this reads as this.
 pub(super) const MOST_LEADING: u32 = 2_147_483_647;
@@ -70,59 +66,6 @@ impl TextLine {
         ensures { result ≡ true → (b : ℕ) → is_text_byte b ≡ true → Prints (InText self) b }
     {
         self.leading == 0 && self.has_glyph
-    }
-
-    /// What a byte that isn't dropped does, if it is one of those that most often stand at the
-    /// beginning of a line, or at its end: what is read behind it, and what it is.
-    #[inline(always)]
-    pub fn at_once(self, byte: u8) -> Option<(LineState, TextByte)>
-        ensures { IfSome result (λ taken. (i : PageInput) → text_taking i self byte
-            ≡ meaning_events i taken.0 (text_byte_events byte taken.1)) }
-    {
-        if byte == b'\n' {
-            self.end_at_once()
-        } else if byte == b'\t' {
-            Some((self.behind_glyph(), TextByte::Tab(self.leading)))
-        } else if is_silent(byte) {
-            None
-        } else if byte == b' ' {
-            self.blank_at_once()
-        } else {
-            Some((self.behind_glyph(), TextByte::Glyph(self.leading)))
-        }
-    }
-
-    /// The same of a newline.
-    #[inline(always)]
-    fn end_at_once(self) -> Option<(LineState, TextByte)>
-        ensures { IfSome result (λ taken. (b : ℕ) (i : PageInput)
-            → meaning_events i LineStart (text_line_end self)
-            ≡ meaning_events i taken.0 (text_byte_events b taken.1)) }
-    {
-        if self.has_glyph || self.has_other {
-            Some((LineState::LineStart, TextByte::LineEnd))
-        } else if self.has_brace {
-            None
-        } else {
-            Some((LineState::LineStart, TextByte::BlankLine))
-        }
-    }
-
-    /// The same of a blank in front of the first glyph.
-    #[inline(always)]
-    fn blank_at_once(self) -> Option<(LineState, TextByte)>
-        ensures { IfSome result (λ taken. (b : ℕ) (i : PageInput) → blank_taking i self
-            ≡ meaning_events i taken.0 (text_byte_events b taken.1)) }
-    {
-        if self.has_glyph {
-            return None;
-        }
-        let mut behind = self;
-        behind.leading = self.leading.saturating_add(1).min(MOST_LEADING);
-        Some((
-            LineState::Text(behind),
-            TextByte::LeadingBlank(self.leading),
-        ))
     }
 
     /// What is read behind a glyph, or a tab.

@@ -1,6 +1,6 @@
 //! What the bytes and escapes of a text line do.
 
-ghost use Rattle.std.specs.Prelude.{◌≡◌, ◌≤◌, ◌++◌, length, map, true};
+ghost use Rattle.std.specs.Prelude.{◌≡◌, ◌≤◌, ◌++◌, List, [], Option, length, map, true};
 ghost use Rattle.roff_lines.specs.declared.glyph.Glyph.TheVariants.{Printed};
 ghost use Rattle.roff_run.specs.Reading.Items.{PageInput};
 ghost use Rattle.roff_run.specs.Reading.TextLines.{brace_taking, character_taking, escape_taking};
@@ -12,6 +12,9 @@ ghost use Rattle.roff_run.specs.Reading.TextLines.{text_line_end, text_taking, i
 ghost use Rattle.std.specs.Option.{option_to_list};
 ghost use Rattle.roff_run.specs.Messages.{remark_messages};
 ghost use Rattle.roff_run.specs.Events.Lines.{line_events, print_event};
+ghost use Rattle.roff_run.specs.Events.Steps.{events_of, messages_of};
+ghost use Rattle.roff_run.specs.declared.message.Message.{Message as MessageOf};
+ghost use Rattle.roff_run.specs.declared.event.PageEvent.{PageEvent};
 ghost use Rattle.roff_run.specs.TextLine.Stepping.{step_at};
 ghost use Rattle.roff_run.specs.declared.line_state.LineState.TheVariants.{Text as InText};
 
@@ -19,6 +22,7 @@ use super::text_line::MOST_LEADING;
 use super::{LineState, TextLine, TextStep};
 use crate::event::LineEvents;
 use crate::message::{CharacterName, Message};
+use crate::step::Step;
 use roff_lines::Glyph;
 use roff_num::Name;
 use roff_scan::{Escape, Remark, TextUse, character, escape_of, is_silent};
@@ -26,37 +30,63 @@ use roff_scan::{Escape, Remark, TextUse, character, escape_of, is_silent};
 impl TextLine {
     /// The events of the line's end: a line of blanks alone is a break and a blank line, and one of
     /// braces and blanks nothing.
-    pub fn end(self) -> LineEvents
-        ensures { line_events result ≡ text_line_end self }
+    #[inline(always)]
+    pub fn end(self) -> Step
+        ensures means { (kept : List PageEvent) → events_of kept result ≡ text_line_end self }
+        ensures quiet { (kept : Option MessageOf) → messages_of kept result ≡ [] }
     {
         if self.has_glyph || self.has_other {
-            LineEvents::LineEnd
+            Step::LineEnd
         } else if self.has_brace {
-            LineEvents::Nothing
+            Step::Nothing
         } else {
-            LineEvents::BlankLine
+            Step::BlankLine
         }
     }
 
-    /// What a byte does that isn't dropped.
-    pub fn taking(self, byte: u8) -> TextStep
-        ensures { (i : PageInput) → step_at i result ≡ text_taking i self byte }
+    /// What a byte does that isn't dropped: what is read behind it, and its step.
+    #[inline(always)]
+    pub fn taking(self, byte: u8) -> (LineState, Step)
+        ensures means { (i : PageInput) (kept : List PageEvent) → text_taking i self byte
+            ≡ meaning_events i result.0 (events_of kept result.1) }
+        ensures quiet { (kept : Option MessageOf) → messages_of kept result.1 ≡ [] }
     {
         if byte == b'\n' {
-            TextStep {
-                reading: LineState::LineStart,
-                message: None,
-                events: self.end(),
-            }
+            (LineState::LineStart, self.end())
         } else if byte == b'\t' {
-            self.tab()
+            (self.behind_glyph(), Step::Tab(self.leading))
         } else if is_silent(byte) {
-            self.other()
+            (self.behind_other(), Step::Nothing)
         } else if byte == b' ' {
             self.blank()
         } else {
-            self.glyph(Glyph::Printed(byte))
+            (self.behind_glyph(), Step::Glyph(byte, self.leading))
         }
+    }
+
+    /// What a blank does.
+    #[inline(always)]
+    fn blank(self) -> (LineState, Step)
+        ensures means { (i : PageInput) (kept : List PageEvent) → blank_taking i self
+            ≡ meaning_events i result.0 (events_of kept result.1) }
+        ensures quiet { (kept : Option MessageOf) → messages_of kept result.1 ≡ [] }
+    {
+        if self.has_glyph {
+            return (LineState::Text(self), Step::Gap);
+        }
+        let mut behind = self;
+        behind.leading = self.leading.saturating_add(1).min(MOST_LEADING);
+        (LineState::Text(behind), leading_blank(self.leading))
+    }
+
+    /// What is read behind something that prints nothing.
+    #[inline(always)]
+    fn behind_other(self) -> LineState
+        ensures { result ≡ InText (record self { has_other = true }) }
+    {
+        let mut behind = self;
+        behind.has_other = true;
+        LineState::Text(behind)
     }
 
     /// What an escape without a name does, by the byte behind its backslash.
@@ -114,10 +144,8 @@ impl TextLine {
     fn say(self, message: Message) -> TextStep
         ensures { (i : PageInput) → step_at i result ≡ told_taking i self message }
     {
-        let mut behind = self;
-        behind.has_other = true;
         TextStep {
-            reading: LineState::Text(behind),
+            reading: self.behind_other(),
             message: Some(message),
             events: LineEvents::Nothing,
         }
@@ -158,10 +186,8 @@ impl TextLine {
     pub fn other(self) -> TextStep
         ensures { (i : PageInput) → step_at i result ≡ other_taking i self }
     {
-        let mut behind = self;
-        behind.has_other = true;
         TextStep {
-            reading: LineState::Text(behind),
+            reading: self.behind_other(),
             message: None,
             events: LineEvents::Nothing,
         }
@@ -171,7 +197,10 @@ impl TextLine {
     fn glyph(self, glyph: Glyph) -> TextStep
         ensures { (i : PageInput) → step_at i result ≡ glyph_taking i self glyph }
     {
-        self.printed(LineEvents::Print(self.leading, glyph))
+        match glyph {
+            Glyph::Printed(byte) => self.printed(LineEvents::Printed(self.leading, byte)),
+            Glyph::Blanks(columns) => self.printed(LineEvents::Blanks(self.leading, columns)),
+        }
     }
 
     /// Bytes that are printed, behind the leading blanks.
@@ -194,26 +223,6 @@ impl TextLine {
             events,
         }
     }
-
-    /// A blank.
-    fn blank(self) -> TextStep
-        ensures { (i : PageInput) → step_at i result ≡ blank_taking i self }
-    {
-        if self.has_glyph {
-            return TextStep {
-                reading: LineState::Text(self),
-                message: None,
-                events: LineEvents::Gap,
-            };
-        }
-        let mut behind = self;
-        behind.leading = self.leading.saturating_add(1).min(MOST_LEADING);
-        TextStep {
-            reading: LineState::Text(behind),
-            message: None,
-            events: leading_blank(self.leading),
-        }
-    }
 }
 
 /// The events of bytes that are printed behind so many leading blanks.
@@ -223,7 +232,7 @@ fn bytes_printed(leading: u32, text: &[u8]) -> LineEvents
 {
     match text {
         [] => LineEvents::Leading(leading),
-        [a] => LineEvents::Print(leading, Glyph::Printed(*a)),
+        [a] => LineEvents::Printed(leading, *a),
         [a, b] => LineEvents::Two(leading, [*a, *b]),
         [a, b, c] => LineEvents::Three(leading, [*a, *b, *c]),
         [a, b, c, d] => LineEvents::Four(leading, [*a, *b, *c, *d]),
@@ -232,13 +241,14 @@ fn bytes_printed(leading: u32, text: &[u8]) -> LineEvents
 }
 
 /// The events of a blank behind so many others at a line's beginning.
-fn leading_blank(before: u32) -> LineEvents
-    ensures { line_events result ≡ leading_blank_events before }
+fn leading_blank(before: u32) -> Step
+    ensures means { (kept : List PageEvent) → events_of kept result ≡ leading_blank_events before }
+    ensures quiet { (kept : Option MessageOf) → messages_of kept result ≡ [] }
 {
     if before == 0 {
-        LineEvents::Break
+        Step::Break
     } else {
-        LineEvents::Nothing
+        Step::Nothing
     }
 }
 

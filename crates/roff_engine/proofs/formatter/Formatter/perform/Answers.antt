@@ -1,16 +1,28 @@
-use Rattle.std.proofs.Common.{rules, refl}
-use Rattle.roff_run.specs.Environments.{environments}
-use Rattle.roff_run.specs.declared.event.PageEvent.TheVariants.{Interrupt, Back}
-use Rattle.roff_engine.proofs.Performed.{changes_only}
+use Rattle.std.proofs.Common.{◌≡◌, List, [], Ok, sym, subst}
+use Rattle.roff_run.specs.Events.Steps.{events_of, messages_of}
+use Rattle.roff_run.specs.declared.event.PageEvent.{PageEvent}
+use Rattle.roff_run.specs.declared.message.Message.{Message}
+use Rattle.roff_engine.specs.declared.halt.Halt.{Halt}
+use Rattle.roff_engine.specs.Formatter.Performing.{DoesMeaning, sinks}
+use Rattle.roff_pages.specs.Sinks.{Puts}
+use Rattle.roff_pages.proofs.Appending.{Writes-nothing}
+use Rattle.roff_engine.proofs.NamedSteps.{named-events, named-quiet}
+use Rattle.roff_engine.proofs.Performed.{told_then_performed}
 use Rattle.roff_engine.proofs.formatter.Formatter.perform.Goals as goal
 
-pub returns-in-Interrupt : goal.returns-in-Interrupt
-returns-in-Interrupt g c = rw c.in-Interrupt.is (changes_only (Interrupt c.in-Interrupt.untold) _ _ _ (λ l h stood. refl)
-    (λ l h stood. c.interrupt.ensures.becomes l (environments h) stood) (λ h. refl) (search rules))
+pub returns-in-Meaning : goal.returns-in-Meaning
+returns-in-Meaning g c = rw c.in-Meaning.is c.report_and_perform.ensures
 
-pub returns-in-Environment : goal.returns-in-Environment
-returns-in-Environment g c = rw c.in-Environment.is (c.switch_to.ensures (g.O.ByteSink.sunk c.args.out.now))
-
-pub returns-in-Back : goal.returns-in-Back
-returns-in-Back g c = rw c.in-Back.is (changes_only Back _ _ _ (λ l h stood. refl)
-    (λ l h stood. c.switch_back.ensures.becomes l (environments h) stood) (λ h. refl) (search rules))
+pub returns-in_default : goal.returns-in_default
+returns-in_default g c =
+    let old = c.args.self.now in
+    let kept = old.reader.meaning in
+    let err = g.E.ByteSink.sunk c.args.err.now in
+    let done = c.perform_line in
+    let told_old = sinks (g.O.ByteSink.sunk c.args.out.now) err in
+    let told_new = sinks (g.O.ByteSink.sunk done.new.out) err in
+    let told : Puts {F = Halt} err err [] (Ok tt) = record { ok = Writes-nothing err; err = tt } in
+    let performed = told_then_performed c.args.line [] (events_of [] c.args.step) old done.new.self _ _ err err done.result told done.ensures in
+    let quiet : [] ≡ messages_of kept.message c.args.step = sym (named-quiet c.args.step kept.message c.in_default.not-Meaning) in
+    subst (λ (messages : List Message). DoesMeaning c.args.line messages (events_of kept.events c.args.step) old done.new.self told_old told_new done.result) quiet
+    (subst (λ (events : List PageEvent). DoesMeaning c.args.line [] events old done.new.self told_old told_new done.result) (named-events c.args.step kept.events c.in_default.not-Meaning) performed)

@@ -1,4 +1,5 @@
-use Rattle.std.proofs.Common.{◌≡◌, ℕ, ◌++◌, List, length}
+use Rattle.std.proofs.Common.{◌≡◌, ℕ, ◌-◌, ◌++◌, List}
+use Rattle.std.specs.Prelude.{drop}
 use Rattle.roff_num.specs.declared.limits.Limits.{Limits}
 use Rattle.roff_source.specs.Tape.{Tape}
 use Rattle.roff_engine.specs.Engine.Outcome.{Reaches, Seen, seen}
@@ -14,10 +15,10 @@ abbrev pub invariant-loop-event : goal.invariant-loop-event
 invariant-loop-event g l = record {
   performed : (k : Limits) (t : Tape) (before : Seen) (failures : ℕ) (err : Sunk) (s : State) (h : PageHistory) (rest : List PageEvent)
       → StandFor k h l.initial.self.environments
-      → Reaches k t before (seen failures (g.O.ByteSink.sunk l.initial.out) err) (acting s (l.events ++ rest) h)
-      → AllPerformed k t before (seen failures (g.O.ByteSink.sunk l.out) err) s (l.rest ++ rest) l.self.environments;
+      → Reaches k t before (seen failures (g.O.ByteSink.sunk l.initial.out) err) (acting s (l.initial.self.reader.meaning.events ++ rest) h)
+      → AllPerformed k t before (seen failures (g.O.ByteSink.sunk l.out) err) s (drop l.index l.initial.self.reader.meaning.events ++ rest) l.self.environments;
   reader : l.self.reader ≡ l.initial.self.reader;
 }
 
 abbrev pub decreases-loop-event : goal.decreases-loop-event
-decreases-loop-event g l = length l.rest
+decreases-loop-event g l = 35 - l.index

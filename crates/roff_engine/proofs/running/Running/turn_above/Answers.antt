@@ -1,4 +1,4 @@
-use Rattle.std.proofs.Common.{◌≤◌, ℕ, arith}
+use Rattle.std.proofs.Common.{arith}
 use Rattle.roff_engine.proofs.PassingEnds.{takes_end}
 use Rattle.roff_engine.proofs.Turns.{TurnsBy-same, front_end}
 use Rattle.roff_engine.proofs.running.Running.turn_above.Goals as goal

@@ -4,7 +4,7 @@ use Rattle.roff_engine.proofs.running.Running.turn_byte_above.Goals as goal
 pub returns-in-Some : goal.returns-in-Some
 returns-in-Some g c =
     let shown = c.in-Some.ensures in
-    front_byte c.args.self.now _ _ _ _ _ _ shown.failures shown.notes c.in-Some.byte c.line-line.result c.take_above.new.self _ _ shown.takes c.line-line.ensures (c.take_above.ensures _)
+    front_byte c.args.self.now _ _ _ _ _ _ shown.failures shown.notes c.in-Some.byte c.line-line.result c.take.new.self _ _ shown.takes c.line-line.ensures (c.take.ensures _)
 
 pub returns-in-None : goal.returns-in-None
 returns-in-None g c =

@@ -13,8 +13,8 @@ returns-then-decides_now g c =
 pub returns-in-Some : goal.returns-in-Some
 returns-in-Some g c =
     let shown = c.in-Some.ensures in
-    waiting_byte c.args.self.now _ _ _ _ _ _ shown.failures shown.notes c.in-Some.byte c.line-line.result c.take_above.new.self _ _ shown.takes shown.waits c.line-line.ensures
-    (c.take_above.ensures _)
+    waiting_byte c.args.self.now _ _ _ _ _ _ shown.failures shown.notes c.in-Some.byte c.line-line.result c.take.new.self _ _ shown.takes shown.waits c.line-line.ensures
+    (c.take.ensures _)
 
 pub returns-in-None : goal.returns-in-None
 returns-in-None g c =

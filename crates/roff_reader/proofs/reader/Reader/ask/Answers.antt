@@ -1,6 +1,11 @@
-use Rattle.std.proofs.Common.{[], refl}
+use Rattle.std.proofs.Common.{◌≡◌, None, Some, refl, rules, subst, sym}
+use Rattle.roff_escape.specs.declared.escapes.NameUse.{NameUse}
+use Rattle.roff_escape.specs.declared.escapes.NameUse.TheVariants.{Register}
+use Rattle.roff_reader.specs.Reader.Taken.{TakesAs}
+use Rattle.roff_run.specs.Reading.Escapes.{asking}
 use Rattle.roff_run.specs.Reading.Items.{going_on}
 use Rattle.roff_reader.proofs.TakesAs.{TakesAs-meant}
+use Rattle.roff_run.specs.declared.step.Step.TheVariants.{Nothing}
 use Rattle.roff_reader.proofs.reader.Reader.ask.Goals as goal
 
 pub returns-in-None : goal.returns-in-None
@@ -8,11 +13,20 @@ returns-in-None c =
     let old = c.args.self.now in
     let u = c.args.unread.now in
     rw c.in-None.is
-    (TakesAs-meant (λ k. going_on u.input old.reading) old.reading [] c.args.environments.now old old u c.nothing.result (λ k. refl) refl
-    c.nothing.ensures.message c.nothing.ensures.events)
+    (TakesAs-meant (λ k. going_on u.input old.reading) old.reading c.args.environments.now old old u Nothing (λ k. refl) refl
+    refl)
 
 pub returns-in-Register : goal.returns-in-Register
 returns-in-Register c = rw (c.in-Some.is, c.in-Register.is) c.interpolate.ensures
+
+pub returns-in-Register-None : goal.returns-in-Register-None
+returns-in-Register-None c =
+    let old = c.args.self.now in
+    let u = c.args.unread.now in
+    let is : c.args.purpose ≡ Register None = search rules in
+    rw c.in-Some.is
+    (subst (λ (use_is : NameUse). TakesAs (λ k. asking k u.input old.reading use_is (Some c.in-Some.name)) c.args.environments.now old old u c.put_register.new.unread c.put_register.result)
+    (sym is) c.put_register.ensures)
 
 pub returns-in-Text : goal.returns-in-Text
 returns-in-Text c = rw (c.in-Some.is, c.in-Text.is) (c.put_string.ensures c.args.environments.now)

@@ -1,12 +1,11 @@
-use Rattle.std.proofs.Common.{◌≡◌, [], Ok, ap, refl, rules, sym, ◌∙◌}
+use Rattle.std.proofs.Common.{◌≡◌, Ok, ap, refl, rules, sym, ◌∙◌}
 use Rattle.roff_ahead.specs.Input.Calls.{last_result, without_last}
 use Rattle.roff_reader.specs.ControlFronts.{input_begun, is_deciding}
-use Rattle.roff_reader.specs.Reader.AtOnce.{only_events}
+use Rattle.roff_run.specs.declared.step.Step.TheVariants.{Nothing}
 use Rattle.roff_run.specs.Reading.Branches.{branch_of, reads_else}
 use Rattle.roff_run.specs.Reading.ControlLines.{behind_called}
 use Rattle.roff_run.specs.Reading.Items.{going_on}
-use Rattle.roff_reader.proofs.ReadAtOnce.{TakesAs-gone_on}
-use Rattle.roff_reader.proofs.TakesAs.{NoMore-half_begun, NoMore-without_last, TakesAs-as}
+use Rattle.roff_reader.proofs.TakesAs.{NoMore-half_begun, NoMore-without_last, TakesAs-as, TakesAs-gone_on}
 use Rattle.roff_reader.proofs.reader.Reader.begin_called.Goals as goal
 
 pub returns-in-Some : goal.returns-in-Some
@@ -16,7 +15,7 @@ returns-in-Some c = λ es.
     let begun = c.begin_deciding in
     let done = c.go_on in
     TakesAs-as (λ k. going_on (input_begun reading i) reading) (λ k. behind_called i c.args.breaks c.args.called) es c.args.self.now done.new.self
-    c.args.unread.now begun.new.unread (Ok (only_events [])) (λ k. sym (c.in-Some.ensures.leads i))
+    c.args.unread.now begun.new.unread (Ok Nothing) (λ k. sym (c.in-Some.ensures.leads i))
     (TakesAs-gone_on (input_begun reading i) reading es c.args.self.now done.new.self c.args.unread.now begun.new.unread (NoMore-half_begun (is_deciding reading) i)
     begun.ensures done.ensures)
 
@@ -27,6 +26,6 @@ returns-in-None c = λ es.
     let done = c.go_on-in-None in
     let so : c.eq.result ≡ reads_else (last_result i) = search rules in
     TakesAs-as (λ k. going_on (without_last i) (branch_of (reads_else (last_result i)))) (λ k. behind_called i c.args.breaks c.args.called) es c.args.self.now done.new.self
-    c.args.unread.now taken.new.self (Ok (only_events [])) (λ k. sym (c.in-None.ensures.other refl i))
+    c.args.unread.now taken.new.self (Ok Nothing) (λ k. sym (c.in-None.ensures.other refl i))
     (TakesAs-gone_on (without_last i) (branch_of (reads_else (last_result i))) es c.args.self.now done.new.self c.args.unread.now taken.new.self (NoMore-without_last i)
     taken.ensures.change (rw (c.branch-eq.ensures ∙ ap branch_of so) at done.ensures))

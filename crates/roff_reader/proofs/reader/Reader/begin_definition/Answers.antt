@@ -22,4 +22,4 @@ returns c = λ es.
     let place : LineState = Defining name c.args.appends c.args.end (Some 0) in
     let done = c.read_on in
     TakesAs-became (string_begun name u.input) place es c.args.self.now done.new.self u c.begin_string.new.unread done.result c.in_ok-begin_string.field-0
-    c.in_ok-begin_string.ensures done.ensures.reading done.ensures.message done.ensures.events
+    c.in_ok-begin_string.ensures done.ensures.reading done.ensures.step

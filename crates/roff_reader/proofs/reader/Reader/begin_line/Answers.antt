@@ -10,7 +10,7 @@ use Rattle.roff_reader.proofs.reader.Reader.begin_line.Goals as goal
 pub returns-in-Asks : goal.returns-in-Asks
 returns-in-Asks c =
     let u = c.args.unread.now in
-    let set : ReaderState = record { reading = c.args.at; registers = c.self.inside.registers; requested = c.self.inside.requested.items } in
+    let set : ReaderState = record { reading = c.args.at; registers = c.self.inside.registers; meaning = c.self.inside.meaning } in
     let done = c.begin_with_name in
     rw c.in-Asks.is
     (TakesAs-set (λ k. first_name k u.input c.args.at c.in-Asks.purpose c.in-Asks.name) c.args.environments.now c.args.self.now set done.new.self u
@@ -40,7 +40,7 @@ returns-in-Motion c =
     rw c.in-Motion.is
     (TakesAs-begun (λ i line. motion_taking i line columns remark) c.motion-step.result c.interrupted_line-interrupted.result c.begun_as.result
     c.args.environments.now c.args.self.now done.new.self c.args.unread.now done.result c.interrupted_line-interrupted.ensures c.begun_as.ensures
-    c.motion-step.ensures done.ensures.reading done.ensures.message done.ensures.events)
+    c.motion-step.ensures done.ensures.now done.ensures.says done.ensures.events)
 
 pub returns-in-Measures : goal.returns-in-Measures
 returns-in-Measures c = rw c.in-Measures.is (c.measure.ensures c.args.environments.now)

@@ -19,4 +19,4 @@ returns-in_default c = λ u.
     ] in
     TakesAs-as (λ k. escape_begun k u.input b) (λ k. first_escape k u.input c.args.at b) es old done.new.self u u (Ok done.result) as_defined
     (TakesAs-begun (λ i line. escape_taking i line b) c.escape-step.result c.interrupted_line-interrupted.result c.begun_as.result es old done.new.self u done.result
-    c.interrupted_line-interrupted.ensures c.begun_as.ensures c.escape-step.ensures done.ensures.reading done.ensures.message done.ensures.events)
+    c.interrupted_line-interrupted.ensures c.begun_as.ensures c.escape-step.ensures done.ensures.now done.ensures.says done.ensures.events)

@@ -1,14 +1,17 @@
-use Rattle.roff_run.specs.Reading.Found.{found_in, place_in}
-use Rattle.roff_reader.proofs.TakesAs.{TakesAs-ended_at}
+use Rattle.std.proofs.Common.{rules, subst}
+use Rattle.roff_run.specs.Reading.{escape_ended}
+use Rattle.roff_run.specs.Reading.Items.{PageUnread}
+use Rattle.roff_reader.specs.Reader.State.{ReaderState}
+use Rattle.roff_reader.specs.Reader.Taken.{TakesAs}
 use Rattle.roff_reader.proofs.reader.Reader.end_escape.Goals as goal
+
+pub returns-then-decides : goal.returns-then-decides
+returns-then-decides c = c.decides.ensures.decides (search rules) c.args.environments.now
 
 pub returns : goal.returns
 returns c =
     let es = c.args.environments.now in
-    let old = c.args.self.now in
-    let u = c.args.unread.now in
-    let r = old.reading in
-    let ended = c.end_reading-found in
-    let done = c.read_found in
-    TakesAs-ended_at (λ k i found. found_in k i r found) (λ k. place_in k r) c.place-place.result es c.place-place.ensures old done.new.self u ended.new.self done.new.unread
-    ended.result done.result ended.ensures.reading done.ensures
+    let kept = c.decides.ensures.unchanged (search rules) in
+    let done = c.end_any in
+    subst (λ (s : ReaderState). TakesAs (λ k. escape_ended k s.reading c.args.unread.now.input) es s done.new.self c.args.unread.now done.new.unread done.result) kept.0
+    (subst (λ (u : PageUnread). TakesAs (λ k. escape_ended k c.decides.new.self.reading u.input) es c.decides.new.self done.new.self u done.new.unread done.result) kept.1 done.ensures)

@@ -1,13 +1,15 @@
-use Rattle.std.proofs.Common.{List, ◌∷◌, [], Option, None, Some, Ok, refl, sym, ap, ◌∙◌}
+use Rattle.std.proofs.Common.{◌≡◌, List, ◌∷◌, [], Option, None, Some, Ok, refl, sym, ap, ◌∙◌}
 use Rattle.roff_lines.specs.declared.event.Event.TheVariants.{Resume}
-use Rattle.roff_requests.specs.Events.Meant.{few_meant}
-use Rattle.roff_reader.specs.Reader.State.{ReaderState}
+use Rattle.std.specs.Option.{option_to_list}
+use Rattle.roff_run.specs.Events.Steps.{messages_of}
+use Rattle.roff_reader.specs.Reader.State.{MeaningKept, ReaderState}
 use Rattle.roff_run.specs.Reading.Ends.{interrupted_end}
 use Rattle.roff_run.specs.Reading.Items.{going_on, meaning_events}
 use Rattle.roff_run.specs.declared.event.PageEvent.{PageEvent}
 use Rattle.roff_run.specs.declared.event.PageEvent.TheVariants.{Text}
 use Rattle.roff_run.specs.declared.line_state.TextLine.{TextLine}
-use Rattle.roff_reader.proofs.TakesAs.{TakesAs-asked, TakesAs-meant}
+use Rattle.roff_reader.proofs.TakesAs.{TakesAs-asked, TakesAs-meant, TakesAs-said}
+use Rattle.roff_run.specs.declared.step.Step.TheVariants.{Meaning, Nothing}
 use Rattle.roff_reader.proofs.reader.Reader.end_interrupted.Goals as goal
 
 pub returns-in-None : goal.returns-in-None
@@ -15,13 +17,13 @@ returns-in-None c = λ u.
     let behind = c.args.behind in
     let es = c.args.environments.now in
     let old = c.args.self.now in
-    let new : ReaderState = record { reading = behind; registers = c.self.inside.registers; requested = c.self.inside.requested.items } in
-    let m = c.nothing.result in
+    let new : ReaderState = record { reading = behind; registers = c.self.inside.registers; meaning = c.self.inside.meaning } in
+    let m = Nothing in
     let none : Option TextLine = None in
     TakesAs-asked (λ k line. meaning_events u.input behind (interrupted_end line)) (λ k. k.interrupted) none es old new u u (Ok m)
     (λ l h rs i stands. sym c.in-None.is ∙ c.interrupted_line.ensures l h stands)
-    (TakesAs-meant (λ k. going_on u.input behind) behind [] es old new u m (λ k. refl) (ap (λ (s : ReaderState). record s { reading = behind }) c.self.view_is)
-    c.nothing.ensures.message c.nothing.ensures.events)
+    (TakesAs-meant (λ k. going_on u.input behind) behind es old new u m (λ k. refl) (ap (λ (s : ReaderState). record s { reading = behind }) c.self.view_is)
+    refl)
 
 pub returns-in-Some : goal.returns-in-Some
 returns-in-Some c = λ u.
@@ -29,9 +31,13 @@ returns-in-Some c = λ u.
     let es = c.args.environments.now in
     let old = c.args.self.now in
     let line : Option TextLine = Some c.in-Some.line in
-    let done = c.begin_text in
-    TakesAs-asked (λ k line. meaning_events u.input behind (interrupted_end line)) (λ k. k.interrupted) line es old done.new.self u u (Ok done.result)
+    let kept = c.keep_line.new.self in
+    let new : ReaderState = record { reading = behind; registers = c.self.inside.registers; meaning = kept } in
+    let events : kept.events ≡ interrupted_end line =
+    ap (λ (m : MeaningKept). m.events) c.keep_line.ensures
+    ∙ ap (λ (events : List PageEvent). Text Resume ∷ events) (c.line.ensures ∙ c.end.ensures.means []) in
+    let quiet : messages_of kept.message Meaning ≡ [] = ap (λ (m : MeaningKept). option_to_list m.message) c.keep_line.ensures in
+    TakesAs-asked (λ k line. meaning_events u.input behind (interrupted_end line)) (λ k. k.interrupted) line es old new u u (Ok Meaning)
     (λ l h rs i stands. sym c.in-Some.is ∙ c.interrupted_line.ensures l h stands)
-    (TakesAs-meant (λ k. meaning_events u.input behind (interrupted_end line)) behind (interrupted_end line) es old done.new.self u done.result (λ k. refl)
-    (done.ensures.reading ∙ ap (λ (s : ReaderState). record s { reading = behind }) c.self.view_is) done.ensures.message
-    (done.ensures.events ∙ ap (λ (events : List PageEvent). few_meant (Text Resume ∷ events)) c.end.ensures))
+    (TakesAs-said (λ k. meaning_events u.input behind (interrupted_end line)) behind [] (interrupted_end line) es old new u Meaning (λ k. refl)
+    (ap (λ (s : ReaderState). record s { reading = behind; meaning = kept }) c.self.view_is) quiet events)

@@ -5,7 +5,7 @@ use Rattle.roff_run.specs.Reading.ControlLines.{behind_called, ends_name, name_e
 use Rattle.roff_run.specs.Reading.Items.{Taking}
 use Rattle.roff_run.specs.declared.line_state.LineState.TheVariants.{Name}
 use Rattle.roff_num.specs.declared.short_name.ShortName.{ShortName}
-use Rattle.roff_reader.proofs.ReadAtOnce.{TakesAs-nothing}
+use Rattle.roff_run.specs.declared.step.Step.TheVariants.{Nothing}
 use Rattle.roff_reader.proofs.TakesAs.{TakesAs-as}
 use Rattle.roff_reader.proofs.reader.Reader.end_name.Goals as goal
 
@@ -28,6 +28,6 @@ returns c =
     let begun = c.begin_called in
     let behind : Known → Taking = λ k. behind_called u.input breaks c.called_by.result in
     let goes_on : ends_name c.args.byte ≡ false = search rules in
-    TakesAs-as behind (λ k. undropped_taking k (Name breaks c.args.first) u.input c.args.byte) es old begun.new.self u begun.new.unread (Ok c.nothing.result)
+    TakesAs-as behind (λ k. undropped_taking k (Name breaks c.args.first) u.input c.args.byte) es old begun.new.self u begun.new.unread (Ok Nothing)
     (λ k. rw goes_on (ap (behind_called u.input breaks) c.called_by.ensures))
-    (TakesAs-nothing behind es old begun.new.self u begun.new.unread c.nothing.result c.nothing.ensures.message c.nothing.ensures.events (begun.ensures es))
+    (begun.ensures es)

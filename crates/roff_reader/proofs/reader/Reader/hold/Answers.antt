@@ -15,4 +15,4 @@ pub returns : goal.returns
 returns c = λ es.
     let u = c.args.unread.now in
     TakesAs-changed (holding c.args.unit u.input) c.args.reading es c.args.self.now c.read_on.new.self u c.hold.new.self c.read_on.result
-    c.in_ok-hold.field-0 c.in_ok-hold.ensures.change c.read_on.ensures.reading c.read_on.ensures.message c.read_on.ensures.events
+    c.in_ok-hold.field-0 c.in_ok-hold.ensures.change c.read_on.ensures.reading c.read_on.ensures.step

@@ -19,4 +19,4 @@ returns c = λ es.
     let u = c.args.unread.now in
     let place : LineState = Telling c.args.aborts false in
     TakesAs-changed (holding_plain c.args.unit u.input) place es c.args.self.now c.read_on.new.self u c.hold_plain.new.self c.read_on.result
-    c.in_ok-hold_plain.field-0 c.in_ok-hold_plain.ensures.change c.read_on.ensures.reading c.read_on.ensures.message c.read_on.ensures.events
+    c.in_ok-hold_plain.field-0 c.in_ok-hold_plain.ensures.change c.read_on.ensures.reading c.read_on.ensures.step

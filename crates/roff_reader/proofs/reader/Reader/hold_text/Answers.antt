@@ -15,4 +15,4 @@ pub returns : goal.returns
 returns c = λ es.
     let u = c.args.unread.now in
     TakesAs-changed (holding_text c.args.unit u.input) c.args.reading es c.args.self.now c.read_on.new.self u c.hold_text.new.self c.read_on.result
-    c.in_ok-hold_text.field-0 c.in_ok-hold_text.ensures.change c.read_on.ensures.reading c.read_on.ensures.message c.read_on.ensures.events
+    c.in_ok-hold_text.field-0 c.in_ok-hold_text.ensures.change c.read_on.ensures.reading c.read_on.ensures.step

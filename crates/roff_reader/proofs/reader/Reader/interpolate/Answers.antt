@@ -2,7 +2,6 @@ use Rattle.std.proofs.Common.{◌≡◌, Ok, Err, rules, subst, ◌∙◌}
 use Rattle.roff_reader.specs.Reader.State.{ReaderState}
 use Rattle.roff_reader.specs.Reader.Taken.{TakesAs}
 use Rattle.roff_run.specs.Reading.Escapes.{interpolating}
-use Rattle.roff_reader.specs.declared.reader.Meaning.{Meaning}
 use Rattle.roff_reader.proofs.TakesAs.{KnowsText, TakesAs-interpolated, TakesAs-not_interpolated}
 use Rattle.roff_reader.proofs.reader.Reader.interpolate.Goals as goal
 
@@ -10,8 +9,8 @@ pub returns-in_err-push : goal.returns-in_err-push
 returns-in_err-push c =
     let u = c.args.unread.now in
     let name = c.args.name.now in
-    let kept : ReaderState = record { reading = c.self.inside.reading; registers = c.self.inside.registers; requested = c.self.inside.requested.items } in
-    let new : ReaderState = record { reading = c.self.inside.reading; registers = c.interpolate-given.new.self; requested = c.self.inside.requested.items } in
+    let kept : ReaderState = record { reading = c.self.inside.reading; registers = c.self.inside.registers; meaning = c.self.inside.meaning } in
+    let new : ReaderState = record { reading = c.self.inside.reading; registers = c.interpolate-given.new.self; meaning = c.self.inside.meaning } in
     let knows : KnowsText c.args.environments.now kept.registers.all u.input c.args.step name c.deref.result.now = record {
       facts = c.facts-facts.result;
       known = c.facts-facts.ensures;
@@ -26,14 +25,15 @@ pub returns : goal.returns
 returns c =
     let u = c.args.unread.now in
     let name = c.args.name.now in
-    let kept : ReaderState = record { reading = c.self.inside.reading; registers = c.self.inside.registers; requested = c.self.inside.requested.items } in
-    let new : ReaderState = record { reading = c.self.inside.reading; registers = c.interpolate-given.new.self; requested = c.self.inside.requested.items } in
+    let kept : ReaderState = record { reading = c.self.inside.reading; registers = c.self.inside.registers; meaning = c.self.inside.meaning } in
+    let new : ReaderState = record { reading = c.self.inside.reading; registers = c.interpolate-given.new.self; meaning = c.self.inside.meaning } in
     let knows : KnowsText c.args.environments.now kept.registers.all u.input c.args.step name c.deref.result.now = record {
       facts = c.facts-facts.result;
       known = c.facts-facts.ensures;
       text_is = c.deref.ensures.0 ∙ c.interpolate-given.ensures.text;
     } in
-    let m : Meaning = record { message = c.interpolate-given.result.message; events = c.new.result } in
-    subst (λ (s : ReaderState). TakesAs (λ k. interpolating k u.input s.reading c.args.step name) c.args.environments.now s new u c.push.new.self (Ok m)) c.self.view_is
-    (TakesAs-interpolated c.args.environments.now kept c.interpolate-given.new.self u c.push.new.self c.args.step name c.deref.result.now m c.in_ok-push.field-0 knows
-    c.interpolate-given.ensures.registers c.interpolate-given.ensures.message c.new.ensures c.in_ok-push.ensures.change)
+    let said = c.say in
+    let came : said.new.self ≡ record kept { registers = c.interpolate-given.new.self; meaning = said.new.self.meaning } = said.ensures.others in
+    subst (λ (s : ReaderState). TakesAs (λ k. interpolating k u.input s.reading c.args.step name) c.args.environments.now s said.new.self u c.push.new.self (Ok said.result)) c.self.view_is
+    (TakesAs-interpolated c.args.environments.now kept said.new.self c.interpolate-given.new.self u c.push.new.self c.args.step name c.deref.result.now said.result c.in_ok-push.field-0 knows
+    c.interpolate-given.ensures.registers came (said.ensures.says ∙ c.interpolate-given.ensures.message) said.ensures.none c.in_ok-push.ensures.change)

@@ -22,4 +22,4 @@ returns c = λ es.
     let digits : c.as_bytes.result.now ≡ decimal c.args.width = c.as_bytes.ensures.value ∙ c.format.ensures.text in
     TakesAs-changed (pushing (decimal c.args.width) u.input) c.args.reading es c.args.self.now c.read_on.new.self u c.push.new.self c.read_on.result done
     (subst (λ (text : List ℕ). (Ok done, c.push.new.self) ≡ changing (pushing text u.input) u) digits c.in_ok-push.ensures.change)
-    c.read_on.ensures.reading c.read_on.ensures.message c.read_on.ensures.events
+    c.read_on.ensures.reading c.read_on.ensures.step

@@ -7,7 +7,8 @@ use Rattle.roff_run.specs.Reading.Escapes.{argument_named}
 use Rattle.roff_run.specs.Reading.Items.{going_on}
 use Rattle.roff_reader.proofs.CalledBodies.{argument_named-digit, argument_named-other}
 use Rattle.roff_reader.proofs.TakesAs.{TakesAs-changed, TakesAs-not_changed}
-use Rattle.roff_reader.proofs.reader.Reader.put_argument.Goals.{in-49-to-57+in_ok-push_argument-in-49-to-57, in_default+in_ok-push-in_default, in_default-via-then-as_bytes-lt1, in_default-via-else-as_bytes-lt1+then-this-lt2+then-this-lt49, in_default-via-else-as_bytes-lt1+then-this-lt2+else-this-lt49+else-this-lt58, in_default-via-else-as_bytes-lt1+else-this-lt2}
+use Rattle.roff_reader.proofs.reader.Reader.put_argument.Goals.{in_default-via-then-as_bytes-lt1, in_default-via-else-as_bytes-lt1+then-this-lt2+then-this-lt49, in_default-via-else-as_bytes-lt1+then-this-lt2+else-this-lt49+else-this-lt58, in_default-via-else-as_bytes-lt1+else-this-lt2}
+use Rattle.roff_run.specs.declared.step.Step.TheVariants.{Nothing}
 use Rattle.roff_reader.proofs.reader.Reader.put_argument.Goals as goal
 
 pub returns-in_err-push-in_default : goal.returns-in_err-push-in_default
@@ -29,35 +30,35 @@ returns-in_err-push-in_default c = λ es.
     (subst (λ (text : List ℕ). TakesAs (λ k. going_on (pushing text u.input) old.reading) es old old u c.push.new.self (Err limit)) same
     (TakesAs-not_changed (pushing [] u.input) old.reading es old old u c.push.new.self limit c.in_err-push-in_default.ensures.change))
 
-pub returns : goal.returns
-returns c = λ es.
+pub returns-in_ok-push_argument-in-49-to-57 : goal.returns-in_ok-push_argument-in-49-to-57
+returns-in_ok-push_argument-in-49-to-57 c = λ es.
     let old = c.args.self.now in
     let u = c.args.unread.now in
     let name = c.as_bytes.result.now in
     let arguments = arguments_live u.input in
-    let m = c.nothing.result in
-    let At : List ℕ → Type 0 = λ text. TakesAs (λ k. going_on (pushing text u.input) old.reading) es old old u c.if-as_bytes-lt1.unread (Ok m) in
+    let done = c.in_ok-push_argument-in-49-to-57 in
+    let new = c.push_argument.new.self in
     let same = ap (λ (name : List ℕ). argument_named name arguments) c.as_bytes.ensures.value in
-    elim c.if-as_bytes-lt1.branch [
-      | in-49-to-57+in_ok-push_argument-in-49-to-57 w ↦
-          let one : length name ≡ 1 = omega (arith, w.in-49-to-57.len_at_least, w.in-49-to-57.len_below) in
-          let above : 49 ≤ get_or name 0 0 = omega arith in
-          let below : get_or name 0 0 ≤ 57 = omega arith in
-          let done = w.in_ok-push_argument-in-49-to-57 in
-          subst At (argument_named-digit name arguments one above below ∙ same)
-          (rw w.unread-is
-          (TakesAs-changed (pushing (argument_live (get_or name 0 0 - 49) u.input) u.input) old.reading es old old u w.push_argument.new.self m done.field-0
-          done.ensures.change refl c.nothing.ensures.message c.nothing.ensures.events))
-      | in_default+in_ok-push-in_default w ↦
-          let done = w.in_ok-push-in_default in
-          let not : length name ≡ 1 → 49 ≤ get_or name 0 0 → get_or name 0 0 ≤ 57 → ⊥ = λ one above below. elim w.in_default.branch [
-            | in_default-via-then-as_bytes-lt1 o ↦ absurd (omega (arith, one, above, below, ltb-true, ltb-false))
-            | in_default-via-else-as_bytes-lt1+then-this-lt2+then-this-lt49 o ↦ absurd (omega (arith, one, above, below, ltb-true, ltb-false))
-            | in_default-via-else-as_bytes-lt1+then-this-lt2+else-this-lt49+else-this-lt58 o ↦ absurd (omega (arith, one, above, below, ltb-true, ltb-false))
-            | in_default-via-else-as_bytes-lt1+else-this-lt2 o ↦ absurd (omega (arith, one, above, below, ltb-true, ltb-false))
-          ] in
-          subst At (argument_named-other name arguments not ∙ same)
-          (rw w.unread-is
-          (TakesAs-changed (pushing [] u.input) old.reading es old old u w.push.new.self m done.field-0
-          done.ensures.change refl c.nothing.ensures.message c.nothing.ensures.events))
-    ]
+    let one : length name ≡ 1 = omega (arith, c.in-49-to-57.len_at_least, c.in-49-to-57.len_below) in
+    let above : 49 ≤ get_or name 0 0 = omega arith in
+    let below : get_or name 0 0 ≤ 57 = omega arith in
+    subst (λ (text : List ℕ). TakesAs (λ k. going_on (pushing text u.input) old.reading) es old old u new (Ok Nothing)) (argument_named-digit name arguments one above below ∙ same)
+    (TakesAs-changed (pushing (argument_live (get_or name 0 0 - 49) u.input) u.input) old.reading es old old u new Nothing done.field-0 done.ensures.change refl refl)
+
+pub returns-in_ok-push-in_default : goal.returns-in_ok-push-in_default
+returns-in_ok-push-in_default c = λ es.
+    let old = c.args.self.now in
+    let u = c.args.unread.now in
+    let name = c.as_bytes.result.now in
+    let arguments = arguments_live u.input in
+    let done = c.in_ok-push-in_default in
+    let new = c.push.new.self in
+    let same = ap (λ (name : List ℕ). argument_named name arguments) c.as_bytes.ensures.value in
+    let not : length name ≡ 1 → 49 ≤ get_or name 0 0 → get_or name 0 0 ≤ 57 → ⊥ = λ one above below. elim c.in_default.branch [
+      | in_default-via-then-as_bytes-lt1 o ↦ absurd (omega (arith, one, above, below, ltb-true, ltb-false))
+      | in_default-via-else-as_bytes-lt1+then-this-lt2+then-this-lt49 o ↦ absurd (omega (arith, one, above, below, ltb-true, ltb-false))
+      | in_default-via-else-as_bytes-lt1+then-this-lt2+else-this-lt49+else-this-lt58 o ↦ absurd (omega (arith, one, above, below, ltb-true, ltb-false))
+      | in_default-via-else-as_bytes-lt1+else-this-lt2 o ↦ absurd (omega (arith, one, above, below, ltb-true, ltb-false))
+    ] in
+    subst (λ (text : List ℕ). TakesAs (λ k. going_on (pushing text u.input) old.reading) es old old u new (Ok Nothing)) (argument_named-other name arguments not ∙ same)
+    (TakesAs-changed (pushing [] u.input) old.reading es old old u new Nothing done.field-0 done.ensures.change refl refl)

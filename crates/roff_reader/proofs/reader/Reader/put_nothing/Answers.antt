@@ -1,6 +1,7 @@
 use Rattle.std.proofs.Common.{◌≡◌, [], Err, refl, rules}
 use Rattle.roff_ahead.specs.Input.{pushing}
 use Rattle.roff_reader.proofs.TakesAs.{TakesAs-changed, TakesAs-not_changed}
+use Rattle.roff_run.specs.declared.step.Step.TheVariants.{Nothing}
 use Rattle.roff_reader.proofs.reader.Reader.put_nothing.Goals as goal
 
 pub returns-in_err-push : goal.returns-in_err-push
@@ -14,5 +15,5 @@ pub returns : goal.returns
 returns c = λ es.
     let old = c.args.self.now in
     let u = c.args.unread.now in
-    TakesAs-changed (pushing [] u.input) old.reading es old old u c.push.new.self c.nothing.result c.in_ok-push.field-0 c.in_ok-push.ensures.change refl
-    c.nothing.ensures.message c.nothing.ensures.events
+    TakesAs-changed (pushing [] u.input) old.reading es old old u c.push.new.self Nothing c.in_ok-push.field-0 c.in_ok-push.ensures.change refl
+    refl

@@ -2,6 +2,7 @@ use Rattle.std.proofs.Common.{◌≡◌, Err, refl, rules}
 use Rattle.roff_ahead.specs.Input.{pushing}
 use Rattle.roff_ahead.specs.Input.Names.{body_named}
 use Rattle.roff_reader.proofs.TakesAs.{TakesAs-changed, TakesAs-not_changed}
+use Rattle.roff_run.specs.declared.step.Step.TheVariants.{Nothing}
 use Rattle.roff_reader.proofs.reader.Reader.put_string.Goals as goal
 
 pub returns-in_err-push_body : goal.returns-in_err-push_body
@@ -15,5 +16,5 @@ pub returns : goal.returns
 returns c = λ es.
     let old = c.args.self.now in
     let u = c.args.unread.now in
-    TakesAs-changed (pushing (body_named c.args.name.now u.input) u.input) old.reading es old old u c.push_body.new.self c.nothing.result c.in_ok-push_body.field-0 c.in_ok-push_body.ensures.change refl
-    c.nothing.ensures.message c.nothing.ensures.events
+    TakesAs-changed (pushing (body_named c.args.name.now u.input) u.input) old.reading es old old u c.push_body.new.self Nothing c.in_ok-push_body.field-0 c.in_ok-push_body.ensures.change refl
+    refl

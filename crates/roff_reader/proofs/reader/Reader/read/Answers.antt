@@ -1,26 +1,28 @@
-use Rattle.std.proofs.Common.{◌≡◌, Ok, true, false, rules}
-use Rattle.roff_source.specs.Bytes.{is_dropped}
-use Rattle.roff_run.specs.Reading.{interrupted, undropped_taking, taking}
-use Rattle.roff_run.specs.Reading.Items.{going_on}
-use Rattle.roff_reader.proofs.TakesAs.{TakesAs-as, TakesAs-interrupted, taking-of}
+use Rattle.std.proofs.Common.{rules, refl, sym}
+use Rattle.roff_run.specs.Reading.{taking}
+use Rattle.roff_run.specs.declared.step.Step.TheVariants.{Gap, Glyph}
+use Rattle.roff_reader.proofs.TakesAs.{TakesAs-undropped}
+use Rattle.roff_reader.proofs.TextTaken.{TakesAs-named}
 use Rattle.roff_reader.proofs.reader.Reader.read.Goals as goal
 
-pub returns-then-is_dropped : goal.returns-then-is_dropped
-returns-then-is_dropped c =
-    let es = c.args.environments.now in
+pub returns-then-goes_on_with : goal.returns-then-goes_on_with
+returns-then-goes_on_with c =
     let old = c.args.self.now in
     let u = c.args.unread.now in
     let b = c.args.byte in
-    let is : true ≡ is_dropped b = search rules in
-    TakesAs-as (λ k. going_on (interrupted old.reading u.input) old.reading) (λ k. taking k old.reading u.input b) es old old u c.interrupt.new.unread (Ok c.nothing.result)
-    (λ k. taking-of k old.reading u.input b true is)
-    (TakesAs-interrupted es old u c.interrupt.new.unread c.nothing.result c.interrupt.ensures c.nothing.ensures.message c.nothing.ensures.events)
+    TakesAs-named (λ k. taking k old.reading u.input b) old.reading c.args.environments.now old old u (Glyph b 0)
+    (λ kept k. c.goes_on_with.ensures (search rules) k) (λ kept. refl) refl
 
-pub returns : goal.returns
-returns c =
+pub returns-then-goes_on_with_gap : goal.returns-then-goes_on_with_gap
+returns-then-goes_on_with_gap c =
     let old = c.args.self.now in
     let u = c.args.unread.now in
     let b = c.args.byte in
-    let is : false ≡ is_dropped b = search rules in
-    TakesAs-as (λ k. undropped_taking k old.reading u.input b) (λ k. taking k old.reading u.input b) c.args.environments.now old c.read_undropped.new.self u c.read_undropped.new.unread c.read_undropped.result
-    (λ k. taking-of k old.reading u.input b false is) c.read_undropped.ensures
+    TakesAs-named (λ k. taking k old.reading u.input b) old.reading c.args.environments.now old old u Gap
+    (λ kept k. c.goes_on_with_gap.ensures (search rules) k) (λ kept. refl) refl
+
+pub returns-then-is_read_alone : goal.returns-then-is_read_alone
+returns-then-is_read_alone c =
+    let done = c.read_alone in
+    TakesAs-undropped c.args.byte c.args.environments.now c.args.self.now done.new.self c.args.unread.now done.new.unread done.result
+    (sym (c.is_read_alone.ensures.kept c.if-is_read_alone.true)) done.ensures

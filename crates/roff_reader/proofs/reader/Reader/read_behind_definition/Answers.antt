@@ -1,4 +1,3 @@
-use Rattle.std.proofs.Common.{[]}
 use Rattle.std.specs.Prelude.{true}
 use Rattle.roff_run.specs.Reading.ControlLines.{dropped_taking, name_ended_taking}
 use Rattle.roff_reader.proofs.EndedDefinitions.{TakesAs-line_begun}
@@ -18,5 +17,5 @@ pub returns-in-None : goal.returns-in-None
 returns-in-None c =
     let u = c.args.unread.now in
     rw c.in-None.is
-    (TakesAs-meant (λ k. dropped_taking u.input c.args.byte) c.behind_dropped.result [] c.args.environments.now c.args.self.now c.read_on.new.self u c.read_on.result
-    (λ k. c.behind_dropped.ensures u.input) c.read_on.ensures.reading c.read_on.ensures.message c.read_on.ensures.events)
+    (TakesAs-meant (λ k. dropped_taking u.input c.args.byte) c.behind_dropped.result c.args.environments.now c.args.self.now c.read_on.new.self u c.read_on.result
+    (λ k. c.behind_dropped.ensures u.input) c.read_on.ensures.reading c.read_on.ensures.step)

@@ -1,4 +1,4 @@
-use Rattle.std.proofs.Common.{[], sym, ap, ◌∙◌}
+use Rattle.std.proofs.Common.{sym, ap, ◌∙◌}
 use Rattle.roff_escape.specs.OpenEscapes.{byte_read}
 use Rattle.roff_escape.specs.declared.open_escape.Surroundings.TheVariants.{Arguments as AboveArguments}
 use Rattle.roff_escape.proofs.TextsHeld.{texts_held-byte_read}
@@ -42,6 +42,6 @@ returns-in-Nothing c =
     let b = c.args.byte in
     let breaks = c.args.breaks in
     let done = c.read_on in
-    TakesAs-meant (λ k. name_ended_taking k i breaks c.args.name b) c.behind_dropped.result [] c.args.environments.now c.args.self.now done.new.self c.args.unread.now done.result
+    TakesAs-meant (λ k. name_ended_taking k i breaks c.args.name b) c.behind_dropped.result c.args.environments.now c.args.self.now done.new.self c.args.unread.now done.result
     (λ k. sym (ap (λ (called : Called). called_taking k i breaks called b) c.in-Nothing.ensures) ∙ c.behind_dropped.ensures i)
-    done.ensures.reading done.ensures.message done.ensures.events
+    done.ensures.reading done.ensures.step

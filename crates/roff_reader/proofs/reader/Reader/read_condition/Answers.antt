@@ -4,11 +4,10 @@ use Rattle.roff_run.specs.Reading.Units.{no_unit_found}
 use Rattle.roff_run.specs.declared.line_state.LineState.TheVariants.{Deciding}
 use Rattle.roff_reader.proofs.Deciding.{TakesAs-decides, TakesAs-kept, TakesAs-not_begun, TakesAs-not_kept, condition_found-undecided}
 use Rattle.roff_reader.proofs.TakesAs.{TakesAs-as}
-use Rattle.roff_reader.proofs.reader.Reader.read_condition.Goals.{then-keeps+in_ok-keep_result-in-Decides, else-keeps}
 use Rattle.roff_reader.proofs.reader.Reader.read_condition.Goals as goal
 
-pub returns-in_err-meaning-in-Decides : goal.returns-in_err-meaning-in-Decides
-returns-in_err-meaning-in-Decides c =
+pub returns-in_err-step-in-Decides : goal.returns-in_err-step-in-Decides
+returns-in_err-step-in-Decides c =
     let es = c.args.environments.now in
     let old = c.args.self.now in
     let u = c.args.unread.now in
@@ -16,11 +15,11 @@ returns-in_err-meaning-in-Decides c =
     let so = c.is_so-so.result in
     let freed = c.in-Decides.freed in
     let begun = c.begin_branch.new in
-    let limit = c.in_err-meaning-in-Decides.field-0.0 in
+    let limit = c.in_err-step-in-Decides.field-0.0 in
     let refused : c.from_residual.result ≡ Err limit = search rules in
     rw (c.in-Decides.is, refused)
     (TakesAs-decides keeps so c.in-Decides.decision freed es old begun.self u begun.unread (Err limit) c.is_so-so.ensures
-    (TakesAs-not_begun keeps so freed es old begun.self u begun.unread limit c.in_err-meaning-in-Decides.ensures))
+    (TakesAs-not_begun keeps so freed es old begun.self u begun.unread limit c.in_err-step-in-Decides.ensures))
 
 pub returns-in_err-keep_result-in-Decides : goal.returns-in_err-keep_result-in-Decides
 returns-in_err-keep_result-in-Decides c =
@@ -35,31 +34,30 @@ returns-in_err-keep_result-in-Decides c =
     let refused : c.from_residual-in_err-keep_result-in-Decides.result ≡ Err limit = search rules in
     rw (c.in-Decides.is, c.if-keeps.true, refused)
     (TakesAs-decides true so c.in-Decides.decision freed es old begun.self u behind (Err limit) c.is_so-so.ensures
-    (TakesAs-not_kept so freed es old begun.self u begun.unread behind c.in_ok-meaning-in-Decides.meaning limit c.in_ok-meaning-in-Decides.ensures
+    (TakesAs-not_kept so freed es old begun.self u begun.unread behind c.in_ok-step-in-Decides.step limit c.in_ok-step-in-Decides.ensures
     c.in_err-keep_result-in-Decides.ensures.change))
 
-pub returns-after-keeps : goal.returns-after-keeps
-returns-after-keeps c =
+pub returns-in_ok-keep_result-in-Decides : goal.returns-in_ok-keep_result-in-Decides
+returns-in_ok-keep_result-in-Decides c =
     let es = c.args.environments.now in
     let old = c.args.self.now in
     let u = c.args.unread.now in
     let so = c.is_so-so.result in
-    let decision = c.in-Decides.decision in
     let freed = c.in-Decides.freed in
     let begun = c.begin_branch.new in
-    let m = c.in_ok-meaning-in-Decides.meaning in
-    let begins = c.in_ok-meaning-in-Decides.ensures in
-    elim c.if-keeps.branch [
-      | then-keeps+in_ok-keep_result-in-Decides w ↦
-          let behind = w.keep_result.new.self in
-          let kept = w.in_ok-keep_result-in-Decides in
-          rw (c.in-Decides.is, w.if-keeps.true, w.unread-is)
-          (TakesAs-decides true so decision freed es old begun.self u behind (Ok m) c.is_so-so.ensures
-          (TakesAs-kept so freed es old begun.self u begun.unread behind m kept.field-0 begins kept.ensures.change))
-      | else-keeps w ↦
-          rw (c.in-Decides.is, w.if-keeps.false, w.unread-is)
-          (TakesAs-decides false so decision freed es old begun.self u begun.unread (Ok m) c.is_so-so.ensures begins)
-    ]
+    let behind = c.keep_result.new.self in
+    let m = c.in_ok-step-in-Decides.step in
+    let kept = c.in_ok-keep_result-in-Decides in
+    rw (c.in-Decides.is, c.if-keeps.true)
+    (TakesAs-decides true so c.in-Decides.decision freed es old begun.self u behind (Ok m) c.is_so-so.ensures
+    (TakesAs-kept so freed es old begun.self u begun.unread behind m kept.field-0 c.in_ok-step-in-Decides.ensures kept.ensures.change))
+
+pub returns-else-keeps : goal.returns-else-keeps
+returns-else-keeps c =
+    let begun = c.begin_branch.new in
+    rw (c.in-Decides.is, c.if-keeps.false)
+    (TakesAs-decides false c.is_so-so.result c.in-Decides.decision c.in-Decides.freed c.args.environments.now c.args.self.now begun.self c.args.unread.now begun.unread
+    (Ok c.in_ok-step-in-Decides.step) c.is_so-so.ensures c.in_ok-step-in-Decides.ensures)
 
 pub returns-in_default : goal.returns-in_default
 returns-in_default c =

@@ -1,10 +1,11 @@
-use Rattle.std.proofs.Common.{◌≡◌, ◌∙◌, [], ap, refl, rules}
+use Rattle.std.proofs.Common.{◌≡◌, ◌∙◌, ap, refl, rules}
 use Rattle.roff_run.specs.Reading.Found.{found_in}
 use Rattle.roff_reader.specs.Reader.State.{ReaderState}
 use Rattle.roff_run.specs.declared.line_state.LineState.{LineState}
 use Rattle.roff_run.specs.declared.line_state.LineState.TheVariants.{StringName, StringText, LineStart, Branch, Braced, Text as InText, Arguments as InArguments, Deciding, Telling, Calling, Defining}
 use Rattle.roff_reader.proofs.Placed.{found-elsewhere}
 use Rattle.roff_reader.proofs.TakesAs.{TakesAs-meant, TakesAs-where}
+use Rattle.roff_run.specs.declared.step.Step.TheVariants.{Nothing}
 use Rattle.roff_reader.proofs.reader.Reader.read_found.Goals as goal
 
 pub returns-in-LineStart : goal.returns-in-LineStart
@@ -101,10 +102,10 @@ returns-in_default c =
     let u = c.args.unread.now in
     let others = c.in_default in
     let same = ap (λ (s : ReaderState). s.reading) c.self.view_is in
-    TakesAs-meant (λ k. found_in k u.input old.reading c.args.found) old.reading [] c.args.environments.now old old u c.nothing.result
+    TakesAs-meant (λ k. found_in k u.input old.reading c.args.found) old.reading c.args.environments.now old old u Nothing
     (λ k. found-elsewhere k u.input old.reading c.args.found (λ is. others.not-LineStart (same ∙ is)) (λ is. others.not-Branch (same ∙ is)) (λ is. others.not-Braced (same ∙ is))
     (λ line is. others.not-Text line (same ∙ is)) (λ breaks request is. others.not-Arguments breaks request (same ∙ is))
     (λ keeps is. others.not-Deciding keeps (same ∙ is)) (λ appends is. others.not-StringName appends (same ∙ is))
     (λ name appends is_front is. others.not-StringText name appends is_front (same ∙ is)) (λ name is. others.not-Calling name (same ∙ is))
     (λ name appends end matched is. others.not-Defining name appends end matched (same ∙ is))
-    (λ aborts is_front is. others.not-Telling aborts is_front (same ∙ is))) refl c.nothing.ensures.message c.nothing.ensures.events
+    (λ aborts is_front is. others.not-Telling aborts is_front (same ∙ is))) refl refl

@@ -6,19 +6,19 @@ pub returns-in-Character : goal.returns-in-Character
 returns-in-Character c =
     rw c.in-Character.is
     (TakesAs-stepped (λ i. character_taking i c.args.line c.args.name) c.character.result c.args.environments.now c.args.self.now c.step.new.self c.args.unread.now c.step.result
-    c.character.ensures c.step.ensures.reading c.step.ensures.message c.step.ensures.events)
+    c.character.ensures c.step.ensures.now c.step.ensures.says c.step.ensures.events)
 
 pub returns-in-Font : goal.returns-in-Font
 returns-in-Font c =
     rw c.in-Font.is
     (TakesAs-stepped (λ i. other_taking i c.args.line) c.other.result c.args.environments.now c.args.self.now c.step-in-Font.new.self c.args.unread.now c.step-in-Font.result
-    c.other.ensures c.step-in-Font.ensures.reading c.step-in-Font.ensures.message c.step-in-Font.ensures.events)
+    c.other.ensures c.step-in-Font.ensures.now c.step-in-Font.ensures.says c.step-in-Font.ensures.events)
 
 pub returns-in-LeftOut : goal.returns-in-LeftOut
 returns-in-LeftOut c =
     rw c.in-LeftOut.is
     (TakesAs-stepped (λ i. left_out_taking i c.args.line c.in-LeftOut.byte) c.left_out.result c.args.environments.now c.args.self.now c.step-in-LeftOut.new.self c.args.unread.now c.step-in-LeftOut.result
-    c.left_out.ensures c.step-in-LeftOut.ensures.reading c.step-in-LeftOut.ensures.message c.step-in-LeftOut.ensures.events)
+    c.left_out.ensures c.step-in-LeftOut.ensures.now c.step-in-LeftOut.ensures.says c.step-in-LeftOut.ensures.events)
 
 pub returns-in-Register : goal.returns-in-Register
 returns-in-Register c = rw c.in-Register.is (rw c.in-Register.is at c.ask.ensures)

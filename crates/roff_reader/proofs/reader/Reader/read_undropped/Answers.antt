@@ -1,4 +1,4 @@
-use Rattle.std.proofs.Common.{◌≡◌, ◌∙◌, [], Ok, ap, refl, rules}
+use Rattle.std.proofs.Common.{◌≡◌, ◌∙◌, Ok, ap, refl, rules}
 use Rattle.roff_reader.specs.Reader.State.{ReaderState}
 use Rattle.roff_run.specs.Reading.{undropped_taking}
 use Rattle.roff_run.specs.declared.line_state.LineState.TheVariants.{Control, Dropped, Name, Skipping, Told, Exiting}
@@ -21,8 +21,8 @@ returns-in-Control c =
     let place = Control c.in-Control.breaks in
     let is : old.reading ≡ place = search rules in
     TakesAs-where (λ k r. undropped_taking k r u.input c.args.byte) place es old c.read_on.new.self u u (Ok c.read_on.result) is
-    (TakesAs-meant (λ k. undropped_taking k place u.input c.args.byte) c.behind_control.result [] es old c.read_on.new.self u c.read_on.result
-    (λ k. c.behind_control.ensures k u.input) c.read_on.ensures.reading c.read_on.ensures.message c.read_on.ensures.events)
+    (TakesAs-meant (λ k. undropped_taking k place u.input c.args.byte) c.behind_control.result es old c.read_on.new.self u c.read_on.result
+    (λ k. c.behind_control.ensures k u.input) c.read_on.ensures.reading c.read_on.ensures.step)
 
 pub returns-in-Name : goal.returns-in-Name
 returns-in-Name c =
@@ -41,8 +41,8 @@ returns-in-Skipping c =
     let is : old.reading ≡ place = search rules in
     let done = c.read_on-in-Skipping in
     TakesAs-where (λ k r. undropped_taking k r u.input c.args.byte) place es old done.new.self u u (Ok done.result) is
-    (TakesAs-meant (λ k. undropped_taking k place u.input c.args.byte) c.behind_skipped.result [] es old done.new.self u done.result
-    (λ k. c.behind_skipped.ensures u.input) done.ensures.reading done.ensures.message done.ensures.events)
+    (TakesAs-meant (λ k. undropped_taking k place u.input c.args.byte) c.behind_skipped.result es old done.new.self u done.result
+    (λ k. c.behind_skipped.ensures u.input) done.ensures.reading done.ensures.step)
 
 pub returns-in-Dropped : goal.returns-in-Dropped
 returns-in-Dropped c =
@@ -52,8 +52,8 @@ returns-in-Dropped c =
     let is : old.reading ≡ Dropped = search rules in
     let done = c.read_on-in-Dropped in
     TakesAs-where (λ k r. undropped_taking k r u.input c.args.byte) Dropped es old done.new.self u u (Ok done.result) is
-    (TakesAs-meant (λ k. undropped_taking k Dropped u.input c.args.byte) c.behind_dropped.result [] es old done.new.self u done.result
-    (λ k. c.behind_dropped.ensures u.input) done.ensures.reading done.ensures.message done.ensures.events)
+    (TakesAs-meant (λ k. undropped_taking k Dropped u.input c.args.byte) c.behind_dropped.result es old done.new.self u done.result
+    (λ k. c.behind_dropped.ensures u.input) done.ensures.reading done.ensures.step)
 
 pub returns-in-Told : goal.returns-in-Told
 returns-in-Told c =
@@ -64,8 +64,8 @@ returns-in-Told c =
     let is : old.reading ≡ place = search rules in
     let done = c.read_on-in-Told in
     TakesAs-where (λ k r. undropped_taking k r u.input c.args.byte) place es old done.new.self u u (Ok done.result) is
-    (TakesAs-meant (λ k. undropped_taking k place u.input c.args.byte) place [] es old done.new.self u done.result
-    (λ k. refl) done.ensures.reading done.ensures.message done.ensures.events)
+    (TakesAs-meant (λ k. undropped_taking k place u.input c.args.byte) place es old done.new.self u done.result
+    (λ k. refl) done.ensures.reading done.ensures.step)
 
 pub returns-in-Exiting : goal.returns-in-Exiting
 returns-in-Exiting c =
@@ -75,5 +75,5 @@ returns-in-Exiting c =
     let is : old.reading ≡ Exiting = search rules in
     let done = c.read_on-in-Exiting in
     TakesAs-where (λ k r. undropped_taking k r u.input c.args.byte) Exiting es old done.new.self u u (Ok done.result) is
-    (TakesAs-meant (λ k. undropped_taking k Exiting u.input c.args.byte) Exiting [] es old done.new.self u done.result
-    (λ k. refl) done.ensures.reading done.ensures.message done.ensures.events)
+    (TakesAs-meant (λ k. undropped_taking k Exiting u.input c.args.byte) Exiting es old done.new.self u done.result
+    (λ k. refl) done.ensures.reading done.ensures.step)

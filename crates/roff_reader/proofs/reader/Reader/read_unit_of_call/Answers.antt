@@ -49,9 +49,9 @@ returns c = λ es.
           rw w.unread-is
           (behind_line w.hold.new.self
           (TakesAs-call_held unit name es old new mid w.hold.new.self read.result w.in_ok-hold.field-0 few w.in_ok-hold.ensures.change
-          read.ensures.reading read.ensures.message read.ensures.events))
+          read.ensures.reading read.ensures.step))
       | else-len-lt-CALL_ARGUMENTS w ↦
           let full : 9 ≤ length mid.input.arguments.whole = omega (arith, count, c.len.ensures) in
           rw w.unread-is
-          (behind_line mid (TakesAs-call_full unit name es old new mid read.result full read.ensures.reading read.ensures.message read.ensures.events))
+          (behind_line mid (TakesAs-call_full unit name es old new mid read.result full read.ensures.reading read.ensures.step))
     ]

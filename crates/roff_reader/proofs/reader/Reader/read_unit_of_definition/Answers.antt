@@ -1,4 +1,4 @@
-use Rattle.std.proofs.Common.{◌≡◌, [], Err, Ok, Some, ap, refl, rules, sym, ◌++◌}
+use Rattle.std.proofs.Common.{◌≡◌, Err, Ok, Some, ap, refl, rules, sym, ◌++◌}
 use Rattle.roff_escape.specs.OpenEscape.{unit_bytes}
 use Rattle.roff_run.specs.Definitions.{end_mark, front_of, line_from, matched_behind}
 use Rattle.roff_run.specs.Reading.DefinedLines.{behind_definition, definition_line, definition_unit}
@@ -24,9 +24,9 @@ returns-in-MayBeLast c =
     let unit = c.args.unit in
     let done = c.read_on in
     let line : line_from (end_mark end) matched unit ≡ MayBeLast c.in-MayBeLast.matched = search rules in
-    TakesAs-meant (λ k. definition_line k i name appends end matched unit) (Defining name appends end (Some c.in-MayBeLast.matched)) [] c.args.environments.now c.args.self.now
+    TakesAs-meant (λ k. definition_line k i name appends end matched unit) (Defining name appends end (Some c.in-MayBeLast.matched)) c.args.environments.now c.args.self.now
     done.new.self c.args.unread.now done.result (λ k. ap (definition_unit k i name appends end (front_of (end_mark end) matched) unit) line)
-    (search rules) done.ensures.message done.ensures.events
+    (search rules) done.ensures.step
 
 pub end_definition-requires : goal.end_definition-requires
 end_definition-requires c =
@@ -89,4 +89,4 @@ returns-in_ok-grow_definition-in-IsText c =
     (λ k. definition_line-text k u.input name appends end matched (matched_behind unit) unit front stands refl line)
     (TakesAs-became (definition_grown name (front ++ unit_bytes unit) u.input) (Defining name appends end (matched_behind unit)) c.args.environments.now c.args.self.now
     done.new.self u c.grow_definition.new.unread done.result c.in_ok-grow_definition-in-IsText.field-0 c.in_ok-grow_definition-in-IsText.ensures
-    (search rules) done.ensures.message done.ensures.events)
+    (search rules) done.ensures.step)

@@ -24,7 +24,7 @@ returns-in_ok-grow_string-in_default c = λ es.
     TakesAs-as (λ k. going_on (string_grown name unit u.input) (StringText name appends false)) (λ k. string_unit u.input name appends is_front unit) es c.args.self.now
     done.new.self u c.grow_string.new.unread (Ok done.result) (λ k. grown)
     (TakesAs-became (string_grown name unit u.input) (StringText name appends false) es c.args.self.now done.new.self u c.grow_string.new.unread done.result
-    c.in_ok-grow_string-in_default.field-0 (search rules) (search rules) done.ensures.message done.ensures.events)
+    c.in_ok-grow_string-in_default.field-0 (search rules) (search rules) done.ensures.step)
 
 pub returns-in_err-grow_string-in_default : goal.returns-in_err-grow_string-in_default
 returns-in_err-grow_string-in_default c = λ es.

@@ -17,13 +17,13 @@ loop-index-preserved c =
           let text = w.in-Some.text.now in
           let is : slice_get texts n ≡ Some text = sym w.in-Some.ensures in
           let named : name_of (name_given text) ≡ Some w.in-Some-name_given.name = sym w.in-Some-name_given.ensures in
-          rw w.self-inside-is (Removed-named n texts old kept.reading kept.requested.items kept.registers w.remove.new.self text w.in-Some-name_given.name c.loop-index.invariant is named w.remove.ensures)
+          rw w.self-inside-is (Removed-named n texts old kept.reading kept.meaning kept.registers w.remove.new.self text w.in-Some-name_given.name c.loop-index.invariant is named w.remove.ensures)
       | in-Some+in_default-name_given w ↦
           let text = w.in-Some.text.now in
           let is : slice_get texts n ≡ Some text = sym w.in-Some.ensures in
           let unnamed : name_of (name_given text) ≡ None = search rules in
-          rw w.self-inside-is (Removed-unnamed n texts old kept.reading kept.requested.items kept.registers text c.loop-index.invariant is unnamed)
+          rw w.self-inside-is (Removed-unnamed n texts old kept.reading kept.meaning kept.registers text c.loop-index.invariant is unnamed)
       | in_default w ↦
           let past : slice_get texts n ≡ None = search rules in
-          rw w.self-inside-is (Removed-past n texts old kept.reading kept.requested.items kept.registers c.loop-index.invariant past)
+          rw w.self-inside-is (Removed-past n texts old kept.reading kept.meaning kept.registers c.loop-index.invariant past)
     ]

@@ -1,5 +1,0 @@
-use Rattle.roff_engine.proofs.Performed.{not_told}
-use Rattle.roff_engine.proofs.formatter.Formatter.act.Goals as goal
-
-pub returns-in-Err : goal.returns-in-Err
-returns-in-Err g c = not_told _ _ _ _ _ _ _ _ c.in-Err.ensures.puts c.in-Err.ensures.halt

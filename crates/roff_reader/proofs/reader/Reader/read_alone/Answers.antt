@@ -1,0 +1,68 @@
+use Rattle.std.proofs.Common.{◌≡◌, ◌∙◌, Ok, ap, refl, rules, sym}
+use Rattle.roff_escape.specs.declared.open_escape.CopyUnit.TheVariants.{Byte}
+use Rattle.roff_run.specs.Events.Steps.{events_of, messages_of}
+use Rattle.roff_run.specs.Reading.{undropped_taking}
+use Rattle.roff_run.specs.Reading.Arguments.{unit_found}
+use Rattle.roff_run.specs.Reading.Beginnings.{first_taking}
+use Rattle.roff_run.specs.Reading.Calls.{call_unit}
+use Rattle.roff_run.specs.Reading.Items.{meaning_events}
+use Rattle.roff_run.specs.declared.line_state.LineState.{LineState}
+use Rattle.roff_run.specs.declared.line_state.LineState.TheVariants.{Arguments as InArguments, Calling, LineStart, Text as InText}
+use Rattle.roff_run.specs.declared.step.Step.{Step}
+use Rattle.roff_reader.proofs.TakesAs.{TakesAs-as, TakesAs-where}
+use Rattle.roff_reader.proofs.TextTaken.{TakesAs-named, plain-found}
+use Rattle.roff_reader.proofs.reader.Reader.read_alone.Goals as goal
+
+pub returns-in-LineStart : goal.returns-in-LineStart
+returns-in-LineStart c =
+    let es = c.args.environments.now in
+    let old = c.args.self.now in
+    let u = c.args.unread.now in
+    let b = c.args.byte in
+    let done = c.begin_with in
+    let is : old.reading ≡ LineStart = search rules in
+    TakesAs-where (λ k r. undropped_taking k r u.input b) LineStart es old done.new.self u u (Ok done.result) is
+    (TakesAs-as (λ k. first_taking k u.input LineStart b) (λ k. undropped_taking k LineStart u.input b) es old done.new.self u u (Ok done.result)
+    (λ k. plain-found k LineStart u.input b refl c.requires.none_half c.requires.no_escape) (done.ensures u))
+
+pub returns-in-Text : goal.returns-in-Text
+returns-in-Text c =
+    let es = c.args.environments.now in
+    let old = c.args.self.now in
+    let u = c.args.unread.now in
+    let b = c.args.byte in
+    let done = c.step_on in
+    let taken = c.taking in
+    let place : LineState = InText c.in-Text.line in
+    let is : old.reading ≡ place = search rules in
+    TakesAs-where (λ k r. undropped_taking k r u.input b) place es old done.new.self u u (Ok done.result) is
+    (TakesAs-named (λ k. undropped_taking k place u.input b) taken.result.0 es old done.new.self u done.result
+    (λ kept k. sym (plain-found k place u.input b refl c.requires.none_half c.requires.no_escape) ∙ taken.ensures.means u.input kept
+    ∙ ap (λ (s : Step). meaning_events u.input taken.result.0 (events_of kept s)) (sym done.ensures.step))
+    (λ kept. ap (messages_of kept) done.ensures.step ∙ taken.ensures.quiet kept) done.ensures.reading)
+
+pub returns-in-Arguments : goal.returns-in-Arguments
+returns-in-Arguments c =
+    let es = c.args.environments.now in
+    let old = c.args.self.now in
+    let u = c.args.unread.now in
+    let b = c.args.byte in
+    let done = c.read_unit in
+    let place : LineState = InArguments c.in-Arguments.breaks c.in-Arguments.request in
+    let is : old.reading ≡ place = search rules in
+    TakesAs-where (λ k r. undropped_taking k r u.input b) place es old done.new.self u done.new.unread done.result is
+    (TakesAs-as (λ k. unit_found k u.input c.in-Arguments.breaks c.in-Arguments.request (Byte b)) (λ k. undropped_taking k place u.input b) es old done.new.self u done.new.unread done.result
+    (λ k. plain-found k place u.input b refl c.requires.none_half c.requires.no_escape) done.ensures)
+
+pub returns-in-Calling : goal.returns-in-Calling
+returns-in-Calling c =
+    let es = c.args.environments.now in
+    let old = c.args.self.now in
+    let u = c.args.unread.now in
+    let b = c.args.byte in
+    let done = c.read_unit_of_call in
+    let place : LineState = Calling c.in-Calling.name in
+    let is : old.reading ≡ place = search rules in
+    TakesAs-where (λ k r. undropped_taking k r u.input b) place es old done.new.self u done.new.unread done.result is
+    (TakesAs-as (λ k. call_unit u.input c.in-Calling.name (Byte b)) (λ k. undropped_taking k place u.input b) es old done.new.self u done.new.unread done.result
+    (λ k. plain-found k place u.input b refl c.requires.none_half c.requires.no_escape) (done.ensures es))

@@ -1,0 +1,111 @@
+//! What an item means, where that isn't told by the name of its step.
+
+ghost use Rattle.std.specs.Prelude.{◌≡◌, ◌≤◌, None, IfSome, slice_get};
+ghost use Rattle.roff_run.specs.Events.Lines.{line_events};
+ghost use Rattle.roff_run.specs.Requests.Effects.{behind_break};
+ghost use Rattle.roff_requests.specs.Events.{request_events, stops_set};
+ghost use Rattle.roff_reader.specs.Reader.State.{nothing_kept, resumed_if};
+
+use arrayvec::ArrayVec;
+use roff_lines::Event;
+use roff_requests::{RequestEvents, RequestedEvents};
+use roff_run::{LineEvents, Message, PageEvent};
+use std::marker::Model;
+
+/// A message, if there is one, and events: those of a text line, which may go on with an interrupted
+/// one, or those of a request.
+#[derive(Drop)]
+pub(crate) struct Meaning {
+    message: Option<Message>,
+    resumes: bool,
+    line: LineEvents,
+    is_request: bool,
+    requested: RequestedEvents,
+}
+
+impl Model for Meaning {
+    ghost use Rattle.roff_reader.specs.Reader.State.{MeaningKept, kept_events};
+
+    ghost Value = { MeaningKept };
+
+    ghost view = { λ m. record {
+      message = m.message;
+      events = kept_events m.is_request m.requested.items m.resumes m.line;
+    } };
+}
+
+impl Meaning {
+    /// Nothing.
+    pub(crate) fn new() -> Self
+        ensures { result ≡ nothing_kept }
+    {
+        Meaning {
+            message: None,
+            resumes: false,
+            line: LineEvents::Nothing,
+            is_request: false,
+            requested: RequestedEvents::new(),
+        }
+    }
+
+    /// Keeps a message, if there is one, and the events of a text line, which may go on with an
+    /// interrupted one.
+    pub(crate) fn keep_line(&mut self, message: Option<Message>, resumes: bool, line: LineEvents)
+        ensures { self.new
+            ≡ record { message = message; events = resumed_if resumes (line_events line) } }
+    {
+        self.message = message;
+        self.resumes = resumes;
+        self.line = line;
+        self.is_request = false;
+    }
+
+    /// Keeps a message, if there is one, and the events of a request: those of its break, if it breaks,
+    /// and these behind it.
+    pub(crate) fn keep_request(
+        &mut self,
+        message: Option<Message>,
+        breaks: bool,
+        behind: RequestEvents,
+    )
+        ensures { self.new
+            ≡ record { message = message; events = behind_break breaks (request_events behind) } }
+    {
+        self.message = message;
+        self.requested.keep(breaks, behind);
+        self.is_request = true;
+    }
+
+    /// Keeps the events of a break, if there is one, and behind it those that set these stops in place
+    /// of those in force.
+    pub(crate) fn keep_stops(&mut self, breaks: bool, stops: ArrayVec<u32, 32>)
+        ensures { self.new
+            ≡ record { message = None; events = behind_break breaks (stops_set stops.items) } }
+    {
+        self.message = None;
+        self.requested.keep_stops(breaks, stops);
+        self.is_request = true;
+    }
+
+    /// The message, if there is one.
+    pub(crate) fn message(&self) -> Option<Message>
+        ensures { result ≡ self.now.message }
+    {
+        self.message
+    }
+
+    /// The event at an index, if there are so many: 35 at most.
+    pub(crate) fn event(&self, index: usize) -> Option<PageEvent>
+        ensures at { result ≡ slice_get self.now.events index }
+        ensures few { IfSome result (λ event. index ≤ 34) }
+    {
+        if self.is_request {
+            return self.requested.at(index);
+        }
+        match (self.resumes, index) {
+            (false, _) => self.line.at(index),
+            (true, 0) => Some(PageEvent::Text(Event::Resume)),
+            (true, _) => self.line.at(index - 1),
+        }
+    }
+}
