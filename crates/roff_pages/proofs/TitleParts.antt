@@ -258,3 +258,23 @@ pub parts_at : (length l c r : ℕ) (columns left centre right : List ℕ) → c
     (slice_index_or columns 1 0 ≡ centre_at)
     × (slice_index_or columns 2 0 ≡ right_column length (text_width right) (centre_at + text_width centre))
 parts_at length l c r columns left centre right placed is_l is_c is_r = rw (placed, is_l, is_c, is_r) (refl, refl)
+
+-- how wide a title is
+shown_within : (none : Bool) (left centre end shown : ℕ) → shown ≡ (if none then left else end) → left ≤ centre → centre ≤ end → shown ≤ end
+shown_within true left centre end shown is few some = omega arith
+shown_within false left centre end shown is few some = omega arith
+
+pub width-placed : (length : ℕ) (left centre right : List ℕ) → let centre_at = centre_column length (text_width centre) (text_width left) in
+    text_width (parts_placed length left centre right)
+    ≡ (if is_empty right then (if is_empty centre then text_width left else centre_at + text_width centre)
+    else right_column length (text_width right) (centre_at + text_width centre) + text_width right)
+width-placed length left centre right =
+    let centre_at : ℕ = centre_column length (text_width centre) (text_width left) in
+    let right_at : ℕ = right_column length (text_width right) (centre_at + text_width centre) in
+    let shown : List ℕ = left ++ part_at centre_at (text_width left) centre in
+    let few : text_width left ≤ centre_at = at_least ((length - text_width centre) / 2) (text_width left) in
+    let wide = width-shown centre_at left centre few in
+    let within : text_width shown ≤ centre_at + text_width centre =
+    shown_within (is_empty centre) (text_width left) centre_at (centre_at + text_width centre) (text_width shown) wide few (omega arith) in
+    let before : text_width shown ≤ right_at = omega (arith, within, at_least (length - text_width right) (centre_at + text_width centre)) in
+    width-shown right_at shown right before ∙ ap (λ n. if is_empty right then n else right_at + text_width right) wide

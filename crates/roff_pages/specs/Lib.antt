@@ -1,4 +1,5 @@
 pub mod Sinks
+pub mod Within
 pub mod Titles
 pub mod TitleParts
 pub mod TitleLeft

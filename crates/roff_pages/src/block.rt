@@ -11,6 +11,8 @@ ghost use Rattle.roff_pages.specs.TitleLeft.{title_of};
 ghost use Rattle.roff_pages.specs.TitleParts.{HasNoBlank};
 ghost use Rattle.roff_pages.specs.Titles.{part_text, title_text};
 
+mod within;
+
 use crate::sink::{ByteSink, SinkFault};
 use crate::title::{TitleLine, TitlePieces};
 use roff_lines::{Line, LineBytes};

@@ -8,6 +8,7 @@
 mod block;
 pub mod laws;
 mod layout_event;
+mod line_width;
 mod open_diversion;
 mod page_fault;
 mod pages;

@@ -3,7 +3,9 @@
 ghost use Rattle.std.specs.Prelude.{◌≡◌, ◌-◌, [], IfOk, Some, None, not, min, ◌^◌, ◌*◌};
 ghost use Rattle.roff_pages.specs.Layout.{Layout, started_with, page_place};
 
+mod diverted;
 mod diverting;
+mod placing;
 mod queries;
 mod setting;
 mod spacing;
@@ -12,13 +14,9 @@ mod turning;
 use crate::block::Block;
 use crate::open_diversion::OpenDiversion;
 use crate::trap::Trap;
-use arrayvec::ArrayVec;
 use roff_num::{Limits, Num};
 use std::alloc::{AllocError, Global};
 use std::marker::Model;
-
-/// The most ranges of pages.
-pub const MOST_RANGES: usize = 32;
 
 /// The greatest count of lines and of columns that is kept.
 pub(crate) const MOST_COUNTED: u64 = 1 << 33;
@@ -32,7 +30,7 @@ pub(crate) const MOST_BEGUN: u64 = 1 << 32;
 #[derive(Drop)]
 pub struct Pages {
     /// The pages that are written; all if there is none.
-    ranges: ArrayVec<(Num, Num), 32>,
+    ranges: Vec<(Num, Num)>,
     /// The number of the next page, if one was set.
     next: Option<Num>,
     /// How many pages were begun.
@@ -90,7 +88,7 @@ impl Pages {
         alloc: Global,
         limits: Limits,
         first: Option<Num>,
-        ranges: ArrayVec<(Num, Num), 32>,
+        ranges: Vec<(Num, Num)>,
     ) -> Result<Self, AllocError>
         ensures stands { IfOk result (λ p. StandsAs (started_with first ranges.items) p) }
         ensures written { IfOk result (λ p. p.written ≡ 0) }

@@ -100,3 +100,25 @@ impl<'a> TitlePieces<'a> {
         None
     }
 }
+
+/// How wide a title is, in columns.
+pub(crate) fn width_of_title(title: TitleLine<'_>) -> u64
+    requires some { 0 < length title.number.now }
+    requires width { let number = title.number.now in
+        text_width (part_text number title.left.now)
+        + text_width (part_text number title.centre.now)
+        + text_width (part_text number title.right.now) + title.length < 2 ^ 64 }
+    ensures { result ≡ text_width (title_text (title_of title.entry)) }
+{
+    let left = width_of_part(title.left, title.number);
+    let centre = width_of_part(title.centre, title.number);
+    let right = width_of_part(title.right, title.number);
+    let [_, centre_at, right_at] = place_title([left, centre, right], title.length);
+    if !title.right.is_empty() {
+        return right_at + right;
+    }
+    if !title.centre.is_empty() {
+        return centre_at + centre;
+    }
+    left
+}

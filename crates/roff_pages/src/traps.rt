@@ -2,10 +2,13 @@
 
 ghost use Rattle.std.specs.Prelude.{◌≡◌, ◌≤◌, ◌<◌, length, vec_capacity, OnOk, IfErr};
 ghost use Rattle.roff_num.specs.declared.limit.Limit.TheVariants.{Traps};
-ghost use Rattle.roff_pages.specs.Stops.{place_of, next_stop, nearer_stop};
+ghost use Rattle.std.specs.Prelude.{ℕ, ◌+◌, Some};
+ghost use Rattle.roff_pages.specs.Stops.{place_of, next_stop, nearer_stop, stop_at, trap_stop};
+ghost use Rattle.roff_pages.specs.Queries.{way_from};
+ghost use Rattle.roff_pages.specs.Pages.Counted.{counted};
 ghost use Rattle.roff_pages.specs.Turning.{is_given, is_named, same_name};
 ghost use Rattle.roff_pages.specs.Turning.{moved_to, with_first, with_trap, without_first};
-ghost use Rattle.roff_pages.specs.Springs.{first_met, is_on_top, is_passed};
+ghost use Rattle.roff_pages.specs.Springs.{diversion_trap_passed, first_met, is_on_top, is_passed};
 ghost use Rattle.roff_pages.specs.Pages.FirstTraps.{first_index};
 
 use crate::trap::Trap;
@@ -73,6 +76,56 @@ pub(crate) fn first_passed(length: u32, from: u64, to: u64, traps: &[Trap]) -> O
         }
     }
     None
+}
+
+/// How far a diversion's trap is beyond a height, if it lies beyond it. Heights are counted as open
+/// diversions count them.
+pub(crate) fn way_in_diversion(height: u64, trap: Option<Trap>) -> Option<u64>
+    ensures { (lines : ℕ) → height ≡ counted lines
+        → result ≡ way_from lines (trap_stop lines trap) }
+{
+    match trap {
+        Some(trap) => way_beyond(height, trap.place),
+        None => None,
+    }
+}
+
+/// How far a place is beyond a height, if it lies beyond it.
+fn way_beyond(height: u64, place: i32) -> Option<u64>
+    ensures { (lines : ℕ) → height ≡ counted lines
+        → result ≡ way_from lines (stop_at lines place) }
+{
+    if place < 0 {
+        return None;
+    }
+    let place = place as u64;
+    if height < place {
+        Some(place - height)
+    } else {
+        None
+    }
+}
+
+/// The name of a diversion's trap, if so many lines more pass it.
+pub(crate) fn passed_in_diversion(height: u64, lines: u64, trap: Option<Trap>) -> Option<ShortName>
+    ensures { (from more : ℕ) → height ≡ counted from → counted lines ≡ counted more
+        → result ≡ diversion_trap_passed from (from + more) trap }
+{
+    match trap {
+        Some(trap) => passed_beyond(height, lines, trap),
+        None => None,
+    }
+}
+
+/// The same of a trap that is there.
+fn passed_beyond(height: u64, lines: u64, trap: Trap) -> Option<ShortName>
+    ensures { (from more : ℕ) → height ≡ counted from → counted lines ≡ counted more
+        → result ≡ diversion_trap_passed from (from + more) (Some trap) }
+{
+    match way_beyond(height, trap.place) {
+        Some(way) if way <= lines => Some(trap.name),
+        _ => None,
+    }
 }
 
 /// Plants a trap among others: in the place in turn of the first with the same place as given, or as

@@ -2,22 +2,27 @@
 use Rattle.std.specs.Prelude.{◌-◌, ℕ, ◌+◌, not, List, ◌++◌, length, Option, None, if◌then◌else◌, ◌==◌}
 use Rattle.roff_num.specs.declared.short_name.ShortName.{ShortName}
 use Rattle.roff_pages.specs.Layout.{Box, Layout, page_place}
-use Rattle.roff_pages.specs.Turning.{turned_if_full}
+use Rattle.roff_pages.specs.Turning.{in_innermost, turned_if_full}
 use Rattle.roff_pages.specs.Stops.{next_stop}
 use Rattle.roff_pages.specs.Pages.Kept.{Kept}
-use Rattle.roff_pages.specs.Springs.{first_met, is_on_top, is_passed}
+use Rattle.roff_pages.specs.Springs.{first_met, is_on_top, is_passed, passed_in}
+use Rattle.roff_pages.specs.Queries.{place_now}
 
 -- the page with boxes more, before it ends
 abbrev pub with_lines : List Box → Layout → Layout
 with_lines boxes L = record L { boxes = boxes ++ L.boxes }
 
--- what springs where the layout has become another one, and the page behind a place has come to another place: nothing where it
--- is over, and else what is met at the beginning of a page that began, or on the way
-abbrev pub sprung_on : Layout → Layout → ℕ → ℕ → Option ShortName
-sprung_on L M from to =
+-- what springs where the layout has become another one, and this was passed: nothing where it is over, and else what is met at
+-- the beginning of a page that began, or what was passed
+abbrev pub sprung_or : Layout → Layout → Option ShortName → Option ShortName
+sprung_or L M passed =
     if M.is_over then None
     else if not (M.begun == L.begun) then first_met is_on_top M.length M.traps
-    else first_met (is_passed from to) L.length L.traps
+    else passed
+
+-- the same where the page behind a place has come to another place
+abbrev pub sprung_on : Layout → Layout → ℕ → ℕ → Option ShortName
+sprung_on L M from to = sprung_or L M (first_met (is_passed from to) L.length L.traps)
 
 -- how far the next stop is
 abbrev pub way_on : Kept → ℕ
@@ -26,3 +31,12 @@ way_on k = next_stop k.length k.place k.traps - k.place
 -- what springs behind the boxes
 abbrev pub sprung_by : List Box → Layout → Option ShortName
 sprung_by boxes L = sprung_on L (turned_if_full (with_lines boxes L)) (page_place L) (page_place L + length boxes)
+
+-- with boxes in the innermost open diversion, before the page ends
+abbrev pub with_diverted : List Box → Layout → Layout
+with_diverted boxes L = record L { diversions = in_innermost boxes L.diversions }
+
+-- what springs behind them
+abbrev pub sprung_diverted : List Box → Layout → Option ShortName
+sprung_diverted boxes L =
+    sprung_or L (turned_if_full (with_diverted boxes L)) (passed_in L.diversions (place_now L) (place_now L + length boxes) L)

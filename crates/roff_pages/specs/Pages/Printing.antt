@@ -1,16 +1,16 @@
 -- What a call that writes makes of pages and of a sink.
-use Rattle.std.specs.Prelude.{◌≡◌, ℕ, ◌+◌, ◌<◌, ◌≤◌, Bool, List, [], length, replicate, Option, Result, Ok, Err, if◌then◌else◌}
+use Rattle.std.specs.Prelude.{◌≡◌, ℕ, ◌+◌, ◌<◌, ◌≤◌, Bool, List, [], length, Option, Result, Ok, Err, if◌then◌else◌}
 use Rattle.roff_num.specs.declared.short_name.ShortName.{ShortName}
 use Rattle.roff_pages.specs.declared.page_fault.PageFault.{PageFault}
 use Rattle.roff_pages.specs.declared.page_fault.PageFault.TheVariants.{Output, Sink}
 use Rattle.roff_pages.specs.Sinks.{Sunk, Writes, Fails}
-use Rattle.roff_pages.specs.Layout.{Empty, Layout}
+use Rattle.roff_pages.specs.Layout.{Box, Layout}
 use Rattle.roff_pages.specs.Happenings.{Happening}
 use Rattle.roff_pages.specs.Turning.{turned_if_full, with_event}
 use Rattle.roff_pages.specs.Springs.{springs}
-use Rattle.roff_pages.specs.DeviceText.{device_text}
+use Rattle.roff_pages.specs.DeviceText.{device_lines, device_text}
 use Rattle.roff_pages.specs.Pages.Kept.{Kept}
-use Rattle.roff_pages.specs.Pages.Stands.{StandsAs}
+use Rattle.roff_pages.specs.Pages.Stands.{StandsAs, SameLimits}
 use Rattle.roff_pages.specs.Pages.Advancing.{sprung_by, with_lines}
 
 -- a text was written within the limit, and counted
@@ -25,15 +25,16 @@ pub record IsRefused (old new : Kept) (out out_then : Sunk) (text : List ℕ) : 
   pub same : new ≡ old
   pub unwritten : out_then ≡ out
 
--- it is within the limit, and the sink failed
-pub record IsCutOff (old : Kept) (out out_then : Sunk) (text : List ℕ) : Type 0 where
+-- it is within the limit, and the sink failed: nothing changed but the sink
+pub record IsCutOff (old new : Kept) (out out_then : Sunk) (text : List ℕ) : Type 0 where
   pub within : old.written + length text ≤ old.output
+  pub same : new ≡ old
   pub fails : Fails out out_then text
 
 -- why a text wasn't written
 abbrev pub IsUnprinted : PageFault → Kept → Kept → Sunk → Sunk → List ℕ → Type 0
 IsUnprinted Output old new out out_then text = IsRefused old new out out_then text
-IsUnprinted Sink old new out out_then text = IsCutOff old out out_then text
+IsUnprinted Sink old new out out_then text = IsCutOff old new out out_then text
 
 -- a happening was done to a layout, and springs something: the text that it writes was written
 pub record DoneTo (L : Layout) (x : Happening) (name : Option ShortName) (old new : Kept) (out out_then : Sunk) : Type 0 where
@@ -47,20 +48,24 @@ DidTo L x (Ok name) old new out out_then = DoneTo L x name old new out out_then
 DidTo L x (Err fault) old new out out_then = IsUnprinted fault old new out out_then (device_text x L)
 
 -- The same for whatever layout the pages stand for: what springs, and what is written, is the definition's; a limit is answered
--- exactly where it would be passed, with nothing written and nothing changed; and a failing sink got a beginning of the text.
+-- exactly where it would be passed, with nothing written; a failing sink got a beginning of the text; and behind both the pages
+-- are as before. The limits stay.
 pub record HappensWriting (x : Happening) (old new : Kept) (out out_then : Sunk) (result : Result (Option ShortName) PageFault) : Type 0 where
   pub did : (L : Layout) → StandsAs L old → DidTo L x result old new out out_then
+  pub limits : SameLimits old new
 
--- blank lines, if the page is written
-abbrev pub blank_text : Bool → ℕ → List ℕ
-blank_text is_listed count = if is_listed then replicate count 10 else []
+-- a text, if the page is written
+abbrev pub if_listed : Bool → List ℕ → List ℕ
+if_listed is_listed text = if is_listed then text else []
 
--- so many blank lines were put on the page, with this number for the next page and no-space mode so
-pub record Blanked (L : Layout) (count : ℕ) (name : Option ShortName) (old new : Kept) (out out_then : Sunk) : Type 0 where
-  pub stands : StandsAs (turned_if_full (with_lines (replicate count Empty) L)) new
-  pub springs : name ≡ sprung_by (replicate count Empty) L
-  pub printed : Printed old new out out_then (blank_text L.is_listed count)
+-- boxes were put on the page
+pub record Boxed (L : Layout) (boxes : List Box) (name : Option ShortName) (old new : Kept) (out out_then : Sunk) : Type 0 where
+  pub stands : StandsAs (turned_if_full (with_lines boxes L)) new
+  pub springs : name ≡ sprung_by boxes L
+  pub printed : Printed old new out out_then (if_listed L.is_listed (device_lines L.offset boxes))
 
-abbrev pub BlankedTo : Layout → ℕ → Result (Option ShortName) PageFault → Kept → Kept → Sunk → Sunk → Type 0
-BlankedTo L count (Ok name) old new out out_then = Blanked L count name old new out out_then
-BlankedTo L count (Err fault) old new out out_then = IsUnprinted fault old new out out_then (blank_text L.is_listed count)
+-- what became of them
+abbrev pub BoxedTo : Layout → List Box → Result (Option ShortName) PageFault → Kept → Kept → Sunk → Sunk → Type 0
+BoxedTo L boxes (Ok name) old new out out_then = Boxed L boxes name old new out out_then
+BoxedTo L boxes (Err fault) old new out out_then =
+    IsUnprinted fault old new out out_then (if_listed L.is_listed (device_lines L.offset boxes))

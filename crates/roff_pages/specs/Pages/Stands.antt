@@ -1,14 +1,11 @@
 -- When pages stand for a layout, and what a call makes of them.
-use Rattle.std.specs.Prelude.{◌≡◌, ℕ, ◌^◌, min, length, map}
+use Rattle.std.specs.Prelude.{◌≡◌, ◌^◌, min, length, map}
 use Rattle.roff_pages.specs.declared.open_diversion.OpenDiversion.{OpenDiversion}
 use Rattle.roff_pages.specs.Layout.{Layout, Diversion, page_place}
 use Rattle.roff_pages.specs.Happenings.{Happening}
 use Rattle.roff_pages.specs.Turning.{greatest_width, with_event}
 use Rattle.roff_pages.specs.Pages.Kept.{Kept}
-
--- No more boxes and columns are counted: no page is as long, no trap lies as far, and no register holds as much.
-abbrev pub counted : ℕ → ℕ
-counted n = min n (2 ^ 33)
+use Rattle.roff_pages.specs.Pages.Counted.{counted}
 
 -- what is kept of an open diversion
 abbrev pub kept_diversion : Diversion → OpenDiversion
@@ -41,15 +38,15 @@ pub record StandsAs (L : Layout) (k : Kept) : Type 0 where
   pub is_closing : k.is_closing ≡ L.is_closing
   pub is_over : k.is_over ≡ L.is_over
 
--- the limits stay, and what was written
+-- the limits stay
 pub record SameLimits (old new : Kept) : Type 0 where
   pub traps : new.most_traps ≡ old.most_traps
   pub diversions : new.most_diversions ≡ old.most_diversions
   pub output : new.output ≡ old.output
-  pub written : new.written ≡ old.written
 
 -- a happening that writes nothing and that no limit refuses: whatever layout the old pages stand for, the new ones stand for
 -- the one behind it, within the same limits
 pub record Happens (x : Happening) (old new : Kept) : Type 0 where
   pub stands : (L : Layout) → StandsAs L old → StandsAs (with_event x L) new
   pub limits : SameLimits old new
+  pub written : new.written ≡ old.written

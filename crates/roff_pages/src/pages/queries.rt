@@ -1,15 +1,17 @@
 //! What may be asked of pages (manual, section 8). Lengths are in lines, widths in columns.
 
-ghost use Rattle.std.specs.Prelude.{◌≡◌, not, min, Some, None, option_map};
+ghost use Rattle.std.specs.Prelude.{◌≡◌, ◌<◌, [], true, false, length, option_map};
 ghost use Rattle.roff_pages.specs.Layout.{Layout};
 ghost use Rattle.roff_pages.specs.Queries.{nl, place_now, way_to_trap, diversion_name};
 ghost use Rattle.roff_pages.specs.Queries.{is_diverting, takes_text};
 
 use super::Pages;
+use crate::traps::way_in_diversion;
 use roff_num::{Num, ShortName};
 
 impl Pages {
-    ghost use Rattle.roff_pages.specs.Pages.Stands.{StandsAs, counted};
+    ghost use Rattle.roff_pages.specs.Pages.Counted.{counted};
+    ghost use Rattle.roff_pages.specs.Pages.Stands.{StandsAs};
 
     /// The place on the page; none before the first page begins. No more than 2^33 lines are
     /// counted.
@@ -75,6 +77,17 @@ impl Pages {
         self.width
     }
 
+    /// How far the next trap is where text goes, or the page's end; none in a diversion whose trap
+    /// doesn't lie ahead.
+    pub fn way_to_trap(&self) -> Option<u64>
+        ensures { (L : Layout) → StandsAs L self.now → result ≡ way_to_trap L }
+    {
+        match self.innermost {
+            Some(diversion) => way_in_diversion(diversion.height, diversion.trap),
+            None => Some(self.way()),
+        }
+    }
+
     /// The name of the innermost open diversion.
     pub fn diversion_name(&self) -> Option<ShortName>
         ensures { (L : Layout) → StandsAs L self.now → result ≡ diversion_name L }
@@ -87,7 +100,9 @@ impl Pages {
 
     /// Whether a diversion is open.
     pub fn is_diverting(&self) -> bool
-        ensures { (L : Layout) → StandsAs L self.now → result ≡ is_diverting L }
+        ensures layout { (L : Layout) → StandsAs L self.now → result ≡ is_diverting L }
+        ensures open { result ≡ true → 0 < length self.now.diversions }
+        ensures closed { result ≡ false → self.now.diversions ≡ [] }
     {
         self.innermost.is_some()
     }

@@ -1,11 +1,11 @@
 //! Spacing, and ejecting pages (manual, sections 3 and 5.3).
 
 ghost use Rattle.std.specs.Prelude.{◌≡◌, ◌<◌, ◌≤◌, ◌^◌, [], OnOk, IfErr, nat_lt, ◌&&◌, ◌==◌};
-ghost use Rattle.std.specs.Prelude.{if◌then◌else◌};
-ghost use Rattle.roff_pages.specs.Layout.{Layout};
-ghost use Rattle.roff_pages.specs.Happenings.{Does, Eject, EjectOn, Need, Space};
-ghost use Rattle.roff_pages.specs.Pages.Printing.{BlankedTo, HappensWriting, IsUnprinted, Printed};
-ghost use Rattle.roff_pages.specs.Pages.Printing.{blank_text};
+ghost use Rattle.std.specs.Prelude.{if◌then◌else◌, replicate};
+ghost use Rattle.roff_pages.specs.Layout.{Empty, Layout};
+ghost use Rattle.roff_pages.specs.Happenings.{Does, Eject, EjectLast, EjectOn, Need, Space};
+ghost use Rattle.roff_pages.specs.Pages.Printing.{BoxedTo, HappensWriting, IsUnprinted, Printed};
+ghost use Rattle.roff_pages.specs.Pages.Printing.{if_listed};
 ghost use Rattle.roff_pages.specs.Pages.Advancing.{way_on};
 
 use super::Pages;
@@ -115,8 +115,28 @@ impl Pages {
         self.put_blank_lines(way, next, no_space, out)
     }
 
+    /// Ejects the page at the end of the closing phase. The layout is over if no page was begun, or
+    /// nothing stands on it.
+    ///
+    /// # Errors
+    ///
+    /// [`PageFault`] if the limit on the output would be passed, or the sink fails.
+    pub fn eject_last<O: ByteSink>(&mut self, out: &mut O) -> Result<Option<ShortName>, PageFault>
+        ensures { HappensWriting (Does EjectLast) self.old self.new
+            (O.sunk out.old) (O.sunk out.new) result }
+    {
+        if self.begun == 0 || self.place == 0 {
+            self.is_over = true;
+            return Ok(None);
+        }
+        let next = self.next;
+        let no_space = self.no_space;
+        let way = self.way();
+        self.put_blank_lines(way, next, no_space, out)
+    }
+
     /// How far the next stop is.
-    fn way(&self) -> u64
+    pub(super) fn way(&self) -> u64
         ensures way { result ≡ way_on self.now }
         ensures most { result ≤ 2 ^ 32 }
         ensures short { self.now.length < 2 ^ 32 }
@@ -134,15 +154,13 @@ impl Pages {
         out: &mut O,
     ) -> Result<Option<ShortName>, PageFault>
         requires { count ≤ 2 ^ 32 }
-        ensures { (L : Layout) → StandsAs L self.old
-            → BlankedTo (record L { next = next; no_space = no_space }) count result self.old self.new (O.sunk out.old) (O.sunk out.new) }
+        ensures did { (L : Layout) → StandsAs L self.old
+            → BoxedTo (record L { next = next; no_space = no_space }) (replicate count Empty)
+            result self.old self.new (O.sunk out.old) (O.sunk out.new) }
+        ensures limits { SameLimits self.old self.new }
     {
         match self.write_blank_lines(count, out) {
-            Ok(()) => {
-                self.next = next;
-                self.no_space = no_space;
-                Ok(self.advance(count))
-            }
+            Ok(()) => Ok(self.put_lines(count, next, no_space)),
             Err(fault) => Err(fault),
         }
     }
@@ -151,11 +169,11 @@ impl Pages {
     fn write_blank_lines<O: ByteSink>(&mut self, count: u64, out: &mut O) -> Result<(), PageFault>
         requires { count ≤ 2 ^ 32 }
         ensures ok { OnOk result (Printed self.old self.new (O.sunk out.old) (O.sunk out.new)
-            (blank_text self.old.is_listed count)) }
-        ensures kept { OnOk result
-            (self.new ≡ record self.old { written = self.new.written }) }
+            (if_listed self.old.is_listed (replicate count 10))) }
         ensures err { IfErr result (λ f. IsUnprinted f self.old self.new
-            (O.sunk out.old) (O.sunk out.new) (blank_text self.old.is_listed count)) }
+            (O.sunk out.old) (O.sunk out.new)
+            (if_listed self.old.is_listed (replicate count 10))) }
+        ensures kept { self.new ≡ record self.old { written = self.new.written } }
     {
         if !self.is_listed {
             return Ok(());
@@ -174,7 +192,7 @@ impl Pages {
 }
 
 /// How much is spaced where so many lines are needed and the stop is so far.
-fn needed(way: u64, lines: u32) -> u64
+pub(super) fn needed(way: u64, lines: u32) -> u64
     ensures count { result ≡ (if nat_lt way lines then way else 0) }
     ensures most { result ≤ way }
 {
@@ -182,7 +200,7 @@ fn needed(way: u64, lines: u32) -> u64
 }
 
 /// No-space mode behind so many lines.
-fn mode_behind(no_space: bool, count: u64) -> bool
+pub(super) fn mode_behind(no_space: bool, count: u64) -> bool
     ensures { result ≡ (no_space && count == 0) }
 {
     if count == 0 { no_space } else { false }

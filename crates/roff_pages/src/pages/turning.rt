@@ -24,13 +24,36 @@ impl Pages {
         if self.is_over { None } else { sprung }
     }
 
+    /// Behind so many lines that were written: the page has them, the next one gets this number, if
+    /// it gets one, and no-space mode is so. Answers what springs.
+    pub(super) fn put_lines(
+        &mut self,
+        lines: u64,
+        next: Option<Num>,
+        no_space: bool,
+    ) -> Option<ShortName>
+        ensures stands { (L : Layout) (boxes : List Box) → StandsAs L self.old
+            → length boxes ≡ lines → StandsAs (turned_if_full
+            (with_lines boxes (record L { next = next; no_space = no_space }))) self.new }
+        ensures springs { (L : Layout) (boxes : List Box) → StandsAs L self.old
+            → length boxes ≡ lines
+            → result ≡ sprung_by boxes (record L { next = next; no_space = no_space }) }
+        ensures limits { SameLimits self.old self.new }
+        ensures written { self.new.written ≡ self.old.written }
+    {
+        self.next = next;
+        self.no_space = no_space;
+        self.advance(lines)
+    }
+
     /// The page with so many lines more: it ends where it is full. Answers what springs.
-    pub(super) fn advance(&mut self, lines: u64) -> Option<ShortName>
+    fn advance(&mut self, lines: u64) -> Option<ShortName>
         ensures stands { (L : Layout) (boxes : List Box) → StandsAs L self.old
             → length boxes ≡ lines → StandsAs (turned_if_full (with_lines boxes L)) self.new }
         ensures springs { (L : Layout) (boxes : List Box) → StandsAs L self.old
             → length boxes ≡ lines → result ≡ sprung_by boxes L }
         ensures limits { SameLimits self.old self.new }
+        ensures written { self.new.written ≡ self.old.written }
     {
         let from = self.place;
         self.place = from.saturating_add(lines).min(MOST_COUNTED);
@@ -56,11 +79,12 @@ impl Pages {
     }
 
     /// Ends the page: the next one begins, but in the closing phase. Answers what springs.
-    fn turn(&mut self) -> Option<ShortName>
+    pub(super) fn turn(&mut self) -> Option<ShortName>
         ensures stands { (L : Layout) → StandsAs L self.old → StandsAs (turned L) self.new }
         ensures springs { (L : Layout) → StandsAs L self.old
             → result ≡ (if (turned L).is_over then None else first_met is_on_top L.length L.traps) }
         ensures limits { SameLimits self.old self.new }
+        ensures written { self.new.written ≡ self.old.written }
     {
         if self.is_closing {
             self.is_over = true;
@@ -77,6 +101,7 @@ impl Pages {
             → result ≡ first_met is_on_top L.length L.traps }
         ensures over { self.new.is_over ≡ self.old.is_over }
         ensures limits { SameLimits self.old self.new }
+        ensures written { self.new.written ≡ self.old.written }
     {
         let number = number_behind(self.next, self.number);
         self.begun = (self.begun + 1).min(MOST_BEGUN);

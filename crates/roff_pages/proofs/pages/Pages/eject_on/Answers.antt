@@ -2,7 +2,8 @@ use Rattle.std.proofs.Common.{◌≡◌, ◌≤◌, ◌<◌, ◌∙◌, ap, arit
 use Rattle.std.specs.Prelude.{◌^◌}
 use Rattle.roff_pages.specs.Pages.Kept.{Kept}
 use Rattle.roff_pages.specs.Pages.Advancing.{way_on}
-use Rattle.roff_pages.proofs.Blanking.{did_blank_as, did_nothing, eject_on_nothing, eject_on_puts}
+use Rattle.roff_pages.proofs.Blanking.{did_blank_as, eject_on_nothing, eject_on_puts}
+use Rattle.roff_pages.proofs.PageBoxes.{SameLimits-same, did_nothing}
 use Rattle.roff_pages.proofs.pages.Pages.eject_on.Goals as goal
 
 pub returns-then-self-from : goal.returns-then-self-from
@@ -12,7 +13,7 @@ returns-then-self-from g c =
     let within : k.written ≤ k.output = subst (λ (k : Kept). k.written ≤ k.output) c.self.view_is c.self.invariant.written in
     let few : c.args.asked < 2 ^ 32 = omega (arith, c.ranges.asked) in
     let other : k.begun ≡ c.args.asked → ⊥ = λ e. c.if-self-from.true (pages ∙ (e ∙ sym c.from.ensures)) in
-    record { did = λ L s. did_nothing _ L k _ (eject_on_nothing c.args.asked L k s few other) s within }
+    record { did = λ L s. did_nothing _ L k _ (eject_on_nothing c.args.asked L k s few other) s within; limits = SameLimits-same k }
 
 pub returns : goal.returns
 returns g c =
@@ -25,5 +26,6 @@ returns g c =
     let way : c.way-way.result ≡ way_on k = c.way-way.ensures.way in
     record {
       did = λ L s. did_blank_as _ L (way_on k) (way_on k) c.way-way.result k.next c.self.inside.next k.no_space c.self.inside.no_space k c.put_blank_lines.new.self (g.O.ByteSink.sunk c.args.out.now) (g.O.ByteSink.sunk c.put_blank_lines.new.out) c.put_blank_lines.result
-          way next mode (eject_on_puts c.args.asked L k s c.way-way.ensures.short few is) (c.put_blank_lines.ensures L s);
+          way next mode (eject_on_puts c.args.asked L k s c.way-way.ensures.short few is) (c.put_blank_lines.ensures.did L s);
+      limits = c.put_blank_lines.ensures.limits;
     }

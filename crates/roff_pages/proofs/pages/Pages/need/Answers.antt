@@ -15,5 +15,6 @@ returns g c =
     let behind : c.mode_behind.result ≡ (k.no_space && count == 0) = c.mode_behind.ensures ∙ ap (λ (on : Bool). on && count == 0) mode in
     record {
       did = λ L s. did_blank_as _ L count count count k.next c.self.inside.next (k.no_space && count == 0) c.mode_behind.result k c.put_blank_lines.new.self (g.O.ByteSink.sunk c.args.out.now) (g.O.ByteSink.sunk c.put_blank_lines.new.out) c.put_blank_lines.result
-          refl next behind (need_puts c.args.lines L k count s way.short c.requires is) (c.put_blank_lines.ensures L s);
+          refl next behind (need_puts c.args.lines L k count s way.short c.requires is) (c.put_blank_lines.ensures.did L s);
+      limits = c.put_blank_lines.ensures.limits;
     }

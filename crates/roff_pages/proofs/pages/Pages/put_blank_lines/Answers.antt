@@ -1,10 +1,20 @@
-use Rattle.std.proofs.Common.{ap, sym}
+use Rattle.std.proofs.Common.{List, replicate, sym}
+use Rattle.std.proofs.lemmas.List.{length-replicate}
+use Rattle.roff_pages.specs.Layout.{Box, Empty}
 use Rattle.roff_pages.specs.Pages.Kept.{Kept}
-use Rattle.roff_pages.proofs.Blanking.{blanked}
+use Rattle.roff_pages.proofs.PageBoxes.{boxed, unboxed, device_lines-blank}
 use Rattle.roff_pages.proofs.pages.Pages.put_blank_lines.Goals as goal
 
-pub returns-in-Ok : goal.returns-in-Ok
-returns-in-Ok g c L s =
-    blanked L c.args.self.now c.write_blank_lines.new.self _ c.advance.new.self c.args.count c.args.next c.args.no_space c.advance.result _ _ s c.in-Ok.ensures.kept
-    (ap (λ (k : Kept). record k { next = c.args.next; no_space = c.args.no_space }) (sym c.self.view_is))
-    c.advance.ensures.stands c.advance.ensures.springs c.advance.ensures.limits.written c.in-Ok.ensures.ok
+pub returns-in-Ok-clause-did : goal.returns-in-Ok-clause-did
+returns-in-Ok-clause-did g c L s =
+    let k : Kept = c.args.self.now in
+    let put = c.put_lines in
+    let boxes : List Box = replicate c.args.count Empty in
+    boxed L k c.write_blank_lines.new.self put.new.self boxes c.args.count c.args.next c.args.no_space put.result (replicate c.args.count 10) _ _ s
+    c.write_blank_lines.ensures.kept (length-replicate {A = Box} c.args.count Empty) (sym (device_lines-blank k.offset c.args.count))
+    put.ensures.stands put.ensures.springs put.ensures.written c.in-Ok.ensures.ok
+
+pub returns-in-Err-clause-did : goal.returns-in-Err-clause-did
+returns-in-Err-clause-did g c L s =
+    let k : Kept = c.args.self.now in
+    unboxed L k _ _ (replicate c.args.count Empty) (replicate c.args.count 10) _ _ s (sym (device_lines-blank k.offset c.args.count)) c.in-Err.ensures.err

@@ -1,0 +1,29 @@
+use Rattle.std.proofs.Common.{◌≡◌, ◌∷◌, ◌∙◌, List, Option, ap, reverse, sym}
+use Rattle.roff_pages.specs.declared.open_diversion.OpenDiversion.{OpenDiversion}
+use Rattle.roff_pages.specs.Turning.{turned_if_full}
+use Rattle.roff_pages.specs.Pages.Advancing.{sprung_or, with_diverted}
+use Rattle.roff_pages.specs.Pages.Kept.{Kept, open_diversions}
+use Rattle.roff_pages.proofs.Diverting.{diverted_standing, passed_kept}
+use Rattle.roff_pages.proofs.pages.Pages.put_diverted.Goals as goal
+
+pub returns-in-Some-clause-stands : goal.returns-in-Some-clause-stands
+returns-in-Some-clause-stands c L boxes s lines width =
+    let k : Kept = c.args.self.now in
+    let rest : List OpenDiversion = reverse c.self.inside.outer.items in
+    let is : k.diversions ≡ c.in-Some.diversion ∷ rest =
+    sym (ap (λ (k : Kept). k.diversions) c.self.view_is) ∙ ap (λ (o : Option OpenDiversion). open_diversions o c.self.inside.outer.items) c.in-Some.is in
+    c.end_if_short.ensures.stands (with_diverted boxes L)
+    (diverted_standing L k _ boxes c.in-Some.diversion c.with_lines.result rest s is (λ d e. c.with_lines.ensures d boxes e lines width)
+    (ap (λ (k : Kept). record k { diversions = c.with_lines.result ∷ rest }) (sym c.self.view_is)))
+
+pub returns-in-Some-clause-springs : goal.returns-in-Some-clause-springs
+returns-in-Some-clause-springs c L boxes s lines width =
+    let k : Kept = c.args.self.now in
+    let rest : List OpenDiversion = reverse c.self.inside.outer.items in
+    let is : k.diversions ≡ c.in-Some.diversion ∷ rest =
+    sym (ap (λ (k : Kept). k.diversions) c.self.view_is) ∙ ap (λ (o : Option OpenDiversion). open_diversions o c.self.inside.outer.items) c.in-Some.is in
+    c.end_if_short.ensures.springs (with_diverted boxes L)
+    (diverted_standing L k _ boxes c.in-Some.diversion c.with_lines.result rest s is (λ d e. c.with_lines.ensures d boxes e lines width)
+    (ap (λ (k : Kept). record k { diversions = c.with_lines.result ∷ rest }) (sym c.self.view_is)))
+    ∙ ap (sprung_or L (turned_if_full (with_diverted boxes L)))
+    (passed_kept L.diversions c.in-Some.diversion rest L boxes c.args.lines c.passed_in_diversion.result (sym is ∙ s.diversions) lines c.passed_in_diversion.ensures)

@@ -1,0 +1,135 @@
+//! Lines and titles that are placed on a page.
+
+ghost use Rattle.std.specs.Prelude.{◌≡◌, ◌+◌, ◌<◌, ◌^◌, ◌++◌, [], OnOk, IfErr, length, replicate};
+ghost use Rattle.roff_lines.specs.Columns.{device_line, finished_of, printed};
+ghost use Rattle.roff_lines.specs.Glyphs.{text_width};
+ghost use Rattle.roff_pages.specs.Happenings.{Places, Titles};
+ghost use Rattle.roff_pages.specs.TitleLeft.{title_of};
+ghost use Rattle.roff_pages.specs.TitleParts.{HasNoBlank};
+ghost use Rattle.roff_pages.specs.Titles.{part_text, title_text};
+ghost use Rattle.roff_pages.specs.Pages.Printing.{HappensWriting, IsUnprinted, Printed, if_listed};
+
+use super::Pages;
+use crate::page_fault::PageFault;
+use crate::sink::ByteSink;
+use crate::title::TitleLine;
+use roff_lines::Line;
+use roff_num::ShortName;
+
+impl Pages {
+    /// Places a line on the page, and behind it its blank lines, up to the next trap or the page's
+    /// end. No diversion is open.
+    ///
+    /// # Errors
+    ///
+    /// [`PageFault`] if the limit on the output would be passed, or the sink fails.
+    pub fn place<O: ByteSink>(
+        &mut self,
+        line: Line<'_>,
+        out: &mut O,
+    ) -> Result<Option<ShortName>, PageFault>
+        requires { self.old.diversions ≡ [] }
+        ensures { HappensWriting (Places (finished_of line.entry)) self.old self.new
+            (O.sunk out.old) (O.sunk out.new) result }
+    {
+        let next = self.next;
+        let most = self.way().saturating_sub(1);
+        let after = line.after.min(most);
+        match self.write_line(line, after, out) {
+            Ok(()) => Ok(self.put_lines(after + 1, next, false)),
+            Err(fault) => Err(fault),
+        }
+    }
+
+    /// Places a title on the page. No diversion is open.
+    ///
+    /// # Errors
+    ///
+    /// [`PageFault`] if the limit on the output would be passed, or the sink fails.
+    pub fn title<O: ByteSink>(
+        &mut self,
+        title: TitleLine<'_>,
+        out: &mut O,
+    ) -> Result<Option<ShortName>, PageFault>
+        requires page { self.old.diversions ≡ [] }
+        requires some { 0 < length title.number.now }
+        requires shown { HasNoBlank title.number.now }
+        requires width { let number = title.number.now in
+            text_width (part_text number title.left.now)
+            + text_width (part_text number title.centre.now)
+            + text_width (part_text number title.right.now) + title.length < 2 ^ 64 }
+        ensures { HappensWriting (Titles (title_of title.entry)) self.old self.new
+            (O.sunk out.old) (O.sunk out.new) result }
+    {
+        let next = self.next;
+        match self.write_title(title, out) {
+            Ok(()) => Ok(self.put_lines(1, next, false)),
+            Err(fault) => Err(fault),
+        }
+    }
+
+    /// Writes a line and so many blank lines, if the page is written.
+    #[inline(always)]
+    fn write_line<O: ByteSink>(
+        &mut self,
+        line: Line<'_>,
+        after: u64,
+        out: &mut O,
+    ) -> Result<(), PageFault>
+        ensures ok { OnOk result (Printed self.old self.new (O.sunk out.old) (O.sunk out.new)
+            (if_listed self.old.is_listed (device_line self.old.offset
+            (printed (finished_of line.entry)) ++ replicate after 10))) }
+        ensures err { IfErr result (λ f. IsUnprinted f self.old self.new
+            (O.sunk out.old) (O.sunk out.new)
+            (if_listed self.old.is_listed (device_line self.old.offset
+            (printed (finished_of line.entry)) ++ replicate after 10))) }
+        ensures kept { self.new ≡ record self.old { written = self.new.written } }
+    {
+        if !self.is_listed {
+            return Ok(());
+        }
+        let columns = u64::from(self.offset);
+        let room = u64::from(self.output) - self.written;
+        match self.block.put_line_within(line, columns, after, room, out) {
+            Ok(count) => {
+                self.written += count;
+                Ok(())
+            }
+            Err(fault) => Err(fault),
+        }
+    }
+
+    /// Writes a title, if the page is written.
+    fn write_title<O: ByteSink>(
+        &mut self,
+        title: TitleLine<'_>,
+        out: &mut O,
+    ) -> Result<(), PageFault>
+        requires some { 0 < length title.number.now }
+        requires shown { HasNoBlank title.number.now }
+        requires width { let number = title.number.now in
+            text_width (part_text number title.left.now)
+            + text_width (part_text number title.centre.now)
+            + text_width (part_text number title.right.now) + title.length < 2 ^ 64 }
+        ensures ok { OnOk result (Printed self.old self.new (O.sunk out.old) (O.sunk out.new)
+            (if_listed self.old.is_listed
+            (device_line self.old.offset (title_text (title_of title.entry))))) }
+        ensures err { IfErr result (λ f. IsUnprinted f self.old self.new
+            (O.sunk out.old) (O.sunk out.new) (if_listed self.old.is_listed
+            (device_line self.old.offset (title_text (title_of title.entry))))) }
+        ensures kept { self.new ≡ record self.old { written = self.new.written } }
+    {
+        if !self.is_listed {
+            return Ok(());
+        }
+        let columns = u64::from(self.offset);
+        let room = u64::from(self.output) - self.written;
+        match self.block.put_title_within(title, columns, room, out) {
+            Ok(count) => {
+                self.written += count;
+                Ok(())
+            }
+            Err(fault) => Err(fault),
+        }
+    }
+}
