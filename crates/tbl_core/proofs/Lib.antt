@@ -1,0 +1,9 @@
+pub mod Giving
+pub mod Pending
+pub mod Quiet
+pub mod Turning
+pub mod Answering
+pub mod NotesLeft
+pub mod Stopping
+pub mod NotesStaying
+pub mod Cutting

@@ -1,0 +1,19 @@
+-- A byte of a table that meets a limit.
+use Rattle.std.proofs.Common.{◌≡◌, ℕ, Bool, false, ◌&&◌, Option, Some, if◌then◌else◌, ap, ◌∙◌}
+use Rattle.roff_num.specs.declared.limit.Limit.{Limit}
+use Rattle.tbl_layout.specs.declared.limits.TblLimits.{TblLimits}
+use Rattle.tbl_core.specs.declared.place.Count.{Count}
+use Rattle.tbl_core.specs.declared.place.Front.{Front}
+use Rattle.tbl_core.specs.Lines.{ends_name, front_behind, is_name, start_letter}
+use Rattle.tbl_core.specs.Machine.{Inside, Reads, goes_on_inside, limit_inside, stops, table_ended}
+use Rattle.tbl_table.specs.Reading.{Reading, byte_read}
+use Rattle.tbl_table.specs.Table.{told_at_cut}
+use Rattle.tbl_core.specs.Tables.{counted_step}
+
+-- it stops the run
+pub counted_stop : (l : TblLimits) (line_length b : ℕ) (count : Count) (front : Front) (r : Reading) (limit : Limit)
+    → (is_name front && ends_name b) ≡ false → limit_inside l b front r ≡ Some limit
+    → counted_step l line_length b (Reads (record { count = count; place = Inside front r })) ≡ stops l limit count.line (told_at_cut r.table)
+counted_stop l line_length b count front r limit goes_on met =
+    ap (λ (ends : Bool). if ends then table_ended l line_length count (byte_read b r) (front_behind start_letter front b) else goes_on_inside (limit_inside l b front r) l b count front r) goes_on
+    ∙ ap (λ (o : Option Limit). goes_on_inside o l b count front r) met

@@ -1,0 +1,38 @@
+-- What holds of tables whatever the input is.
+use Rattle.std.specs.Prelude.{◌≡◌, ℕ, List, ◌++◌}
+use Rattle.roff_source.specs.Tape.{Item, Ending, Failed, front}
+use Rattle.tbl_layout.specs.declared.limits.TblLimits.{TblLimits}
+use Rattle.tbl_core.specs.Machine.{Now, Standing, Reads, told_so_far}
+use Rattle.tbl_layout.specs.Messages.{told_items}
+use Rattle.tbl_table.specs.Table.{TableRead, closed, ended, line_read, notes, told_at_cut}
+use Rattle.tbl_core.specs.Stages.{Stage, answered}
+use Rattle.tbl_core.specs.Yields.{yields, yields_from}
+
+-- a list begins with another one
+pub record Begins {A : Type 0} (front whole : List A) : Type 0 where
+  pub rest : List A
+  pub is : whole ≡ front ++ rest
+
+-- the messages of a table that is cut are a beginning of those of a longer one, of those where its last line is done, and of
+-- those at its end
+pub record NotesStay : Type 0 where
+  pub behind_line : (line : ℕ) (bytes : List ℕ) (t : TableRead) → Begins (told_at_cut t) (told_at_cut (line_read line bytes t))
+  pub closing : (t : TableRead) → Begins (told_at_cut t) (notes (closed t))
+  pub at_end : (line line_length : ℕ) (t : TableRead) → Begins (told_at_cut t) (notes (ended line line_length t))
+
+-- whatever comes, the messages of the complete lines are given first
+abbrev pub MessagesComeFirst : Type 0
+MessagesComeFirst =
+    (l : TblLimits) (line_length : ℕ) (now : Now) (items : List Item) (e : Ending)
+    → Begins (told_items (told_so_far now.place)) (yields_from l line_length (Reads now) items e).items
+
+-- over an input that fails a beginning is given of what is given where it goes on
+abbrev pub FailingOnlyCuts : Type 0
+FailingOnlyCuts =
+    (l : TblLimits) (line_length : ℕ) (s : Standing) (items more : List Item) (e : Ending)
+    → Begins (yields_from l line_length s items Failed).items (yields_from l line_length s (items ++ more) e).items
+
+-- the answers, one at a time, are those of what is given for the input
+abbrev pub AnswersAreGiven : Type 0
+AnswersAreGiven =
+    (l : TblLimits) (line_length : ℕ) (s : Stage) → (answered l line_length s).answer ≡ front (yields l line_length s.at s.tape)

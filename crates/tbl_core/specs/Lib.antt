@@ -1,0 +1,10 @@
+pub mod Lines
+pub mod Machine
+pub mod Yields
+pub mod Stages
+pub mod Tables
+pub mod TablesKept
+pub mod Source
+pub mod SourceKept
+pub mod NotesLeft
+pub mod Laws

@@ -1,0 +1,13 @@
+//! Tables: a source in which each table is replaced by its picture (Lesk, "Tbl - A Program to Format
+//! Tables").
+#![tactic(auto)]
+
+pub mod laws;
+mod place;
+mod source;
+mod tables;
+
+pub use source::TblSource;
+pub use tbl_layout::limits::TblLimits;
+pub use tbl_layout::message::{Message, OptionText, Told};
+pub use tbl_table::worked_rows;

@@ -1,0 +1,191 @@
+//! A source over a source: the pictures of the tables stand in their places.
+
+ghost use Rattle.std.specs.Prelude.{◌≡◌, ◌+◌, ◌<◌, ◌≤◌, [], IfErr, IfOk, IfSome, None};
+ghost use Rattle.roff_source.specs.Tape.{Answers, Ends, Failed, Gives, OneNote, answer_of};
+ghost use Rattle.roff_num.specs.Faults.{Rises};
+
+use crate::tables::Tables;
+use roff_source::{ByteSource, Taken};
+use std::alloc::{AllocError, Global};
+use std::marker::Model;
+use tbl_layout::limits::TblLimits;
+
+/// A source that gives what its inner source gives, with each table in it as its picture. Its items are
+/// taken one by one.
+#[derive(Drop)]
+pub struct TblSource<S: ByteSource> {
+    inner: S,
+    tables: Tables,
+}
+
+impl<S: ByteSource> Model for TblSource<S> {
+    ghost use Rattle.tbl_core.specs.Source.{Sourced};
+
+    ghost Value = { Sourced S };
+
+    ghost use Rattle.tbl_core.specs.Source.{IsAlive};
+    ghost use Rattle.tbl_core.specs.SourceKept.{sourced};
+
+    ghost view = { sourced };
+
+    ghost invariant = { λ a. IsAlive (S.gives a.inner) a.tables.at };
+}
+
+impl<S: ByteSource> TblSource<S> {
+    ghost use Rattle.tbl_core.specs.NotesLeft.{bytes_left, notes_left};
+    ghost use Rattle.tbl_core.specs.Source.{source_gives};
+    ghost use Rattle.tbl_core.specs.Stages.{Takes, TakesOn};
+    ghost use Rattle.tbl_core.specs.Tables.{line_of, stopped_by};
+    ghost use Rattle.tbl_core.specs.Yields.{Continues, at_start};
+
+    /// A source over `inner`, of which nothing is read yet. The line length is in columns.
+    ///
+    /// # Errors
+    ///
+    /// [`AllocError`] and the inner source as it was, if the room can't be had.
+    pub fn new(
+        alloc: Global,
+        limits: TblLimits,
+        line_length: u32,
+        inner: S,
+    ) -> Result<Self, (AllocError, S)>
+        ensures made { IfOk result (λ s. s ≡ record {
+          inner = inner;
+          tables
+              = record { limits = limits; line_length = line_length; at = at_start };
+        }) }
+        ensures refused { IfErr result (λ e. e.1 ≡ inner) }
+    {
+        match Tables::new(alloc, limits, line_length) {
+            Ok(tables) => Ok(TblSource { inner, tables }),
+            Err(error) => Err((error, inner)),
+        }
+    }
+
+    /// The inner source.
+    pub fn into_inner(self) -> S
+        ensures { result ≡ self.inner }
+    {
+        let TblSource { inner, tables: _ } = self;
+        inner
+    }
+
+    /// The line of the last byte that was taken, 1 if there is none; 0 where a limit has stopped
+    /// the run.
+    pub fn line(&self) -> u32
+        ensures { result ≡ line_of self.now.tables.at.standing }
+    {
+        self.tables.line()
+    }
+
+    /// The limits.
+    pub fn limits(&self) -> TblLimits
+        ensures { result ≡ self.now.tables.limits }
+    {
+        self.tables.limits()
+    }
+
+    /// The next item to give, or how they end. Items of the inner source are taken for it, unless
+    /// one is pending.
+    pub fn take(&mut self) -> Taken
+        ensures takes { Takes (S.gives self.old.inner) (S.gives self.new.inner)
+            self.old.tables.limits self.old.tables.line_length self.old.tables.at
+            self.new.tables.at (answer_of result) }
+        ensures limits { self.new.tables.limits ≡ self.old.tables.limits }
+        ensures line_length { self.new.tables.line_length ≡ self.old.tables.line_length }
+        ensures gives { Answers (source_gives S.gives self.old) (source_gives S.gives self.new)
+            (answer_of result) }
+        ensures notes { notes_left self.new.tables ≤ notes_left self.old.tables }
+        ensures note { (m : _) → answer_of result ≡ Gives (OneNote m)
+            → notes_left self.new.tables < notes_left self.old.tables }
+        ensures failures { S.failures self.old.inner ≤ S.failures self.new.inner }
+        ensures fault { answer_of result ≡ Ends Failed
+            → Rises (S.failures self.old.inner) (S.failures self.new.inner) }
+    {
+        if let Some(taken) = self.tables.next() {
+            return taken;
+        }
+        match self.tables.stopped() {
+            Some(limit) => Taken::Stop(limit),
+            None => self.turns(),
+        }
+    }
+
+    /// Takes one item of the inner source, and answers the first that is given for it, if one is.
+    fn turn(&mut self) -> Option<Taken>
+        requires pending { self.old.tables.at.pending ≡ [] }
+        requires reads { stopped_by self.old.tables.at.standing ≡ None }
+        ensures given { IfSome result (λ taken. Answers (source_gives S.gives self.old)
+            (source_gives S.gives self.new) (answer_of taken)) }
+        ensures silent { result ≡ None
+            → Continues (source_gives S.gives self.old) (source_gives S.gives self.new) }
+        ensures takes { IfSome result (λ taken. Takes (S.gives self.old.inner)
+            (S.gives self.new.inner) self.old.tables.limits self.old.tables.line_length
+            self.old.tables.at self.new.tables.at (answer_of taken)) }
+        ensures takes_on { result ≡ None → TakesOn (S.gives self.old.inner)
+            (S.gives self.new.inner) self.old.tables.limits self.old.tables.line_length
+            self.old.tables.at self.new.tables.at }
+        ensures limits { self.new.tables.limits ≡ self.old.tables.limits }
+        ensures line_length { self.new.tables.line_length ≡ self.old.tables.line_length }
+        ensures pending { result ≡ None → self.new.tables.at.pending ≡ [] }
+        ensures reads { result ≡ None → stopped_by self.new.tables.at.standing ≡ None }
+        ensures falls { result ≡ None
+            → bytes_left self.new.tables.limits self.new.tables.at.standing
+            + S.notes self.new.inner
+            < bytes_left self.old.tables.limits self.old.tables.at.standing
+            + S.notes self.old.inner }
+        ensures notes { notes_left self.new.tables ≤ notes_left self.old.tables }
+        ensures note { IfSome result (λ taken. (m : _) → answer_of taken ≡ Gives (OneNote m)
+            → notes_left self.new.tables < notes_left self.old.tables) }
+        ensures failures { S.failures self.old.inner ≤ S.failures self.new.inner }
+        ensures fault { IfSome result (λ taken. answer_of taken ≡ Ends Failed
+            → Rises (S.failures self.old.inner) (S.failures self.new.inner)) }
+    {
+        match self.inner.next_byte() {
+            Taken::Byte(byte) => match self.tables.byte(byte) {
+                Some(byte) => Some(Taken::Byte(byte)),
+                None => self.tables.next(),
+            },
+            Taken::Note(_) => None,
+            Taken::End => {
+                self.tables.end();
+                Some(self.tables.next().unwrap_or(Taken::End))
+            }
+            Taken::Fault => {
+                self.tables.cut();
+                Some(self.tables.next().unwrap_or(Taken::Fault))
+            }
+            Taken::Stop(limit) => {
+                self.tables.cut();
+                Some(self.tables.next().unwrap_or(Taken::Stop(limit)))
+            }
+        }
+    }
+
+    /// Takes items of the inner source, up to the first that something is given for, and answers
+    /// that.
+    #[inline(never)]
+    fn turns(&mut self) -> Taken
+        requires pending { self.old.tables.at.pending ≡ [] }
+        requires reads { stopped_by self.old.tables.at.standing ≡ None }
+        ensures gives { Answers (source_gives S.gives self.old) (source_gives S.gives self.new)
+            (answer_of result) }
+        ensures takes { Takes (S.gives self.old.inner) (S.gives self.new.inner)
+            self.old.tables.limits self.old.tables.line_length self.old.tables.at
+            self.new.tables.at (answer_of result) }
+        ensures limits { self.new.tables.limits ≡ self.old.tables.limits }
+        ensures line_length { self.new.tables.line_length ≡ self.old.tables.line_length }
+        ensures notes { notes_left self.new.tables ≤ notes_left self.old.tables }
+        ensures note { (m : _) → answer_of result ≡ Gives (OneNote m)
+            → notes_left self.new.tables < notes_left self.old.tables }
+        ensures failures { S.failures self.old.inner ≤ S.failures self.new.inner }
+        ensures fault { answer_of result ≡ Ends Failed
+            → Rises (S.failures self.old.inner) (S.failures self.new.inner) }
+    {
+        loop {
+            if let Some(taken) = self.turn() {
+                return taken;
+            }
+        }
+    }
+}

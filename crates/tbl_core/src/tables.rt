@@ -1,0 +1,330 @@
+//! The machine over bytes: what is given for each.
+
+ghost use Rattle.std.specs.Prelude.{◌≡◌, ◌++◌, [], IfOk, option_to_list};
+ghost use Rattle.std.specs.Option.{MatchOption};
+ghost use Rattle.roff_source.specs.Tape.{Ended, Failed};
+ghost use Rattle.tbl_core.specs.Machine.{limit_inside, not_ended, own_told, reading_on};
+ghost use Rattle.tbl_core.specs.Tables.{IsGiven, IsRoomFor, begun_behind, byte_step, counted_step};
+ghost use Rattle.tbl_core.specs.Tables.{ending_step, handed, line_of, position_behind};
+ghost use Rattle.tbl_core.specs.Tables.{position_on_start_line, stopped_by, told_at};
+ghost use Rattle.tbl_core.specs.Yields.{at_start, behind_step};
+
+use crate::place::{Count, Front, Position, ends_name};
+use roff_num::Limit;
+use roff_source::Taken;
+use std::alloc::{AllocError, Global};
+use std::marker::Model;
+use tbl_layout::limits::TblLimits;
+use tbl_layout::message::{Message, Told};
+use tbl_table::table::Table;
+
+/// What tables make of the bytes of an input, one at a time.
+#[derive(Drop)]
+pub(crate) struct Tables {
+    limits: TblLimits,
+    line_length: u32,
+    count: Count,
+    position: Position,
+    table: Table,
+    /// A message behind those of the table: of a limit, or of a table that isn't ended.
+    own: Option<Told>,
+}
+
+impl Model for Tables {
+    ghost use Rattle.tbl_core.specs.Tables.{TablesState};
+
+    ghost Value = { TablesState };
+
+    ghost use Rattle.tbl_core.specs.TablesKept.{tables_state, IsSound};
+
+    ghost view = { tables_state };
+
+    ghost invariant = { IsSound };
+}
+
+impl Tables {
+    /// Before the first byte. The line length is in columns.
+    pub(crate) fn new(
+        alloc: Global,
+        limits: TblLimits,
+        line_length: u32,
+    ) -> Result<Tables, AllocError>
+        ensures { IfOk result (λ t. t
+            ≡ record { limits = limits; line_length = line_length; at = at_start }) }
+    {
+        Ok(Tables {
+            limits,
+            line_length,
+            count: Count::NOTHING,
+            position: Position::Outside(Front::Nothing),
+            table: Table::new(alloc, limits)?,
+            own: None,
+        })
+    }
+
+    /// The line of the last byte that was taken, 1 if there is none; 0 where a limit has stopped
+    /// the run.
+    pub(crate) fn line(&self) -> u32
+        ensures { result ≡ line_of self.now.at.standing }
+    {
+        match self.position {
+            Position::Over(_) => 0,
+            _ => self.count.line,
+        }
+    }
+
+    /// The limits.
+    pub(crate) fn limits(&self) -> TblLimits
+        ensures { result ≡ self.now.limits }
+    {
+        self.limits
+    }
+
+    /// The limit that has stopped the run.
+    pub(crate) fn stopped(&self) -> Option<Limit>
+        ensures { result ≡ stopped_by self.now.at.standing }
+    {
+        match self.position {
+            Position::Over(limit) => Some(limit),
+            _ => None,
+        }
+    }
+
+    /// The next item that is pending.
+    pub(crate) fn next(&mut self) -> Option<Taken>
+        ensures { MatchOption result ((self.old.at.pending ≡ []) × (self.new ≡ self.old))
+            (λ taken. IsGiven self.old self.new taken) }
+    {
+        if let Some(told) = self.table.next_told() {
+            return Some(Taken::Note(told.note()));
+        }
+        if let Some(told) = self.own.take() {
+            return Some(Taken::Note(told.note()));
+        }
+        match self.table.next() {
+            Some(byte) => Some(Taken::Byte(byte)),
+            None => None,
+        }
+    }
+
+    /// Takes a byte of the input. One that passes by itself is handed out; what is given otherwise
+    /// is pending.
+    pub(crate) fn byte(&mut self, byte: u8) -> Option<u8>
+        requires { self.old.at.pending ≡ [] }
+        ensures out { handed result ++ self.new.at.pending
+            ≡ (byte_step self.old.limits self.old.line_length byte self.old.at.standing).out }
+        ensures behind { self.new.at.standing
+            ≡ (byte_step self.old.limits self.old.line_length byte self.old.at.standing).behind }
+        ensures limits { self.new.limits ≡ self.old.limits }
+        ensures line_length { self.new.line_length ≡ self.old.line_length }
+    {
+        if let Position::Over(_) = self.position {
+            return None;
+        }
+        if self.count.taken >= self.limits.bytes {
+            cut_table(&mut self.table, self.position);
+            self.own = own_told(self.limits, Some(Limit::TblBytes), self.count.line);
+            self.position = Position::Over(Limit::TblBytes);
+            return None;
+        }
+        self.count.take(byte);
+        self.take_counted(byte)
+    }
+
+    /// Takes a byte that was counted.
+    fn take_counted(&mut self, byte: u8) -> Option<u8>
+        requires { self.old.at.pending ≡ [] }
+        ensures out { handed result ++ self.new.at.pending
+            ≡ (counted_step self.old.limits self.old.line_length byte self.old.at.standing).out }
+        ensures behind { self.new.at.standing
+            ≡ (counted_step self.old.limits self.old.line_length byte self.old.at.standing).behind }
+        ensures limits { self.new.limits ≡ self.old.limits }
+        ensures line_length { self.new.line_length ≡ self.old.line_length }
+    {
+        match self.position {
+            Position::Outside(front) => {
+                if front.is_name() && ends_name(byte) {
+                    self.position = begin_behind(&mut self.table, byte);
+                } else {
+                    self.position = Position::Outside(front.behind(b'S', byte));
+                }
+                Some(byte)
+            }
+            Position::RestOfStart => {
+                self.position = begin_behind(&mut self.table, byte);
+                Some(byte)
+            }
+            Position::Inside(front) => {
+                if front.is_name() && ends_name(byte) {
+                    self.table.push(byte);
+                    let limit = self.table.finish(self.count.line, self.line_length);
+                    self.own = own_told(self.limits, limit, self.count.line);
+                    self.position = position_behind(limit, front.behind(b'S', byte));
+                    return None;
+                }
+                match limit_met(self.limits, &self.table, front, byte) {
+                    Some(limit) => {
+                        self.table.cut();
+                        self.own = own_told(self.limits, Some(limit), self.count.line);
+                        self.position = Position::Over(limit);
+                    }
+                    None => {
+                        read_on(&mut self.table, self.count.line, byte);
+                        self.position = Position::Inside(front.behind(b'E', byte));
+                    }
+                }
+                None
+            }
+            Position::Over(_) => None,
+        }
+    }
+
+    /// The input ends.
+    pub(crate) fn end(&mut self)
+        requires { self.old.at.pending ≡ [] }
+        ensures { self.new ≡ record self.old {
+          at = behind_step
+              (ending_step self.old.limits self.old.line_length Ended self.old.at.standing);
+        } }
+    {
+        match self.position {
+            Position::Outside(front) => {
+                self.own = not_ended(self.count.line, !front.is_name());
+                self.position = Position::Outside(Front::Nothing);
+            }
+            Position::RestOfStart => {
+                self.own = not_ended(self.count.line, false);
+                self.position = Position::Outside(Front::Nothing);
+            }
+            Position::Inside(front) => {
+                if front.is_name() {
+                    let limit = self.table.finish(self.count.line, self.line_length);
+                    self.own = own_told(self.limits, limit, self.count.line);
+                    self.position = position_behind(limit, Front::Nothing);
+                } else if self.table.len() > self.limits.text as usize {
+                    self.table.cut();
+                    self.own = own_told(self.limits, Some(Limit::Text), self.count.line);
+                    self.position = Position::Over(Limit::Text);
+                } else {
+                    let is_bad = self.table.pass(self.count.line);
+                    self.own = not_ended(self.count.line, is_bad);
+                    self.position = Position::Outside(Front::Nothing);
+                }
+            }
+            Position::Over(_) => {}
+        }
+    }
+
+    /// The input fails, or a limit of its own stops it.
+    pub(crate) fn cut(&mut self)
+        requires { self.old.at.pending ≡ [] }
+        ensures { self.new ≡ record self.old {
+          at = behind_step
+              (ending_step self.old.limits self.old.line_length Failed self.old.at.standing);
+        } }
+    {
+        match self.position {
+            Position::Inside(_) => {
+                self.table.cut();
+                self.position = Position::Outside(Front::Nothing);
+            }
+            Position::Outside(_) => self.position = Position::Outside(Front::Nothing),
+            Position::RestOfStart => self.position = Position::Outside(Front::Nothing),
+            Position::Over(_) => {}
+        }
+    }
+}
+
+/// Behind a byte of a `.TS` line that stands behind its name: a table begins behind the newline.
+fn begin_behind(table: &mut Table, byte: u8) -> Position
+    requires told { table.old.told ≡ [] }
+    requires bytes { table.old.to_come ≡ [] }
+    ensures position { result ≡ position_on_start_line byte }
+    ensures table { table.new ≡ begun_behind byte table.old }
+{
+    if byte == b'\n' {
+        table.begin();
+        Position::Inside(Front::Nothing)
+    } else {
+        Position::RestOfStart
+    }
+}
+
+/// A byte of a table that ends neither it nor the run.
+fn read_on(table: &mut Table, line: u32, byte: u8)
+    requires room { IsRoomFor table.old.limits byte table.old.reading }
+    ensures reading { table.new.reading ≡ reading_on line byte table.old.reading }
+    ensures told { table.new.told ≡ table.old.told }
+    ensures to_come { table.new.to_come ≡ [] }
+    ensures limits { table.new.limits ≡ table.old.limits }
+{
+    if byte == b'\n' {
+        table.end_line(line);
+    } else {
+        table.push(byte);
+    }
+}
+
+/// The table is cut, if one is being read.
+fn cut_table(table: &mut Table, position: Position)
+    requires told { table.old.told ≡ [] }
+    requires bytes { table.old.to_come ≡ [] }
+    ensures told { table.new.told ≡ told_at position table.old.reading }
+    ensures to_come { table.new.to_come ≡ [] }
+    ensures limits { table.new.limits ≡ table.old.limits }
+{
+    if let Position::Inside(_) = position {
+        table.cut();
+    }
+}
+
+/// The message of a limit that was met.
+fn own_told(limits: TblLimits, limit: Option<Limit>, line: u32) -> Option<Told>
+    ensures { option_to_list result ≡ own_told limits line limit }
+{
+    let limit = limit?;
+    Some(Told {
+        line,
+        message: Message::LimitReached(limit, limits.value(limit)),
+    })
+}
+
+/// Where the next byte stands behind a table, unless a limit has stopped there.
+fn position_behind(limit: Option<Limit>, front: Front) -> Position
+    ensures { result ≡ position_behind limit front }
+{
+    match limit {
+        Some(limit) => Position::Over(limit),
+        None => Position::Outside(front),
+    }
+}
+
+/// The message of a table that isn't ended, unless it was reported otherwise.
+fn not_ended(line: u32, is_reported: bool) -> Option<Told>
+    ensures { option_to_list result ≡ not_ended line is_reported }
+{
+    if is_reported {
+        None
+    } else {
+        Some(Told {
+            line,
+            message: Message::TableNotEnded,
+        })
+    }
+}
+
+/// The limit that a byte of a table meets: on rows at the newline that ends one, on columns at a
+/// key, on the table's bytes at one that can't be of its `.TE` line.
+fn limit_met(limits: TblLimits, table: &Table, front: Front, byte: u8) -> Option<Limit>
+    ensures { result ≡ limit_inside limits byte front table.now.reading }
+{
+    if byte == b'\n' && table.rows_with_line() > limits.rows as usize {
+        Some(Limit::Rows)
+    } else if table.columns_with(byte) > limits.columns as usize {
+        Some(Limit::Columns)
+    } else if !front.behind(b'E', byte).is_of_name() && table.len() >= limits.text as usize {
+        Some(Limit::Text)
+    } else {
+        None
+    }
+}

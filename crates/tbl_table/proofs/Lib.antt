@@ -1,0 +1,15 @@
+pub mod FewNotes
+pub mod BegunLines
+pub mod TextBlocks
+pub mod RowTexts
+pub mod LinesLeft
+pub mod OutputLeft
+pub mod TableFits
+pub mod TableReads
+pub mod TableOptions
+pub mod RowsBehind
+pub mod FormatEnds
+pub mod PictureGiven
+pub mod JudgedPlaces
+pub mod TableLast
+pub mod TableWhole

@@ -1,0 +1,519 @@
+-- The parts of a table hold together behind each line.
+use Rattle.std.proofs.Common.{◌≡◌, ℕ, ◌+◌, ◌-◌, ◌<◌, ◌≤◌, true, false, List, [], ◌∷◌, ◌++◌, length, map, take, Option, Some, None, refl, sym, ap, subst, ◌∙◌, arith, length-append}
+use Rattle.std.proofs.lemmas.List.{length-replicate, length-take}
+use Rattle.std.specs.Prelude.{is_some}
+use Rattle.std.specs.List.{slice_range}
+use Rattle.roff_source.specs.Bytes.{newline}
+use Rattle.tbl_table.specs.Begun.{FewKeys, begun_in}
+use Rattle.tbl_layout.specs.Format.{Format, no_format}
+use Rattle.tbl_layout.specs.FormatRows.{KeptFormat, key_count, keeping}
+use Rattle.tbl_table.specs.Joined.{Joined, behind_joined}
+use Rattle.tbl_table.specs.Kept.{HasEnd, HasRooms, KeysFit, NotesFit, PartsFit, PhaseFits, RowsFit, TextFits, faults, opened}
+use Rattle.tbl_layout.specs.Notes.{IsWithin, NotesWithin, ignored_message, told_at, told_of, told_of_all}
+use Rattle.tbl_layout.specs.Data.{kept_fields}
+use Rattle.tbl_layout.specs.Pieces.{fields_from}
+use Rattle.tbl_table.specs.Steps.{fault_noted, is_front, notes_judged, phase_behind, phase_judged, rows_judged, rows_started, with_cause}
+use Rattle.tbl_table.specs.Table.{is_bad_phase}
+use Rattle.tbl_table.specs.TableNotes.{KeptNotes, no_notes}
+use Rattle.tbl_table.specs.TableRows.{Holds, KeptRows, fields_of, starting, with_fields}
+use Rattle.tbl_table.specs.TableText.{KeptText, no_text, text_closed, text_ended, text_joined}
+use Rattle.tbl_table.specs.declared.begun.Begun.{Begun}
+use Rattle.tbl_table.specs.declared.begun.Begun.TheVariants.{Front, Keys, Nothing}
+use Rattle.tbl_layout.specs.declared.data.Field.{Field}
+use Rattle.tbl_layout.specs.declared.data.Judged.{Judged}
+use Rattle.tbl_layout.specs.declared.data.Judged.TheVariants.{Refused, Row}
+use Rattle.tbl_layout.specs.declared.format.FormatPlace.{FormatPlace}
+use Rattle.tbl_layout.specs.declared.format.FormatPlace.TheVariants.{AtEnd, AtFault, InRows}
+use Rattle.tbl_layout.specs.declared.limits.TblLimits.{TblLimits}
+use Rattle.tbl_layout.specs.declared.notes.Cause.{Cause}
+use Rattle.tbl_layout.specs.declared.notes.Cause.TheVariants.{BadFormat, OptionIgnored, TooManyFields}
+use Rattle.tbl_layout.specs.declared.notes.KeptNote.{KeptNote}
+use Rattle.tbl_table.specs.declared.phase.Phase.{Phase}
+use Rattle.tbl_table.specs.declared.phase.Phase.TheVariants.{AtHead, Bad, InData, InFormat}
+use Rattle.tbl_layout.proofs.Parts.{slice_range-append}
+use Rattle.tbl_table.proofs.RowTexts.{Holds-line, Holds-longer, Holds-start, length-widened}
+
+-- options within a text are within a longer one
+pub IsWithin-more : (len more : ℕ) (cause : Cause) → len ≤ more → IsWithin len cause → IsWithin more cause
+IsWithin-more len more BadFormat le within = tt
+IsWithin-more len more TooManyFields le within = tt
+IsWithin-more len more (OptionIgnored from to) le within = (within.0, omega (arith, le, within.1))
+
+pub NotesWithin-more : (len more : ℕ) (notes : List KeptNote) → len ≤ more → NotesWithin len notes → NotesWithin more notes
+NotesWithin-more len more [] le within = tt
+NotesWithin-more len more (note ∷ notes) le within =
+    (IsWithin-more len more note.cause le within.0, NotesWithin-more len more notes le within.1)
+
+pub NotesWithin-append : (len : ℕ) (notes : List KeptNote) (note : KeptNote) → IsWithin len note.cause → NotesWithin len notes
+    → NotesWithin len (notes ++ note ∷ [])
+NotesWithin-append len [] note is within = (is, tt)
+NotesWithin-append len (n ∷ notes) note is within = (within.0, NotesWithin-append len notes note is within.1)
+
+-- and say the same
+told_of-longer : (block more : List ℕ) (line : ℕ) (cause : Cause) → IsWithin (length block) cause
+    → told_of (block ++ more) (record { line = line; cause = cause }) ≡ told_of block (record { line = line; cause = cause })
+told_of-longer block more line BadFormat within = refl
+told_of-longer block more line TooManyFields within = refl
+told_of-longer block more line (OptionIgnored from to) within =
+    ap (λ (word : List ℕ). told_at line (ignored_message word)) (slice_range-append block more from to within.0 within.1)
+
+pub told-longer : (block more : List ℕ) (notes : List KeptNote) → NotesWithin (length block) notes
+    → told_of_all (block ++ more) notes ≡ told_of_all block notes
+told-longer block more [] within = refl
+told-longer block more (note ∷ notes) within =
+    ap (λ t. t ∷ told_of_all (block ++ more) notes) (told_of-longer block more note.line note.cause within.0)
+    ∙ ap (λ ts. told_of block note ∷ ts) (told-longer block more notes within.1)
+
+-- more keys may be counted than there are
+pub FewKeys-more : (most more : ℕ) (begun : Begun) → most ≤ more → FewKeys most begun → FewKeys more begun
+FewKeys-more most more (Front inside) le few = tt
+FewKeys-more most more (Keys count) le few = (few.0, omega (arith, le, few.1))
+FewKeys-more most more Nothing le few = tt
+
+pub few-start : (most : ℕ) (phase : Phase) (f : Format) → length f.row ≤ length f.asked → length f.asked ≤ most → FewKeys most (begun_in phase f [])
+few-start most AtHead f row few = tt
+few-start most InFormat f row few = (row, few)
+few-start most InData f row few = tt
+few-start most Bad f row few = tt
+
+pub no-fault-by : (phase : Phase) → is_bad_phase phase ≡ false → faults phase ≡ 0
+no-fault-by AtHead is = refl
+no-fault-by InFormat is = refl
+no-fault-by InData is = refl
+no-fault-by Bad is = absurd (cc)
+
+pub front-fault : (phase : Phase) → is_front phase ≡ true → faults phase ≡ 0
+front-fault AtHead is = refl
+front-fault InFormat is = refl
+front-fault InData is = refl
+front-fault Bad is = absurd (cc)
+
+pub opened-most : (pending : Option Joined) → opened pending ≤ 1
+opened-most None = omega arith
+opened-most (Some j) = omega arith
+
+some-none : (pending : Option Joined) → pending ≡ None → is_some pending ≡ true → ⊥
+some-none None is some = absurd (cc)
+some-none (Some j) is some = absurd (cc)
+
+open-by : (phase : Phase) (settled : List ℕ) (pending : Option Joined) (f : Format) (rows : KeptRows) (notes : KeptNotes)
+    → PhaseFits phase settled pending f rows notes → is_some pending ≡ true → phase ≡ InData
+open-by AtHead settled pending f rows notes fits some = absurd (some-none pending fits.alone some)
+open-by InFormat settled pending f rows notes fits some = absurd (some-none pending fits.0 some)
+open-by InData settled pending f rows notes fits some = refl
+open-by Bad settled pending f rows notes fits some = absurd (some-none pending fits some)
+
+behind-len : (pending : Option Joined) (line : List ℕ) → length (behind_joined pending line) ≡ length (behind_joined pending []) + length line
+behind-len None line = omega arith
+behind-len (Some j) line = omega (arith, length-append j.bytes line, length-append j.bytes [])
+
+module _ (l : TblLimits) (phase : Phase) (begun : Begun) (text : KeptText) (format : KeptFormat) (rows : KeptRows) (notes : KeptNotes) (fits : PartsFit l phase begun text format rows notes) where
+  -- all messages are to tell
+  tell-phase : (p : Phase) → PhaseFits p text.settled text.pending format.format rows notes
+      → PhaseFits p text.settled text.pending format.format rows (record notes { to_tell = notes.notes })
+  tell-phase AtHead nothing = record {
+    no_bytes = nothing.no_bytes;
+    alone = nothing.alone;
+    no_keys = nothing.no_keys;
+    no_rows = nothing.no_rows;
+    no_notes = nothing.no_notes;
+    untold = nothing.no_notes;
+  }
+  tell-phase InFormat fits = fits
+  tell-phase InData fits = fits
+  tell-phase Bad fits = fits
+
+  pub tell-fits : PartsFit l phase begun text format rows (record notes { to_tell = notes.notes })
+  tell-fits = record {
+    rooms = fits.rooms;
+    bytes = fits.bytes;
+    keys = fits.keys;
+    messages = record { few = fits.messages.few; within = fits.messages.within; telling = fits.messages.within };
+    kept = fits.kept;
+    by_phase = tell-phase phase fits.by_phase;
+  }
+
+  -- it lacks the end of its format
+  pub refuse-fits : (number : ℕ) → is_front phase ≡ true → text.pending ≡ None
+      → PartsFit l Bad Nothing text format rows (record (with_cause number BadFormat notes) { to_tell = (with_cause number BadFormat notes).notes })
+  refuse-fits number front none =
+      let within = NotesWithin-append (length text.settled) notes.notes (record { line = number; cause = BadFormat }) tt fits.messages.within in
+      record {
+        rooms = fits.rooms;
+        bytes = fits.bytes;
+        keys = record { is = refl; few = tt; keys = fits.keys.keys; asked = fits.keys.asked; columns = fits.keys.columns; ended = fits.keys.ended };
+        messages = record {
+          few = omega (arith, fits.messages.few, front-fault phase front, length-append notes.notes (record { line = number; cause = BadFormat } ∷ []));
+          within = within;
+          telling = within;
+        };
+        kept = fits.kept;
+        by_phase = none;
+      }
+
+  -- few keys are counted
+  pub few-keys : FewKeys 4611686018427387904 begun
+  few-keys =
+      FewKeys-more (l.columns + length text.line) 4611686018427387904 begun (omega (arith, fits.bytes.most, fits.rooms.small, fits.rooms.narrow)) fits.keys.few
+
+  pub few-bytes : length text.line < 4611686018427387904
+  few-bytes = omega (arith, fits.bytes.most, fits.rooms.small)
+
+  -- a byte more of the line
+  pub push-fits : (b : ℕ) (new : Begun) → length (text.read ++ text.line) < l.text + 4 → new ≡ begun_in phase format.format (text.line ++ b ∷ [])
+      → FewKeys (l.columns + length text.line + 1) new → PartsFit l phase new (record text { line = text.line ++ b ∷ [] }) format rows notes
+  push-fits b new room is few =
+      let longer = length-append text.line (b ∷ []) in
+      record {
+        rooms = fits.rooms;
+        bytes = record {
+          few = fits.bytes.few;
+          most = omega (arith, room, longer, length-append text.read text.line);
+          block = fits.bytes.block;
+        };
+        keys = record {
+          is = is;
+          few = FewKeys-more (l.columns + length text.line + 1) (l.columns + length (text.line ++ b ∷ [])) new (omega (arith, longer)) few;
+          keys = fits.keys.keys;
+          asked = fits.keys.asked;
+          columns = fits.keys.columns;
+          ended = fits.keys.ended;
+        };
+        messages = fits.messages;
+        kept = fits.kept;
+        by_phase = fits.by_phase;
+      }
+
+  -- behind the newline of a line that is done
+  ended-read : length (text_ended text).read ≡ length text.read + length text.line + 1
+  ended-read = omega (arith, length-append (text.read ++ text.line) (newline ∷ []), length-append text.read text.line)
+
+  pub whole-len : length text.settled + length (behind_joined text.pending text.line) ≤ length text.read + length text.line
+  whole-len = omega (arith, behind-len text.pending text.line, fits.bytes.block, length-append text.settled (behind_joined text.pending []))
+
+  text-ends : length (text.read ++ text.line) < l.text → TextFits l (text_ended text).settled None [] (text_ended text).read
+  text-ends room = record {
+    few = omega (arith, room, ended-read, length-append text.read text.line);
+    most = omega (arith, room, ended-read, length-append text.read text.line);
+    block = omega (arith, ended-read, whole-len, length-append (text_ended text).settled [], length-append text.settled (behind_joined text.pending text.line ++ newline ∷ []), length-append (behind_joined text.pending text.line) (newline ∷ []));
+  }
+
+  pub longer-settled : length text.settled ≤ length (text_ended text).settled
+  longer-settled = omega (arith, length-append text.settled (behind_joined text.pending text.line ++ newline ∷ []))
+
+  -- a line of the format is done, or the options and the keys behind them
+  module _ (g : Format) (kept : KeptNotes) (number : ℕ) (none : text.pending ≡ None) (empty : rows.rows ≡ []) (room : length (text.read ++ text.line) < l.text) (keys : key_count g ≤ length text.read + length text.line + 1) (asked : length g.asked ≤ length text.read + length text.line + 1) (columns : length g.asked ≤ l.columns) (row : length g.row ≤ length g.asked) (few : length kept.notes ≤ length text.read + length text.line) (within : NotesWithin (length (text_ended text).settled) kept.notes) (to_tell : NotesWithin (length (text_ended text).settled) kept.to_tell) (same : kept.note_room ≡ notes.note_room) (ended : HasEnd g.place g.rows) where
+    no_rows : length rows.rows ≡ 0
+    no_rows = ap (λ rs. length rs) empty
+
+    no_fields : fields_of rows.rows ≡ 0
+    no_fields = ap (λ rs. fields_of rs) empty
+
+    rooms-keys : HasRooms l text.text_room format.key_room format.column_room rows.field_room rows.row_room rows.column_room kept.note_room
+    rooms-keys = record {
+      text = fits.rooms.text;
+      keys = fits.rooms.keys;
+      columns = fits.rooms.columns;
+      fields = fits.rooms.fields;
+      rows = fits.rooms.rows;
+      widths = fits.rooms.widths;
+      notes = same ∙ fits.rooms.notes;
+      small = fits.rooms.small;
+      narrow = fits.rooms.narrow;
+      wide = fits.rooms.wide;
+    }
+
+    keys-keys : (p : Phase) → KeysFit l (text_ended text).read [] p (begun_in p g []) g
+    keys-keys p = record {
+      is = refl;
+      few = few-start (l.columns + 0) p g row (omega (arith, columns));
+      keys = omega (arith, keys, ended-read);
+      asked = omega (arith, asked, ended-read);
+      columns = columns;
+      ended = ended;
+    }
+
+    rows-same : RowsFit l (text_ended text).settled None (text_ended text).read rows
+    rows-same = record {
+      few = omega (arith, no_rows, ended-read);
+      most = omega (arith, no_rows);
+      fields = omega (arith, no_fields);
+      holds = Holds-longer text.settled (behind_joined text.pending text.line ++ newline ∷ []) rows fits.kept.holds;
+    }
+
+    rows-none : RowsFit l (text_ended text).settled None (text_ended text).read (starting rows (length g.asked))
+    rows-none = record {
+      few = omega (arith, ended-read);
+      most = omega arith;
+      fields = omega arith;
+      holds = Holds-start (text_ended text).settled (starting rows (length g.asked)) (length g.asked) refl refl;
+    }
+
+    notes-same : (p : Phase) → NotesFit (text_ended text).settled None (text_ended text).read p kept.notes kept.to_tell
+    notes-same p = record {
+      few = omega (arith, few, ended-read);
+      within = within;
+      telling = to_tell;
+    }
+
+    notes-fault : NotesFit (text_ended text).settled None (text_ended text).read Bad (with_cause number BadFormat kept).notes kept.to_tell
+    notes-fault = record {
+      few = omega (arith, few, ended-read, length-append kept.notes (record { line = number; cause = BadFormat } ∷ []));
+      within = NotesWithin-append (length (text_ended text).settled) kept.notes (record { line = number; cause = BadFormat }) tt within;
+      telling = to_tell;
+    }
+
+    pub keys-fits : (place : FormatPlace) → HasEnd place g.rows → PartsFit l (phase_behind place) (begun_in (phase_behind place) g []) (text_ended text) (keeping format g) (rows_started place (length g.asked) rows) (fault_noted place number kept)
+    keys-fits InRows has = record {
+      rooms = rooms-keys;
+      bytes = text-ends room;
+      keys = keys-keys InFormat;
+      messages = notes-same InFormat;
+      kept = rows-same;
+      by_phase = (refl, empty);
+    }
+    keys-fits AtEnd has = record {
+      rooms = rooms-keys;
+      bytes = text-ends room;
+      keys = keys-keys InData;
+      messages = notes-same InData;
+      kept = rows-none;
+      by_phase = (length-replicate (length g.asked) 0, has);
+    }
+    keys-fits AtFault has = record {
+      rooms = rooms-keys;
+      bytes = text-ends room;
+      keys = keys-keys Bad;
+      messages = notes-fault;
+      kept = rows-same;
+      by_phase = refl;
+    }
+
+  -- a line behind a fault is done
+  pub bad-fits : phase ≡ Bad → length (text.read ++ text.line) < l.text → PartsFit l phase begun (text_ended text) format rows notes
+  bad-fits is room =
+      let none : text.pending ≡ None = subst (λ (p : Phase). PhaseFits p text.settled text.pending format.format rows notes) is fits.by_phase in
+      let one = opened-most text.pending in
+      record {
+        rooms = fits.rooms;
+        bytes = text-ends room;
+        keys = record {
+          is = fits.keys.is ∙ ap (λ (p : Phase). begun_in p format.format text.line) is ∙ ap (λ (p : Phase). begun_in p format.format []) (sym is);
+          few = subst (λ (b : Begun). FewKeys (l.columns + 0) b) (sym (fits.keys.is ∙ ap (λ (p : Phase). begun_in p format.format text.line) is)) tt;
+          keys = omega (arith, fits.keys.keys, ended-read);
+          asked = omega (arith, fits.keys.asked, ended-read);
+          columns = fits.keys.columns;
+          ended = fits.keys.ended;
+        };
+        messages = record {
+          few = omega (arith, fits.messages.few, ended-read);
+          within = NotesWithin-more (length text.settled) (length (text_ended text).settled) notes.notes longer-settled fits.messages.within;
+          telling = NotesWithin-more (length text.settled) (length (text_ended text).settled) notes.to_tell longer-settled fits.messages.telling;
+        };
+        kept = record {
+          few = omega (arith, fits.kept.few, ended-read);
+          most = omega (arith, fits.kept.most);
+          fields = omega (arith, fits.kept.fields, longer-settled);
+          holds = Holds-longer text.settled (behind_joined text.pending text.line ++ newline ∷ []) rows fits.kept.holds;
+        };
+        by_phase = subst (λ (p : Phase). PhaseFits p (text_ended text).settled None format.format rows notes) (sym is) refl;
+      }
+
+  -- a line that goes on is one of the data
+  pub open-data : is_some text.pending ≡ true → phase ≡ InData
+  open-data some = open-by phase text.settled text.pending format.format rows notes fits.by_phase some
+
+  -- in the data
+  module _ (is : phase ≡ InData) where
+    begun-none : begun ≡ Nothing
+    begun-none = fits.keys.is ∙ ap (λ (p : Phase). begun_in p format.format text.line) is
+
+    data-phase : (length rows.widths ≡ length format.format.asked) × (0 < length format.format.rows)
+    data-phase = subst (λ (p : Phase). PhaseFits p text.settled text.pending format.format rows notes) is fits.by_phase
+
+    pub columns-same : length rows.widths ≡ length format.format.asked
+    columns-same = (data-phase).0
+
+    pub has-rows : 0 < length format.format.rows
+    has-rows = (data-phase).1
+
+    pub no-fault : faults phase ≡ 0
+    no-fault = ap faults is
+
+    pub data-keys : (read line : List ℕ) (p : Phase) → length text.read ≤ length read → Nothing ≡ begun_in p format.format line
+        → KeysFit l read line p begun format.format
+    data-keys read line p more none = record {
+      is = begun-none ∙ none;
+      few = subst (λ (b : Begun). FewKeys (l.columns + length line) b) (sym begun-none) tt;
+      keys = omega (arith, fits.keys.keys, more);
+      asked = omega (arith, fits.keys.asked, more);
+      columns = fits.keys.columns;
+      ended = fits.keys.ended;
+    }
+
+    -- a line goes on
+    pub join-fits : (number : ℕ) → 0 < length text.line → length (text.read ++ text.line) < l.text → length rows.rows ≤ l.rows
+        → PartsFit l phase begun (text_joined number text) format rows notes
+    join-fits number some room few =
+        let bytes = behind_joined text.pending (take (length text.line - 1) text.line) in
+        record {
+          rooms = fits.rooms;
+          bytes = record {
+            few = omega (arith, room, ended-read, length-append text.read text.line);
+            most = omega (arith, room, ended-read, length-append text.read text.line);
+            block = omega (arith, ended-read, fits.bytes.block, length-append text.settled (behind_joined text.pending []), length-append text.settled (bytes ++ []), length-append bytes [], behind-len text.pending (take (length text.line - 1) text.line), length-take (length text.line - 1) text.line);
+          };
+          keys = subst (λ (p : Phase). KeysFit l (text_joined number text).read [] p begun format.format) (sym is) (data-keys (text_joined number text).read [] InData (omega (arith, ended-read)) refl);
+          messages = record {
+            few = omega (arith, fits.messages.few, no-fault, ended-read);
+            within = fits.messages.within;
+            telling = fits.messages.telling;
+          };
+          kept = record {
+            few = omega (arith, fits.kept.few, ended-read);
+            most = omega (arith, few);
+            fields = fits.kept.fields;
+            holds = fits.kept.holds;
+          };
+          by_phase = subst (λ (p : Phase). PhaseFits p text.settled (text_joined number text).pending format.format rows notes) (sym is) (columns-same, has-rows);
+        }
+
+    -- a whole line is done, of which this is the row
+    module _ (new : KeptText) (more : List ℕ) (separator from to line : ℕ) (settled : new.settled ≡ text.settled ++ more) (done : new.pending ≡ None) (same_room : new.text_room ≡ text.text_room) (text_fits : TextFits l new.settled new.pending new.line new.read) (longer : length text.read ≤ length new.read) (noted : length notes.notes + 1 ≤ length new.read) (counted : length rows.rows + 1 ≤ length new.read) (limit : length rows.rows ≤ l.rows) (order : from ≤ to) (in_block : to ≤ length new.settled) (behind : to - from + length text.settled ≤ length new.settled) where
+      abbrev fields-new : List Field
+      fields-new = fields_from from (kept_fields separator (length rows.widths) (slice_range new.settled from to))
+
+      holds-same : Holds new.settled rows
+      holds-same = subst (λ (b : List ℕ). Holds b rows) (sym settled) (Holds-longer text.settled more rows fits.kept.holds)
+
+      settled-longer : length text.settled ≤ length new.settled
+      settled-longer = omega (arith, ap (λ (b : List ℕ). length b) settled, length-append text.settled more)
+
+      none-open : opened new.pending ≡ 0
+      none-open = ap opened done
+
+      notes-within : NotesWithin (length new.settled) notes.notes
+      notes-within = NotesWithin-more (length text.settled) (length new.settled) notes.notes settled-longer fits.messages.within
+
+      to_tell-within : NotesWithin (length new.settled) notes.to_tell
+      to_tell-within = NotesWithin-more (length text.settled) (length new.settled) notes.to_tell settled-longer fits.messages.telling
+
+      rooms-new : HasRooms l new.text_room format.key_room format.column_room rows.field_room rows.row_room rows.column_room notes.note_room
+      rooms-new = record {
+        text = same_room ∙ fits.rooms.text;
+        keys = fits.rooms.keys;
+        columns = fits.rooms.columns;
+        fields = fits.rooms.fields;
+        rows = fits.rooms.rows;
+        widths = fits.rooms.widths;
+        notes = fits.rooms.notes;
+        small = fits.rooms.small;
+        narrow = fits.rooms.narrow;
+        wide = fits.rooms.wide;
+      }
+
+      rows-refused : RowsFit l new.settled new.pending new.read rows
+      rows-refused = record {
+        few = omega (arith, counted, none-open);
+        most = omega (arith, limit, none-open);
+        fields = omega (arith, fits.kept.fields, settled-longer);
+        holds = holds-same;
+      }
+
+      rows-more : fields_of (with_fields rows fields-new).rows ≤ fields_of rows.rows + (to - from) + 1
+          → RowsFit l new.settled new.pending new.read (with_fields rows fields-new)
+      rows-more few = record {
+        few = omega (arith, counted, none-open, length-append rows.rows (fields-new ∷ []));
+        most = omega (arith, limit, none-open, length-append rows.rows (fields-new ∷ []));
+        fields = omega (arith, few, fits.kept.fields, behind, length-append rows.rows (fields-new ∷ []));
+        holds = Holds-line new.settled rows separator from to order in_block holds-same;
+      }
+
+      notes-kept : NotesFit new.settled new.pending new.read InData notes.notes notes.to_tell
+      notes-kept = record {
+        few = omega (arith, noted, none-open);
+        within = notes-within;
+        telling = to_tell-within;
+      }
+
+      notes-more : (p : Phase) (cause : Cause) → IsWithin (length new.settled) cause
+          → NotesFit new.settled new.pending new.read p (with_cause line cause notes).notes notes.to_tell
+      notes-more p cause within = record {
+        few = omega (arith, noted, none-open, length-append notes.notes (record { line = line; cause = cause } ∷ []));
+        within = NotesWithin-append (length new.settled) notes.notes (record { line = line; cause = cause }) within notes-within;
+        telling = to_tell-within;
+      }
+
+      columns-new : length (with_fields rows fields-new).widths ≡ length format.format.asked
+      columns-new = length-widened rows.widths (map (λ (field : Field). field.width) fields-new) ∙ columns-same
+
+      pub row-fits : (judged : Judged) → fields_of (rows_judged judged fields-new rows).rows ≤ fields_of rows.rows + (to - from) + 1
+          → PartsFit l (phase_judged judged) begun new format (rows_judged judged fields-new rows) (notes_judged judged line notes)
+      row-fits (Refused place) few = record {
+        rooms = rooms-new;
+        bytes = text_fits;
+        keys = data-keys new.read new.line Bad longer refl;
+        messages = notes-more Bad BadFormat tt;
+        kept = rows-refused;
+        by_phase = done;
+      }
+      row-fits (Row None) few = record {
+        rooms = rooms-new;
+        bytes = text_fits;
+        keys = data-keys new.read new.line InData longer refl;
+        messages = notes-kept;
+        kept = rows-more few;
+        by_phase = (columns-new, has-rows);
+      }
+      row-fits (Row (Some place)) few = record {
+        rooms = rooms-new;
+        bytes = text_fits;
+        keys = data-keys new.read new.line InData longer refl;
+        messages = notes-more InData TooManyFields tt;
+        kept = rows-more few;
+        by_phase = (columns-new, has-rows);
+      }
+
+    -- it ends with its newline, or as it goes on no more
+    module _ (separator from to line : ℕ) (from_is : from ≡ length text.settled) where
+      pub end_row-fits : to ≡ length text.settled + length (behind_joined text.pending text.line) → length (text.read ++ text.line) < l.text → length rows.rows ≤ l.rows
+          → (judged : Judged)
+          → fields_of (rows_judged judged (fields_from from (kept_fields separator (length rows.widths) (slice_range (text_ended text).settled from to))) rows).rows ≤ fields_of rows.rows + (to - from) + 1
+          → PartsFit l (phase_judged judged) begun (text_ended text) format
+          (rows_judged judged (fields_from from (kept_fields separator (length rows.widths) (slice_range (text_ended text).settled from to))) rows) (notes_judged judged line notes)
+      end_row-fits to_is room limit judged few =
+          let whole = behind_joined text.pending text.line in
+          let len : length (text_ended text).settled ≡ length text.settled + length whole + 1 =
+          omega (arith, length-append text.settled (whole ++ newline ∷ []), length-append whole (newline ∷ [])) in
+          row-fits (text_ended text) (whole ++ newline ∷ []) separator from to line refl refl refl (text-ends room) (omega (arith, ended-read))
+          (omega (arith, fits.messages.few, no-fault, ended-read)) (omega (arith, fits.kept.few, ended-read)) limit (omega (arith, from_is, to_is)) (omega (arith, to_is, len))
+          (omega (arith, from_is, to_is, len)) judged few
+
+      pub close_row-fits : to ≡ length text.settled + length (behind_joined text.pending []) → opened text.pending ≡ 1 → (judged : Judged)
+          → fields_of (rows_judged judged (fields_from from (kept_fields separator (length rows.widths) (slice_range (text_closed text).settled from to))) rows).rows ≤ fields_of rows.rows + (to - from) + 1
+          → PartsFit l (phase_judged judged) begun (text_closed text) format
+          (rows_judged judged (fields_from from (kept_fields separator (length rows.widths) (slice_range (text_closed text).settled from to))) rows) (notes_judged judged line notes)
+      close_row-fits to_is one judged few =
+          let begun_line = behind_joined text.pending [] in
+          let len : length (text_closed text).settled ≡ length text.settled + length begun_line = length-append text.settled begun_line in
+          let bytes : TextFits l (text_closed text).settled None text.line text.read = record {
+            few = fits.bytes.few;
+            most = fits.bytes.most;
+            block = omega (arith, fits.bytes.block, length-append (text_closed text).settled []);
+          } in
+          row-fits (text_closed text) begun_line separator from to line refl refl refl bytes (omega arith)
+          (omega (arith, fits.messages.few, no-fault, one)) (omega (arith, fits.kept.few, one)) (omega (arith, fits.kept.most, one)) (omega (arith, from_is, to_is)) (omega (arith, to_is, len))
+          (omega (arith, from_is, to_is, len)) judged few
+
+-- a table without a line
+pub start-fits : (l : TblLimits) (text keys columns note_room : ℕ) (rows : KeptRows)
+    → HasRooms l text keys columns rows.field_room rows.row_room rows.column_room note_room
+    → PartsFit l AtHead (Front false) (no_text text) (record { format = no_format; key_room = keys; column_room = columns }) (starting rows 0) (no_notes note_room)
+start-fits l text keys columns note_room rows rooms = record {
+  rooms = rooms;
+  bytes = record { few = omega arith; most = omega arith; block = omega arith };
+  keys = record { is = refl; few = tt; keys = omega arith; asked = omega arith; columns = omega arith; ended = tt };
+  messages = record { few = omega arith; within = tt; telling = tt };
+  kept = record { few = omega arith; most = omega arith; fields = omega arith; holds = Holds-start [] (starting rows 0) 0 refl refl };
+  by_phase = record { no_bytes = refl; alone = refl; no_keys = refl; no_rows = refl; no_notes = refl; untold = refl };
+}

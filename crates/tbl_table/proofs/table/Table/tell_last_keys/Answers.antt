@@ -1,0 +1,79 @@
+use Rattle.std.proofs.Common.{◌≡◌, ◌≤◌, [], ◌∷◌, ◌++◌, length, refl, sym, ap, ◌∙◌, arith}
+use Rattle.roff_source.specs.Bytes.{newline}
+use Rattle.tbl_table.specs.Begun.{begun_in}
+use Rattle.tbl_layout.specs.Format.{format_read}
+use Rattle.tbl_table.specs.Joined.{behind_joined}
+use Rattle.tbl_table.specs.Kept.{table_of}
+use Rattle.tbl_layout.specs.Notes.{told_of_all}
+use Rattle.tbl_table.specs.Steps.{fault_noted, phase_at_last}
+use Rattle.tbl_table.specs.Table.{is_bad_phase}
+use Rattle.tbl_table.specs.TableText.{text_whole}
+use Rattle.tbl_layout.specs.declared.format.FormatPlace.{FormatPlace}
+use Rattle.tbl_table.specs.declared.phase.Phase.{Phase}
+use Rattle.tbl_table.proofs.BegunLines.{count_is}
+use Rattle.tbl_table.proofs.TableFits.{NotesWithin-more}
+use Rattle.tbl_table.proofs.TableLast.{bad-as, fault-said, format-alone, format-empty, format-few, keys-bad, keys-said, last-keys-fits, longer-whole, said_behind, told-as}
+use Rattle.tbl_table.proofs.TableReads.{told-stay}
+use Rattle.tbl_table.proofs.table.Table.tell_last_keys.Goals as goal
+
+pub invariant_of-self : goal.invariant_of-self
+invariant_of-self c =
+    let a = c.self.inside in
+    let fits = c.self.invariant.parts in
+    let room = rw (← c.self.view_is) at c.requires.room in
+    let is = rw (← c.self.view_is) at c.requires.phase in
+    let f = a.format.format in
+    let phase = c.tell_keys-self-inside.ensures.phase in
+    let counts = c.count.ensures.value in
+    let row : length f.row ≤ length f.asked = omega (arith, counts.row, counts.columns, c.count.ensures.row) in
+    let place = c.place_at_end-place.result in
+    let begun : c.at_start-self-inside.result ≡ begun_in (phase_at_last place) f [] =
+    c.at_start-self-inside.ensures f (count_is f c.count.result counts) ∙ ap (λ (p : Phase). begun_in p f []) phase in
+    let longer = longer-whole a.limits a.phase a.begun a.text a.format a.rows a.notes fits room in
+    record {
+      parts = rw (c.complete.ensures, c.tell_keys-self-inside.ensures.notes, phase, begun)
+          (last-keys-fits a.limits a.phase a.begun a.text a.format a.rows a.notes fits room a.notes c.args.number
+          (format-empty a.limits a.phase a.begun a.text a.format a.rows a.notes fits is) row
+          (format-few a.limits a.phase a.begun a.text a.format a.rows a.notes fits is)
+          (NotesWithin-more (length a.text.settled) (length (text_whole a.text).settled) a.notes.notes longer fits.messages.within)
+          (NotesWithin-more (length a.text.settled) (length (text_whole a.text).settled) a.notes.to_tell longer fits.messages.telling)
+          refl place);
+      giving = c.give_nothing.ensures.nothing.can c.complete.new.self a.rows a.format;
+      pieces = c.give_nothing.ensures.room ∙ c.self.invariant.pieces;
+    }
+
+pub returns-clause-told : goal.returns-clause-told
+returns-clause-told c =
+    let a = c.self.inside in
+    let fits = c.self.invariant.parts in
+    let room = rw (← c.self.view_is) at c.requires.room in
+    let is = rw (← c.self.view_is) at c.requires.phase in
+    let f = a.format.format in
+    let place = c.place_at_end-place.result in
+    let format = rw c.line.ensures at c.place_at_end-place.ensures.format in
+    let place_is : place ≡ (format_read f (a.text.line ++ newline ∷ [])).place = format f (fits.keys.is ∙ ap (λ (p : Phase). begun_in p f a.text.line) is) in
+    let t = table_of a.phase a.options a.text a.format a.rows a.notes in
+    let new = table_of (phase_at_last place) a.options (text_whole a.text) a.format a.rows (fault_noted place c.args.number a.notes) in
+    rw (← c.self.view_is, c.complete.ensures, c.tell_keys-self-inside.ensures.notes, c.tell_keys-self-inside.ensures.phase)
+    (told-as new
+    ∙ fault-said (text_whole a.text).settled place c.args.number a.notes (told_of_all a.text.settled a.notes.notes)
+    (told-stay a.limits a.phase a.begun a.options a.text a.format a.rows a.notes fits (behind_joined a.text.pending a.text.line))
+    ∙ ap (λ (p : FormatPlace). said_behind p c.args.number t.notes) place_is
+    ∙ sym (keys-said c.args.number a.text.line t is (format-alone a.limits a.phase a.begun a.text a.format a.rows a.notes fits is)))
+
+pub returns-clause-answer : goal.returns-clause-answer
+returns-clause-answer c =
+    let a = c.self.inside in
+    let fits = c.self.invariant.parts in
+    let room = rw (← c.self.view_is) at c.requires.room in
+    let is = rw (← c.self.view_is) at c.requires.phase in
+    let f = a.format.format in
+    let place = c.place_at_end-place.result in
+    let format = rw c.line.ensures at c.place_at_end-place.ensures.format in
+    let place_is : place ≡ (format_read f (a.text.line ++ newline ∷ [])).place = format f (fits.keys.is ∙ ap (λ (p : Phase). begun_in p f a.text.line) is) in
+    let t = table_of a.phase a.options a.text a.format a.rows a.notes in
+    let new = table_of (phase_at_last place) a.options (text_whole a.text) a.format a.rows (fault_noted place c.args.number a.notes) in
+    rw (← c.self.view_is, c.complete.ensures, c.tell_keys-self-inside.ensures.notes, c.tell_keys-self-inside.ensures.phase)
+    (bad-as new
+    ∙ ap (λ (p : FormatPlace). is_bad_phase (phase_at_last p)) place_is
+    ∙ sym (keys-bad c.args.number a.text.line t is (format-alone a.limits a.phase a.begun a.text a.format a.rows a.notes fits is)))

@@ -1,0 +1,10 @@
+pub mod Table
+pub mod Reading
+pub mod Kept
+pub mod Steps
+pub mod Begun
+pub mod Joined
+pub mod TableText
+pub mod TableNotes
+pub mod TableRows
+pub mod Output

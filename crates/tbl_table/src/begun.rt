@@ -1,0 +1,137 @@
+//! What is known of a line of the options or the format before it has ended.
+
+ghost use Rattle.std.specs.Prelude.{◌≡◌, ◌+◌, ◌^◌, ◌<◌, ℕ, Bool, not, ◌&&◌, ◌==◌, ◌++◌, [], ◌∷◌, length};
+ghost use Rattle.roff_source.specs.Bytes.{newline};
+ghost use Rattle.tbl_table.specs.Begun.{FewKeys, begun_in, built_begun, count_of, head_begun};
+ghost use Rattle.tbl_layout.specs.Format.{Format, format_read, no_format};
+ghost use Rattle.tbl_layout.specs.KeyCounts.{Counts};
+ghost use Rattle.tbl_layout.specs.Options.{options_end, options_read, semicolon};
+ghost use Rattle.tbl_table.specs.Table.{columns_of, head_columns, head_place};
+ghost use Rattle.tbl_table.specs.declared.begun.Begun.TheVariants.{Front, Keys};
+
+use crate::phase::Phase;
+use tbl_layout::format::{FormatPlace, KeyCount};
+use tbl_layout::options::{bracketed, read_options};
+
+/// What is known of the line that is begun.
+#[derive(Clone, Copy, Debug, PartialEq, Eq)]
+pub enum Begun {
+    /// It is of options, or of a format without options; within brackets or not.
+    Front(bool),
+    /// It is of keys.
+    Keys(KeyCount),
+    /// Nothing of it counts.
+    Nothing,
+}
+
+impl Begun {
+    /// Of a line without a byte, where so much of the format was counted.
+    pub fn at_start(phase: Phase, count: KeyCount) -> Begun
+        ensures { (f : Format) → count ≡ count_of f → result ≡ begun_in phase f [] }
+    {
+        match phase {
+            Phase::AtHead => Begun::Front(false),
+            Phase::InFormat => Begun::Keys(count),
+            Phase::InData => Begun::Nothing,
+            Phase::Bad => Begun::Nothing,
+        }
+    }
+
+    /// What is known behind one byte more of this line.
+    pub fn behind(self, line: &[u8], byte: u8) -> Begun
+        requires { FewKeys (2 ^ 62) self }
+        ensures value { (phase : Phase) (f : Format) → self ≡ begun_in phase f line.now
+            → result ≡ begun_in phase f (line.now ++ byte ∷ []) }
+        ensures few { (most : ℕ) → FewKeys most self → FewKeys (most + 1) result }
+    {
+        match self {
+            Begun::Front(inside) => front_behind(inside, line, byte),
+            Begun::Keys(count) => Begun::Keys(count.behind(byte)),
+            Begun::Nothing => Begun::Nothing,
+        }
+    }
+
+    /// How many columns count behind one byte more of this line.
+    pub fn columns_with(self, line: &[u8], byte: u8) -> usize
+        requires keys { FewKeys (2 ^ 62) self }
+        requires few { length line.now < 2 ^ 62 }
+        ensures head { self ≡ head_begun (options_end line.now) line.now
+            → result ≡ head_columns (options_end (line.now ++ byte ∷ [])) (line.now ++ byte ∷ []) }
+        ensures format { (f : Format) → self ≡ Keys (count_of (format_read f line.now))
+            → result ≡ columns_of (format_read f (line.now ++ byte ∷ [])) }
+    {
+        match self {
+            Begun::Front(_) => front_columns(line, byte),
+            Begun::Keys(count) => count.behind(byte).columns,
+            Begun::Nothing => 0,
+        }
+    }
+
+    /// Where the reading of the format stands behind this line's newline.
+    pub fn place_at_end(self, line: &[u8]) -> FormatPlace
+        requires keys { FewKeys (2 ^ 62) self }
+        requires few { length line.now < 2 ^ 62 }
+        ensures head { self ≡ head_begun (options_end line.now) line.now
+            → result ≡ head_place (options_end line.now) line.now }
+        ensures format { (f : Format) → self ≡ Keys (count_of (format_read f line.now))
+            → result ≡ (format_read f (line.now ++ newline ∷ [])).place }
+    {
+        match self {
+            Begun::Front(_) => whole_line(line).place,
+            Begun::Keys(count) => count.behind(b'\n').place,
+            Begun::Nothing => FormatPlace::AtFault,
+        }
+    }
+}
+
+/// Behind one byte more of a line whose options haven't ended.
+fn front_behind(inside: bool, line: &[u8], byte: u8) -> Begun
+    ensures value { Front inside ≡ head_begun (options_end line.now) line.now
+        → result ≡ head_begun (options_end (line.now ++ byte ∷ [])) (line.now ++ byte ∷ []) }
+    ensures few { (most : ℕ) → FewKeys most result }
+{
+    if ends_options(inside, byte) {
+        return keys_behind(line);
+    }
+    Begun::Front(bracketed(inside, byte))
+}
+
+/// Whether a byte ends the options.
+fn ends_options(inside: bool, byte: u8) -> bool
+    ensures { result ≡ (not inside && byte == semicolon) }
+{
+    !inside && byte == b';'
+}
+
+/// Behind these options.
+fn keys_behind(options: &[u8]) -> Begun
+    ensures value { result ≡ built_begun (options_read options.now).are_built [] }
+    ensures few { (most : ℕ) → FewKeys most result }
+{
+    if read_options(options).are_built {
+        Begun::Keys(KeyCount::NONE)
+    } else {
+        Begun::Nothing
+    }
+}
+
+/// The columns behind one byte more of a line whose options haven't ended: they count once its
+/// newline has come.
+fn front_columns(line: &[u8], byte: u8) -> usize
+    requires { length line.now < 2 ^ 62 }
+    ensures { (inside : Bool) → Front inside ≡ head_begun (options_end line.now) line.now
+        → result ≡ head_columns (options_end (line.now ++ byte ∷ [])) (line.now ++ byte ∷ []) }
+{
+    if byte == b'\n' {
+        return whole_line(line).columns;
+    }
+    0
+}
+
+/// What counts of a line that is a format, with its newline.
+fn whole_line(line: &[u8]) -> KeyCount
+    requires { length line.now < 2 ^ 62 }
+    ensures { Counts (format_read no_format (line.now ++ newline ∷ [])) result }
+{
+    KeyCount::NONE.behind_all(line).behind(b'\n')
+}

@@ -1,0 +1,147 @@
+//! The table that is being read.
+
+ghost use Rattle.std.specs.Prelude.{◌≡◌, ◌+◌, ◌-◌, ◌<◌, [], ◌∷◌, length, IfOk};
+ghost use Rattle.std.specs.Option.{MatchOption};
+ghost use Rattle.tbl_layout.specs.Data.{judged};
+ghost use Rattle.tbl_table.specs.Reading.{byte_read, bytes_read, kept_nothing};
+ghost use Rattle.tbl_table.specs.Table.{columns, told_at_cut};
+
+mod ending;
+mod lines;
+mod passing;
+
+use crate::begun::Begun;
+use crate::output::Giving;
+use crate::phase::Phase;
+use crate::table_notes::TableNotes;
+use crate::table_rows::TableRows;
+use crate::table_text::TableText;
+use std::alloc::{AllocError, Global};
+use std::marker::Model;
+use tbl_layout::data::{Judged, judge};
+use tbl_layout::format_rows::FormatRows;
+use tbl_layout::limits::TblLimits;
+use tbl_layout::message::Told;
+use tbl_layout::options::{NO_OPTIONS, Options};
+
+/// The table that is being read, or that is being given. All its memory is reserved as it is made.
+#[derive(Drop)]
+pub struct Table {
+    limits: TblLimits,
+    text: TableText,
+    phase: Phase,
+    /// The line of the options or the format that is begun.
+    begun: Begun,
+    options: Options,
+    format: FormatRows,
+    rows: TableRows,
+    notes: TableNotes,
+    giving: Giving,
+}
+
+impl Model for Table {
+    ghost use Rattle.tbl_table.specs.Reading.{KeptTable};
+
+    ghost Value = { KeptTable };
+
+    ghost use Rattle.tbl_table.specs.Kept.{kept_by, IsSound};
+
+    ghost view = { kept_by };
+
+    ghost invariant = { IsSound };
+}
+
+impl Table {
+    /// No table, with room for one within the limits.
+    #[tactic(auto, unfolding(crate::specs::Table::no_lines))]
+    pub fn new(alloc: Global, limits: TblLimits) -> Result<Table, AllocError>
+        ensures { IfOk result (λ t. t ≡ kept_nothing limits) }
+    {
+        let text = limits.text as usize;
+        let rows = limits.rows.min(limits.text) as usize + 1;
+        let columns = limits.columns.min(limits.text) as usize;
+        Ok(Table {
+            limits,
+            text: TableText::new(alloc, limits.text)?,
+            phase: Phase::AtHead,
+            begun: Begun::Front(false),
+            options: NO_OPTIONS,
+            format: FormatRows::new(alloc, text, columns)?,
+            rows: TableRows::new(alloc, text + rows, rows, columns)?,
+            notes: TableNotes::new(alloc, text + 2)?,
+            giving: Giving::new(alloc, limits.columns.min(limits.text))?,
+        })
+    }
+
+    /// A table begins.
+    #[tactic(auto, unfolding(crate::specs::Table::no_lines))]
+    pub fn begin(&mut self)
+        ensures { self.new ≡ kept_nothing self.old.limits }
+    {
+        self.text.clear();
+        self.phase = Phase::AtHead;
+        self.begun = Begun::Front(false);
+        self.options = NO_OPTIONS;
+        self.format.clear();
+        self.rows.start(0);
+        self.notes.clear();
+        self.giving.give_nothing();
+    }
+
+    /// A byte of the line that is begun, but its newline.
+    pub fn push(&mut self, byte: u8)
+        requires room { length (bytes_read self.old.reading) < self.old.limits.text + 4 }
+        ensures { self.new ≡ record self.old
+            { reading = byte_read byte self.old.reading; to_come = [] } }
+    {
+        self.giving.give_nothing();
+        self.begun = self.begun.behind(self.text.line(), byte);
+        self.text.push(byte);
+    }
+
+    /// How many bytes were read of it.
+    pub fn len(&self) -> usize
+        ensures { result ≡ length (bytes_read self.now.reading) }
+    {
+        self.text.len()
+    }
+
+    /// What a line of the data is.
+    fn judged(&self, line: &[u8]) -> Judged
+        ensures { result ≡ judged self.now.reading.table.options.separator
+            (columns self.now.reading.table) line.now }
+    {
+        judge(self.options.separator, self.format.columns(), line)
+    }
+
+    /// The table is cut: the messages of its lines are to tell, but of one that goes on, and no byte
+    /// is to give.
+    #[tactic(auto, unfolding(crate::specs::Table::told_at_cut, crate::specs::Table::notes))]
+    pub fn cut(&mut self)
+        ensures told { self.new.told ≡ told_at_cut self.old.reading.table }
+        ensures to_come { self.new.to_come ≡ [] }
+        ensures limits { self.new.limits ≡ self.old.limits }
+    {
+        self.giving.give_nothing();
+        self.notes.tell();
+    }
+
+    /// The next message to tell.
+    pub fn next_told(&mut self) -> Option<Told>
+        ensures { MatchOption result ((self.old.told ≡ []) × (self.new ≡ self.old))
+            (λ told. self.old ≡ record self.new { told = told ∷ self.new.told }) }
+    {
+        match self.notes.next() {
+            Some(note) => Some(note.told(self.text.block())),
+            None => None,
+        }
+    }
+
+    /// The next byte to give.
+    pub fn next(&mut self) -> Option<u8>
+        ensures { MatchOption result ((self.old.to_come ≡ []) × (self.new ≡ self.old))
+            (λ b. self.old ≡ record self.new { to_come = b ∷ self.new.to_come }) }
+    {
+        self.giving.next(&self.text, &self.rows, &self.format)
+    }
+}
