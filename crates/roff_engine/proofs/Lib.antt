@@ -10,12 +10,10 @@ pub mod WholeRuns
 pub mod Outcomes
 pub mod TwoRuns
 pub mod Passing
-pub mod PassingAhead
 pub mod Turned
 pub mod PassingOn
 pub mod PassingEnds
 pub mod Telling
-pub mod Fronts
 pub mod DueDone
 pub mod NamedSteps
 pub mod EventsLeft

@@ -1,6 +1,6 @@
 -- A run that goes past the end of a text ahead, or of a call.
 use Rattle.std.proofs.Common.{◌≡◌, ℕ, suc, zero, ◌+◌, ◌<◌, ◌≤◌, ◌&&◌, Bool, true, false, List, [], ◌∷◌, Option, None, inl, inr, refl, sym, ap, subst, ◌∙◌, arith}
-use Rattle.std.specs.Prelude.{if◌then◌else◌, is_none}
+use Rattle.std.specs.Prelude.{if◌then◌else◌, is_none, nat_lt}
 use Rattle.std.proofs.lemmas.Bool.{le-ltb}
 use Rattle.roff_num.specs.declared.limit.Limit.{Limit}
 use Rattle.roff_num.specs.declared.limit.Limit.TheVariants.{Bytes}
@@ -21,7 +21,7 @@ use Rattle.roff_run.specs.Registers.{AllRegisters}
 use Rattle.roff_run.specs.Run.{Leads, State, in_front_taken, made, step, stopped_by, unless_refused, waiting}
 use Rattle.roff_run.specs.Run.Counts.{counts_in, first_passed}
 use Rattle.roff_run.specs.ItemsTaken.{TakesItems}
-use Rattle.roff_run.specs.TurnsToCome.{begun, free_ahead, turns_to_come}
+use Rattle.roff_run.specs.TurnsToCome.{begun, free_ahead, turns_to_come, turns_within}
 use Rattle.roff_run.specs.declared.event.PageEvent.{PageEvent}
 use Rattle.roff_run.specs.declared.line_state.LineState.{LineState}
 use Rattle.roff_run.specs.declared.line_state.LineState.TheVariants.{Arguments as InArguments, Branch, Braced, Calling, Control, Deciding, Defining, Dropped, Exiting}
@@ -32,48 +32,98 @@ use Rattle.roff_reader.proofs.TakesAs.{few_names}
 use Rattle.roff_engine.specs.declared.formatter.Formatter.{Formatter}
 use Rattle.roff_engine.specs.declared.running.Running.{Running as Coded}
 use Rattle.roff_engine.specs.Engine.Outcome.{Seen}
-use Rattle.roff_engine.specs.Running.Turning.{GoesFurther, HasTape, IsAt, state_at}
+use Rattle.roff_engine.specs.Running.Turning.{GoesFurther, HasTape, IsAt, state_at, turns_left}
 use Rattle.roff_engine.proofs.Passing.{IsAt-leads}
 use Rattle.roff_engine.proofs.PassingOn.{goes_further_none, goes_past_none}
 
--- the end in front is taken in a step, where nothing is due or waits for what follows
-step-end : (l : Limits) (s : State) (behind : List (Ahead PageEvent)) → TakesItems s → s.input.ahead ≡ EndAhead ∷ behind
-    → newline_stays s.input.escapes ≡ false → s.input.charge < l.bytes
-    → first_passed l (counts_in s.registers (item_taken EndAhead behind s.input)) ≡ None
-    → step l s ≡ record s { input = item_taken EndAhead behind s.input }
-step-end l s behind takes front stays within fits =
-    let there : State = record s { input = item_taken EndAhead behind s.input } in
-    step-TakesItems l s takes
-    ∙ ap (λ (c : Bool). if c then waiting l s else in_front_taken l s.input.ahead s) stays
-    ∙ ap (λ (items : List (Ahead PageEvent)). in_front_taken l items s) front
-    ∙ ap (λ (c : Bool). if c then stopped_by l Bytes s else made l s there) (le-ltb l.bytes (s.input.charge + 1) (omega (arith, within)))
-    ∙ ap (λ (r : Option Limit). unless_refused l r s there) fits
+-- behind the end of a call no more turns are to come for what is read
+begun-return : (r : LineState) → begun (behind_return r) ≤ begun r
+begun-return LineStart = omega arith
+begun-return Branch = omega arith
+begun-return Braced = omega arith
+begun-return (InText line) = omega arith
+begun-return (Control breaks) = omega arith
+begun-return (NameOf breaks first) = omega arith
+begun-return (InArguments breaks request) = omega arith
+begun-return (Deciding keeps) = omega arith
+begun-return (StringName appends) = omega arith
+begun-return (StringText name appends is_front) = omega arith
+begun-return (Calling name) = omega arith
+begun-return (Defining name appends end matched) = omega arith
+begun-return (Skipping opened closed behind) = omega arith
+begun-return Dropped = omega arith
+begun-return (Telling aborts is_front) = omega arith
+begun-return (Told aborts) = omega arith
+begun-return Exiting = omega arith
 
-module _ (old : Coded) (after : PageUnread) (behind : List (Ahead PageEvent)) (none_due : due old.formatter.reader.reading ≡ None)
-    (front : old.unread.input.ahead ≡ EndAhead ∷ behind) (stays : newline_stays old.unread.input.escapes ≡ false)
+-- An item in front that is an end is taken in a step, and this is read on behind it: fewer turns are to come, and none for what is
+-- read then.
+record IsEnd (item : Ahead PageEvent) (reads_on : LineState → LineState) : Type 0 where
+  taken : (l : Limits) (s : State) (behind : List (Ahead PageEvent))
+      → let there : State = record s { input = item_taken item behind s.input; reading = reads_on s.reading } in
+      in_front_taken l (item ∷ behind) s ≡ (if nat_lt l.bytes (s.input.charge + 1) then stopped_by l Bytes s else made l s there)
+  begun_behind : (reading : LineState) → begun (reads_on reading) ≤ begun reading
+  fewer : (most : ℕ) (i : PageInput) (behind : List (Ahead PageEvent)) → i.ahead ≡ item ∷ behind → i.charge < most
+      → turns_within most (item_taken item behind i) < turns_within most i
+
+-- that of a text is, and that of a call
+end_of_text : IsEnd EndAhead (λ reading. reading)
+end_of_text = record {
+  taken = λ l s behind. refl;
+  begun_behind = λ reading. omega arith;
+  fewer = λ most i behind front allowed. omega (arith, allowed, ap free_ahead front);
+}
+
+end_of_call : IsEnd ReturnAhead behind_return
+end_of_call = record {
+  taken = λ l s behind. refl;
+  begun_behind = begun-return;
+  fewer = λ most i behind front allowed. omega (arith, allowed, ap free_ahead front);
+}
+
+module _ (item : Ahead PageEvent) (reads_on : LineState → LineState) (ends : IsEnd item reads_on) (old : Coded) (after : PageUnread) (behind : List (Ahead PageEvent))
+    (none_due : due old.formatter.reader.reading ≡ None) (front : old.unread.input.ahead ≡ item ∷ behind) (stays : newline_stays old.unread.input.escapes ≡ false)
     (allowed : old.unread.input.charge < old.unread.limits.bytes)
-    (is : after ≡ record old.unread { input = item_taken EndAhead behind old.unread.input }) (within : IsWithin after) where
+    (is : after ≡ record old.unread { input = item_taken item behind old.unread.input }) (within : IsWithin after) where
+  -- what reads on behind it
+  abbrev over : Formatter
+  over = record old.formatter { reader = record old.formatter.reader { reading = reads_on old.formatter.reader.reading } }
+
+  -- it is taken in a step
+  step-end : (l : Limits) (s : State) → TakesItems s → s.input.ahead ≡ item ∷ behind → newline_stays s.input.escapes ≡ false → s.input.charge < l.bytes
+      → first_passed l (counts_in s.registers (item_taken item behind s.input)) ≡ None
+      → step l s ≡ record s { input = item_taken item behind s.input; reading = reads_on s.reading }
+  step-end l s takes in_front stays few fits =
+      let there : State = record s { input = item_taken item behind s.input; reading = reads_on s.reading } in
+      step-TakesItems l s takes
+      ∙ ap (λ (c : Bool). if c then waiting l s else in_front_taken l s.input.ahead s) stays
+      ∙ ap (λ (items : List (Ahead PageEvent)). in_front_taken l items s) in_front
+      ∙ ends.taken l s behind
+      ∙ ap (λ (c : Bool). if c then stopped_by l Bytes s else made l s there) (le-ltb l.bytes (s.input.charge + 1) (omega (arith, few)))
+      ∙ ap (λ (r : Option Limit). unless_refused l r s there) fits
+
   -- so the run is at its place behind it
-  IsAt-end : (whole tape : Tape) (start now : Seen) → IsAt whole tape start now old → IsAt whole tape start now (record old { unread = after })
+  IsAt-end : (whole tape : Tape) (start now : Seen) → IsAt whole tape start now old → IsAt whole tape start now (record old { formatter = over; unread = after })
   IsAt-end whole tape start now at =
       let l : Limits = old.unread.limits in
       let rs : AllRegisters = old.formatter.reader.registers.all in
-      let i : PageInput = item_taken EndAhead behind old.unread.input in
+      let i : PageInput = item_taken item behind old.unread.input in
       let there : PageUnread = record old.unread { input = i } in
       let s : State = state_at tape old at.history at.messages in
+      let t : State = record s { input = i; reading = reads_on s.reading } in
       let inside : IsWithin there = subst IsWithin is within in
       let fits : first_passed l (counts_in rs i) ≡ None =
       first_passed-few_names l rs i (few_names old.formatter.reader.registers old.unread at.ready) ∙ IsWithin-allowed there inside in
-      let leads : Leads l s (record s { input = i }) = record {
+      let leads : Leads l s t = record {
         steps = suc zero;
-        there = step-end l s behind (record { going = refl; not_closing = refl; idle = refl; none_due = none_due }) front stays allowed fits;
+        there = step-end l s (record { going = refl; not_closing = refl; idle = refl; none_due = none_due }) front stays allowed fits;
       } in
-      subst (λ (u : PageUnread). IsAt whole tape start now (record old { unread = u })) (sym is)
-      (IsAt-leads whole tape tape start now old old.formatter there at.history at
-      (subst (λ (k : Limits). Leads k s (record s { input = i })) at.limits leads) refl at.stands (record { cap = at.ready.cap; within = fits }) at.limits)
+      subst (λ (u : PageUnread). IsAt whole tape start now (record old { formatter = over; unread = u })) (sym is)
+      (IsAt-leads whole tape tape start now old over there at.history at
+      (subst (λ (k : Limits). Leads k s t) at.limits leads) refl at.stands (record { cap = at.ready.cap; within = fits }) at.limits)
 
   -- the source isn't asked where it stands in front
-  HasTape-end : (gave : Tape → Type 0) → HasTape old gave → HasTape (record old { unread = after }) gave
+  HasTape-end : (gave : Tape → Type 0) → HasTape old gave → HasTape (record old { formatter = over; unread = after }) gave
   HasTape-end gave known = elim known [
     | inl asks ↦
         let not_asked : false ≡ true = sym (ap (λ (items : List (Ahead PageEvent)). is_none_ahead items && is_none old.unread.looked) front) ∙ asks.0.1 in
@@ -82,12 +132,13 @@ module _ (old : Coded) (after : PageUnread) (behind : List (Ahead PageEvent)) (n
   ]
 
   -- fewer turns are to come
-  fewer-end : turns_to_come after < turns_to_come old.unread
+  fewer-end : turns_left (record old { formatter = over; unread = after }) < turns_left old
   fewer-end =
-      let free = ap free_ahead front in
-      subst (λ (u : PageUnread). turns_to_come u < turns_to_come old.unread) (sym is) (omega (arith, allowed, free))
+      let less : turns_to_come after < turns_to_come old.unread =
+      subst (λ (u : PageUnread). turns_to_come u < turns_to_come old.unread) (sym is) (ends.fewer old.unread.limits.bytes old.unread.input behind front allowed) in
+      omega (arith, less, ends.begun_behind old.formatter.reader.reading)
 
-  pub goes_further_end : (gave : Tape → Type 0) (notes : ℕ) (now : Seen) → GoesFurther true gave gave notes notes old (record old { unread = after }) now now
+  goes_further_end : (gave : Tape → Type 0) (notes : ℕ) (now : Seen) → GoesFurther true gave gave notes notes old (record old { formatter = over; unread = after }) now now
   goes_further_end gave notes now = record {
     past = record {
       limits = refl;
@@ -119,105 +170,10 @@ pub goes_further_passed : (old new : Coded) (is_passed : Bool) → (is_passed �
 goes_further_passed old new true none_due stays passed within kept others gave notes now =
     let p = passed refl in
     subst (λ (run : Coded). GoesFurther true gave gave notes notes old run now now) (sym others)
-    (goes_further_end old new.unread p.behind (none_due refl) p.in_front (stays refl) (omega (arith, p.within)) p.input (within refl) gave notes now)
+    (goes_further_end EndAhead (λ reading. reading) end_of_text old new.unread p.behind (none_due refl) p.in_front (stays refl) (omega (arith, p.within)) p.input (within refl) gave notes now)
 goes_further_passed old new false none_due stays passed within kept others gave notes now =
     subst (λ (run : Coded). GoesFurther false gave gave notes notes old run now now) (sym (kept refl))
     (goes_further_none gave gave notes notes old old now now (goes_past_none gave notes old now))
-
--- behind the end of a call no more turns are to come for what is read
-begun-return : (r : LineState) → begun (behind_return r) ≤ begun r
-begun-return LineStart = omega arith
-begun-return Branch = omega arith
-begun-return Braced = omega arith
-begun-return (InText line) = omega arith
-begun-return (Control breaks) = omega arith
-begun-return (NameOf breaks first) = omega arith
-begun-return (InArguments breaks request) = omega arith
-begun-return (Deciding keeps) = omega arith
-begun-return (StringName appends) = omega arith
-begun-return (StringText name appends is_front) = omega arith
-begun-return (Calling name) = omega arith
-begun-return (Defining name appends end matched) = omega arith
-begun-return (Skipping opened closed behind) = omega arith
-begun-return Dropped = omega arith
-begun-return (Telling aborts is_front) = omega arith
-begun-return (Told aborts) = omega arith
-begun-return Exiting = omega arith
-
--- the end of a call in front is taken in a step, where nothing is due or half read
-step-return : (l : Limits) (s : State) (behind : List (Ahead PageEvent)) → TakesItems s → s.input.ahead ≡ ReturnAhead ∷ behind
-    → newline_stays s.input.escapes ≡ false → s.input.charge < l.bytes
-    → first_passed l (counts_in s.registers (item_taken ReturnAhead behind s.input)) ≡ None
-    → step l s ≡ record s { input = item_taken ReturnAhead behind s.input; reading = behind_return s.reading }
-step-return l s behind takes front stays within fits =
-    let there : State = record s { input = item_taken ReturnAhead behind s.input; reading = behind_return s.reading } in
-    step-TakesItems l s takes
-    ∙ ap (λ (c : Bool). if c then waiting l s else in_front_taken l s.input.ahead s) stays
-    ∙ ap (λ (items : List (Ahead PageEvent)). in_front_taken l items s) front
-    ∙ ap (λ (c : Bool). if c then stopped_by l Bytes s else made l s there) (le-ltb l.bytes (s.input.charge + 1) (omega (arith, within)))
-    ∙ ap (λ (r : Option Limit). unless_refused l r s there) fits
-
-module _ (old : Coded) (after : PageUnread) (behind : List (Ahead PageEvent)) (none_due : due old.formatter.reader.reading ≡ None)
-    (front : old.unread.input.ahead ≡ ReturnAhead ∷ behind) (none : old.unread.input.escapes ≡ [])
-    (allowed : old.unread.input.charge < old.unread.limits.bytes)
-    (is : after ≡ record old.unread { input = item_taken ReturnAhead behind old.unread.input }) (within : IsWithin after) where
-  -- what reads on behind it
-  abbrev over : Formatter
-  over = record old.formatter { reader = record old.formatter.reader { reading = behind_return old.formatter.reader.reading } }
-
-  -- so the run is at its place behind it
-  IsAt-return : (whole tape : Tape) (start now : Seen) → IsAt whole tape start now old → IsAt whole tape start now (record old { formatter = over; unread = after })
-  IsAt-return whole tape start now at =
-      let l : Limits = old.unread.limits in
-      let rs : AllRegisters = old.formatter.reader.registers.all in
-      let i : PageInput = item_taken ReturnAhead behind old.unread.input in
-      let there : PageUnread = record old.unread { input = i } in
-      let s : State = state_at tape old at.history at.messages in
-      let t : State = record s { input = i; reading = behind_return s.reading } in
-      let stays : newline_stays s.input.escapes ≡ false = ap (λ (half : List OpenEscape). newline_stays half) none in
-      let inside : IsWithin there = subst IsWithin is within in
-      let fits : first_passed l (counts_in rs i) ≡ None =
-      first_passed-few_names l rs i (few_names old.formatter.reader.registers old.unread at.ready) ∙ IsWithin-allowed there inside in
-      let leads : Leads l s t = record {
-        steps = suc zero;
-        there = step-return l s behind (record { going = refl; not_closing = refl; idle = refl; none_due = none_due }) front stays allowed fits;
-      } in
-      subst (λ (u : PageUnread). IsAt whole tape start now (record old { formatter = over; unread = u })) (sym is)
-      (IsAt-leads whole tape tape start now old over there at.history at
-      (subst (λ (k : Limits). Leads k s t) at.limits leads) refl at.stands (record { cap = at.ready.cap; within = fits }) at.limits)
-
-  -- the source isn't asked where it stands in front
-  HasTape-return : (gave : Tape → Type 0) → HasTape old gave → HasTape (record old { formatter = over; unread = after }) gave
-  HasTape-return gave known = elim known [
-    | inl asks ↦
-        let not_asked : false ≡ true = sym (ap (λ (items : List (Ahead PageEvent)). is_none_ahead items && is_none old.unread.looked) front) ∙ asks.0.1 in
-        absurd (cc)
-    | inr given ↦ inr given
-  ]
-
-  -- fewer turns are to come
-  fewer-return : turns_to_come after < turns_to_come old.unread
-  fewer-return =
-      let free = ap free_ahead front in
-      subst (λ (u : PageUnread). turns_to_come u < turns_to_come old.unread) (sym is) (omega (arith, allowed, free))
-
-  -- none of them for what is read then
-  none-begun : begun (behind_return old.formatter.reader.reading) ≤ begun old.formatter.reader.reading
-  none-begun = begun-return old.formatter.reader.reading
-
-  goes_further_over : (gave : Tape → Type 0) (notes : ℕ) (now : Seen)
-      → GoesFurther true gave gave notes notes old (record old { formatter = over; unread = after }) now now
-  goes_further_over gave notes now = record {
-    past = record {
-      limits = refl;
-      taken = [];
-      before = λ t given. given;
-      some = HasTape-return gave;
-      past = λ t tape start given at. IsAt-return t tape start now at;
-      turns = omega (arith, fewer-return, none-begun);
-    };
-    fewer = λ begins. omega (arith, fewer-return, none-begun);
-  }
 
 -- past the end of a call, or past nothing
 pub goes_further_returned : (old new : Coded) (is_passed : Bool) → due old.formatter.reader.reading ≡ None → old.unread.input.escapes ≡ []
@@ -231,7 +187,8 @@ pub goes_further_returned : (old new : Coded) (is_passed : Bool) → due old.for
 goes_further_returned old new true none_due none passed within is kept gave notes now =
     let p = passed refl in
     subst (λ (run : Coded). GoesFurther true gave gave notes notes old run now now) (sym (is refl))
-    (goes_further_over old new.unread p.behind none_due p.in_front none (omega (arith, p.within)) p.input (within refl) gave notes now)
+    (goes_further_end ReturnAhead behind_return end_of_call old new.unread p.behind none_due p.in_front (ap (λ (half : List OpenEscape). newline_stays half) none)
+    (omega (arith, p.within)) p.input (within refl) gave notes now)
 goes_further_returned old new false none_due none passed within is kept gave notes now =
     subst (λ (run : Coded). GoesFurther false gave gave notes notes old run now now) (sym (kept refl))
     (goes_further_none gave gave notes notes old old now now (goes_past_none gave notes old now))

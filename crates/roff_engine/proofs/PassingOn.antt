@@ -1,5 +1,5 @@
--- A run that goes past bytes, and then past more, goes past all of them; and one past the front of a control line.
-use Rattle.std.proofs.Common.{◌≡◌, ℕ, ◌<◌, Bool, true, false, [], ◌∷◌, ◌++◌, None, refl, sym, ap, subst, ◌∙◌, arith}
+-- A run that goes past bytes, and then past more, goes past all of them; and one past a newline.
+use Rattle.std.proofs.Common.{◌≡◌, ◌≤◌, ℕ, ◌<◌, Bool, true, false, [], ◌∷◌, ◌++◌, None, refl, sym, ap, subst, ◌∙◌, arith}
 use Rattle.roff_source.specs.Bytes.{newline}
 use Rattle.roff_source.specs.Tape.{Tape, items_then}
 use Rattle.roff_scan.specs.Unread.{IsWithin}
@@ -12,7 +12,6 @@ use Rattle.roff_reader.specs.Reader.Stages.{ReadsPast}
 use Rattle.roff_run.specs.TurnsToCome.{begun, free_ahead, turns_to_come}
 use Rattle.roff_run.specs.declared.line_state.LineState.TheVariants.{LineStart}
 use Rattle.roff_reader.proofs.LineEnds.{reads-ended}
-use Rattle.roff_engine.specs.declared.formatter.Formatter.{Formatter}
 use Rattle.roff_engine.specs.declared.running.Running.{Running as Coded}
 use Rattle.roff_engine.specs.Engine.Outcome.{Seen, seen}
 use Rattle.roff_engine.specs.Running.Turning.{GoesFurther, GoesPast, IsAt}
@@ -56,14 +55,6 @@ goes_past_kept gave gives noted notes failed failures out err old new same_tapes
     (subst (λ (run : Coded). GoesPast gave gave noted noted old run (seen failed out err) (seen failed out err)) (sym same)
     (goes_past_none gave noted old (seen failed out err)))))
 
--- past bytes that the formatter's reader read
-pub goes_past_read : (gave gives : Tape → Type 0) (noted notes failed failures : ℕ) (out err : Sunk) (old : Coded) (after : PageUnread) (f : Formatter)
-    → f ≡ record old.formatter { reader = f.reader } → ReadsPast gave gives old.formatter.reader f.reader old.unread after → notes ≡ noted → failures ≡ failed
-    → GoesPast gave gives noted notes old (record old { unread = after; formatter = f }) (seen failed out err) (seen failures out err)
-goes_past_read gave gives noted notes failed failures out err old after f same past same_notes same_failures =
-    subst (λ (there : Formatter). GoesPast gave gives noted notes old (record old { unread = after; formatter = there }) (seen failed out err) (seen failures out err)) (sym same)
-    (goes_past_turned gave gives noted notes failed failures out err old after f.reader past same_notes same_failures)
-
 -- past some bytes behind which no line begins, as far as is known
 pub goes_further_none : (gave gives : Tape → Type 0) (noted notes : ℕ) (old new : Coded) (now behind : Seen) → GoesPast gave gives noted notes old new now behind
     → GoesFurther false gave gives noted notes old new now behind
@@ -87,19 +78,17 @@ fewer-newline gave gives before after (OfTexts passes) =
     subst (λ (u : PageUnread). turns_to_come u < turns_to_come before) (sym passes.input) (omega (arith, passes.within, free))
 
 -- past a newline behind which a line begins
-pub goes_further_ended : (gave gives : Tape → Type 0) (noted notes failed failures : ℕ) (out err : Sunk) (old : Coded) (after : PageUnread) (f : Formatter)
-    → f ≡ record old.formatter { reader = record old.formatter.reader { reading = LineStart } } → due old.formatter.reader.reading ≡ None
+pub goes_further_ended : (gave gives : Tape → Type 0) (noted notes failed failures : ℕ) (out err : Sunk) (old : Coded) (after : PageUnread) (r : ReaderState)
+    → r ≡ record old.formatter.reader { reading = LineStart } → due old.formatter.reader.reading ≡ None
     → EndsLine old.formatter.reader.reading → old.unread.input.escapes ≡ [] → PassesFront gave gives (newline ∷ []) old.unread after → IsWithin after
-    → notes ≡ noted → failures ≡ failed
-    → GoesFurther true gave gives noted notes old (record old { unread = after; formatter = f }) (seen failed out err) (seen failures out err)
-goes_further_ended gave gives noted notes failed failures out err old after f is none_due ends none_half passes within same_notes same_failures =
-    let read : f.reader ≡ record old.formatter.reader { reading = LineStart } = ap (λ (g : Formatter). g.reader) is in
-    let same : f ≡ record old.formatter { reader = f.reader } = is ∙ ap (λ (r : ReaderState). record old.formatter { reader = r }) (sym read) in
-    let past : ReadsPast gave gives old.formatter.reader f.reader old.unread after =
-    reads-ended gave gives old.formatter.reader f.reader old.unread after none_due ends none_half passes within read in
+    → notes ≤ noted → failures ≡ failed
+    → GoesFurther true gave gives noted notes old (record old { unread = after; formatter = record old.formatter { reader = r } }) (seen failed out err) (seen failures out err)
+goes_further_ended gave gives noted notes failed failures out err old after r is none_due ends none_half passes within fewer same_failures =
+    let past : ReadsPast gave gives old.formatter.reader r old.unread after =
+    reads-ended gave gives old.formatter.reader r old.unread after none_due ends none_half passes within is in
     let less : turns_to_come after < turns_to_come old.unread = fewer-newline gave gives old.unread after passes in
-    let none : begun f.reader.reading ≡ 0 = ap (λ (r : ReaderState). begun r.reading) read in
+    let none : begun r.reading ≡ 0 = ap (λ (there : ReaderState). begun there.reading) is in
     record {
-      past = goes_past_read gave gives noted notes failed failures out err old after f same past same_notes same_failures;
-      fewer = λ begins. omega (arith, less, none, same_notes);
+      past = goes_past_turned gave gives noted notes failed failures out err old after r past fewer same_failures;
+      fewer = λ begins. omega (arith, less, none, fewer);
     }

@@ -1,6 +1,6 @@
 -- Bytes of a text line that stand in front are told: the run has come behind them.
 use Rattle.std.proofs.Common.{◌≡◌, ℕ, zero, suc, ◌+◌, ◌<◌, ◌≤◌, true, false, List, [], ◌∷◌, ◌++◌, length, length-take, take, take-take, Option, None, inl, inr, refl, sym, ap, subst, ◌∙◌, arith}
-use Rattle.std.specs.Prelude.{map, min, take_while}
+use Rattle.std.specs.Prelude.{is_none, map, min, take_while}
 use Rattle.std.proofs.lemmas.Bool.Decides.{nat_tests}
 use Rattle.std.proofs.lemmas.List.Folds.{length-prefix_len}
 use Rattle.std.specs.List.{AllByRecursion}
@@ -14,7 +14,7 @@ use Rattle.roff_source.specs.Bytes.{is_text_byte}
 use Rattle.roff_ahead.specs.Input.{Ahead, ByteAhead, bytes_taken, lines_taken}
 use Rattle.roff_source.specs.Tape.{Tape, OneByte, items_then}
 use Rattle.roff_scan.specs.Unread.{looked_then}
-use Rattle.roff_scan.specs.Unread.Calls.{OfSource, OfTexts, PassesFront, PassesSource, PassesTexts, front_bytes, next_bytes}
+use Rattle.roff_scan.specs.Unread.Calls.{OfSource, OfTexts, PassesFront, front_bytes}
 use Rattle.roff_run.specs.Environments.{Environments, environments, text_of}
 use Rattle.roff_requests.specs.Environments.Standing.{StandBy, StandFor}
 use Rattle.roff_run.specs.Output.{PageHistory}
@@ -26,22 +26,23 @@ use Rattle.roff_run.specs.Registers.{AllRegisters}
 use Rattle.roff_run.specs.Run.{State, Leads}
 use Rattle.roff_run.specs.Run.Counts.{counts_in, first_passed}
 use Rattle.roff_run.specs.Telling.{Prints, page_told}
-use Rattle.roff_run.specs.TurnsToCome.{turns_to_come}
+use Rattle.roff_run.specs.TurnsToCome.{turns_within}
 use Rattle.roff_requests.specs.declared.environments.Environments.{Environments as EnvironmentsOf}
 use Rattle.roff_run.specs.declared.event.PageEvent.{PageEvent}
 use Rattle.roff_run.specs.declared.line_state.LineState.{LineState}
-use Rattle.roff_reader.proofs.PassingBodies.{turns_within-bytes_taken, within-bytes_taken}
-use Rattle.roff_reader.proofs.PassingRuns.{IsPlain, IsPlain-lines_taken, turns_within-lines_taken}
-use Rattle.roff_reader.proofs.PrintedRuns.{environments-told, leads-ahead, leads-source, with_text, written-told}
+use Rattle.roff_run.proofs.ItemsTaken.{FromAhead, FromSource, Origin, ahead_at, tape_at}
+use Rattle.roff_run.proofs.PlainRuns.{behind_bytes, counted, counted-source}
+use Rattle.roff_reader.proofs.TurnedRuns.{counted-bytes_taken}
+use Rattle.roff_reader.proofs.Runs.{first_of_front}
+use Rattle.roff_reader.proofs.PrintedRuns.{counted-behind, environments-told, leads-told, turns-counted, with_text, written-told}
 use Rattle.roff_engine.specs.declared.formatter.Formatter.{Formatter}
 use Rattle.roff_engine.specs.declared.running.Running.{Running as Coded}
 use Rattle.roff_engine.specs.Engine.Outcome.{Seen, seen}
 use Rattle.roff_engine.specs.Formatter.Performing.{going}
 use Rattle.roff_engine.specs.Formatter.Telling.{TellsFront}
-use Rattle.roff_engine.specs.Running.Turning.{GoesPast, HasTape, IsAt, state_at}
+use Rattle.roff_engine.specs.Running.Turning.{GoesPast, HasTape, IsAt, state_at, turns_left}
 use Rattle.roff_pages.specs.Sinks.{Sunk}
-use Rattle.roff_engine.proofs.Passing.{IsAt-leads, all_by}
-use Rattle.roff_engine.proofs.PassingAhead.{has_tape}
+use Rattle.roff_engine.proofs.Passing.{IsAt-leads, all_by, goes_past_fewer, not_asked}
 use Rattle.roff_engine.proofs.Performed.{with_lines}
 
 -- where the lines of the environment in force stand for more of its history, the environments do
@@ -114,11 +115,14 @@ tells_of_all front near most count old new is told =
       stands = λ l h stood. subst (λ (bytes : List ℕ). StandFor l (page_told bytes h) new.environments) same (told.stands l h stood);
     }
 
--- of the bytes in front fewer are the first of them
-pub first_of_front : (front : List ℕ) (count : ℕ) (ready : List ℕ) (u : PageUnread) → front ≡ front_bytes (length front) ready u → count ≤ length front
-    → take count front ≡ front_bytes count ready u
-first_of_front front count ready u is few =
-    ap (take count) is ∙ take-take count (length front) (next_bytes u.input.ahead u.looked ready) few
+-- behind bytes ahead there is a tape of the source, if there was one
+has_tape : (gives : Tape → Type 0) (old : Coded) (bytes : List ℕ) (items : List (Ahead PageEvent)) → old.unread.input.ahead ≡ map ByteAhead bytes ++ items
+    → HasTape old gives → HasTape (record old { unread = record old.unread { input = bytes_taken bytes items old.unread.input } }) gives
+has_tape gives old [] items front known = known
+has_tape gives old (b ∷ bytes) items front known = elim known [
+  | inl asks ↦ absurd (not_asked bytes b items old.unread.input.ahead (is_none old.unread.looked) front asks.0.1)
+  | inr given ↦ inr given
+]
 
 -- bytes that the formatter told where nothing is half read
 module _ (old : Coded) (f : Formatter) (front : List ℕ) (count : ℕ) (told : TellsFront front count old.formatter f)
@@ -162,87 +166,84 @@ module _ (old : Coded) (f : Formatter) (front : List ℕ) (count : ℕ) (told : 
       (written-told old.unread.limits.line bytes at.history (quiet whole tape start now at))
       (told.stands old.limits at.history at.stands) (record { cap = at.ready.cap; within = within }) at.limits
 
-  -- bytes of the source
-  IsAt-source : (whole t : Tape) (start now : Seen) → old.unread.input.ahead ≡ [] → old.unread.looked ≡ None
-      → old.unread.input.charge + length bytes ≤ old.unread.limits.bytes → IsAt whole (items_then (map OneByte bytes) t) start now old
-      → IsAt whole t start now (behind (lines_taken bytes old.unread.input))
-  IsAt-source whole t start now none_ahead none_looked few at =
-      let u : PageUnread = old.unread in
-      let tape : Tape = items_then (map OneByte bytes) t in
-      let input : PageInput = lines_taken bytes u.input in
-      let here : Option ℕ → Tape → PageInput → PageHistory → State = λ looked tape i h. going (looked_then looked tape) i reading rs h at.messages false [] in
+  -- from there
+  IsAt-from : (from : Origin) (whole t taken : Tape) (start now : Seen) (input : PageInput) → old.unread.input.ahead ≡ ahead_at from bytes
+      → input ≡ counted from bytes old.unread.input → old.unread.input.charge + length bytes ≤ old.unread.limits.bytes
+      → looked_then old.unread.looked taken ≡ tape_at from bytes (looked_then old.unread.looked taken)
+      → tape_at from [] (looked_then old.unread.looked taken) ≡ looked_then old.unread.looked t
+      → IsAt whole taken start now old → IsAt whole t start now (behind input)
+  IsAt-from from whole t taken start now input front is few asked left at =
+      let l : Limits = old.unread.limits in
+      let i : PageInput = old.unread.input in
+      let tape : Tape = looked_then old.unread.looked taken in
       let h : PageHistory = page_told bytes at.history in
-      let plain : IsPlain u.limits (here None t u.input h) u.input = record { none_ahead = none_ahead; none_half = none_half; within = at.ready.within } in
-      let leads : Leads u.limits (here None tape u.input at.history) (here None t input h) =
-      leads-source u.limits reading rs at.messages t bytes u.input at.history none_due none_ahead none_half at.ready.within few all_print
-      (quiet whole tape start now at) in
-      IsAt-told whole tape t start now input at
-      (subst (λ (looked : Option ℕ). Leads u.limits (here looked tape u.input at.history) (here looked t input h)) (sym none_looked) leads)
-      (IsPlain-lines_taken u.limits (here None t u.input h) bytes u.input plain).within
+      let here : Tape → PageInput → PageHistory → State = λ tape j h. going tape j reading rs h at.messages false [] in
+      let led = leads-told l reading rs at.messages from tape bytes i at.history none_due none_half
+      (subst (λ (items : List (Ahead PageEvent)). first_passed l (counts_in rs (record i { ahead = items })) ≡ None) front at.ready.within) few all_print
+      (quiet whole taken start now at) in
+      let stands : here (tape_at from bytes tape) (record i { ahead = ahead_at from bytes }) at.history ≡ here tape i at.history =
+      ap (λ (tape : Tape). here tape (record i { ahead = ahead_at from bytes }) at.history) (sym asked)
+      ∙ ap (λ (items : List (Ahead PageEvent)). here tape (record i { ahead = items }) at.history) (sym front) in
+      let same : record (behind_bytes from bytes i) { ahead = ahead_at from [] } ≡ input = counted-behind from bytes i ∙ sym is in
+      let comes : here (tape_at from [] tape) (record (behind_bytes from bytes i) { ahead = ahead_at from [] }) h ≡ here (looked_then old.unread.looked t) input h =
+      ap (λ (j : PageInput). here (tape_at from [] tape) j h) same ∙ ap (λ (tape : Tape). here tape input h) left in
+      IsAt-told whole taken t start now input at
+      (subst (λ (from : State). Leads l from (here (looked_then old.unread.looked t) input h)) stands
+      (subst (λ (there : State). Leads l (here (tape_at from bytes tape) (record i { ahead = ahead_at from bytes }) at.history) there) comes led.0))
+      (subst (λ (j : PageInput). first_passed l (counts_in rs j) ≡ None) same led.1)
 
-  -- bytes that stand ahead
-  IsAt-ahead : (whole t : Tape) (start now : Seen) (items : List (Ahead PageEvent)) → old.unread.input.ahead ≡ map ByteAhead bytes ++ items
-      → old.unread.input.charge + length bytes ≤ old.unread.limits.bytes → IsAt whole t start now old
-      → IsAt whole t start now (behind (bytes_taken bytes items old.unread.input))
-  IsAt-ahead whole t start now items in_front few at =
-      let u : PageUnread = old.unread in
-      IsAt-told whole t t start now (bytes_taken bytes items u.input) at
-      (leads-ahead u.limits reading rs at.messages (looked_then u.looked t) items bytes u.input at.history none_due in_front none_half at.ready.within few all_print
-      (quiet whole t start now at))
-      (within-bytes_taken u.limits rs bytes items u.input in_front at.ready.within)
-
-  -- the run goes past bytes of the source
-  past-source : (gave gives : Tape → Type 0) (notes : ℕ) (now : Seen) (u : PageUnread) → (passes : PassesSource gave gives bytes old.unread u)
-      → GoesPast gave gives notes notes old (behind (lines_taken bytes old.unread.input)) now now
-  past-source gave gives notes now u passes =
-      let few : turns_to_come (behind (lines_taken bytes old.unread.input)).unread ≤ turns_to_come old.unread =
-      turns_within-lines_taken old.unread.limits.bytes bytes old.unread.input in
-      record {
-        limits = refl;
-        taken = map OneByte bytes;
-        before = passes.in_front;
-        some = λ known. inr passes.some;
-        past = λ t tape start may at. IsAt-source t tape start now passes.ahead passes.looked passes.within at;
-        turns = omega (arith, few);
-      }
-
-  -- and past those that stand ahead
-  past-texts : (gave gives : Tape → Type 0) (notes : ℕ) (now : Seen) (u : PageUnread) → (passes : PassesTexts gave gives bytes old.unread u)
-      → GoesPast gave gives notes notes old (behind (bytes_taken bytes passes.behind old.unread.input)) now now
-  past-texts gave gives notes now u passes =
-      let items : List (Ahead PageEvent) = passes.behind in
-      let few : turns_to_come (behind (bytes_taken bytes items old.unread.input)).unread ≤ turns_to_come old.unread =
-      turns_within-bytes_taken old.unread.limits.bytes bytes items old.unread.input passes.in_front in
-      let given : HasTape old gave → HasTape old gives = λ known. elim known [ inl asks ↦ inl asks | inr tape ↦ inr (tape.0, passes.stays.after tape.0 tape.1) ] in
-      record {
-        limits = refl;
-        taken = [];
-        before = passes.stays.before;
-        some = λ known. has_tape gives old bytes items passes.in_front (given known);
-        past = λ t tape start may at. IsAt-ahead t tape start now items passes.in_front passes.within at;
-        turns = omega (arith, few);
-      }
+  -- no more turns are to come
+  turns-told : (from : Origin) (input : PageInput) → old.unread.input.ahead ≡ ahead_at from bytes → input ≡ counted from bytes old.unread.input
+      → turns_left (behind input) ≤ turns_left old
+  turns-told from input front is =
+      let most : ℕ = old.unread.limits.bytes in
+      let few : turns_within most input ≤ turns_within most old.unread.input =
+      subst (λ (j : PageInput). turns_within most j ≤ turns_within most old.unread.input) (sym is) (turns-counted most from bytes old.unread.input front) in
+      omega (arith, few)
 
   -- the run goes past the bytes that were told, wherever they stood
   past-told : (gave gives : Tape → Type 0) (notes : ℕ) (now : Seen) (u : PageUnread) → PassesFront gave gives bytes old.unread u
       → GoesPast gave gives notes notes old (record old { formatter = formatter_behind; unread = u }) now now
   past-told gave gives notes now u (OfSource passes) =
-      subst (λ (v : PageUnread). GoesPast gave gives notes notes old (record old { formatter = formatter_behind; unread = v }) now now) (sym passes.input)
-      (past-source gave gives notes now u passes)
+      let input : PageInput = lines_taken bytes old.unread.input in
+      let is : (tape : Tape) → input ≡ counted (FromSource tape) bytes old.unread.input = λ tape. sym (counted-source tape bytes old.unread.input passes.ahead) in
+      let few : turns_left (behind input) ≤ turns_left old = turns-told (FromSource passes.some.0) input passes.ahead (is passes.some.0) in
+      subst (λ (v : PageUnread). GoesPast gave gives notes notes old (record old { formatter = formatter_behind; unread = v }) now now) (sym passes.input) (record {
+        limits = refl;
+        taken = map OneByte bytes;
+        before = passes.in_front;
+        some = λ known. inr passes.some;
+        past = λ t tape start may at.
+            IsAt-from (FromSource tape) t tape (items_then (map OneByte bytes) tape) start now input passes.ahead (is tape) passes.within
+            (ap (λ (looked : Option ℕ). looked_then looked (items_then (map OneByte bytes) tape)) passes.looked)
+            (sym (ap (λ (looked : Option ℕ). looked_then looked tape) passes.looked)) at;
+        turns = omega (arith, few);
+      })
   past-told gave gives notes now u (OfTexts passes) =
-      subst (λ (v : PageUnread). GoesPast gave gives notes notes old (record old { formatter = formatter_behind; unread = v }) now now) (sym passes.input)
-      (past-texts gave gives notes now u passes)
+      let items : List (Ahead PageEvent) = passes.behind in
+      let input : PageInput = bytes_taken bytes items old.unread.input in
+      let is : input ≡ counted (FromAhead items) bytes old.unread.input = sym (counted-bytes_taken items bytes old.unread.input passes.in_front) in
+      let few : turns_left (behind input) ≤ turns_left old = turns-told (FromAhead items) input passes.in_front is in
+      let given : HasTape old gave → HasTape old gives = λ known. elim known [ inl asks ↦ inl asks | inr tape ↦ inr (tape.0, passes.stays.after tape.0 tape.1) ] in
+      subst (λ (v : PageUnread). GoesPast gave gives notes notes old (record old { formatter = formatter_behind; unread = v }) now now) (sym passes.input) (record {
+        limits = refl;
+        taken = [];
+        before = passes.stays.before;
+        some = λ known. has_tape gives old bytes items passes.in_front (given known);
+        past = λ t tape start may at. IsAt-from (FromAhead items) t tape tape start now input passes.in_front is passes.within refl refl at;
+        turns = omega (arith, few);
+      })
 
   -- the same, as the source counts, and told the bytes that stood in front
   pub goes_past_told : (gave gives : Tape → Type 0) (ready : List ℕ) (noted notes failed failures : ℕ) (out err : Sunk) (u : PageUnread)
       → front ≡ front_bytes (length front) ready old.unread → PassesFront gave gives (front_bytes count ready old.unread) old.unread u
-      → notes ≡ noted → failures ≡ failed
+      → notes ≤ noted → failures ≡ failed
       → GoesPast gave gives noted notes old (record old { formatter = f; unread = u }) (seen failed out err) (seen failures out err)
-  goes_past_told gave gives ready noted notes failed failures out err u stood passed same_notes same_failures =
+  goes_past_told gave gives ready noted notes failed failures out err u stood passed fewer same_failures =
       let passes : PassesFront gave gives bytes old.unread u =
       subst (λ (passed : List ℕ). PassesFront gave gives passed old.unread u) (sym (first_of_front front count ready old.unread stood told.few)) passed in
       let is : f ≡ formatter_behind = ap (λ (reader : ReaderState). record f { reader = reader }) told.reader in
       subst (λ (g : Formatter). GoesPast gave gives noted notes old (record old { formatter = g; unread = u }) (seen failed out err) (seen failures out err)) (sym is)
-      (subst (λ (n : ℕ). GoesPast gave gives noted n old (record old { formatter = formatter_behind; unread = u }) (seen failed out err) (seen failures out err)) (sym same_notes)
+      (goes_past_fewer gave gives noted noted notes old (record old { formatter = formatter_behind; unread = u }) (seen failed out err) (seen failures out err) fewer
       (subst (λ (n : ℕ). GoesPast gave gives noted noted old (record old { formatter = formatter_behind; unread = u }) (seen failed out err) (seen n out err)) (sym same_failures)
       (past-told gave gives noted (seen failed out err) u passes)))

@@ -29,8 +29,7 @@ use Rattle.roff_engine.specs.declared.running.Running.{Running as Coded}
 use Rattle.roff_engine.specs.Engine.Outcome.{Seen, seen}
 use Rattle.roff_engine.specs.Running.Turning.{GoesPast, HasTape, IsAt, state_at, turns_left}
 use Rattle.roff_pages.specs.Sinks.{Sunk}
-use Rattle.roff_engine.proofs.Passing.{IsAt-leads}
-use Rattle.roff_engine.proofs.PassingAhead.{not_asked}
+use Rattle.roff_engine.proofs.Passing.{IsAt-leads, goes_past_fewer, not_asked}
 
 -- the code where this is read
 abbrev reads : Coded → LineState → PageInput → Coded
@@ -219,10 +218,10 @@ past-read gave gives notes now old after new past (OfTexts passes) =
 
 -- the run goes past the bytes that were read, as the source counts
 pub goes_past_turned : (gave gives : Tape → Type 0) (noted notes failed failures : ℕ) (out err : Sunk) (old : Coded) (after : PageUnread) (new : ReaderState)
-    → ReadsPast gave gives old.formatter.reader new old.unread after → notes ≡ noted → failures ≡ failed
+    → ReadsPast gave gives old.formatter.reader new old.unread after → notes ≤ noted → failures ≡ failed
     → GoesPast gave gives noted notes old (record old { unread = after; formatter = record old.formatter { reader = new } }) (seen failed out err) (seen failures out err)
-goes_past_turned gave gives noted notes failed failures out err old after new past same_notes same_failures =
+goes_past_turned gave gives noted notes failed failures out err old after new past fewer same_failures =
     let there : Coded = record old { unread = after; formatter = record old.formatter { reader = new } } in
-    subst (λ (n : ℕ). GoesPast gave gives noted n old there (seen failed out err) (seen failures out err)) (sym same_notes)
+    goes_past_fewer gave gives noted noted notes old there (seen failed out err) (seen failures out err) fewer
     (subst (λ (f : ℕ). GoesPast gave gives noted noted old there (seen failed out err) (seen f out err)) (sym same_failures)
     (past-read gave gives noted (seen failed out err) old after new past past.passes))

@@ -129,7 +129,7 @@ impl Running {
         }
     }
 
-    /// The same above what is half read, where a byte is seldom one of a text line.
+    /// The same above what is half read, where the end of a text is often in front.
     #[inline(always)]
     fn turn_above<S: ByteSource, O: ByteSink, E: ByteSink>(
         &mut self,
@@ -146,28 +146,7 @@ impl Running {
         if self.unread.pass_end() {
             return Ok(());
         }
-        self.turn_byte_above(source, out, err)
-    }
-
-    /// The same of what isn't the end of a text.
-    #[inline(always)]
-    fn turn_byte_above<S: ByteSource, O: ByteSink, E: ByteSink>(
-        &mut self,
-        source: &mut S,
-        out: &mut O,
-        err: &mut E,
-    ) -> Result<(), Status>
-        ensures { TurnsBy (λ s. in_front_taken self.old.limits s.input.ahead s)
-            (S.gives source.old) (S.gives source.new) (S.notes source.old) (S.notes source.new)
-            self.old self.new
-            (seen (S.failures source.old) (O.sunk out.old) (E.sunk err.old))
-            (seen (S.failures source.new) (O.sunk out.new) (E.sunk err.new)) result }
-    {
-        let line = self.unread.line();
-        match self.unread.take_ready(source) {
-            Some(byte) => self.take(byte, line, out, err),
-            None => self.turn_item(source, out, err),
-        }
+        self.turn_in_front(source, out, err)
     }
 
     /// Takes the item in front, whatever it is.
@@ -189,7 +168,7 @@ impl Running {
             Item::Byte(byte) => self.take(byte, line, out, err),
             Item::End => Ok(()),
             Item::Return => {
-                self.formatter.end_call();
+                self.formatter.reader.end_call();
                 Ok(())
             }
             Item::Do(event) => self.perform(event, line, out, err),
@@ -234,7 +213,7 @@ impl Running {
             (seen failures (O.sunk out.new) (E.sunk err.new)) result }
     {
         let line = self.unread.line();
-        self.formatter.interrupt(&mut self.unread);
+        self.formatter.reader.interrupt(&mut self.unread);
         match self.formatter.perform_event(event, out) {
             Ok(()) => Ok(()),
             Err(halt) => Err(self.halted(halt, line_before, line, err)),

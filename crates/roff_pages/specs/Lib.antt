@@ -1,4 +1,5 @@
 pub mod Sinks
+pub mod Devices
 pub mod Within
 pub mod Titles
 pub mod TitleParts

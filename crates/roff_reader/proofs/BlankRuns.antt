@@ -1,6 +1,6 @@
 -- Leading blanks of a text line behind the first of them only count, and bytes that change only what is read are read past.
-use Rattle.std.proofs.Common.{◌≡◌, ℕ, ◌+◌, ◌≤◌, ◌==◌, Bool, true, false, if◌then◌else◌, List, [], ◌∷◌, length, min, not, take, take_while, inl, inr, refl, sym, ap, subst, ◌∙◌, arith}
-use Rattle.std.specs.List.{AllByRecursion, prefix_len}
+use Rattle.std.proofs.Common.{◌≡◌, ℕ, ◌+◌, ◌≤◌, ◌==◌, Bool, true, false, if◌then◌else◌, List, [], ◌∷◌, length, min, not, take, take_while, Some, inl, inr, refl, sym, ap, subst, ◌∙◌, arith}
+use Rattle.std.specs.List.{AllByRecursion}
 use Rattle.std.specs.Prelude.{◌&&◌, nat_lt}
 use Rattle.std.proofs.lemmas.Bool.{cases_Bool, eqb-true, ltb-true, ne_eqb}
 use Rattle.std.proofs.lemmas.List.Folds.{length-prefix_len}
@@ -11,12 +11,13 @@ use Rattle.roff_source.proofs.PlainBytes.{take_while-plain}
 use Rattle.roff_arguments.specs.Arguments.{Arguments}
 use Rattle.roff_source.specs.Bytes.{blank, newline}
 use Rattle.roff_escape.specs.OpenEscape.{OpenEscape}
+use Rattle.roff_escape.specs.OpenEscapes.{is_ended_by}
 use Rattle.roff_source.specs.Tape.{Tape}
 use Rattle.roff_scan.specs.Unread.{IsWithin}
-use Rattle.roff_scan.specs.Unread.Calls.{NoNewline, PassesFront}
+use Rattle.roff_scan.specs.Unread.Calls.{NoNewline, PassesFront, front_bytes}
 use Rattle.roff_store.specs.Named.{Named}
 use Rattle.roff_store.specs.Texts.{Entry}
-use Rattle.roff_reader.proofs.HeldRuns.{passed-counted}
+use Rattle.roff_reader.proofs.Runs.{first_of_front, reads-bytes}
 use Rattle.roff_reader.proofs.TextTaken.{plain-found}
 use Rattle.roff_reader.specs.Reader.State.{ReaderState}
 use Rattle.roff_run.specs.Reading.Items.{PageUnread}
@@ -25,8 +26,8 @@ use Rattle.roff_run.specs.Reading.Items.{PageInput, going_on, meaning_events}
 use Rattle.roff_run.specs.Reading.TextLines.{most_leading}
 use Rattle.roff_run.specs.Registers.{Known}
 use Rattle.roff_run.specs.declared.event.PageEvent.TheVariants.{Text}
-use Rattle.roff_run.specs.Stages.{Here, Onward, Stage, Turned, blanks_counted, counts_blanks, input_at, stage_of, with_stage_of}
-use Rattle.roff_reader.specs.Reader.Stages.{ReadsPast, TurnsFront}
+use Rattle.roff_run.specs.Stages.{Here, Onward, Stage, Turned, blanks_counted, counts_blanks, input_at, stage_of}
+use Rattle.roff_reader.specs.Reader.Stages.{ReadsPast}
 use Rattle.roff_run.specs.declared.line_state.LineState.{LineState}
 use Rattle.roff_run.specs.declared.line_state.LineState.TheVariants.{Text as InText}
 use Rattle.roff_run.specs.declared.line_state.TextLine.{TextLine}
@@ -62,90 +63,69 @@ counted-again count n = elim (cases_Bool (count == 0)) [
       ap (λ (c : Bool). if c then min (n + 1) most_leading else min (min (n + 1) most_leading + count) most_leading) some ∙ omega arith
 ]
 
--- where such a line is read and nothing is half read
-abbrev stage_with : TextLine → Arguments → List (List ℕ) → ℕ → Stage
-stage_with line a texts n = record { reading = InText (led line n); escapes = []; arguments = a; texts = texts }
+-- where such a line is read
+abbrev stage_with : TextLine → List OpenEscape → Arguments → List (List ℕ) → ℕ → Stage
+stage_with line half a texts n = record { reading = InText (led line n); escapes = half; arguments = a; texts = texts }
 
 -- blanks lead from stage to stage
-turned-blanks : (names : Named Entry) (line : TextLine) (a : Arguments) (texts : List (List ℕ)) (n last : ℕ) (bytes : List ℕ) → line.has_glyph ≡ false → 1 ≤ n
-    → last ≡ blanks_counted (length bytes) n → AllByRecursion (λ b. (b == blank) ≡ true) bytes
-    → Turned names (stage_with line a texts n) bytes (stage_with line a texts last)
-turned-blanks names line a texts n last [] no_glyph some is blanks =
-    subst (λ (m : ℕ). Turned names (stage_with line a texts n) [] (stage_with line a texts m)) (sym is) (Here (stage_with line a texts n))
-turned-blanks names line a texts n last (b ∷ bytes) no_glyph some is blanks =
-    let p : Stage = stage_with line a texts n in
+turned-blanks : (names : Named Entry) (line : TextLine) (half : List OpenEscape) (a : Arguments) (texts : List (List ℕ)) (n last : ℕ) (bytes : List ℕ)
+    → half ≡ [] → line.has_glyph ≡ false → 1 ≤ n → last ≡ blanks_counted (length bytes) n → AllByRecursion (λ b. (b == blank) ≡ true) bytes
+    → Turned names (stage_with line half a texts n) bytes (stage_with line half a texts last)
+turned-blanks names line half a texts n last [] none_half no_glyph some is blanks =
+    subst (λ (m : ℕ). Turned names (stage_with line half a texts n) [] (stage_with line half a texts m)) (sym is) (Here (stage_with line half a texts n))
+turned-blanks names line half a texts n last (b ∷ bytes) none_half no_glyph some is blanks =
+    let p : Stage = stage_with line half a texts n in
     let next : ℕ = min (n + 1) most_leading in
     let counted : last ≡ min (n + length (b ∷ bytes)) most_leading = is ∙ counted-some (length (b ∷ bytes)) n (omega arith) in
     let again : blanks_counted (length bytes) next ≡ min (n + (length bytes + 1)) most_leading = counted-again (length bytes) n in
     let there : last ≡ blanks_counted (length bytes) next = counted ∙ ap (λ (m : ℕ). min m most_leading) (omega arith) ∙ sym again in
-    Onward p (stage_with line a texts next) (stage_with line a texts last) b bytes refl refl
-    (λ k i. counts-blank k (input_at names p i) line n b refl no_glyph some blanks.0) refl (omega arith) (omega arith)
-    (turned-blanks names line a texts next last bytes no_glyph (omega (arith, some)) there blanks.1)
+    Onward p (stage_with line half a texts next) (stage_with line half a texts last) b bytes refl (ap (λ (h : List OpenEscape). is_ended_by h (Some b)) none_half)
+    (λ k i. counts-blank k (input_at names p i) line n b none_half no_glyph some blanks.0) refl (omega arith) (omega arith)
+    (turned-blanks names line half a texts next last bytes none_half no_glyph (omega (arith, some)) there blanks.1)
 
--- a blank is no newline
+-- the blanks that come first are bytes in front, and none is a newline
+blanks_first : (front : List ℕ) (count : ℕ) → count ≡ length (take_while (λ b. b == blank) front) → AllByRecursion (λ b. (b == blank) ≡ true) (take count front)
+blanks_first front count counted =
+    subst (λ (n : ℕ). AllByRecursion (λ b. (b == blank) ≡ true) (take n front)) (sym (counted ∙ length-prefix_len (λ b. b == blank) front)) (take_while-plain (λ b. b == blank) front)
+
+few_blanks : (front : List ℕ) (count : ℕ) → count ≡ length (take_while (λ b. b == blank) front) → count ≤ length front
+few_blanks front count counted = omega (arith, counted, length-prefix_len (λ b. b == blank) front, prefix_len-le-length (λ b. b == blank) front)
+
 no_newline : (bytes : List ℕ) → AllByRecursion (λ b. (b == blank) ≡ true) bytes → NoNewline bytes
 no_newline [] blanks = tt
 no_newline (b ∷ bytes) blanks =
     (subst (λ (c : ℕ). (c == newline) ≡ false) (sym (eqb-true b blank blanks.0)) refl, no_newline bytes blanks.1)
+
+pub blanks-no_newline : (front ready : List ℕ) (count : ℕ) (u : PageUnread) → count ≡ length (take_while (λ b. b == blank) front)
+    → front ≡ front_bytes (length front) ready u → NoNewline (front_bytes count ready u)
+blanks-no_newline front ready count u counted stood =
+    subst NoNewline (first_of_front front count ready u stood (few_blanks front count counted)) (no_newline (take count front) (blanks_first front count counted))
 
 -- what only counts blanks has one, and no glyph
 counts_none : (has_glyph more : Bool) → not has_glyph && more ≡ true → (has_glyph ≡ false) × (more ≡ true)
 counts_none true more so = cc
 counts_none false more so = (refl, so)
 
--- the blanks that come first were counted
-pub turns-blanks : (front : List ℕ) (line behind : TextLine) (count : ℕ) (old new : ReaderState) → old.reading ≡ InText line → counts_blanks old.reading ≡ true
-    → count ≡ length (take_while (λ b. b == blank) front) → behind ≡ record line { leading = blanks_counted count line.leading }
-    → new ≡ record old { reading = InText behind } → TurnsFront front count old new
-turns-blanks front line behind count old new is so counted led_on came =
+-- the blanks that come first were counted, and read past
+pub reads-blanks : (gave gives : Tape → Type 0) (front ready : List ℕ) (line behind : TextLine) (count : ℕ) (old new : ReaderState) (before after : PageUnread)
+    → before.input.escapes ≡ [] → old.reading ≡ InText line → counts_blanks old.reading ≡ true → count ≡ length (take_while (λ b. b == blank) front)
+    → behind ≡ record line { leading = blanks_counted count line.leading } → new ≡ record old { reading = InText behind }
+    → front ≡ front_bytes (length front) ready before → PassesFront gave gives (front_bytes count ready before) before after → IsWithin after
+    → ReadsPast gave gives old new before after
+reads-blanks gave gives front ready line behind count old new before after none_half is so counted led_on came stood passes within =
+    let i : PageInput = before.input in
     let here : not line.has_glyph && nat_lt 0 line.leading ≡ true = subst (λ (r : LineState). counts_blanks r ≡ true) is so in
     let bare : (line.has_glyph ≡ false) × (nat_lt 0 line.leading ≡ true) = counts_none line.has_glyph (nat_lt 0 line.leading) here in
     let some : 1 ≤ line.leading = omega (arith, ltb-true 0 line.leading bare.1) in
-    let are : count ≡ prefix_len (λ b. b == blank) front = counted ∙ length-prefix_len (λ b. b == blank) front in
-    let few : count ≤ length front = omega (arith, are, prefix_len-le-length (λ b. b == blank) front) in
-    let blanks : AllByRecursion (λ b. (b == blank) ≡ true) (take count front) =
-    subst (λ (n : ℕ). AllByRecursion (λ b. (b == blank) ≡ true) (take n front)) (sym are) (take_while-plain (λ b. b == blank) front) in
+    let few : count ≤ length front = few_blanks front count counted in
+    let bytes : List ℕ = take count front in
+    let are : bytes ≡ front_bytes count ready before = first_of_front front count ready before stood few in
     let last : ℕ = blanks_counted count line.leading in
-    let taken : last ≡ blanks_counted (length (take count front)) line.leading = ap (λ (n : ℕ). blanks_counted n line.leading) (sym (length-take-le count front few)) in
+    let taken : last ≡ blanks_counted (length bytes) line.leading = ap (λ (n : ℕ). blanks_counted n line.leading) (sym (length-take-le count front few)) in
     let reading : InText (led line last) ≡ new.reading = sym (ap (λ (r : ReaderState). r.reading) came ∙ ap (λ (l : TextLine). InText l) led_on) in
-    record {
-      few = few;
-      no_newline = no_newline (take count front) blanks;
-      turned = λ names i none_half.
-          subst (λ (r : LineState). Turned names (stage_of r i) (take count front) (stage_of new.reading i)) (sym is)
-          (subst (λ (r : LineState). Turned names (stage_of (InText line) i) (take count front) (stage_of r i)) reading
-          (subst
-          (λ (half : List OpenEscape). Turned names (record (stage_of (InText line) i) { escapes = half }) (take count front) (record (stage_of (InText (led line last)) i) { escapes = half }))
-          (sym none_half)
-          (turned-blanks names line i.arguments i.open_texts line.leading last (take count front) bare.0 some taken blanks)));
-      registers = ap (λ (r : ReaderState). r.registers) came;
-      meaning = ap (λ (r : ReaderState). r.meaning) came;
-    }
-
--- bytes that change only what is read were read past
-pub reads-turned : (gave gives : Tape → Type 0) (front : List ℕ) (count : ℕ) (old new : ReaderState) (before after : PageUnread) → before.input.escapes ≡ []
-    → TurnsFront front count old new → PassesFront gave gives (take count front) before after → IsWithin after → ReadsPast gave gives old new before after
-reads-turned gave gives front count old new before after none_half turns passes within =
-    let i : PageInput = before.input in
-    let j : PageInput = after.input in
-    let passed = passed-counted gave gives (take count front) before after passes in
-    let half : j.escapes ≡ i.escapes = ap (λ (there : PageInput). there.escapes) passed.1 in
-    let arguments : j.arguments ≡ i.arguments = ap (λ (there : PageInput). there.arguments) passed.1 in
-    let texts : j.open_texts ≡ i.open_texts = ap (λ (there : PageInput). there.open_texts) passed.1 in
-    let same : j ≡ with_stage_of i j =
-    ap (λ (h : List OpenEscape). record j { escapes = h }) half
-    ∙ ap (λ (a : Arguments). record j { escapes = i.escapes; arguments = a }) arguments
-    ∙ ap (λ (making : List (List ℕ)). record j { escapes = i.escapes; arguments = i.arguments; open_texts = making }) texts in
-    let stage : List OpenEscape → Arguments → List (List ℕ) → Stage = λ h a making. record { reading = new.reading; escapes = h; arguments = a; texts = making } in
-    let behind : stage_of new.reading j ≡ stage_of new.reading i =
-    ap (λ (h : List OpenEscape). stage h j.arguments j.open_texts) half
-    ∙ ap (λ (a : Arguments). stage i.escapes a j.open_texts) arguments
-    ∙ ap (stage i.escapes i.arguments) texts in
-    record {
-      bytes = take count front;
-      turned = subst (λ (q : Stage). Turned i.names (stage_of old.reading i) (take count front) q) (sym behind) (turns.turned i.names i none_half);
-      passes = subst (λ (there : PageInput). PassesFront gave gives (take count front) before (record after { input = there })) same passes;
-      registers = turns.registers;
-      meaning = turns.meaning;
-      within = within;
-    }
+    let turned : Turned i.names (stage_with line i.escapes i.arguments i.open_texts line.leading) bytes (stage_with line i.escapes i.arguments i.open_texts last) =
+    turned-blanks i.names line i.escapes i.arguments i.open_texts line.leading last bytes none_half bare.0 some taken (blanks_first front count counted) in
+    reads-bytes gave gives bytes old new before after (subst (λ (all : List ℕ). PassesFront gave gives all before after) (sym are) passes)
+    (subst (λ (r : LineState). Turned i.names (stage_of r i) bytes (stage_of new.reading i)) (sym is)
+    (subst (λ (r : LineState). Turned i.names (stage_of (InText line) i) bytes (stage_of r i)) reading turned))
+    (ap (λ (r : ReaderState). r.registers) came) (ap (λ (r : ReaderState). r.meaning) came) within

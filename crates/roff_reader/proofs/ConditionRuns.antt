@@ -1,40 +1,22 @@
 -- Bytes of a condition change only what is half read, in which some are held, one after another.
-use Rattle.std.proofs.Common.{◌≡◌, ℕ, Bool, ◌+◌, ◌≤◌, List, Some, None, false, refl, sym, ap, subst, ◌∙◌, arith}
-use Rattle.std.specs.Prelude.{if◌then◌else◌}
+use Rattle.std.proofs.Common.{◌≡◌, ℕ, ◌+◌, ◌≤◌, List, Some, None, false, refl, ap, arith}
 use Rattle.roff_arguments.specs.Arguments.{Arguments}
 use Rattle.roff_escape.specs.ConditionFronts.{ByteTaken, HalvesTaken, IsHeld, IsRead, NothingTaken, TakesOn}
 use Rattle.roff_escape.specs.OpenEscape.{OpenEscape, texts_held}
 use Rattle.roff_escape.specs.OpenEscapes.{is_ended_by}
 use Rattle.roff_source.specs.Tape.{Tape}
 use Rattle.roff_scan.specs.Unread.{IsWithin}
-use Rattle.roff_scan.specs.Unread.Calls.{PassesFront, TakesHalves}
-use Rattle.roff_escape.specs.declared.open_escape.Surroundings.TheVariants.{Arguments as AboveArguments}
+use Rattle.roff_scan.specs.Unread.Calls.{TakesHalves}
 use Rattle.roff_store.specs.Named.{Named}
 use Rattle.roff_store.specs.Texts.{Entry}
-use Rattle.roff_reader.proofs.HeldRuns.{passed-counted}
+use Rattle.roff_reader.proofs.Runs.{reads-run}
 use Rattle.roff_reader.specs.Reader.State.{ReaderState}
 use Rattle.roff_run.specs.Reading.Items.{PageUnread}
-use Rattle.roff_run.specs.Reading.{interrupted, undropped_taking}
 use Rattle.roff_run.specs.Reading.Ends.{due}
-use Rattle.roff_run.specs.Reading.Found.{read_in}
-use Rattle.roff_run.specs.Reading.Items.{PageInput, going_on}
-use Rattle.roff_run.specs.Stages.{Here, Onward, Stage, TakesHalf, Turned, input_at, stage_of, with_stage_of}
+use Rattle.roff_run.specs.Reading.Items.{PageInput}
+use Rattle.roff_run.specs.Stages.{Here, Onward, Stage, TakesHalf, Turned, input_at}
 use Rattle.roff_reader.specs.Reader.Stages.{ReadsPast}
 use Rattle.roff_run.specs.declared.line_state.LineState.{LineState}
-use Rattle.roff_run.specs.declared.line_state.LineState.TheVariants.{Deciding}
-
--- a byte of a condition
-takes-deciding : (keeps : Bool) → TakesHalf (Deciding keeps)
-takes-deciding keeps k i b next (IsRead reads) =
-    ap (λ (c : Bool). if c then going_on (interrupted (Deciding keeps) i) (Deciding keeps) else undropped_taking k (Deciding keeps) i b) reads.stands
-    ∙ ap (read_in k (Deciding keeps) i) (reads.goes_on AboveArguments)
-takes-deciding keeps k i b next (IsHeld top holds is) =
-    ap (λ (c : Bool). if c then going_on (interrupted (Deciding keeps) i) (Deciding keeps) else undropped_taking k (Deciding keeps) i b) holds.stands
-    ∙ ap (read_in k (Deciding keeps) i) (holds.holds AboveArguments)
-    ∙ ap (λ (half : List OpenEscape). going_on (record i { escapes = half }) (Deciding keeps)) (sym is)
-
-pub takes_where : (reading : LineState) (keeps : Bool) → reading ≡ Deciding keeps → TakesHalf reading
-takes_where reading keeps is = subst TakesHalf (sym is) (takes-deciding keeps)
 
 -- where this is half read
 abbrev stage_with : LineState → Arguments → List (List ℕ) → List OpenEscape → Stage
@@ -69,22 +51,6 @@ pub reads-condition : (gave gives : Tape → Type 0) (r : ReaderState) (before a
     → TakesHalves gave gives before after → IsWithin after → ReadsPast gave gives r r before after
 reads-condition gave gives r before after none_due does took within =
     let i : PageInput = before.input in
-    let j : PageInput = after.input in
-    let passed = passed-counted gave gives took.bytes before (record after { input = record j { escapes = i.escapes } }) took.passes in
-    let arguments : j.arguments ≡ i.arguments = ap (λ (there : PageInput). there.arguments) passed.1 in
-    let texts : j.open_texts ≡ i.open_texts = ap (λ (there : PageInput). there.open_texts) passed.1 in
-    let same : record j { escapes = i.escapes } ≡ with_stage_of i j =
-    ap (λ (a : Arguments). record j { escapes = i.escapes; arguments = a }) arguments
-    ∙ ap (λ (making : List (List ℕ)). record j { escapes = i.escapes; arguments = i.arguments; open_texts = making }) texts in
-    let behind : stage_of r.reading j ≡ stage_with r.reading i.arguments i.open_texts j.escapes =
-    ap (λ (a : Arguments). stage_with r.reading a j.open_texts j.escapes) arguments
-    ∙ ap (λ (making : List (List ℕ)). stage_with r.reading i.arguments making j.escapes) texts in
-    record {
-      bytes = took.bytes;
-      turned = subst (λ (q : Stage). Turned i.names (stage_of r.reading i) took.bytes q) (sym behind)
-          (turned-taken i.names r.reading i.arguments i.open_texts i.escapes j.escapes took.bytes none_due does took.taken);
-      passes = subst (λ (there : PageInput). PassesFront gave gives took.bytes before (record after { input = there })) same took.passes;
-      registers = refl;
-      meaning = refl;
-      within = within;
-    }
+    let last : List OpenEscape = after.input.escapes in
+    reads-run gave gives took.bytes r r before after (record after.input { escapes = i.escapes }) (λ j. record j { escapes = last }) refl (λ j. refl) took.passes (λ j. refl)
+    (turned-taken i.names r.reading i.arguments i.open_texts i.escapes last took.bytes none_due does took.taken) refl refl within

@@ -13,7 +13,7 @@ use Rattle.roff_scan.specs.Unread.Calls.{PassesFront, front_bytes, next_bytes}
 use Rattle.roff_store.specs.Named.{Named}
 use Rattle.roff_store.specs.Texts.{Entry}
 use Rattle.roff_run.proofs.NameBytes.{turns-first}
-use Rattle.roff_reader.proofs.HeldRuns.{passed-counted}
+use Rattle.roff_reader.proofs.Runs.{reads-run}
 use Rattle.roff_run.proofs.ItemsTaken.{not-first, not-second}
 use Rattle.roff_run.specs.Reading.ControlLines.{BelongsToName}
 use Rattle.roff_reader.specs.ControlFronts.{BeginsControl, LeadsTo, StandsReady, control_byte, half_begun, input_begun, is_deciding}
@@ -26,7 +26,7 @@ use Rattle.roff_run.specs.Reading.Ends.{due}
 use Rattle.roff_run.specs.Reading.Found.{read_in}
 use Rattle.roff_run.specs.Reading.Items.{PageInput, going_on}
 use Rattle.roff_run.specs.Requests.{called_by}
-use Rattle.roff_run.specs.Stages.{Here, Onward, Stage, Turned, Turns, input_at, stage_of, with_stage_of}
+use Rattle.roff_run.specs.Stages.{Here, Onward, Stage, Turned, Turns, input_at}
 use Rattle.roff_reader.specs.Reader.Stages.{ReadsPast}
 use Rattle.roff_run.specs.declared.line_state.LineState.{LineState}
 use Rattle.roff_run.specs.declared.line_state.LineState.TheVariants.{LineStart, Branch, Braced, Control, Dropped, Name}
@@ -138,22 +138,10 @@ pub reads-front : (gave gives : Tape → Type 0) (r : ReaderState) (there : Line
     → ReadsPast gave gives r (record r { reading = there }) before (record passed { input = input_begun there passed.input })
 reads-front gave gives r there bytes before passed none_half turned passes within =
     let i : PageInput = before.input in
-    let counted = passed-counted gave gives bytes before passed passes in
-    let same : passed.input ≡ with_stage_of i (input_begun there passed.input) =
-    counted.1 ∙ sym (ap (λ (j : PageInput). with_stage_of i (input_begun there j)) counted.1) in
-    let behind : stage_of there (input_begun there passed.input) ≡ stage_of there (input_begun there i) =
-    ap (λ (j : PageInput). stage_of there (input_begun there j)) counted.1 in
-    let led : Turned i.names (stage_of r.reading i) bytes (stage_of there (input_begun there i)) =
-    subst (λ (half : List OpenEscape). Turned i.names (stage_with r.reading half i.arguments i.open_texts) bytes (stage_with there (half_begun (is_deciding there) half) i.arguments i.open_texts))
-    (sym none_half) turned in
-    record {
-      bytes = bytes;
-      turned = subst (λ (q : Stage). Turned i.names (stage_of r.reading i) bytes q) (sym behind) led;
-      passes = subst (λ (j : PageInput). PassesFront gave gives bytes before (record passed { input = j })) same passes;
-      registers = refl;
-      meaning = refl;
-      within = within;
-    }
+    reads-run gave gives bytes r (record r { reading = there }) before (record passed { input = input_begun there passed.input }) passed.input (input_begun there)
+    refl (λ j. refl) passes (λ j. refl)
+    (subst (λ (half : List OpenEscape). Turned i.names (stage_with r.reading half i.arguments i.open_texts) bytes (stage_with there (half_begun (is_deciding there) half) i.arguments i.open_texts))
+    (sym none_half) turned) refl refl within
 
 -- so was a name of two bytes behind a dot or apostrophe
 pub reads-named : (gave gives : Tape → Type 0) (r new : ReaderState) (there : LineState) (breaks : Bool) (first second : ℕ) (ready : List ℕ) (before passed after : PageUnread)

@@ -10,14 +10,13 @@ pub mod RemovedRegisters
 pub mod RemovedNames
 pub mod FewerNames
 pub mod FirstNames
-pub mod PassingRuns
-pub mod PassingBodies
 pub mod PrintedRuns
 pub mod TextTaken
 pub mod CalledBodies
 pub mod CalledArguments
 pub mod BegunDefinitions
 pub mod TurnedRuns
+pub mod Runs
 pub mod HeldRuns
 pub mod AddedRuns
 pub mod BlankRuns

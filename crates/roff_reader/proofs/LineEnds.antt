@@ -1,7 +1,5 @@
 -- A newline behind which a line begins, and that changes nothing else: it leads from stage to stage, and is read past.
-use Rattle.std.proofs.Common.{◌≡◌, ℕ, Bool, true, false, List, [], ◌∷◌, None, refl, sym, ap, subst, arith}
-use Rattle.std.specs.Prelude.{if◌then◌else◌, nat_le, nat_lt}
-use Rattle.std.proofs.lemmas.Bool.Decides.{nat_tests}
+use Rattle.std.proofs.Common.{◌≡◌, ℕ, List, [], ◌∷◌, None, refl, sym, subst, arith}
 use Rattle.roff_arguments.specs.Arguments.{Arguments}
 use Rattle.roff_source.specs.Bytes.{newline}
 use Rattle.roff_source.specs.Tape.{Tape}
@@ -13,24 +11,10 @@ use Rattle.roff_reader.proofs.ControlFronts.{reads-front, stage_with}
 use Rattle.roff_reader.specs.Reader.State.{ReaderState}
 use Rattle.roff_run.specs.Reading.Items.{PageUnread}
 use Rattle.roff_run.specs.Reading.Ends.{due}
-use Rattle.roff_run.specs.Reading.Items.{going_on}
 use Rattle.roff_run.specs.Stages.{EndsLine, Here, Onward, Stage, Turned, input_at}
 use Rattle.roff_reader.specs.Reader.Stages.{ReadsPast}
 use Rattle.roff_run.specs.declared.line_state.LineState.{LineState}
-use Rattle.roff_run.specs.declared.line_state.LineState.TheVariants.{Dropped, LineStart, Skipping}
-
--- it ends a line that is dropped
-pub ends_dropped : (reading : LineState) → reading ≡ Dropped → EndsLine reading
-ends_dropped reading is = subst (λ (r : LineState). EndsLine r) (sym is) (λ k i. refl)
-
--- a newline ends a branch that is skipped, unless more braces were opened in it
-ends-closed : (opened closed : ℕ) → nat_lt closed opened ≡ false → EndsLine (Skipping opened closed false)
-ends-closed opened closed none_open = λ k i.
-    let ends : nat_le opened closed ≡ true = grind (arith, nat_tests, none_open) in
-    ap (λ (c : Bool). if c then going_on i LineStart else going_on i (Skipping opened closed false)) ends
-
-pub ends_skipped : (reading : LineState) (opened closed : ℕ) → reading ≡ Skipping opened closed false → nat_lt closed opened ≡ false → EndsLine reading
-ends_skipped reading opened closed is none_open = subst (λ (r : LineState). EndsLine r) (sym is) (ends-closed opened closed none_open)
+use Rattle.roff_run.specs.declared.line_state.LineState.TheVariants.{LineStart}
 
 -- a line begins behind it
 turned-ended : (names : Named Entry) (reading : LineState) (a : Arguments) (texts : List (List ℕ)) → due reading ≡ None → EndsLine reading

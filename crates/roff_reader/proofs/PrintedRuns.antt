@@ -14,11 +14,13 @@ use Rattle.roff_lines.specs.Telling.{QuietlyTold, bytes_told}
 use Rattle.roff_lines.specs.declared.glyph.Glyph.TheVariants.{Printed}
 use Rattle.roff_escape.specs.OpenEscape.{OpenEscape}
 use Rattle.roff_escape.specs.OpenEscapes.{is_ended_by}
-use Rattle.roff_ahead.specs.Input.{Ahead, ByteAhead, bytes_taken, counting, lines_taken}
-use Rattle.roff_source.specs.Tape.{Tape, OneByte, items_then}
-use Rattle.roff_run.proofs.ItemsTaken.{bytes_ahead_are_taken, bytes_of_the_source_are_taken}
+use Rattle.roff_ahead.specs.Input.{Ahead, ByteAhead}
+use Rattle.roff_source.specs.Tape.{Tape}
+use Rattle.roff_run.proofs.InputCounts.{NoMore-item_taken, first_passed-no_more}
+use Rattle.roff_run.proofs.ItemsTaken.{FromAhead, FromSource, Origin, ahead_at, bytes_ahead_are_taken, bytes_of_the_source_are_taken, tape_at}
 use Rattle.roff_run.proofs.Leads.{Leads-refl, Leads-trans}
-use Rattle.roff_reader.proofs.PassingBodies.{behind_byte, within-byte}
+use Rattle.roff_run.proofs.PlainRuns.{behind_byte, behind_bytes, behind_bytes-counts, counted}
+use Rattle.roff_reader.proofs.TurnedRuns.{free_ahead-behind}
 use Rattle.roff_run.specs.Environments.{Environments, environments}
 use Rattle.roff_run.specs.Output.{PageHistory, finished_bytes, text_of, written}
 use Rattle.roff_run.specs.Reading.Ends.{due}
@@ -28,6 +30,7 @@ use Rattle.roff_run.specs.declared.event.PageEvent.{PageEvent}
 use Rattle.roff_run.specs.declared.event.PageEvent.TheVariants.{Text}
 use Rattle.roff_run.specs.Run.{State, Leads, byte_taken, known_at, made, step, taken_as, unless_refused}
 use Rattle.roff_run.specs.Run.Counts.{counts_in, first_passed, refusal}
+use Rattle.roff_run.specs.TurnsToCome.{turns_within}
 use Rattle.roff_run.specs.Telling.{Prints, byte_events, byte_told, page_told}
 use Rattle.roff_run.specs.declared.line_state.LineState.{LineState}
 
@@ -135,38 +138,60 @@ module _ (l : Limits) (reading : LineState) (rs : AllRegisters) (messages : List
       ∙ ap (λ (r : Option Limit). unless_refused l r before done) within in
       Leads-trans l before done _ (record { steps = 1; there = there }) (leads-events (b == 32) b tape input h short)
 
-  -- the steps at such bytes of the source
-  pub leads-source : (tape : Tape) (bytes : List ℕ) (input : PageInput) (h : PageHistory) → due reading ≡ None
-      → input.ahead ≡ [] → input.escapes ≡ [] → first_passed l (counts_in rs input) ≡ None → input.charge + length bytes ≤ l.bytes
-      → AllByRecursion (λ b. Prints reading b) bytes → QuietlyTold l.line bytes (text_of h)
-      → Leads l (told_at (items_then (map OneByte bytes) tape) input h []) (told_at tape (lines_taken bytes input) (page_told bytes h) [])
-  leads-source tape [] input h none_due none_ahead none_half within few prints quiet = Leads-refl l (told_at tape input h [])
-  leads-source tape (b ∷ bytes) input h none_due none_ahead none_half within few prints quiet =
-      let before : State = told_at (items_then (map OneByte (b ∷ bytes)) tape) input h [] in
-      let rest : Tape = items_then (map OneByte bytes) tape in
-      Leads-trans l before (told_at rest (counting b input) (byte_told b h) []) _
-      (leads-byte b before rest (counting b input) h
-      (bytes_of_the_source_are_taken l before b (record { going = refl; not_closing = refl; idle = refl; none_due = none_due }) none_ahead refl
-      (ap (λ (half : List OpenEscape). is_ended_by half (Some b)) none_half) (omega (arith, few)))
-      none_half within prints.0 quiet.1)
-      (leads-source tape bytes (counting b input) (byte_told b h) none_due none_ahead none_half within (omega (arith, few)) prints.1
-      (quiet-byte l.line b bytes h quiet.2))
+  -- where it has come to, with these bytes next, from there
+  abbrev pub told_from : Origin → List ℕ → Tape → PageInput → PageHistory → State
+  told_from from bytes tape i h = told_at (tape_at from bytes tape) (record i { ahead = ahead_at from bytes }) h []
 
-  -- and at those that stand ahead
-  pub leads-ahead : (tape : Tape) (items : List (Ahead PageEvent)) (bytes : List ℕ) (input : PageInput) (h : PageHistory) → due reading ≡ None
-      → input.ahead ≡ map ByteAhead bytes ++ items → input.escapes ≡ [] → first_passed l (counts_in rs input) ≡ None → input.charge + length bytes ≤ l.bytes
-      → AllByRecursion (λ b. Prints reading b) bytes → QuietlyTold l.line bytes (text_of h)
-      → Leads l (told_at tape input h []) (told_at tape (bytes_taken bytes items input) (page_told bytes h) [])
-  leads-ahead tape items [] input h none_due front none_half within few prints quiet = Leads-refl l (told_at tape input h [])
-  leads-ahead tape items (b ∷ bytes) input h none_due front none_half within few prints quiet =
-      let before : State = told_at tape input h [] in
-      let behind : List (Ahead PageEvent) = map ByteAhead bytes ++ items in
-      let there : PageInput = behind_byte b behind input in
-      let still : first_passed l (counts_in rs there) ≡ None = within-byte l rs b behind input front within in
-      Leads-trans l before (told_at tape there (byte_told b h) []) _
-      (leads-byte b before tape there h
-      (bytes_ahead_are_taken l before b behind (record { going = refl; not_closing = refl; idle = refl; none_due = none_due }) front
-      (ap (λ (half : List OpenEscape). is_ended_by half (Some b)) none_half) (omega (arith, few)))
-      none_half still prints.0 quiet.1)
-      (leads-ahead tape items bytes there (byte_told b h) none_due refl none_half still (omega (arith, few)) prints.1
-      (quiet-byte l.line b bytes h quiet.2))
+  -- no count is above its limit there
+  abbrev pub Fits : Origin → List ℕ → PageInput → Type 0
+  Fits from bytes i = first_passed l (counts_in rs (record i { ahead = ahead_at from bytes })) ≡ None
+
+  -- nor behind a byte
+  fits-byte : (from : Origin) (b : ℕ) (bytes : List ℕ) (i : PageInput) → Fits from (b ∷ bytes) i → Fits from bytes (behind_byte from b i)
+  fits-byte (FromAhead rest) b bytes i fits =
+      let items : List (Ahead PageEvent) = map ByteAhead bytes ++ rest in
+      first_passed-no_more l rs (record (behind_byte (FromAhead rest) b i) { ahead = items }) (record i { ahead = ByteAhead b ∷ items })
+      (NoMore-item_taken (ByteAhead b) items (record i { ahead = ByteAhead b ∷ items }) refl) fits
+  fits-byte (FromSource behind) b bytes i fits = fits
+
+  -- a byte is taken
+  taken-from : (from : Origin) (tape : Tape) (b : ℕ) (bytes : List ℕ) (i : PageInput) (h : PageHistory) → due reading ≡ None → i.escapes ≡ [] → i.charge + 1 ≤ l.bytes
+      → step l (told_from from (b ∷ bytes) tape i h) ≡ made l (told_from from (b ∷ bytes) tape i h) (byte_taken b (told_from from bytes tape (behind_byte from b i) h))
+  taken-from (FromAhead rest) tape b bytes i h none_due none_half few =
+      bytes_ahead_are_taken l (told_from (FromAhead rest) (b ∷ bytes) tape i h) b (map ByteAhead bytes ++ rest)
+      (record { going = refl; not_closing = refl; idle = refl; none_due = none_due }) refl (ap (λ (half : List OpenEscape). is_ended_by half (Some b)) none_half) (omega (arith, few))
+  taken-from (FromSource behind) tape b bytes i h none_due none_half few =
+      bytes_of_the_source_are_taken l (told_from (FromSource behind) (b ∷ bytes) tape i h) b
+      (record { going = refl; not_closing = refl; idle = refl; none_due = none_due }) refl refl (ap (λ (half : List OpenEscape). is_ended_by half (Some b)) none_half) (omega (arith, few))
+
+  -- the steps at such bytes, wherever they come from
+  pub leads-told : (from : Origin) (tape : Tape) (bytes : List ℕ) (i : PageInput) (h : PageHistory) → due reading ≡ None → i.escapes ≡ [] → Fits from bytes i
+      → i.charge + length bytes ≤ l.bytes → AllByRecursion (λ b. Prints reading b) bytes → QuietlyTold l.line bytes (text_of h)
+      → Leads l (told_from from bytes tape i h) (told_from from [] tape (behind_bytes from bytes i) (page_told bytes h)) × Fits from [] (behind_bytes from bytes i)
+  leads-told from tape [] i h none_due none_half fits few prints quiet = (Leads-refl l (told_from from [] tape i h), fits)
+  leads-told from tape (b ∷ bytes) i h none_due none_half fits few prints quiet =
+      let before : State = told_from from (b ∷ bytes) tape i h in
+      let next : PageInput = behind_byte from b i in
+      let behind : Fits from bytes next = fits-byte from b bytes i fits in
+      let there = leads-told from tape bytes next (byte_told b h) none_due none_half behind (omega (arith, few)) prints.1 (quiet-byte l.line b bytes h quiet.2) in (
+        Leads-trans l before (told_from from bytes tape next (byte_told b h)) _
+            (leads-byte b before (tape_at from bytes tape) (record next { ahead = ahead_at from bytes }) h (taken-from from tape b bytes i h none_due none_half (omega (arith, few)))
+            none_half behind prints.0 quiet.1) there.0,
+        there.1,
+      )
+
+-- no more turns are to come behind bytes, whatever they mean
+turns-behind : (most : ℕ) (from : Origin) (bytes : List ℕ) (i : PageInput)
+    → turns_within most (record (behind_bytes from bytes i) { ahead = ahead_at from [] }) ≤ turns_within most (record i { ahead = ahead_at from bytes })
+turns-behind most from [] i = omega arith
+turns-behind most from (b ∷ bytes) i = omega (arith, free_ahead-behind from b bytes, turns-behind most from bytes (behind_byte from b i))
+
+-- with nothing of them left, what is counted of them is all that changed
+pub counted-behind : (from : Origin) (bytes : List ℕ) (i : PageInput) → record (behind_bytes from bytes i) { ahead = ahead_at from [] } ≡ counted from bytes i
+counted-behind from bytes i = ap (λ (j : PageInput). record j { ahead = ahead_at from [] }) (behind_bytes-counts from bytes i)
+
+pub turns-counted : (most : ℕ) (from : Origin) (bytes : List ℕ) (i : PageInput) → i.ahead ≡ ahead_at from bytes → turns_within most (counted from bytes i) ≤ turns_within most i
+turns-counted most from bytes i front =
+    subst (λ (j : PageInput). turns_within most j ≤ turns_within most i) (counted-behind from bytes i)
+    (subst (λ (items : List (Ahead PageEvent)). turns_within most (record (behind_bytes from bytes i) { ahead = ahead_at from [] }) ≤ turns_within most (record i { ahead = items })) (sym front)
+    (turns-behind most from bytes i))

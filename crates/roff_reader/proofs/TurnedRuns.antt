@@ -156,7 +156,7 @@ after-Turned l s names from p _ _ i on (Growing _ next q b bytes none_due stays 
     ∙ after-Turned l s names from next q bytes (behind_byte from b i) on others (omega (arith, within)) there behind
 
 -- what stands ahead and costs nothing stays
-free_ahead-behind : (from : Origin) (b : ℕ) (bytes : List ℕ) → free_ahead (ahead_at from (b ∷ bytes)) ≡ free_ahead (ahead_at from bytes)
+pub free_ahead-behind : (from : Origin) (b : ℕ) (bytes : List ℕ) → free_ahead (ahead_at from (b ∷ bytes)) ≡ free_ahead (ahead_at from bytes)
 free_ahead-behind (FromAhead rest) b bytes = refl
 free_ahead-behind (FromSource tape) b bytes = refl
 

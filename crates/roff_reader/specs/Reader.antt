@@ -2,3 +2,4 @@
 pub mod State
 pub mod Taken
 pub mod Stages
+pub mod Runs

@@ -3,5 +3,7 @@
 
 mod meaning;
 mod reader;
+mod run_kind;
 
 pub use reader::{Reader, first_unread};
+pub use run_kind::RunKind;

@@ -11,7 +11,6 @@ ghost use Rattle.roff_reader.specs.Clauses.{behind_return};
 
 mod ahead;
 mod arguments;
-mod blanks;
 mod bytes;
 mod calls;
 mod conditions;
@@ -24,6 +23,7 @@ mod messages;
 mod obeying;
 mod places;
 mod registers;
+mod runs;
 mod string_names;
 mod strings;
 mod text_lines;

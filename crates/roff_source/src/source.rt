@@ -78,7 +78,7 @@ pub trait ByteSource {
         requires within { count ≤ length (ready self.old) }
         ensures gives { Took (gives self.old) (gives self.new)
             (map OneByte (take count (ready self.old))) }
-        ensures notes { notes self.new ≡ notes self.old }
+        ensures notes { notes self.new ≤ notes self.old }
         ensures failures { failures self.new ≡ failures self.old };
 }
 

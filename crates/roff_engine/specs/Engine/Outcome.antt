@@ -1,5 +1,5 @@
 -- How a run of the code stands to the run of the definition.
-use Rattle.std.specs.Prelude.{◌≡◌, ◌⊎◌, ℕ, ◌≤◌, List, ◌++◌, Option, Some, None}
+use Rattle.std.specs.Prelude.{◌≡◌, ◌⊎◌, List, ◌++◌, Some, None}
 use Rattle.std.specs.Io.KnownBytes.{Appends}
 use Rattle.roff_num.specs.declared.limits.Limits.{Limits}
 use Rattle.roff_source.specs.Tape.{Tape, Item, Took, behind_front, items_then}
@@ -10,30 +10,7 @@ use Rattle.roff_run.specs.declared.line_state.LineState.TheVariants.{Exiting}
 use Rattle.roff_run.specs.declared.message.Message.TheVariants.{WriteFailed}
 use Rattle.roff_run.specs.Messages.{message_line}
 use Rattle.roff_run.specs.Run.{State, Leads, initial, step, output, reported}
-use Rattle.roff_pages.specs.Sinks.{Sunk}
-
--- what the devices of a run have seen: how many faults the source has had, and what the sinks tell
-pub record Seen : Type 0 where
-  pub failures : ℕ
-  pub out : Sunk
-  pub err : Sunk
-
--- devices that have seen this
-abbrev pub seen : ℕ → Sunk → Sunk → Seen
-seen failures out err = record { failures = failures; out = out; err = err }
-
--- no device has had fewer faults than before
-pub record NoFewerFaults (before now : Seen) : Type 0 where
-  pub source : before.failures ≤ now.failures
-  pub out : before.out.failures ≤ now.out.failures
-  pub err : before.err.failures ≤ now.err.failures
-
--- what was written begins with one text, and is a beginning of another that goes on from it
-pub record AppendsBetween (old new : Option (List ℕ)) (least most : List ℕ) : Type 0 where
-  pub front : List ℕ
-  pub back : List ℕ
-  pub split : most ≡ least ++ (front ++ back)
-  pub written : Appends old new (least ++ front)
+pub use Rattle.roff_pages.specs.Devices.{AppendsBetween, NoFewerFaults, Seen, seen}
 
 -- what is left of a source whose tape this would be: all of it, or all but the item in front, which was looked at
 abbrev pub IsLeftOf : Tape → Tape → Type 0

@@ -50,7 +50,7 @@ impl Running {
         if self.unread.has_open_escape() {
             return self.end_escape(out, err);
         }
-        if self.formatter.line_ends_first() {
+        if self.formatter.reader.line_ends_first() {
             return self.end_line(out, err);
         }
         Err(self.finish(out, err))

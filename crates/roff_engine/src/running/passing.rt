@@ -2,20 +2,21 @@
 
 ghost use Rattle.std.specs.Prelude.{◌≡◌, ℕ, [], true, false, None};
 ghost use Rattle.roff_reader.specs.ControlFronts.{BeginsControl};
-ghost use Rattle.roff_run.specs.Reading.{Passes};
+ghost use Rattle.roff_reader.specs.Reader.Runs.{IsRun};
+ghost use Rattle.roff_reader.specs.declared.run_kind.RunKind.TheVariants.{Dropped as DroppedRun};
 ghost use Rattle.roff_run.specs.Reading.Calls.{behind_return};
 ghost use Rattle.roff_run.specs.Stages.{EndsLine};
-ghost use Rattle.roff_source.specs.Bytes.{is_passed};
 ghost use Rattle.roff_escape.specs.OpenEscapes.{newline_stays};
 ghost use Rattle.roff_scan.specs.Unread.{IsWithin};
 ghost use Rattle.roff_scan.specs.Unread.Calls.{PassesEnd, PassesReturn};
 ghost use Rattle.roff_engine.specs.Clauses.{due};
 
 use super::Running;
+use roff_reader::RunKind;
 use roff_scan::ByteSource;
 
 impl Running {
-    ghost use Rattle.roff_engine.specs.Running.Turning.{GoesFurtherOver, GoesPastOver};
+    ghost use Rattle.roff_engine.specs.Running.Turning.{GoesFurtherOver};
 
     /// Takes bytes at once that stand in front: those of a control line's front, and those that
     /// [`pass_line`](Running::pass_line) takes. Returns whether a line begins behind them.
@@ -23,7 +24,7 @@ impl Running {
     pub(crate) fn pass_over<S: ByteSource>(&mut self, source: &mut S) -> bool
         ensures { GoesFurtherOver result S.ByteSource source.old source.new self.old self.new }
     {
-        if self.formatter.begins_control_line() && !self.unread.has_open_escape() {
+        if self.formatter.reader.begins_control_line() && !self.unread.has_open_escape() {
             self.pass_control_line(source)
         } else {
             self.pass_line(source)
@@ -39,7 +40,11 @@ impl Running {
         requires none_half { self.old.unread.input.escapes ≡ [] }
         ensures { GoesFurtherOver result S.ByteSource source.old source.new self.old self.new }
     {
-        if self.read_control_front(source) {
+        if self
+            .formatter
+            .reader
+            .read_control_front(&mut self.unread, source)
+        {
             self.pass_line(source)
         } else {
             self.pass_return()
@@ -65,34 +70,36 @@ impl Running {
             return false;
         }
         self.unread.stays_within();
-        self.formatter.end_call();
+        self.formatter.reader.end_call();
         true
     }
 
-    /// Takes the front of a control line at once, if it stands in front. Whether it did.
-    #[inline(always)]
-    fn read_control_front<S: ByteSource>(&mut self, source: &mut S) -> bool
-        requires begins { BeginsControl self.old.formatter.reader.reading }
-        requires none_due { due self.old.formatter.reader.reading ≡ None }
-        requires none_half { self.old.unread.input.escapes ≡ [] }
-        ensures past { result ≡ true
-            → GoesPastOver S.ByteSource source.old source.new self.old self.new }
-        ensures unchanged { result ≡ false → (self.new ≡ self.old) × (source.new ≡ source.old) }
-    {
-        self.formatter.read_control_front(&mut self.unread, source)
-    }
-
-    /// Passes over bytes that change nothing, and takes the newline behind them if it ends the line,
-    /// or takes those that [`pass_front`](Running::pass_front) takes. Returns whether a line begins
-    /// behind them.
+    /// Takes bytes in front that do alike, and then the newline or the end of a text behind them.
+    /// Returns whether it took that.
     #[inline(always)]
     fn pass_line<S: ByteSource>(&mut self, source: &mut S) -> bool
         ensures { GoesFurtherOver result S.ByteSource source.old source.new self.old self.new }
     {
-        match self.formatter.passes_over() {
-            Some(within_block) => self.pass_dropped(source, within_block),
-            None => {
-                self.pass_front(source);
+        match self.formatter.reader.run_kind(&self.unread) {
+            None => self.pass_end(),
+            Some(kind) => self.pass_run(kind, source),
+        }
+    }
+
+    /// The same of bytes that do this.
+    #[inline(always)]
+    fn pass_run<S: ByteSource>(&mut self, kind: RunKind, source: &mut S) -> bool
+        requires { IsRun kind self.old.formatter.reader.reading self.old.unread.input.escapes }
+        ensures { GoesFurtherOver result S.ByteSource source.old source.new self.old self.new }
+    {
+        match kind {
+            RunKind::Dropped { within_block } => self.pass_dropped(within_block, source),
+            RunKind::Text => {
+                self.tell_line(source);
+                self.pass_end()
+            }
+            _ => {
+                self.take_run(kind, source);
                 self.pass_end()
             }
         }
@@ -109,7 +116,7 @@ impl Running {
         ensures unchanged { result ≡ false → self.new ≡ self.old }
         ensures others { self.new ≡ record self.old { unread = self.new.unread } }
     {
-        if self.unread.newline_stays() || self.formatter.due().is_some() {
+        if self.unread.newline_stays() || self.formatter.reader.due().is_some() {
             return false;
         }
         let is_passed = self.unread.pass_end();
@@ -117,38 +124,22 @@ impl Running {
         is_passed
     }
 
-    /// Passes over bytes that change nothing, and takes the newline behind them if it ends the line.
-    /// Returns whether it did.
+    /// Takes bytes that change nothing, and the newline behind them if it ends the line. Returns
+    /// whether it took that.
     #[inline(never)]
-    fn pass_dropped<S: ByteSource>(&mut self, source: &mut S, within_block: bool) -> bool
-        requires passes { (b : ℕ) → is_passed within_block b ≡ true
-            → Passes self.old.formatter.reader.reading b }
-        requires ends { within_block ≡ false → EndsLine self.old.formatter.reader.reading }
-        requires none_due { due self.old.formatter.reader.reading ≡ None }
+    fn pass_dropped<S: ByteSource>(&mut self, within_block: bool, source: &mut S) -> bool
+        requires { IsRun (DroppedRun within_block) self.old.formatter.reader.reading
+            self.old.unread.input.escapes }
         ensures { GoesFurtherOver result S.ByteSource source.old source.new self.old self.new }
     {
-        self.pass_plain(source, within_block);
+        let kind = RunKind::Dropped { within_block };
+        self.formatter
+            .reader
+            .take_run(kind, &mut self.unread, source);
         if !within_block && !self.unread.has_open_escape() {
             self.end_dropped(source)
         } else {
             false
-        }
-    }
-
-    /// Passes over bytes of the source that stand ready, or of a body ahead, and change nothing, if
-    /// there are some.
-    #[inline(always)]
-    fn pass_plain<S: ByteSource>(&mut self, source: &mut S, within_block: bool)
-        requires passes { (b : ℕ) → is_passed within_block b ≡ true
-            → Passes self.old.formatter.reader.reading b }
-        requires none_due { due self.old.formatter.reader.reading ≡ None }
-        ensures past { GoesPastOver S.ByteSource source.old source.new self.old self.new }
-        ensures unchanged { self.new.formatter ≡ self.old.formatter }
-    {
-        if self.unread.is_none_ahead() {
-            self.unread.pass_over(source, within_block);
-        } else {
-            self.unread.pass_over_ahead(within_block);
         }
     }
 
@@ -164,7 +155,7 @@ impl Running {
             return false;
         }
         self.unread.stays_within();
-        self.formatter.begin_next_line();
+        self.formatter.reader.begin_next_line();
         true
     }
 }

@@ -22,7 +22,7 @@ impl Running {
             (seen failures (O.sunk out.old) (E.sunk err.old))
             (seen failures (O.sunk out.new) (E.sunk err.new)) result }
     {
-        match self.formatter.due() {
+        match self.formatter.reader.due() {
             None => Ok(()),
             Some(due) => self.carry_out(due, out, err),
         }
@@ -60,7 +60,7 @@ impl Running {
             Ok(()) if aborts => Err(Status::Aborted),
             Ok(()) => {
                 self.unread.begin_arguments();
-                self.formatter.begin_next_line();
+                self.formatter.reader.begin_next_line();
                 Ok(())
             }
             Err(_) => Err(Status::Device),

@@ -1,12 +1,10 @@
 -- Bytes that the reader takes at once, by the stages to which they lead.
-use Rattle.std.specs.Prelude.{◌≡◌, ℕ, ◌≤◌, List, [], length, take}
+use Rattle.std.specs.Prelude.{◌≡◌, ℕ, List}
 use Rattle.roff_source.specs.Tape.{Tape}
 use Rattle.roff_scan.specs.Unread.{IsWithin}
-use Rattle.roff_scan.specs.Unread.Calls.{NoNewline, PassesFront}
-use Rattle.roff_store.specs.Named.{Named}
-use Rattle.roff_store.specs.Texts.{Entry}
+use Rattle.roff_scan.specs.Unread.Calls.{PassesFront}
 use Rattle.roff_reader.specs.Reader.State.{ReaderState}
-use Rattle.roff_run.specs.Reading.Items.{PageUnread, PageInput}
+use Rattle.roff_run.specs.Reading.Items.{PageUnread}
 use Rattle.roff_run.specs.Stages.{stage_of, Turned, with_stage_of}
 
 -- Bytes that came next were read at once, and changed only what is read: they lead from the stage before to the one behind
@@ -18,13 +16,3 @@ pub record ReadsPast (gave gives : Tape → Type 0) (old new : ReaderState) (bef
   pub registers : new.registers ≡ old.registers
   pub meaning : new.meaning ≡ old.meaning
   pub within : IsWithin after
-
--- So many of these bytes, from the first on, lead from what was read to what is read now, where nothing is half read. None is a
--- newline.
-pub record TurnsFront (front : List ℕ) (count : ℕ) (old new : ReaderState) : Type 0 where
-  pub few : count ≤ length front
-  pub no_newline : NoNewline (take count front)
-  pub turned : (names : Named Entry) (i : PageInput) → i.escapes ≡ []
-      → Turned names (stage_of old.reading i) (take count front) (stage_of new.reading i)
-  pub registers : new.registers ≡ old.registers
-  pub meaning : new.meaning ≡ old.meaning

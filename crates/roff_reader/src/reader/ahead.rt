@@ -1,6 +1,6 @@
 //! The front of a control line, read at once where it stands ready.
 
-ghost use Rattle.std.specs.Prelude.{◌≡◌, ◌∷◌, [], None, Some, true, false, IfSome};
+ghost use Rattle.std.specs.Prelude.{◌≡◌, ◌≤◌, ◌∷◌, [], None, Some, true, false, IfSome};
 ghost use Rattle.roff_run.specs.Reading.ControlLines.{BelongsToName};
 ghost use Rattle.roff_reader.specs.Clauses.{due};
 ghost use Rattle.roff_reader.specs.ControlFronts.{BeginsControl, Fronts, StandsReady, control_byte};
@@ -53,7 +53,7 @@ impl Reader {
             self.old self.new unread.old unread.new }
         ensures unchanged { result ≡ false
             → (self.new ≡ self.old) × (unread.new ≡ unread.old) × (source.new ≡ source.old) }
-        ensures notes { S.notes source.new ≡ S.notes source.old }
+        ensures notes { S.notes source.new ≤ S.notes source.old }
         ensures failures { S.failures source.new ≡ S.failures source.old }
     {
         match control_front(unread.front(source)) {
@@ -79,7 +79,7 @@ impl Reader {
             self.old self.new unread.old unread.new }
         ensures unchanged { result ≡ false
             → (self.new ≡ self.old) × (unread.new ≡ unread.old) × (source.new ≡ source.old) }
-        ensures notes { S.notes source.new ≡ S.notes source.old }
+        ensures notes { S.notes source.new ≤ S.notes source.old }
         ensures failures { S.failures source.new ≡ S.failures source.old }
     {
         if front.first == b'\\' {

@@ -2,7 +2,7 @@
 
 ghost use Rattle.roff_arguments.specs.Arguments.{with_unit, settled, finished};
 ghost use Rattle.roff_arguments.specs.ArgumentList.{listed};
-ghost use Rattle.std.specs.Prelude.{reverse, ◌≡◌};
+ghost use Rattle.std.specs.Prelude.{reverse, ◌≡◌, ◌≤◌};
 ghost use Rattle.roff_ahead.specs.Input.{holding_plain, with_arguments, without_arguments};
 ghost use Rattle.roff_ahead.specs.Input.{beginning_line};
 
@@ -103,7 +103,7 @@ impl<E: Copy> Unread<E> {
     #[inline(never)]
     pub fn hold_front<S: ByteSource>(&mut self, source: &mut S)
         ensures holds { HoldsFront (S.gives source.old) (S.gives source.new) self.old self.new }
-        ensures notes { S.notes source.new ≡ S.notes source.old }
+        ensures notes { S.notes source.new ≤ S.notes source.old }
         ensures failures { S.failures source.new ≡ S.failures source.old }
     {
         self.hold_bounded(source, None);
@@ -115,7 +115,7 @@ impl<E: Copy> Unread<E> {
     pub fn hold_fewer<S: ByteSource>(&mut self, source: &mut S, most: usize)
         ensures holds { HoldsFewer (Some most)
             (S.gives source.old) (S.gives source.new) self.old self.new }
-        ensures notes { S.notes source.new ≡ S.notes source.old }
+        ensures notes { S.notes source.new ≤ S.notes source.old }
         ensures failures { S.failures source.new ≡ S.failures source.old }
     {
         self.hold_bounded(source, Some(most));
@@ -126,7 +126,7 @@ impl<E: Copy> Unread<E> {
     fn hold_bounded<S: ByteSource>(&mut self, source: &mut S, most: Option<usize>)
         ensures holds { HoldsFewer most
             (S.gives source.old) (S.gives source.new) self.old self.new }
-        ensures notes { S.notes source.new ≡ S.notes source.old }
+        ensures notes { S.notes source.new ≤ S.notes source.old }
         ensures failures { S.failures source.new ≡ S.failures source.old }
     {
         let room = self.limits.stack as usize - self.pushed();

@@ -32,7 +32,7 @@ impl<E: Copy> Unread<E> {
         requires plain { NoNewline (front_bytes count (S.ready source.old) self.old) }
         ensures passes { PassesFront (S.gives source.old) (S.gives source.new)
             (front_bytes count (S.ready source.old) self.old) self.old self.new }
-        ensures notes { S.notes source.new ≡ S.notes source.old }
+        ensures notes { S.notes source.new ≤ S.notes source.old }
         ensures failures { S.failures source.new ≡ S.failures source.old }
     {
         // the invariant is known where a field is named
@@ -57,7 +57,7 @@ impl<E: Copy> Unread<E> {
         requires plain { NoNewline (front_bytes count (S.ready source.old) self.old) }
         ensures passes { PassesSource (S.gives source.old) (S.gives source.new)
             (front_bytes count (S.ready source.old) self.old) self.old self.new }
-        ensures notes { S.notes source.new ≡ S.notes source.old }
+        ensures notes { S.notes source.new ≤ S.notes source.old }
         ensures failures { S.failures source.new ≡ S.failures source.old }
     {
         let line = self.newlines + 1;

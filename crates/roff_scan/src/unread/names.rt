@@ -93,7 +93,7 @@ impl<E: Copy> Unread<E> {
     #[inline(always)]
     pub fn add_front<S: ByteSource>(&mut self, source: &mut S)
         ensures adds { AddsFront (S.gives source.old) (S.gives source.new) self.old self.new }
-        ensures notes { S.notes source.new ≡ S.notes source.old }
+        ensures notes { S.notes source.new ≤ S.notes source.old }
         ensures failures { S.failures source.new ≡ S.failures source.old }
     {
         if self.input_ahead.is_empty() && self.looked.is_none() {
@@ -107,7 +107,7 @@ impl<E: Copy> Unread<E> {
         requires none_ahead { is_none_ahead self.old.input.ahead ≡ true }
         requires none_looked { self.old.looked ≡ None }
         ensures adds { AddsFront (S.gives source.old) (S.gives source.new) self.old self.new }
-        ensures notes { S.notes source.new ≡ S.notes source.old }
+        ensures notes { S.notes source.new ≤ S.notes source.old }
         ensures failures { S.failures source.new ≡ S.failures source.old }
     {
         let room = self.limits.store as usize - self.input_ahead.stored();

@@ -3,7 +3,7 @@
 ghost use Rattle.roff_escape.specs.OpenEscapes.{byte_read, decides_now, reading_ended};
 ghost use Rattle.roff_escape.specs.OpenEscapes.{newline_stays};
 ghost use Rattle.roff_escape.specs.OpenEscapes.{is_ended_by};
-ghost use Rattle.std.specs.Prelude.{false, not, ◌≡◌, ◌==◌, length};
+ghost use Rattle.std.specs.Prelude.{false, not, ◌≡◌, ◌≤◌, ◌==◌, length};
 ghost use Rattle.roff_ahead.specs.Input.{choosing, holding_text};
 
 use super::Unread;
@@ -93,7 +93,7 @@ impl<E: Copy> Unread<E> {
     #[inline(never)]
     pub fn read_front<S: ByteSource>(&mut self, source: &mut S)
         ensures reads { ReadsNames (S.gives source.old) (S.gives source.new) self.old self.new }
-        ensures notes { S.notes source.new ≡ S.notes source.old }
+        ensures notes { S.notes source.new ≤ S.notes source.old }
         ensures failures { S.failures source.new ≡ S.failures source.old }
     {
         let most = (self.limits.bytes - self.charge) as usize;
@@ -111,7 +111,7 @@ impl<E: Copy> Unread<E> {
     #[inline(never)]
     pub fn take_front<S: ByteSource>(&mut self, source: &mut S)
         ensures takes { TakesHalves (S.gives source.old) (S.gives source.new) self.old self.new }
-        ensures notes { S.notes source.new ≡ S.notes source.old }
+        ensures notes { S.notes source.new ≤ S.notes source.old }
         ensures failures { S.failures source.new ≡ S.failures source.old }
     {
         if !self.take_pushed() {
@@ -135,7 +135,7 @@ impl<E: Copy> Unread<E> {
     #[inline(always)]
     fn take_lying<S: ByteSource>(&mut self, source: &mut S)
         ensures takes { TakesHalves (S.gives source.old) (S.gives source.new) self.old self.new }
-        ensures notes { S.notes source.new ≡ S.notes source.old }
+        ensures notes { S.notes source.new ≤ S.notes source.old }
         ensures failures { S.failures source.new ≡ S.failures source.old }
     {
         let allowed = (self.limits.bytes - self.charge) as usize;

@@ -1,6 +1,6 @@
 //! What is taken at once and read no further: bytes that are passed over, newlines, and ends.
 
-ghost use Rattle.std.specs.Prelude.{true, false, ◌≡◌, ◌<◌, [], ◌∷◌};
+ghost use Rattle.std.specs.Prelude.{true, false, ◌≡◌, ◌≤◌, ◌<◌, [], ◌∷◌};
 ghost use Rattle.roff_source.specs.Bytes.{newline};
 ghost use Rattle.roff_ahead.specs.Input.{is_none_ahead};
 
@@ -29,7 +29,7 @@ impl<E: Copy> Unread<E> {
     pub fn pass_over<S: ByteSource>(&mut self, source: &mut S, within_block: bool)
         ensures passes { PassesOver (S.gives source.old) (S.gives source.new) (S.ready source.old)
             self.old self.new within_block }
-        ensures notes { S.notes source.new ≡ S.notes source.old }
+        ensures notes { S.notes source.new ≤ S.notes source.old }
         ensures failures { S.failures source.new ≡ S.failures source.old }
     {
         if self.charge < self.limits.bytes && self.is_bare() {
@@ -43,7 +43,7 @@ impl<E: Copy> Unread<E> {
         requires bare { is_bare self.old ≡ true }
         ensures passes { PassesOver (S.gives source.old) (S.gives source.new) (S.ready source.old)
             self.old self.new within_block }
-        ensures notes { S.notes source.new ≡ S.notes source.old }
+        ensures notes { S.notes source.new ≤ S.notes source.old }
         ensures failures { S.failures source.new ≡ S.failures source.old }
     {
         let ready = source.buffered();
@@ -81,7 +81,7 @@ impl<E: Copy> Unread<E> {
         ensures passes { result ≡ true → PassesFront (S.gives source.old) (S.gives source.new)
             (newline ∷ []) self.old self.new }
         ensures unchanged { result ≡ false → (self.new ≡ self.old) × (source.new ≡ source.old) }
-        ensures notes { S.notes source.new ≡ S.notes source.old }
+        ensures notes { S.notes source.new ≤ S.notes source.old }
         ensures failures { S.failures source.new ≡ S.failures source.old }
     {
         if self.limits.bytes == self.charge {
@@ -115,7 +115,7 @@ impl<E: Copy> Unread<E> {
         ensures passes { result ≡ true → PassesFront (S.gives source.old) (S.gives source.new)
             (newline ∷ []) self.old self.new }
         ensures unchanged { result ≡ false → (self.new ≡ self.old) × (source.new ≡ source.old) }
-        ensures notes { S.notes source.new ≡ S.notes source.old }
+        ensures notes { S.notes source.new ≤ S.notes source.old }
         ensures failures { S.failures source.new ≡ S.failures source.old }
     {
         if self.looked.is_some() {

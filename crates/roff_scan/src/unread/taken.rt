@@ -145,7 +145,7 @@ impl<E: Copy> Unread<E> {
             Takes (S.gives source.old) (S.gives source.new) self.old self.new (ShowsByte b)) }
         ensures waits { IfSome result (λ b. WaitsFor self.old.input.escapes b) }
         ensures unchanged { result ≡ None → (self.new ≡ self.old) × (source.new ≡ source.old) }
-        ensures notes { S.notes source.new ≡ S.notes source.old }
+        ensures notes { S.notes source.new ≤ S.notes source.old }
         ensures failures { S.failures source.new ≡ S.failures source.old }
     {
         if self.looked.is_some() {

@@ -1,16 +1,27 @@
-use Rattle.std.proofs.Common.{ap}
+use Rattle.std.proofs.Common.{ap, ◌∙◌}
+use Rattle.roff_reader.specs.Reader.State.{ReaderState}
+use Rattle.roff_run.specs.Reading.Items.{PageUnread}
+use Rattle.roff_run.specs.Reading.Ends.{due}
 use Rattle.roff_engine.proofs.PassingEnds.{goes_further_returned}
 use Rattle.roff_engine.proofs.PassingOn.{goes_further_both, goes_past_kept}
+use Rattle.roff_engine.proofs.Turned.{goes_past_turned}
 use Rattle.roff_engine.proofs.running.Running.pass_control_line.Goals as goal
 
 pub returns-then-read_control_front : goal.returns-then-read_control_front
 returns-then-read_control_front g c = λ out err.
-    goes_further_both _ _ _ _ _ _ _ _ _ _ _ _ _ (c.read_control_front.ensures.past c.if-read_control_front.true out err) (c.pass_line.ensures out err)
+    let read = c.read_control_front.ensures in
+    goes_further_both _ _ _ _ _ _ _ _ _ _ _ _ _
+    (goes_past_turned _ _ _ _ _ _ out err c.args.self.now _ _ (read.past c.if-read_control_front.true) read.notes read.failures) (c.pass_line.ensures out err)
 
 pub returns-else-read_control_front : goal.returns-else-read_control_front
 returns-else-read_control_front g c = λ out err.
     let kept = c.read_control_front.ensures.unchanged c.if-read_control_front.false in
+    let old = c.args.self.now in
+    let source = kept.2 in
     goes_further_both _ _ _ _ _ _ _ _ _ _ _ _ _
-    (goes_past_kept _ _ _ _ _ _ out err c.args.self.now _ (ap g.S.ByteSource.gives kept.1) (ap g.S.ByteSource.notes kept.1) (ap g.S.ByteSource.failures kept.1) kept.0)
+    (goes_past_kept _ _ _ _ _ _ out err old _ (ap g.S.ByteSource.gives source) (ap g.S.ByteSource.notes source) (ap g.S.ByteSource.failures source)
+    (ap (λ (r : ReaderState). record old { formatter = record old.formatter { reader = r }; unread = c.read_control_front.new.unread }) kept.0
+    ∙ ap (λ (u : PageUnread). record old { unread = u }) kept.1))
     (let ends = c.pass_return.ensures in
-    goes_further_returned _ _ _ (rw kept.0 c.requires.none_due) (rw kept.0 c.requires.none_half) ends.passes ends.within ends.reads ends.unchanged _ _ _)
+    goes_further_returned _ _ _ (ap (λ (r : ReaderState). due r.reading) kept.0 ∙ c.requires.none_due) (ap (λ (u : PageUnread). u.input.escapes) kept.1 ∙ c.requires.none_half)
+    ends.passes ends.within ends.reads ends.unchanged _ _ _)

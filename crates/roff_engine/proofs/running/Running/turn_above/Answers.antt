@@ -10,4 +10,4 @@ returns-then-pass_end g c =
 
 pub returns : goal.returns
 returns g c =
-    TurnsBy-same _ _ _ _ _ c.args.self.now c.turn_byte_above.new.self c.pass_end.new.self _ _ _ (c.pass_end.ensures.unchanged c.if-pass_end.false) c.turn_byte_above.ensures
+    TurnsBy-same _ _ _ _ _ c.args.self.now c.turn_in_front.new.self c.pass_end.new.self _ _ _ (c.pass_end.ensures.unchanged c.if-pass_end.false) c.turn_in_front.ensures

@@ -1,0 +1,42 @@
+-- Runs: bytes that do alike where something is read.
+use Rattle.std.specs.Prelude.{◌≡◌, ℕ, true, false, List, [], None, Some}
+use Rattle.roff_source.specs.Bytes.{is_argument_byte, is_passed, is_text_byte}
+use Rattle.roff_escape.specs.OpenEscape.{OpenEscape}
+use Rattle.roff_run.specs.Reading.{Passes}
+use Rattle.roff_run.specs.Reading.Ends.{due}
+use Rattle.roff_run.specs.Stages.{Adds, EndsLine, Holds, HoldsIfFewer, Ignores, ReadsHalves, TakesHalf, counts_blanks}
+use Rattle.roff_run.specs.Telling.{Prints}
+use Rattle.roff_run.specs.declared.line_state.LineState.{LineState}
+use Rattle.roff_reader.specs.Reader.State.{ReaderState}
+use Rattle.roff_reader.specs.declared.run_kind.RunKind.{RunKind}
+use Rattle.roff_reader.specs.declared.run_kind.RunKind.TheVariants.{Text, Blanks, Arguments, CallArguments, Name, Condition, Definition, Ignored, Dropped}
+
+-- bytes of a run of this kind do this where this is read
+abbrev pub Does : RunKind → LineState → Type 0
+Does Text reading = (b : ℕ) → is_text_byte b ≡ true → Prints reading b
+Does Blanks reading = counts_blanks reading ≡ true
+Does Arguments reading = (b : ℕ) → is_argument_byte b ≡ true → Holds reading b
+Does (CallArguments most) reading = (b : ℕ) → is_argument_byte b ≡ true → HoldsIfFewer (Some most) reading b
+Does Name reading = ReadsHalves reading
+Does Condition reading = TakesHalf reading
+Does Definition reading = (b : ℕ) → is_text_byte b ≡ true → Adds reading b
+Does Ignored reading = (b : ℕ) → is_text_byte b ≡ true → Ignores reading b
+Does (Dropped within_block) reading =
+    ((b : ℕ) → is_passed within_block b ≡ true → Passes reading b) × (within_block ≡ false → EndsLine reading)
+
+-- what may be half read where it is taken: names and conditions are, and nothing else
+abbrev pub MayBeHalfRead : RunKind → List OpenEscape → Type 0
+MayBeHalfRead Name half = Unit {0}
+MayBeHalfRead Condition half = Unit {0}
+MayBeHalfRead (_) half = half ≡ []
+
+-- where this is read, and this is half read, bytes in front may be taken as a run of this kind
+pub record IsRun (kind : RunKind) (reading : LineState) (half : List OpenEscape) : Type 0 where
+  pub does : Does kind reading
+  pub half_read : MayBeHalfRead kind half
+  pub none_due : due reading ≡ None
+
+-- a run of this kind leaves the reader as it was, but for one of blanks
+abbrev pub KeepsReader : RunKind → ReaderState → ReaderState → Type 0
+KeepsReader Blanks old new = Unit {0}
+KeepsReader (_) old new = new ≡ old

@@ -1,0 +1,208 @@
+//! Runs: bytes in front that do alike where something is read, and are taken together.
+
+ghost use Rattle.std.specs.Prelude.{◌≡◌, ◌≤◌, IfSome, List, []};
+ghost use Rattle.roff_escape.specs.OpenEscape.{OpenEscape};
+ghost use Rattle.roff_run.specs.declared.line_state.LineState.TheVariants.{Text as InText};
+ghost use Rattle.roff_reader.specs.Reader.Runs.{IsRun, KeepsReader};
+ghost use Rattle.roff_reader.specs.Reader.Stages.{ReadsPast};
+ghost use Rattle.roff_reader.specs.declared.run_kind.RunKind.TheVariants.{Blanks, Condition};
+ghost use Rattle.roff_reader.specs.declared.run_kind.RunKind.TheVariants.{Dropped, Ignored};
+
+use super::Reader;
+use super::calls::CALL_ARGUMENTS;
+use crate::run_kind::RunKind;
+use roff_run::{LineState, PageEvent, TextLine, blanks_in_front};
+use roff_scan::{ByteSource, Unread, text_in_front};
+
+impl Reader {
+    /// What the bytes in front do, as far as some can be taken together: by what is being read, and
+    /// whether something is half read.
+    #[inline(always)]
+    pub fn run_kind(&self, unread: &Unread<PageEvent>) -> Option<RunKind>
+        ensures { IfSome result (λ kind. IsRun kind self.now.reading unread.now.input.escapes) }
+    {
+        if unread.has_open_escape() {
+            self.run_half_read(unread)
+        } else {
+            self.run_alone(unread)
+        }
+    }
+
+    /// The same where something is half read.
+    #[inline(always)]
+    pub fn run_half_read(&self, unread: &Unread<PageEvent>) -> Option<RunKind>
+        ensures { IfSome result (λ kind. IsRun kind self.now.reading unread.now.input.escapes) }
+    {
+        match self.reading {
+            LineState::LineStart => Some(RunKind::Name),
+            LineState::Branch => Some(RunKind::Name),
+            LineState::Text(_) => Some(RunKind::Name),
+            LineState::Deciding { .. } => Some(RunKind::Condition),
+            _ => None,
+        }
+    }
+
+    /// The same where nothing is.
+    #[inline(always)]
+    fn run_alone(&self, unread: &Unread<PageEvent>) -> Option<RunKind>
+        requires none_half { unread.now.input.escapes ≡ [] }
+        ensures { IfSome result (λ kind. IsRun kind self.now.reading unread.now.input.escapes) }
+    {
+        match self.reading {
+            LineState::Text(line) => run_of_text(line),
+            LineState::Arguments { .. } => Some(RunKind::Arguments),
+            LineState::Calling { .. } => Some(RunKind::CallArguments(CALL_ARGUMENTS - 1)),
+            LineState::Defining {
+                name: Some(_),
+                matched: None,
+                ..
+            } => Some(RunKind::Definition),
+            LineState::Defining {
+                name: None,
+                matched: None,
+                ..
+            } => Some(RunKind::Ignored),
+            LineState::Dropped => Some(RunKind::Dropped {
+                within_block: false,
+            }),
+            LineState::Skipping {
+                opened,
+                closed,
+                behind: false,
+            } => Some(RunKind::Dropped {
+                within_block: opened > closed,
+            }),
+            _ => None,
+        }
+    }
+
+    /// Takes bytes together that stand in front and do this, as many as the limits have room for.
+    #[inline(always)]
+    pub fn take_run<S: ByteSource>(
+        &mut self,
+        kind: RunKind,
+        unread: &mut Unread<PageEvent>,
+        source: &mut S,
+    )
+        requires { IsRun kind self.old.reading unread.old.input.escapes }
+        ensures past { ReadsPast (S.gives source.old) (S.gives source.new)
+            self.old self.new unread.old unread.new }
+        ensures kept { KeepsReader kind self.old self.new }
+        ensures notes { S.notes source.new ≤ S.notes source.old }
+        ensures failures { S.failures source.new ≡ S.failures source.old }
+    {
+        match kind {
+            RunKind::Text => unread.stays_within(),
+            RunKind::Blanks => self.take_blanks(unread, source),
+            RunKind::Arguments => {
+                unread.hold_front(source);
+                unread.stays_within();
+            }
+            RunKind::CallArguments(most) => {
+                unread.hold_fewer(source, most);
+                unread.stays_within();
+            }
+            RunKind::Name => {
+                unread.read_front(source);
+                unread.stays_within();
+            }
+            RunKind::Condition => self.take_condition(unread, source),
+            RunKind::Definition => {
+                unread.add_front(source);
+                unread.stays_within();
+            }
+            RunKind::Ignored => self.take_ignored(unread, source),
+            RunKind::Dropped { within_block } => { self.take_dropped(within_block, unread, source) }
+        }
+    }
+
+    /// Counts leading blanks that stand in front.
+    #[inline(never)]
+    fn take_blanks<S: ByteSource>(&mut self, unread: &mut Unread<PageEvent>, source: &mut S)
+        requires { IsRun Blanks self.old.reading unread.old.input.escapes }
+        ensures past { ReadsPast (S.gives source.old) (S.gives source.new)
+            self.old self.new unread.old unread.new }
+        ensures notes { S.notes source.new ≤ S.notes source.old }
+        ensures failures { S.failures source.new ≡ S.failures source.old }
+    {
+        match self.reading {
+            LineState::Text(line) => {
+                let front = unread.front(source);
+                let count = blanks_in_front(front);
+                unread.pass(source, count);
+                unread.stays_within();
+                self.go_on(LineState::Text(line.behind_blanks(count)));
+            }
+            _ => unread.stays_within(),
+        }
+    }
+
+    /// Takes bytes of a condition that stand in front, unless it decides before any is taken.
+    #[inline(always)]
+    fn take_condition<S: ByteSource>(&self, unread: &mut Unread<PageEvent>, source: &mut S)
+        requires { IsRun Condition self.now.reading unread.old.input.escapes }
+        ensures past { ReadsPast (S.gives source.old) (S.gives source.new)
+            self.now self.now unread.old unread.new }
+        ensures notes { S.notes source.new ≤ S.notes source.old }
+        ensures failures { S.failures source.new ≡ S.failures source.old }
+    {
+        if unread.decides_now() {
+            return unread.stays_within();
+        }
+        unread.take_front(source);
+        unread.stays_within();
+    }
+
+    /// Takes plain text in front that changes nothing.
+    #[inline(never)]
+    fn take_ignored<S: ByteSource>(&self, unread: &mut Unread<PageEvent>, source: &mut S)
+        requires { IsRun Ignored self.now.reading unread.old.input.escapes }
+        ensures past { ReadsPast (S.gives source.old) (S.gives source.new)
+            self.now self.now unread.old unread.new }
+        ensures notes { S.notes source.new ≤ S.notes source.old }
+        ensures failures { S.failures source.new ≡ S.failures source.old }
+    {
+        let front = unread.front(source);
+        let count = text_in_front(front);
+        unread.pass(source, count);
+        unread.stays_within();
+    }
+
+    /// Takes bytes in front that change nothing in a line that is dropped or a branch that is skipped.
+    #[inline(always)]
+    fn take_dropped<S: ByteSource>(
+        &self,
+        within_block: bool,
+        unread: &mut Unread<PageEvent>,
+        source: &mut S,
+    )
+        requires { IsRun (Dropped within_block) self.now.reading unread.old.input.escapes }
+        ensures past { ReadsPast (S.gives source.old) (S.gives source.new)
+            self.now self.now unread.old unread.new }
+        ensures notes { S.notes source.new ≤ S.notes source.old }
+        ensures failures { S.failures source.new ≡ S.failures source.old }
+    {
+        if unread.is_none_ahead() {
+            unread.pass_over(source, within_block);
+            unread.stays_within();
+        } else {
+            unread.pass_over_ahead(within_block);
+            unread.stays_within();
+        }
+    }
+}
+
+/// What the bytes of a text line do where nothing is half read.
+#[inline(always)]
+fn run_of_text(line: TextLine) -> Option<RunKind>
+    ensures { (half : List OpenEscape) → half ≡ []
+        → IfSome result (λ kind. IsRun kind (InText line) half) }
+{
+    if line.prints() {
+        return Some(RunKind::Text);
+    }
+    if line.counts_blanks() {
+        return Some(RunKind::Blanks);
+    }
+    None
+}
