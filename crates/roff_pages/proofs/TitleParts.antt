@@ -1,7 +1,7 @@
 -- Titles, piece by piece.
 use Rattle.std.proofs.Common.{◌≡◌, ℕ, zero, suc, ◌+◌, ◌-◌, ◌/◌, ◌<◌, ◌≤◌, max, Bool, true, false, inl, inr, List, [], ◌∷◌, ◌++◌, length, take, drop, slice_index_or, refl, sym, ap, ◌∙◌, arith, append_assoc, append-nil, ne_eqb}
 use Rattle.std.specs.Prelude.{not, ◌&&◌, ◌||◌, if◌then◌else◌, ◌==◌}
-use Rattle.std.proofs.lemmas.Bool.{cases_Bool, eqb-true}
+use Rattle.std.proofs.lemmas.Bool.{and_right, cases_Bool, eqb-true}
 use Rattle.std.proofs.lemmas.List.{length-take, replicate-append-replicate}
 use Rattle.std.proofs.lemmas.List.Folds.{sum_by-replicate}
 use Rattle.std.proofs.lemmas.List.Sums.{sum_by-append, take_while-cons}
@@ -156,6 +156,20 @@ piece_behind n m glyphs first old new rest blank whole shown some =
     let front : spaces (n + m) ++ (glyphs ++ new) ≡ first ++ old =
     sym (more_blanks n m (glyphs ++ new)) ∙ ap (λ (bytes : List ℕ). spaces n ++ bytes) whole ∙ ap (λ (bytes : List ℕ). bytes ++ old) (sym blank) in
     piece_left (n + m) glyphs (first ++ old) new rest front shown some ∙ ap trimmed (append_assoc first old rest)
+
+-- a list with something at its end isn't empty
+is_empty-push : (bytes : List ℕ) (b : ℕ) → is_empty (bytes ++ b ∷ []) ≡ false
+is_empty-push [] b = refl
+is_empty-push (c ∷ bytes) b = refl
+
+-- a blank at the end is cut; a text that ends in another byte stays as it is
+pub trimmed_push : (bytes : List ℕ) (b : ℕ) → trimmed (bytes ++ b ∷ []) ≡ (if b == 32 then trimmed bytes else bytes ++ b ∷ [])
+trimmed_push [] b = elim (cases_Bool (b == 32)) [ inl e ↦ rw e refl | inr e ↦ rw e refl ]
+trimmed_push (c ∷ bytes) b =
+    elim (cases_Bool (b == 32)) [
+      | inl e ↦ rw (trimmed_push bytes b, e) refl
+      | inr e ↦ rw (trimmed_push bytes b, e, is_empty-push bytes b, and_right (c == 32) false refl) refl
+    ]
 
 -- nothing is left of blanks alone
 trimmed-blank : (n : ℕ) → trimmed (spaces n) ≡ []

@@ -11,6 +11,7 @@ ghost use Rattle.roff_pages.specs.TitleLeft.{title_of};
 ghost use Rattle.roff_pages.specs.TitleParts.{HasNoBlank};
 ghost use Rattle.roff_pages.specs.Titles.{part_text, title_text};
 
+mod added_title;
 mod within;
 
 use crate::sink::{ByteSink, SinkFault};
@@ -96,13 +97,11 @@ impl Block {
         let bytes = &mut self.bytes;
         let mut to_come = LineBytes::behind_columns(line, columns, after);
         to_come.add_text(bytes, BLOCK);
-        loop {
-            add_pieces(bytes, &mut to_come);
-            let Some(byte) = to_come.next() else {
-                return put(bytes, out);
-            };
-            push(bytes, byte, out)?;
+        if bytes.len() < BLOCK && to_come.take_last_newline() {
+            bytes.push(b'\n').unwrap();
+            return put(bytes, out);
         }
+        put_rest(bytes, to_come, out)
     }
 
     /// Writes a title behind so many columns, such as the page offset.
@@ -184,6 +183,30 @@ fn add_pieces(bytes: &mut Vec<u8>, to_come: &mut LineBytes<'_>)
         let end = bytes.len() + piece.blanks;
         bytes.resize(end, b' ').unwrap();
         bytes.extend_from_slice(piece.glyphs).unwrap();
+    }
+}
+
+/// Puts the bytes of a block and those that are to come behind them: pieces at once, and others a
+/// byte at a time.
+#[inline(never)]
+fn put_rest<O: ByteSink>(
+    bytes: &mut Vec<u8>,
+    rest: LineBytes<'_>,
+    out: &mut O,
+) -> Result<(), SinkFault>
+    requires capacity { 8192 ≤ vec_capacity bytes.old }
+    requires few { length bytes.old.items ≤ 8192 }
+    ensures capacity { vec_capacity bytes.old ≤ vec_capacity bytes.new }
+    ensures empty { bytes.new.items ≡ [] }
+    ensures puts { Puts (O.sunk out.old) (O.sunk out.new) (bytes.old.items ++ rest.entry) result }
+{
+    let mut to_come = rest;
+    loop {
+        add_pieces(bytes, &mut to_come);
+        let Some(byte) = to_come.next() else {
+            return put(bytes, out);
+        };
+        push(bytes, byte, out)?;
     }
 }
 

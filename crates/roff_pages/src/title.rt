@@ -1,10 +1,11 @@
 //! Titles, piece by piece.
 
-ghost use Rattle.std.specs.Prelude.{◌≡◌, ◌+◌, ◌<◌, ◌^◌, ◌++◌, [], length, IfSome, IfNone};
+ghost use Rattle.std.specs.Prelude.{◌≡◌, ◌+◌, ◌<◌, ◌^◌, ◌++◌, [], ℕ, List, length};
+ghost use Rattle.std.specs.Prelude.{IfSome, IfNone};
 ghost use Rattle.roff_lines.specs.Clauses.{text_width};
 ghost use Rattle.roff_lines.specs.Columns.{spaces, trimmed};
 ghost use Rattle.roff_pages.specs.Titles.{part_text, title_text};
-ghost use Rattle.roff_pages.specs.TitleParts.{HasNoBlank};
+ghost use Rattle.roff_pages.specs.TitleParts.{HasNoBlank, blanks_before};
 ghost use Rattle.roff_pages.specs.TitleLeft.{title_of};
 
 use crate::title_part::{PartText, TitlePiece, width_of_part};
@@ -60,16 +61,11 @@ impl<'a> TitlePieces<'a> {
         let left = width_of_part(title.left, title.number);
         let centre = width_of_part(title.centre, title.number);
         let right = width_of_part(title.right, title.number);
-        let [_, centre_at, right_at] = place_title([left, centre, right], title.length);
-        let end = if title.centre.is_empty() {
-            left
-        } else {
-            centre_at + centre
-        };
+        let (centre_gap, right_gap) = gaps_in_title(title, left, centre, right);
         TitlePieces {
             left: PartText::of(columns, title.left, title.number),
-            centre: PartText::behind(centre_at - left, title.centre, title.number),
-            right: PartText::behind(right_at - end, title.right, title.number),
+            centre: PartText::of(centre_gap, title.centre, title.number),
+            right: PartText::of(right_gap, title.right, title.number),
         }
     }
 
@@ -99,6 +95,42 @@ impl<'a> TitlePieces<'a> {
         }
         None
     }
+}
+
+/// How many blanks stand in front of a title's centre, and in front of its right part: none in
+/// front of an empty one. The widths of its parts are given, in columns.
+#[inline(always)]
+pub(crate) fn gaps_in_title(title: TitleLine<'_>, left: u64, centre: u64, right: u64) -> (u64, u64)
+    requires some { 0 < length title.number.now }
+    requires left { left ≡ text_width (part_text title.number.now title.left.now) }
+    requires centre { centre ≡ text_width (part_text title.number.now title.centre.now) }
+    requires right { right ≡ text_width (part_text title.number.now title.right.now) }
+    requires width { left + centre + right + title.length < 2 ^ 64 }
+    ensures { let t = title_of title.entry in
+        part_text t.number t.left ++ ((spaces result.0 ++ part_text t.number t.centre)
+        ++ (spaces result.1 ++ part_text t.number t.right))
+        ≡ title_text (title_of title.entry) }
+{
+    let [_, centre_at, right_at] = place_title([left, centre, right], title.length);
+    let end = if title.centre.is_empty() {
+        left
+    } else {
+        centre_at + centre
+    };
+    (
+        gap_before(centre_at - left, title.centre),
+        gap_before(right_at - end, title.right),
+    )
+}
+
+/// How many blanks stand in front of a part that is so far from the one in front of it.
+#[inline(always)]
+fn gap_before(blanks: u64, part: &[u8]) -> u64
+    ensures { (number : List ℕ) → 0 < length number
+        → spaces result ++ part_text number part.now
+        ≡ blanks_before blanks (part_text number part.now) }
+{
+    if part.is_empty() { 0 } else { blanks }
 }
 
 /// How wide a title is, in columns.

@@ -1,10 +1,11 @@
 //! The parts of titles, piece by piece.
 
-ghost use Rattle.std.specs.Prelude.{◌≡◌, ◌+◌, ◌<◌, ◌≤◌, ◌^◌, ◌++◌, ◌∷◌, ℕ, List, [], length, take};
+ghost use Rattle.std.specs.Prelude.{◌≡◌, ◌+◌, ◌<◌, ◌≤◌, ◌^◌, ◌++◌, ◌∷◌, ℕ, List, [], length};
+ghost use Rattle.std.specs.Prelude.{take, true};
 ghost use Rattle.roff_lines.specs.Clauses.{text_width};
 ghost use Rattle.roff_lines.specs.Columns.{spaces};
 ghost use Rattle.roff_pages.specs.Titles.{part_text};
-ghost use Rattle.roff_pages.specs.TitleParts.{HasNoBlank, blank_bytes_in_front, blanks_before};
+ghost use Rattle.roff_pages.specs.TitleParts.{HasNoBlank, blank_bytes_in_front};
 ghost use Rattle.roff_pages.specs.TitleParts.{is_blank_byte, shown_in_front};
 ghost use Rattle.std.proofs.Props.{props};
 
@@ -50,15 +51,6 @@ impl<'a> PartText<'a> {
         }
     }
 
-    /// A part behind so many blanks, but none where it is empty.
-    pub(crate) fn behind(blanks: u64, part: &'a [u8], number: &'a [u8]) -> Self
-        requires some { 0 < length number.now }
-        requires shown { HasNoBlank number.now }
-        ensures { part_left result ≡ blanks_before blanks (part_text number.now part.now) }
-    {
-        Self::of(if part.is_empty() { 0 } else { blanks }, part, number)
-    }
-
     /// Takes blanks and the bytes behind them; no bytes only where nothing is left.
     pub(crate) fn take(&mut self) -> TitlePiece<'a>
         ensures taken { spaces result.blanks ++ (result.glyphs.now ++ part_left self.new)
@@ -90,7 +82,63 @@ impl<'a> PartText<'a> {
     }
 }
 
+/// How a part of a title is printed.
+#[derive(Clone, Copy)]
+pub(crate) struct PartMeasure {
+    /// How wide it is, in columns.
+    pub(crate) width: u64,
+    /// Whether it is printed as it stands.
+    pub(crate) is_plain: bool,
+}
+
+/// How a part of a title is printed.
+#[inline(always)]
+pub(crate) fn measure_part(part: &[u8], number: &[u8]) -> PartMeasure
+    requires { text_width (part_text number.now part.now) < 2 ^ 64 }
+    ensures width { result.width ≡ text_width (part_text number.now part.now) }
+    ensures plain { result.is_plain ≡ true → part_text number.now part.now ≡ part.now }
+{
+    if is_plain(part) {
+        return PartMeasure {
+            width: part.len() as u64,
+            is_plain: true,
+        };
+    }
+    PartMeasure {
+        width: width_of_part(part, number),
+        is_plain: false,
+    }
+}
+
+/// Whether each byte of a part is printed as it stands, and is a character of its own.
+#[inline(always)]
+fn is_plain(part: &[u8]) -> bool
+    ensures text { result ≡ true → (number : List ℕ) → part_text number part.now ≡ part.now }
+    ensures width { result ≡ true → text_width part.now ≡ length part.now }
+{
+    let mut rest = part;
+    while let Some((&byte, behind)) = rest.split_first() {
+        if !is_plain_byte(byte) {
+            return false;
+        }
+        rest = behind;
+    }
+    true
+}
+
+/// Whether a byte of a part is printed as it stands, and is a character of its own.
+#[inline(always)]
+fn is_plain_byte(byte: u8) -> bool
+    ensures text { result ≡ true → (number rest : List ℕ)
+        → part_text number (byte ∷ rest) ≡ byte ∷ part_text number rest }
+    ensures width { result ≡ true → (rest : List ℕ)
+        → text_width (byte ∷ rest) ≡ 1 + text_width rest }
+{
+    byte > PAGE_NUMBER && byte < 0x80
+}
+
 /// How wide a part of a title is, in columns.
+#[inline(never)]
 pub(crate) fn width_of_part(part: &[u8], number: &[u8]) -> u64
     requires { text_width (part_text number.now part.now) < 2 ^ 64 }
     ensures { result ≡ text_width (part_text number.now part.now) }
@@ -105,6 +153,7 @@ pub(crate) fn width_of_part(part: &[u8], number: &[u8]) -> u64
 }
 
 /// How wide a byte of a part is, in columns.
+#[inline(always)]
 fn width_in_part(byte: u8, number: &[u8]) -> u64
     requires { byte ≡ 1 → text_width number.now < 2 ^ 64 }
     ensures { (rest : List ℕ) → text_width (part_text number.now (byte ∷ rest))

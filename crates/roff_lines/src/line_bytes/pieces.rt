@@ -25,6 +25,19 @@ impl<'a> LineBytes<'a> {
         Piece { blanks, glyphs }
     }
 
+    /// Takes the newline that is left, where nothing but one newline is, and tells whether it did.
+    #[inline(always)]
+    pub fn take_last_newline(&mut self) -> bool
+        ensures taken { result ≡ true → (self.old ≡ 10 ∷ []) × (self.new ≡ []) }
+        ensures kept { result ≡ false → self.new ≡ self.old }
+    {
+        if self.newlines != 1 || self.blanks > 0 || !self.text.is_empty() {
+            return false;
+        }
+        self.newlines = 0;
+        true
+    }
+
     /// Whether nothing is left to be taken in pieces.
     #[inline(always)]
     fn is_text_written(&self) -> bool

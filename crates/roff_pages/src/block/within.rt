@@ -9,6 +9,7 @@ ghost use Rattle.roff_pages.specs.TitleParts.{HasNoBlank};
 ghost use Rattle.roff_pages.specs.Titles.{part_text, title_text};
 ghost use Rattle.roff_pages.specs.Within.{PutsWithin};
 
+use super::added_title::add_title;
 use super::{BLOCK, Block, add_pieces, put};
 use crate::page_fault::PageFault;
 use crate::sink::ByteSink;
@@ -39,6 +40,7 @@ impl Block {
     }
 
     /// The same of a line that a block has no room for: its bytes are counted first.
+    #[inline(never)]
     fn put_long_line<O: ByteSink>(
         &mut self,
         line: Line<'_>,
@@ -78,6 +80,31 @@ impl Block {
         ensures { PutsWithin room (device_line columns (title_text (title_of title.entry)))
             result (O.sunk out.old) (O.sunk out.new) }
     {
+        if add_title(&mut self.bytes, &title, columns) {
+            return put_within(&mut self.bytes, room, out);
+        }
+        self.bytes.clear();
+        self.put_long_title(title, columns, room, out)
+    }
+
+    /// The same of a title that a block has no room for: its bytes are counted first.
+    #[inline(never)]
+    fn put_long_title<O: ByteSink>(
+        &mut self,
+        title: TitleLine<'_>,
+        columns: u64,
+        room: u64,
+        out: &mut O,
+    ) -> Result<u64, PageFault>
+        requires some { 0 < length title.number.now }
+        requires shown { HasNoBlank title.number.now }
+        requires width { let number = title.number.now in
+            text_width (part_text number title.left.now)
+            + text_width (part_text number title.centre.now)
+            + text_width (part_text number title.right.now) + title.length < 2 ^ 64 }
+        ensures { PutsWithin room (device_line columns (title_text (title_of title.entry)))
+            result (O.sunk out.old) (O.sunk out.new) }
+    {
         match length_of_title(title, columns, room) {
             None => Err(PageFault::Output),
             Some(count) => match self.put_title(title, columns, out) {
@@ -88,9 +115,9 @@ impl Block {
     }
 }
 
-/// Adds to an empty block the bytes of a line behind so many columns, and so many blank lines. Tells
-/// whether it had room for all.
-#[inline(always)]
+/// Adds to an empty block the bytes of a line behind so many columns, and so many blank lines.
+/// Tells whether it had room for all.
+#[inline(never)]
 fn add_line(bytes: &mut Vec<u8>, line: Line<'_>, columns: u64, after: u64) -> bool
     requires capacity { 8192 ≤ vec_capacity bytes.old }
     requires empty { bytes.old.items ≡ [] }
@@ -100,6 +127,22 @@ fn add_line(bytes: &mut Vec<u8>, line: Line<'_>, columns: u64, after: u64) -> bo
 {
     let mut to_come = LineBytes::behind_columns(line, columns, after);
     to_come.add_text(bytes, BLOCK);
+    if bytes.len() < BLOCK && to_come.take_last_newline() {
+        bytes.push(b'\n').unwrap();
+        return true;
+    }
+    add_rest(bytes, to_come)
+}
+
+/// Adds to those of a block the bytes that are to come. Tells whether it had room for all.
+#[inline(never)]
+fn add_rest(bytes: &mut Vec<u8>, rest: LineBytes<'_>) -> bool
+    requires capacity { 8192 ≤ vec_capacity bytes.old }
+    requires few { length bytes.old.items ≤ 8192 }
+    ensures capacity { vec_capacity bytes.old ≤ vec_capacity bytes.new }
+    ensures whole { result ≡ true → bytes.new.items ≡ bytes.old.items ++ rest.entry }
+{
+    let mut to_come = rest;
     loop {
         add_pieces(bytes, &mut to_come);
         let Some(byte) = to_come.next() else {
@@ -124,10 +167,10 @@ fn put_within<O: ByteSink>(bytes: &mut Vec<u8>, room: u64, out: &mut O) -> Resul
         bytes.clear();
         return Err(PageFault::Output);
     }
-    match put(bytes, out) {
-        Ok(()) => Ok(count),
-        Err(_) => Err(PageFault::Sink),
+    if put(bytes, out).is_err() {
+        return Err(PageFault::Sink);
     }
+    Ok(count)
 }
 
 /// How many bytes a line takes behind so many columns, with so many blank lines; none if there are

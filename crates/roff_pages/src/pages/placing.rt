@@ -23,6 +23,7 @@ impl Pages {
     /// # Errors
     ///
     /// [`PageFault`] if the limit on the output would be passed, or the sink fails.
+    #[inline(always)]
     pub fn place<O: ByteSink>(
         &mut self,
         line: Line<'_>,
@@ -32,11 +33,10 @@ impl Pages {
         ensures { HappensWriting (Places (finished_of line.entry)) self.old self.new
             (O.sunk out.old) (O.sunk out.new) result }
     {
-        let next = self.next;
-        let most = self.way().saturating_sub(1);
-        let after = line.after.min(most);
+        let way = self.way();
+        let after = line.after.min(way.saturating_sub(1));
         match self.write_line(line, after, out) {
-            Ok(()) => Ok(self.put_lines(after + 1, next, false)),
+            Ok(()) => Ok(self.put_text(after + 1, way)),
             Err(fault) => Err(fault),
         }
     }
@@ -46,6 +46,7 @@ impl Pages {
     /// # Errors
     ///
     /// [`PageFault`] if the limit on the output would be passed, or the sink fails.
+    #[inline(always)]
     pub fn title<O: ByteSink>(
         &mut self,
         title: TitleLine<'_>,
@@ -61,9 +62,9 @@ impl Pages {
         ensures { HappensWriting (Titles (title_of title.entry)) self.old self.new
             (O.sunk out.old) (O.sunk out.new) result }
     {
-        let next = self.next;
+        let way = self.way();
         match self.write_title(title, out) {
-            Ok(()) => Ok(self.put_lines(1, next, false)),
+            Ok(()) => Ok(self.put_text(1, way)),
             Err(fault) => Err(fault),
         }
     }
@@ -100,6 +101,7 @@ impl Pages {
     }
 
     /// Writes a title, if the page is written.
+    #[inline(always)]
     fn write_title<O: ByteSink>(
         &mut self,
         title: TitleLine<'_>,

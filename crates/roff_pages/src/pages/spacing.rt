@@ -106,7 +106,7 @@ impl Pages {
         ensures { HappensWriting (Does (EjectOn asked)) self.old self.new
             (O.sunk out.old) (O.sunk out.new) result }
     {
-        if self.begun != u64::from(asked) {
+        if u64::from(asked) != self.begun {
             return Ok(None);
         }
         let next = self.next;
@@ -136,6 +136,7 @@ impl Pages {
     }
 
     /// How far the next stop is.
+    #[inline(always)]
     pub(super) fn way(&self) -> u64
         ensures way { result ≡ way_on self.now }
         ensures most { result ≤ 2 ^ 32 }

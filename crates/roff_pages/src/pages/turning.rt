@@ -1,12 +1,13 @@
 //! Where a page ends, and the next one begins (manual, section 3).
 
-ghost use Rattle.std.specs.Prelude.{◌≡◌, List, length, None, if◌then◌else◌};
+ghost use Rattle.std.specs.Prelude.{◌≡◌, ◌+◌, ◌^◌, List, length, None, min, false};
+ghost use Rattle.std.specs.Prelude.{if◌then◌else◌};
 ghost use Rattle.roff_pages.specs.Layout.{Box, Layout};
 ghost use Rattle.roff_pages.specs.Happenings.{Does, Begin};
 ghost use Rattle.roff_pages.specs.Turning.{is_in_ranges, number_behind, one_more};
 ghost use Rattle.roff_pages.specs.Turning.{page_begun, turned, turned_if_full};
 ghost use Rattle.roff_pages.specs.Springs.{first_met, is_on_top, is_passed, springs};
-ghost use Rattle.roff_pages.specs.Pages.Advancing.{sprung_by, with_lines};
+ghost use Rattle.roff_pages.specs.Pages.Advancing.{sprung_by, way_on, with_lines};
 
 use super::{MOST_BEGUN, MOST_COUNTED, Pages};
 use crate::traps::{first_on_top, first_passed, next_stop};
@@ -26,6 +27,7 @@ impl Pages {
 
     /// Behind so many lines that were written: the page has them, the next one gets this number, if
     /// it gets one, and no-space mode is so. Answers what springs.
+    #[inline(always)]
     pub(super) fn put_lines(
         &mut self,
         lines: u64,
@@ -43,11 +45,50 @@ impl Pages {
     {
         self.next = next;
         self.no_space = no_space;
-        self.advance(lines)
+        let way = self.way();
+        self.advance(lines, way)
     }
 
-    /// The page with so many lines more: it ends where it is full. Answers what springs.
-    fn advance(&mut self, lines: u64) -> Option<ShortName>
+    /// The same behind a text and the lines behind it, told how far the next stop is: the next
+    /// number stays, and no-space mode ends.
+    #[inline(always)]
+    pub(super) fn put_text(&mut self, lines: u64, way: u64) -> Option<ShortName>
+        requires { way ≡ way_on self.old }
+        ensures stands { (L : Layout) (boxes : List Box) → StandsAs L self.old
+            → length boxes ≡ lines → StandsAs (turned_if_full
+            (with_lines boxes (record L { next = self.old.next; no_space = false }))) self.new }
+        ensures springs { (L : Layout) (boxes : List Box) → StandsAs L self.old
+            → length boxes ≡ lines
+            → result ≡ sprung_by boxes (record L { next = self.old.next; no_space = false }) }
+        ensures limits { SameLimits self.old self.new }
+        ensures written { self.new.written ≡ self.old.written }
+    {
+        self.no_space = false;
+        self.advance(lines, way)
+    }
+
+    /// The page with so many lines more, told how far the next stop is: it ends where it is full.
+    /// Answers what springs.
+    #[inline(always)]
+    fn advance(&mut self, lines: u64, way: u64) -> Option<ShortName>
+        requires { way ≡ way_on self.old }
+        ensures stands { (L : Layout) (boxes : List Box) → StandsAs L self.old
+            → length boxes ≡ lines → StandsAs (turned_if_full (with_lines boxes L)) self.new }
+        ensures springs { (L : Layout) (boxes : List Box) → StandsAs L self.old
+            → length boxes ≡ lines → result ≡ sprung_by boxes L }
+        ensures limits { SameLimits self.old self.new }
+        ensures written { self.new.written ≡ self.old.written }
+    {
+        if lines < way {
+            self.place += lines;
+            return None;
+        }
+        self.advance_past_stop(lines)
+    }
+
+    /// The same where it may come to its next stop.
+    #[inline(never)]
+    fn advance_past_stop(&mut self, lines: u64) -> Option<ShortName>
         ensures stands { (L : Layout) (boxes : List Box) → StandsAs L self.old
             → length boxes ≡ lines → StandsAs (turned_if_full (with_lines boxes L)) self.new }
         ensures springs { (L : Layout) (boxes : List Box) → StandsAs L self.old
@@ -56,15 +97,20 @@ impl Pages {
         ensures written { self.new.written ≡ self.old.written }
     {
         let from = self.place;
-        self.place = from.saturating_add(lines).min(MOST_COUNTED);
-        if self.place < self.stop {
-            return None;
-        }
+        self.place = self.place_behind(lines);
         self.stop = next_stop(self.length, self.place, self.traps.as_slice());
         if self.place >= u64::from(self.length) {
             return self.turn();
         }
         self.passed_since(from)
+    }
+
+    /// The place behind so many lines more, in lines, up to the greatest that is counted.
+    #[inline(always)]
+    fn place_behind(&self, lines: u64) -> u64
+        ensures { result ≡ min (self.now.place + lines) (2 ^ 33) }
+    {
+        self.place.saturating_add(lines).min(MOST_COUNTED)
     }
 
     /// What was passed since the page had come to a place, if it isn't over.

@@ -1,4 +1,4 @@
-use Rattle.std.proofs.Common.{◌≤◌, length, arith}
+use Rattle.std.proofs.Common.{arith}
 use Rattle.roff_lines.specs.Env.Tells.{Begins}
 use Rattle.roff_lines.proofs.WordRuns.{gaps_in-first}
 use Rattle.roff_lines.proofs.words.run_by_steps.Goals as goal

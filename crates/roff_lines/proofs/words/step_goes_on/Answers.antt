@@ -1,4 +1,3 @@
-use Rattle.std.proofs.Common.{arith}
 use Rattle.std.proofs.lemmas.Bool.{and_parts}
 use Rattle.roff_lines.proofs.WordRuns.{IsRun-more}
 use Rattle.roff_lines.proofs.words.step_goes_on.Goals as goal

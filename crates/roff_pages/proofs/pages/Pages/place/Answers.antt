@@ -15,15 +15,15 @@ returns-in-Ok g c =
     let boxes : List Box = text_boxes c.min-after.result (printed (finished_of c.args.line)) in
     let text : List ℕ = device_line k.offset (printed (finished_of c.args.line)) ++ replicate c.min-after.result 10 in
     let same : text ≡ device_lines k.offset boxes = sym (device_lines-behind k.offset c.min-after.result (Lined (printed (finished_of c.args.line)))) in
-    let next : c.self.inside.next ≡ k.next = ap (λ (k : Kept). k.next) c.self.view_is in
     let mid : Kept = c.write_line.new.self in
-    let put = c.put_lines in
+    let next : mid.next ≡ k.next = ap (λ (k : Kept). k.next) c.write_line.ensures.kept in
+    let put = c.put_text in
     let out = g.O.ByteSink.sunk c.args.out.now in
     let out_then = g.O.ByteSink.sunk c.write_line.new.out in
     record {
-      did = λ L s. did_boxes x L boxes c.self.inside.next false k put.new.self out out_then (Ok put.result)
-          (line_puts (finished_of c.args.line) L k c.min-after.result c.self.inside.next s c.way.ensures.short c.requires (omega (arith, c.min-after.ensures, c.saturating_sub-most.ensures, c.way.ensures.way)) next)
-          (boxed L k mid put.new.self boxes (c.min-after.result + 1) c.self.inside.next false put.result text out out_then s c.write_line.ensures.kept (length-text_boxes c.min-after.result (printed (finished_of c.args.line))) same
+      did = λ L s. did_boxes x L boxes mid.next false k put.new.self out out_then (Ok put.result)
+          (line_puts (finished_of c.args.line) L k c.min-after.result mid.next s c.way-way.ensures.short c.requires (omega (arith, c.min-after.ensures, c.saturating_sub.ensures, c.way-way.ensures.way)) next)
+          (boxed L k mid put.new.self boxes (c.min-after.result + 1) mid.next false put.result text out out_then s c.write_line.ensures.kept (length-text_boxes c.min-after.result (printed (finished_of c.args.line))) same
           put.ensures.stands put.ensures.springs put.ensures.written c.in-Ok.ensures.ok);
       limits = SameLimits-behind k mid put.new.self mid.written c.write_line.ensures.kept put.ensures.limits;
     }
@@ -35,13 +35,13 @@ returns-in-Err g c =
     let boxes : List Box = text_boxes c.min-after.result (printed (finished_of c.args.line)) in
     let text : List ℕ = device_line k.offset (printed (finished_of c.args.line)) ++ replicate c.min-after.result 10 in
     let same : text ≡ device_lines k.offset boxes = sym (device_lines-behind k.offset c.min-after.result (Lined (printed (finished_of c.args.line)))) in
-    let next : c.self.inside.next ≡ k.next = ap (λ (k : Kept). k.next) c.self.view_is in
     let mid : Kept = c.write_line.new.self in
+    let next : mid.next ≡ k.next = ap (λ (k : Kept). k.next) c.write_line.ensures.kept in
     let out = g.O.ByteSink.sunk c.args.out.now in
     let out_then = g.O.ByteSink.sunk c.write_line.new.out in
     record {
-      did = λ L s. did_boxes x L boxes c.self.inside.next false k mid out out_then (Err c.in-Err.fault)
-          (line_puts (finished_of c.args.line) L k c.min-after.result c.self.inside.next s c.way.ensures.short c.requires (omega (arith, c.min-after.ensures, c.saturating_sub-most.ensures, c.way.ensures.way)) next)
+      did = λ L s. did_boxes x L boxes mid.next false k mid out out_then (Err c.in-Err.fault)
+          (line_puts (finished_of c.args.line) L k c.min-after.result mid.next s c.way-way.ensures.short c.requires (omega (arith, c.min-after.ensures, c.saturating_sub.ensures, c.way-way.ensures.way)) next)
           (unboxed L k mid c.in-Err.fault boxes text out out_then s same c.in-Err.ensures.err);
       limits = SameLimits-written k mid mid.written c.write_line.ensures.kept;
     }

@@ -1,16 +1,15 @@
-use Rattle.std.proofs.Common.{◌≡◌, ◌++◌, ◌∷◌, [], List, ℕ, length, replicate, arith, append_assoc, append-nil, sym, ap, ◌∙◌}
+use Rattle.std.proofs.Common.{◌≡◌, ◌++◌, ◌∷◌, [], List, ℕ, length, arith, refl, append_assoc, append-nil, sym, ap, ◌∙◌}
 use Rattle.std.proofs.lemmas.List.{length-append}
 use Rattle.std.proofs.lemmas.Result.{err_from_is_err_and, on_ok_weaker, on_err_weaker}
-use Rattle.roff_lines.specs.Columns.{device_line, finished_of, printed}
 use Rattle.roff_lines.specs.LineBytes.Fronts.{Moves}
 use Rattle.roff_pages.specs.Sinks.{Sunk}
 use Rattle.roff_pages.proofs.Appending.{Writes-nothing, HoldsBack-push, HoldsBack-keep, HoldsBack-put, Fails-held}
-use Rattle.roff_pages.proofs.block.Block.put_pieces.Invariants.{Begun}
-use Rattle.roff_pages.proofs.block.Block.put_pieces.Goals as goal
+use Rattle.roff_pages.proofs.block.put_rest.Invariants.{Begun}
+use Rattle.roff_pages.proofs.block.put_rest.Goals as goal
 
 -- the first of the bytes to come are held back too
-behind_pieces : {line to_come to_come_then held held_then : List ℕ} {old new : Sunk}
-    → Begun line to_come held old new → Moves held held_then to_come to_come_then → Begun line to_come_then held_then old new
+behind_pieces : {all to_come to_come_then held held_then : List ℕ} {old new : Sunk}
+    → Begun all to_come held old new → Moves held held_then to_come to_come_then → Begun all to_come_then held_then old new
 behind_pieces begun moves = record {
   front = begun.front ++ moves.moved;
   whole = rw (append_assoc, moves.taken) begun.whole;
@@ -18,24 +17,21 @@ behind_pieces begun moves = record {
 }
 
 pub loop-byte-init : goal.loop-byte-init
-loop-byte-init g c =
-    let bytes : List ℕ = c.args.self.now.bytes.items in
-    let begun : Begun (device_line c.args.columns (printed (finished_of c.args.line)) ++ replicate c.args.after 10) c.behind_columns-to_come.result bytes (g.O.ByteSink.sunk c.args.out.now) (g.O.ByteSink.sunk c.args.out.now) = record {
-      front = [];
-      whole = c.behind_columns-to_come.ensures;
-      so_far = record { front = []; split = sym c.args.self.now.empty; writes = Writes-nothing _ };
-    } in
-    record {
-      room = omega (arith, c.args.self.now.reserved, c.add_text.ensures.capacity);
-      few = c.add_text.ensures.few;
-      begun = behind_pieces begun c.add_text.ensures.moves;
-    }
+loop-byte-init g c = record {
+  capacity = omega arith;
+  few = c.requires.few;
+  begun = record {
+    front = c.args.bytes.now.items;
+    whole = refl;
+    so_far = record { front = []; split = refl; writes = Writes-nothing _ };
+  };
+}
 
-pub returns-in_err-push : goal.returns-in_err-push
-returns-in_err-push g c =
+pub returns-in_err-push-clause-puts : goal.returns-in_err-push-clause-puts
+returns-in_err-push-clause-puts g c =
     let failed = err_from_is_err_and c.from_residual.result c.from_residual.ensures.1 in
     let begun = behind_pieces c.loop-byte.invariant.begun c.add_pieces.ensures.moves in
-    let whole : begun.front ++ (c.in-Some.byte ∷ c.next.new.self) ≡ device_line c.args.columns (printed (finished_of c.args.line)) ++ replicate c.args.after 10 = rw (← c.in-Some.ensures.steps) begun.whole in
+    let whole : begun.front ++ (c.in-Some.byte ∷ c.next.new.self) ≡ c.args.bytes.now.items ++ c.args.rest = rw (← c.in-Some.ensures.steps) begun.whole in
     rw failed.1 (record {
       ok = tt;
       err = rw (← whole) (Fails-held _ begun.so_far c.in_err-push.ensures.err);
@@ -44,9 +40,9 @@ returns-in_err-push g c =
 pub loop-byte-preserved : goal.loop-byte-preserved
 loop-byte-preserved g c =
     let begun = behind_pieces c.loop-byte.invariant.begun c.add_pieces.ensures.moves in
-    let whole : begun.front ++ (c.in-Some.byte ∷ c.next.new.self) ≡ device_line c.args.columns (printed (finished_of c.args.line)) ++ replicate c.args.after 10 = rw (← c.in-Some.ensures.steps) begun.whole in
+    let whole : begun.front ++ (c.in-Some.byte ∷ c.next.new.self) ≡ c.args.bytes.now.items ++ c.args.rest = rw (← c.in-Some.ensures.steps) begun.whole in
     record {
-      room = omega (arith, c.in_ok-push.ensures.capacity, c.add_pieces.ensures.capacity);
+      capacity = omega (arith, c.loop-byte.invariant.capacity, c.in_ok-push.ensures.capacity, c.add_pieces.ensures.capacity);
       few = c.in_ok-push.ensures.few;
       begun = record {
         front = begun.front ++ c.in-Some.byte ∷ [];
@@ -60,10 +56,10 @@ loop-byte-smaller g c =
     let moves = c.add_pieces.ensures.moves in
     omega (arith, ap length moves.taken, length-append moves.moved c.add_pieces.new.to_come, ap length c.in-Some.ensures.steps)
 
-pub returns-in_default : goal.returns-in_default
-returns-in_default g c =
+pub returns-in_default-clause-puts : goal.returns-in_default-clause-puts
+returns-in_default-clause-puts g c =
     let begun = behind_pieces c.loop-byte.invariant.begun c.add_pieces.ensures.moves in
-    let whole : begun.front ++ [] ≡ device_line c.args.columns (printed (finished_of c.args.line)) ++ replicate c.args.after 10 =
+    let whole : begun.front ++ [] ≡ c.args.bytes.now.items ++ c.args.rest =
     ap (λ (rest : List ℕ). begun.front ++ rest) (sym c.in_default.ensures.steps.0) ∙ begun.whole in
     record {
       ok = on_ok_weaker c.put.result (λ rest. rw (← whole, append-nil) (HoldsBack-put (g.O.ByteSink.sunk c.put.new.out) begun.so_far rest)) c.put.ensures.puts.ok;

@@ -1,0 +1,134 @@
+#!/usr/bin/env python3
+"""Counts what lines and titles take on pages, and prints a table.
+
+    bench/pages.py
+
+The program of crates/pages_bench does each work, which its head explains. Where it is missing or older than its
+sources, it is proved and built first. With callgrind (of valgrind) the table has instructions a call, and what is wanted:
+those of 21,000 calls less those of 1,000, so that the start counts nowhere. Without it, it has nanoseconds a call: the
+best time of three for 5,000,000 calls, less the best for none. It takes about ten seconds.
+"""
+import os
+import re
+import shutil
+import subprocess
+import sys
+import tempfile
+import time
+
+HERE = os.path.dirname(os.path.realpath(__file__))
+CRATES = os.path.join(os.path.dirname(HERE), "crates")
+CRATE = os.path.join(CRATES, "pages_bench")
+PROGRAM = os.path.join(CRATE, "out", "pages_bench")
+
+FEW, MANY = 1_000, 21_000
+TIMED = 5_000_000
+ROUNDS = 3
+
+# A page has 66 lines, and its trap lies at 60.
+LENGTH, TRAP = 66, 60
+
+# The columns of the title.
+COLUMNS = 65
+
+
+class Work:
+    """A work: what the table calls it, its name, and whether it springs the pages' trap."""
+
+    def __init__(self, title, name, springs):
+        self.title, self.name, self.springs = title, name, springs
+
+
+WORKS = (
+    Work("a line, without pages", "line", False),
+    Work("a line on a page", "place", True),
+    Work("a line on a page that isn't written", "unlisted", True),
+    Work(f"a title of {COLUMNS} columns", "title", True),
+    Work(f"a title of {COLUMNS} columns with the page number", "numbered", True),
+)
+
+
+def most(counts):
+    """The most instructions that a call may take, for each work that has such an aim."""
+    return {"place": counts["line"] + 15, "unlisted": 40, "title": 6 * COLUMNS + 150}
+
+
+def is_outdated():
+    """Whether the program is missing, or a source is newer."""
+    if not os.access(PROGRAM, os.X_OK):
+        return True
+    built = os.path.getmtime(PROGRAM)
+    for crate in ("roff_num", "roff_lines", "roff_pages", "pages_bench"):
+        for part in ("src", "specs", "proofs"):
+            for folder, _, files in os.walk(os.path.join(CRATES, crate, part)):
+                if any(os.path.getmtime(os.path.join(folder, file)) > built for file in files):
+                    return True
+    return False
+
+
+def build():
+    print("bench/pages.py: proving and building crates/pages_bench, which takes minutes", file=sys.stderr)
+    none = subprocess.DEVNULL
+    try:
+        status = subprocess.run(["rt", "run", "--", "none", "0"], cwd=CRATE, stdin=none, stdout=none, stderr=none).returncode
+    except FileNotFoundError:
+        sys.exit("bench/pages.py: building needs the command rt of the Rattle toolchain, which isn't in PATH")
+    if status != 0 or not os.access(PROGRAM, os.X_OK):
+        sys.exit("bench/pages.py: the build failed; rt run in crates/pages_bench says why")
+    os.utime(PROGRAM)
+
+
+def perform(work, times, front=()):
+    """Does a work so often, behind words in front of the command, and returns what stood on standard error."""
+    words = [*front, PROGRAM, work.name, str(times)]
+    done = subprocess.run(words, stdin=subprocess.DEVNULL, capture_output=True, text=True)
+    sprung = (times + LENGTH - TRAP) // LENGTH if work.springs else 0
+    if done.stdout != f"{work.name} {sprung}\n":
+        sys.exit(f"bench/pages.py: {work.name} {times} said {done.stdout.strip()}, and not that {sprung} sprang")
+    return done.stderr
+
+
+def instructions(work, times):
+    """The instructions of a work that is done so often."""
+    with tempfile.NamedTemporaryFile() as out:
+        said = perform(work, times, ["valgrind", "--tool=callgrind", f"--callgrind-out-file={out.name}"])
+    found = re.search(r"Collected : (\d+)", said)
+    if not found:
+        sys.exit("bench/pages.py: callgrind counted nothing: " + said.strip())
+    return int(found.group(1))
+
+
+def seconds(work, times):
+    """The best time of a work that is done so often."""
+    spent = []
+    for _ in range(ROUNDS):
+        began = time.perf_counter()
+        perform(work, times)
+        spent.append(time.perf_counter() - began)
+    return min(spent)
+
+
+def main():
+    if len(sys.argv) > 1:
+        sys.exit(__doc__.strip())
+    if is_outdated():
+        build()
+    width = max(len(work.title) for work in WORKS)
+    if shutil.which("valgrind") is None:
+        print(f"| {'Work'.ljust(width)} | ns a call |\n| {'-' * width} | --------- |")
+        for work in WORKS:
+            spent = (seconds(work, TIMED) - seconds(work, 0)) * 1e9 / TIMED
+            print(f"| {work.title.ljust(width)} | {spent:9.1f} |")
+        return
+    counts = {work.name: (instructions(work, MANY) - instructions(work, FEW)) / (MANY - FEW) for work in WORKS}
+    wanted = most(counts)
+    print(f"| {'Work'.ljust(width)} | instructions | wanted at most |\n| {'-' * width} | ------------ | -------------- |")
+    for work in WORKS:
+        count = counts[work.name]
+        aim = f"{wanted[work.name]:14.0f}" if work.name in wanted else " " * 14
+        missed = " MISSED" if count > wanted.get(work.name, count) else ""
+        print(f"| {work.title.ljust(width)} | {count:12.1f} | {aim} |{missed}")
+
+
+if __name__ == "__main__":
+    main()

@@ -1,0 +1,36 @@
+use Rattle.std.proofs.Common.{◌≡◌, None, ap, sym, ◌∙◌, arith}
+use Rattle.std.specs.Prelude.{if◌then◌else◌}
+use Rattle.roff_pages.specs.Springs.{first_met, is_passed}
+use Rattle.roff_pages.specs.Pages.Kept.{Kept}
+use Rattle.roff_pages.proofs.Standing.{turns_standing, turn_sprung, trap_sprung}
+use Rattle.roff_pages.proofs.pages.Pages.advance_past_stop.Goals as goal
+
+pub returns-then-self-from-clause-stands : goal.returns-then-self-from-clause-stands
+returns-then-self-from-clause-stands c L boxes s count =
+    let a = c.self.inside in
+    let k : Kept = c.args.self.now in
+    let place = c.place_behind-self-inside.result in
+    let at : a.place ≡ k.place = ap (λ (k : Kept). k.place) c.self.view_is in
+    let long : a.length ≡ k.length = ap (λ (k : Kept). k.length) c.self.view_is in
+    turns_standing L boxes k _ c.turn.new.self place s (omega arith) (omega (arith, c.from.ensures))
+    (ap (λ (k : Kept). record k { place = place }) (sym c.self.view_is)) c.turn.ensures.stands
+
+pub returns-then-self-from-clause-springs : goal.returns-then-self-from-clause-springs
+returns-then-self-from-clause-springs c L boxes s count =
+    let a = c.self.inside in
+    let k : Kept = c.args.self.now in
+    let place = c.place_behind-self-inside.result in
+    let at : a.place ≡ k.place = ap (λ (k : Kept). k.place) c.self.view_is in
+    let long : a.length ≡ k.length = ap (λ (k : Kept). k.length) c.self.view_is in
+    turn_sprung L boxes k _ place c.turn.result s (omega arith) (omega (arith, c.from.ensures))
+    (ap (λ (k : Kept). record k { place = place }) (sym c.self.view_is)) c.turn.ensures.springs
+
+pub returns-clause-springs : goal.returns-clause-springs
+returns-clause-springs c L boxes s count =
+    let a = c.self.inside in
+    let k : Kept = c.args.self.now in
+    let place = c.place_behind-self-inside.result in
+    let at : a.place ≡ k.place = ap (λ (k : Kept). k.place) c.self.view_is in
+    let long : a.length ≡ k.length = ap (λ (k : Kept). k.length) c.self.view_is in
+    let answer = c.passed_since.ensures ∙ ap (λ (k : Kept). if k.is_over then None else first_met (is_passed k.place place) k.length k.traps) c.self.view_is in
+    trap_sprung L boxes k place c.passed_since.result s (omega (arith, c.self.invariant.short)) (omega arith) (omega (arith, c.from.ensures)) answer
