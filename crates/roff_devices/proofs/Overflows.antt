@@ -4,9 +4,8 @@ use Rattle.std.proofs.Math.Seq.{take-append-add, take-append_seam, take-suc}
 use Rattle.std.proofs.lemmas.List.{take_all, take-append-drop}
 use Rattle.std.specs.Option.{is_some, option_to_list}
 use Rattle.std.specs.Result.{IsOk}
-use Rattle.roff_pages.specs.Sinks.{Sunk, Fails}
+use Rattle.roff_pages.specs.Sinks.{CountsFault, Fails, Sunk}
 use Rattle.roff_pages.specs.declared.sink.SinkFault.{SinkFault}
-use Rattle.roff_num.specs.Faults.{last_count}
 use Rattle.roff_devices.specs.Memory.{KeepsWithin, kept_by, room_of}
 use Rattle.roff_devices.specs.WatchedSink.Telling.{IsSound, given_to}
 use Rattle.roff_devices.specs.declared.memory.MemSink.{MemSink}
@@ -26,12 +25,12 @@ kept_and_one room kept kept_then piece left split short is =
     ap (λ xs. xs ++ (get_or piece left 0 ∷ [])) front ∙ append_assoc kept (take left piece) _ ∙ ap (λ xs. kept ++ xs) (sym (take-suc piece left 0 short))
 
 -- a piece that is too long was put where no byte had no room before
-pub Fails-overflow : (room room_then : ℕ) (kept kept_then piece : List ℕ) (left : ℕ)
-    → length kept + left ≡ room → left < length piece → room_then ≡ room → kept_then ≡ take room (kept ++ piece)
-    → let old : Sunk = record { contents = Some (room ∷ kept ++ []); failures = 0 } in
-    let new : Sunk = record { contents = Some (room_then ∷ kept_then ++ (get_or piece left 0 ∷ [])); failures = last_count } in
+pub Fails-overflow : (room room_then faults faults_then : ℕ) (kept kept_then piece : List ℕ) (left : ℕ)
+    → length kept + left ≡ room → left < length piece → room_then ≡ room → kept_then ≡ take room (kept ++ piece) → CountsFault faults faults_then
+    → let old : Sunk = record { contents = Some (room ∷ kept ++ []); failures = faults } in
+    let new : Sunk = record { contents = Some (room_then ∷ kept_then ++ (get_or piece left 0 ∷ [])); failures = faults_then } in
     Fails old new piece
-Fails-overflow room room_then kept kept_then piece left split short same is =
+Fails-overflow room room_then faults faults_then kept kept_then piece left split short same is counts =
     let grown = kept_and_one room kept kept_then piece left split short is in record {
       written = record {
         front = take (suc left) piece;
@@ -39,8 +38,7 @@ Fails-overflow room room_then kept kept_then piece left split short same is =
         split = sym (take-append-drop (suc left) piece);
         written = rw (same, grown, append-nil kept) refl;
       };
-      failures = omega arith;
-      fault = omega arith;
+      fault = counts;
     }
 
 -- what a sink refused was longer than the room that was left

@@ -1,7 +1,7 @@
 //! A sink in memory, as a whole run in memory watches it.
 
-ghost use Rattle.std.specs.Prelude.{◌≡◌, ℕ, length, Some, IfOk};
-ghost use Rattle.roff_devices.specs.Memory.{kept_by, room_of};
+ghost use Rattle.std.specs.Prelude.{◌≡◌, ℕ, length, None, Some, IfOk};
+ghost use Rattle.roff_devices.specs.Memory.{faults_of, kept_by, room_of};
 
 use crate::MemSink;
 use roff_pages::{ByteSink, SinkFault};
@@ -13,6 +13,7 @@ pub struct WatchedSink {
     sink: MemSink,
     overflow: Option<u8>,
     ghost full: { (byte : ℕ) → overflow ≡ Some byte → length (kept_by sink) ≡ room_of sink },
+    ghost faultless: { overflow ≡ None → faults_of sink ≡ 0 },
 }
 
 impl WatchedSink {

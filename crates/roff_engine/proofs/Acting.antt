@@ -92,7 +92,7 @@ module _ (l : Limits) (t left : Tape) (line_before line : ℕ) (start now : Seen
     state = acting done (did.next ∷ did.to_do) did.history;
     stops = did.stops;
     messages = did.messages;
-    faults = did.faults;
+    messages_stay = did.messages_stay;
     rest = left_behind;
     line_is = line_is;
   }
@@ -104,6 +104,7 @@ module _ (l : Limits) (t left : Tape) (line_before line : ℕ) (start now : Seen
     text = did.text;
     messages = did.messages;
     fault = did.fault;
+    output_stays = did.output_stays;
     rest = subst (λ (s : State). IsLeftOf left s.tape) (sym opens) (left-unless_refused l (first_passed l (grown done)) left from done left_before left_behind);
   }
 

@@ -1,5 +1,5 @@
 -- How a run ends that is halted, and how that is told.
-use Rattle.std.proofs.Common.{◌≡◌, ◌⊎◌, ℕ, Result, Ok, Err, inl, inr, refl, subst, sym, arith, append-nil}
+use Rattle.std.proofs.Common.{◌≡◌, ◌∙◌, ◌⊎◌, ℕ, Result, Ok, Err, inl, inr, refl, subst, sym, arith, append-nil}
 use Rattle.roff_num.specs.declared.limit.Limit.{Limit}
 use Rattle.roff_num.specs.declared.limits.Limits.{Limits}
 use Rattle.roff_num.specs.LimitValues.{value_of}
@@ -58,7 +58,8 @@ module _ (l : Limits) (t left : Tape) (line : ℕ) (before : Seen) (failures : �
     goes_on = stops.goes_on;
     text = stops.reaches.text;
     messages = rw (stops.stops, stops.quiet, stops.line_is, append-nil) (between _ _ _ _ _ (rw (stops.quiet, append-nil) at stops.reaches.messages) told.written);
-    fault = omega (arith, stops.reaches.faults.err, told.fault);
+    fault = rw (sym stops.reaches.faults.err) told.fault;
+    output_stays = stops.reaches.faults.out;
     rest = subst (λ (s : State). IsLeftOf left s.tape) (sym stops.stops) stops.rest;
   }
 
@@ -70,12 +71,12 @@ module _ (l : Limits) (t left : Tape) (line : ℕ) (before : Seen) (failures : �
     state = stops.state;
     stops = record { comes = stops.stops.comes; goes_on = stops.stops.goes_on; text = stops.stops.text; fault = stops.stops.fault };
     rest = stops.rest;
-    messages = inl (rw stops.line_is (Appends-append _ _ _ _ _ stops.messages puts.ok.written));
+    messages = inl (rw stops.line_is (Appends-append _ _ _ _ _ stops.messages puts.ok.written), puts.ok.failures ∙ stops.messages_stay);
   }
   output_reported (Err e) stops puts = record {
     is_device = refl;
     state = stops.state;
     stops = record { comes = stops.stops.comes; goes_on = stops.stops.goes_on; text = stops.stops.text; fault = stops.stops.fault };
     rest = stops.rest;
-    messages = inr (rw stops.line_is (between _ _ _ _ _ stops.messages puts.err.written), omega (arith, stops.faults.err, puts.err.fault));
+    messages = inr (rw stops.line_is (between _ _ _ _ _ stops.messages puts.err.written), rw (sym stops.messages_stay) puts.err.fault);
   }

@@ -177,7 +177,8 @@ module _ {gave gives : Tape → Type 0} {old : Coded} {left : PageUnread} {taken
       goes_on = refl;
       text = reached.text;
       messages = rw (goes, said, append-nil) (between _ _ _ _ _ (rw append-nil at reached.messages) part.written);
-      fault = omega (arith, reached.faults.err, part.fault);
+      fault = rw (sym reached.faults.err) part.fault;
+      output_stays = reached.faults.out;
       rest = rw goes rest;
     }
 

@@ -1,13 +1,14 @@
 -- Each outcome of a run of the code beside the last state of the definition.
-use Rattle.std.proofs.Common.{◌≡◌, inl, inr, List, ℕ, ◌++◌, Option, Some, refl, ◌∙◌, subst, append_assoc}
+use Rattle.std.proofs.Common.{◌≡◌, inl, inr, List, ℕ, ◌++◌, Option, Some, refl, ◌∙◌, subst, append_assoc, arith}
 use Rattle.std.specs.Io.KnownBytes.{Appends}
+use Rattle.roff_num.specs.Faults.{Rises}
 use Rattle.roff_num.specs.Lists.{IsBeginning}
 use Rattle.roff_num.specs.declared.limits.Limits.{Limits}
 use Rattle.roff_engine.specs.Engine.Outcome.{Seen, AppendsBetween, Completes, IsRest, OutputFails, MessagesFail}
 use Rattle.roff_engine.specs.Outcomes.{Gives, EachOutcomeGives}
 use Rattle.roff_run.specs.Results.{last_state, output_of, messages_of}
 use Rattle.roff_run.specs.Run.{State, step, output, reported}
-use Rattle.roff_pages.specs.Sinks.{AppendsFront}
+use Rattle.roff_pages.specs.Sinks.{AppendsFront, CountsFault}
 use Rattle.roff_run.specs.declared.status.Status.{Status}
 use Rattle.roff_source.specs.Tape.{Tape}
 use Rattle.roff_laws.proofs.Beginnings.{IsBeginning-same}
@@ -47,14 +48,18 @@ Gives-Completes l t left status before now run =
       };
     }
 
+-- a count of one fault more rose
+rises : (old new : ℕ) → CountsFault old new → Rises old new
+rises old new counts = omega (arith, counts)
+
 -- the output failed
 Gives-OutputFails : (l : Limits) (t left : Tape) (status : Status) (before now : Seen) → OutputFails l t left status before now → Gives l t left status before now
 Gives-OutputFails l t left status before now run =
     let s : State = run.state in
     let whole = each_state_is_a_beginning l t (step l s) (Leads-step l _ s run.stops.comes) in record {
       text = AppendsFront-between _ _ (output s) _ _ run.stops.text whole.text;
-      messages = λ well. absurd (well run.stops.fault);
-      all = λ out_well err_well. absurd (out_well run.stops.fault);
+      messages = λ well. absurd (well (rises _ _ run.stops.fault));
+      all = λ out_well err_well. absurd (out_well (rises _ _ run.stops.fault));
     }
 
 -- the message sink failed
@@ -64,7 +69,7 @@ Gives-MessagesFail l t left status before now run =
     let whole = each_state_is_a_beginning l t (step l s) (Leads-step l _ s run.comes) in record {
       text = AppendsFront-beginning _ _ (output s) _ run.text (each_state_is_a_beginning l t s run.comes).text;
       messages = λ well. AppendsFront-between _ _ (reported s) _ _ run.messages whole.messages;
-      all = λ out_well err_well. absurd (err_well run.fault);
+      all = λ out_well err_well. absurd (err_well (rises _ _ run.fault));
     }
 
 -- each outcome

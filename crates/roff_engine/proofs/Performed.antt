@@ -18,7 +18,7 @@ use Rattle.roff_run.specs.declared.environment_number.EnvironmentNumber.{Environ
 use Rattle.roff_engine.specs.declared.formatter.Formatter.{Formatter}
 use Rattle.roff_engine.specs.declared.halt.Halt.{Halt}
 use Rattle.roff_engine.specs.declared.halt.Halt.TheVariants.{Limit as Limited, Refused, Output, Messages}
-use Rattle.roff_engine.specs.Engine.Outcome.{Seen, AppendsBetween, NoFewerFaults, Reaches, seen}
+use Rattle.roff_engine.specs.Engine.Outcome.{Seen, AppendsBetween, NoSinkFault, Reaches, seen}
 use Rattle.roff_engine.specs.Formatter.Performing.{StoppedAt, FailedAt, LostAt, Performs, PerformsOnly, Means, MeaningDone, DoesMeaning, acting, sinks}
 use Rattle.roff_run.specs.Messages.{message_lines}
 use Rattle.roff_run.specs.declared.message.Message.{Message}
@@ -41,15 +41,15 @@ between old mid new least piece first part = record {
   written = Appends-append old mid new least part.front first part.written;
 }
 
--- faults of the output are counted on
-pub faults_of_out : (before : Seen) (failures : ℕ) (err old new : Sunk) → old.failures ≤ new.failures
-    → NoFewerFaults before (seen failures old err) → NoFewerFaults before (seen failures new err)
-faults_of_out before failures err old new more faults = record { source = faults.source; out = omega (arith, more, faults.out); err = faults.err }
+-- the output has no fault more
+pub faults_of_out : (before : Seen) (failures : ℕ) (err old new : Sunk) → new.failures ≡ old.failures
+    → NoSinkFault before (seen failures old err) → NoSinkFault before (seen failures new err)
+faults_of_out before failures err old new same faults = record { source = faults.source; out = same ∙ faults.out; err = faults.err }
 
--- and those of the message sink
-pub faults_of_err : (before : Seen) (failures : ℕ) (out old new : Sunk) → old.failures ≤ new.failures
-    → NoFewerFaults before (seen failures out old) → NoFewerFaults before (seen failures out new)
-faults_of_err before failures out old new more faults = record { source = faults.source; out = faults.out; err = omega (arith, more, faults.err) }
+-- nor has the message sink
+pub faults_of_err : (before : Seen) (failures : ℕ) (out old new : Sunk) → new.failures ≡ old.failures
+    → NoSinkFault before (seen failures out old) → NoSinkFault before (seen failures out new)
+faults_of_err before failures out old new same faults = record { source = faults.source; out = faults.out; err = same ∙ faults.err }
 
 -- one event in front of others, at a state of a run
 module _ (l : Limits) (t : Tape) (before : Seen) (failures : ℕ) (err : Sunk) (s : State) (h : PageHistory) (e : PageEvent) (rest : List PageEvent) (old : Sunk)
@@ -78,10 +78,10 @@ module _ (l : Limits) (t : Tape) (before : Seen) (failures : ℕ) (err : Sunk) (
       comes = reached.comes;
       goes_on = refl;
       text = rw (step-event allowed) (between _ _ _ _ _ reached.text fails.written);
-      fault = omega (arith, reached.faults.out, fails.fault);
+      fault = rw (sym reached.faults.out) fails.fault;
     };
     messages = reached.messages;
-    faults = faults_of_out before failures err old new fails.failures reached.faults;
+    messages_stay = reached.faults.err;
   }
 
   -- or a limit refuses it
@@ -221,7 +221,8 @@ module _ (l : Limits) (t : Tape) (before : Seen) (failures : ℕ) (out old new :
     goes_on = means.goes_on;
     text = reached.text;
     messages = rw (means.opens, means.said) (between _ _ _ _ _ reached.messages fails.written);
-    fault = omega (arith, reached.faults.err, fails.fault);
+    fault = rw (sym reached.faults.err) fails.fault;
+    output_stays = reached.faults.out;
   }
 
 -- what was performed of what an item means was done of it

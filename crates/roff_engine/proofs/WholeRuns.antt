@@ -83,7 +83,7 @@ starts t now run stands fresh =
         comes = subst (λ (s : State). Leads l (initial t) s) (sym is) (Leads-refl l (initial t));
         text = Appends-nothing now.out.contents;
         messages = Appends-nothing now.err.contents;
-        faults = record { source = omega arith; out = omega arith; err = omega arith };
+        faults = record { source = omega arith; out = refl; err = refl };
       };
       stands = stands;
       ready = subst (λ (u : PageUnread). P u run.formatter.reader) (sym fresh.unread) (subst (λ (r : ReaderState). P (first_unread l) r) (sym fresh.reader) first);

@@ -1,5 +1,5 @@
 -- What is written to sinks, piece by piece.
-use Rattle.std.proofs.Common.{ℕ, Option, Some, None, List, [], ◌∷◌, ◌++◌, Result, Ok, Err, refl, append_assoc, append-nil, arith, sym}
+use Rattle.std.proofs.Common.{ℕ, Option, Some, None, List, [], ◌∷◌, ◌++◌, Result, Ok, Err, refl, append_assoc, append-nil, arith, sym, ◌∙◌}
 use Rattle.std.specs.Io.KnownBytes.{Appends}
 use Rattle.roff_pages.specs.Sinks.{Sunk, Writes, HoldsBack, Fails, Puts}
 
@@ -17,13 +17,13 @@ Appends-nothing (Some xs) = sym (append-nil xs)
 
 -- nothing is written to a sink that stays
 pub Writes-nothing : (s : Sunk) → Writes s s []
-Writes-nothing s = record { written = Appends-nothing s.contents; failures = omega arith }
+Writes-nothing s = record { written = Appends-nothing s.contents; failures = refl }
 
 -- two pieces are written one after the other
 pub Writes-append : {old mid new : Sunk} (front back : List ℕ) → Writes old mid front → Writes mid new back → Writes old new (front ++ back)
 Writes-append front back first second = record {
   written = Appends-append _ _ _ front back first.written second.written;
-  failures = omega (arith, first.failures, second.failures);
+  failures = second.failures ∙ first.failures;
 }
 
 -- more of a piece
@@ -52,8 +52,7 @@ Fails-held rest all part = record {
     split = rw (all.split, part.written.split) (simp append_assoc);
     written = Appends-append _ _ _ _ _ all.writes.written part.written.written;
   };
-  failures = omega (arith, all.writes.failures, part.failures);
-  fault = omega (arith, all.writes.failures, part.fault);
+  fault = rw (sym all.writes.failures) part.fault;
 }
 
 -- all of a piece is written where what was held back is
@@ -79,7 +78,6 @@ Fails-front front back part = record {
     split = rw part.written.split (simp append_assoc);
     written = part.written.written;
   };
-  failures = part.failures;
   fault = part.fault;
 }
 
@@ -95,7 +93,6 @@ Puts-behind {F} {old} {mid} {new} front back (Err fault) first second = record {
       split = rw second.err.written.split (simp append_assoc);
       written = Appends-append _ _ _ _ _ first.written second.err.written.written;
     };
-    failures = omega (arith, first.failures, second.err.failures);
-    fault = omega (arith, first.failures, second.err.fault);
+    fault = rw (sym first.failures) second.err.fault;
   };
 }

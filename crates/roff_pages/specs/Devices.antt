@@ -13,11 +13,11 @@ pub record Seen : Type 0 where
 abbrev pub seen : ℕ → Sunk → Sunk → Seen
 seen failures out err = record { failures = failures; out = out; err = err }
 
--- no device has had fewer faults than before
-pub record NoFewerFaults (before now : Seen) : Type 0 where
+-- no sink has had a fault since, and the source no fewer than before
+pub record NoSinkFault (before now : Seen) : Type 0 where
   pub source : before.failures ≤ now.failures
-  pub out : before.out.failures ≤ now.out.failures
-  pub err : before.err.failures ≤ now.err.failures
+  pub out : now.out.failures ≡ before.out.failures
+  pub err : now.err.failures ≡ before.err.failures
 
 -- what was written begins with one text, and is a beginning of another that goes on from it
 pub record AppendsBetween (old new : Option (List ℕ)) (least most : List ℕ) : Type 0 where

@@ -1,17 +1,21 @@
 -- What sinks tell of what was written to them.
-use Rattle.std.specs.Prelude.{◌≡◌, ℕ, ◌≤◌, List, ◌++◌, Option, Result, OnOk, OnErr}
+use Rattle.std.specs.Prelude.{◌≡◌, ℕ, ◌+◌, List, ◌++◌, Option, Result, OnOk, OnErr, min}
 use Rattle.std.specs.Io.KnownBytes.{Appends}
-use Rattle.roff_num.specs.Faults.{Rises}
+use Rattle.roff_num.specs.Faults.{last_count}
 
 -- what a sink tells: the bytes that were written, where it tells them, and how many faults it had
 pub record Sunk : Type 0 where
   pub contents : Option (List ℕ)
   pub failures : ℕ
 
--- all of a piece was written
+-- one fault more was counted, unless the count stood at its last value
+abbrev pub CountsFault : ℕ → ℕ → Type 0
+CountsFault old new = new ≡ min (old + 1) last_count
+
+-- all of a piece was written, without a fault
 pub record Writes (old new : Sunk) (piece : List ℕ) : Type 0 where
   pub written : Appends old.contents new.contents piece
-  pub failures : old.failures ≤ new.failures
+  pub failures : new.failures ≡ old.failures
 
 -- all of a piece was written but its end, which is held back
 pub record HoldsBack (old new : Sunk) (piece held : List ℕ) : Type 0 where
@@ -26,11 +30,10 @@ pub record AppendsFront (old new : Option (List ℕ)) (piece : List ℕ) : Type 
   pub split : piece ≡ front ++ back
   pub written : Appends old new front
 
--- a beginning of a piece was written as the sink failed, which counts its faults
+-- a beginning of a piece was written as the sink failed, once
 pub record Fails (old new : Sunk) (piece : List ℕ) : Type 0 where
   pub written : AppendsFront old.contents new.contents piece
-  pub failures : old.failures ≤ new.failures
-  pub fault : Rises old.failures new.failures
+  pub fault : CountsFault old.failures new.failures
 
 -- a piece was put: all of it was written, or a beginning as the sink failed
 pub record Puts {F : Type 0} (old new : Sunk) (piece : List ℕ) (result : Result (Unit {0}) F) : Type 0 where

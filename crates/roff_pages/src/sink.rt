@@ -23,8 +23,8 @@ pub trait ByteSink {
     ///
     /// # Errors
     ///
-    /// [`SinkFault`] if not all of it was written. What was written is a beginning of it, and the
-    /// fault is counted.
+    /// [`SinkFault`] if not all of it was written. What was written is a beginning of it, and one
+    /// fault is counted. Where all was written none is.
     fn put(&mut self, piece: &[u8]) -> Result<(), SinkFault>
         ensures { Puts (sunk self.old) (sunk self.new) piece.now result };
 }
@@ -92,7 +92,6 @@ impl<W: Write + Drop> WriteSink<W> {
         ensures none { IfNone result (Keeps self.old.contents self.new.contents) }
         ensures counts { OnSome result (self.new.failures ≡ self.old.failures) }
         ensures fault { IfNone result (self.new.failures ≡ min (self.old.failures + 1) last_count) }
-        ensures failures { self.old.failures ≤ self.new.failures }
     {
         match self.writer.write(piece) {
             Ok(count) if count > 0 => Some(count),

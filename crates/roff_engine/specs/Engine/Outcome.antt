@@ -10,7 +10,8 @@ use Rattle.roff_run.specs.declared.line_state.LineState.TheVariants.{Exiting}
 use Rattle.roff_run.specs.declared.message.Message.TheVariants.{WriteFailed}
 use Rattle.roff_run.specs.Messages.{message_line}
 use Rattle.roff_run.specs.Run.{State, Leads, initial, step, output, reported}
-pub use Rattle.roff_pages.specs.Devices.{AppendsBetween, NoFewerFaults, Seen, seen}
+pub use Rattle.roff_pages.specs.Devices.{AppendsBetween, NoSinkFault, Seen, seen}
+use Rattle.roff_pages.specs.Sinks.{CountsFault}
 
 -- what is left of a source whose tape this would be: all of it, or all but the item in front, which was looked at
 abbrev pub IsLeftOf : Tape → Tape → Type 0
@@ -22,7 +23,7 @@ pub record Reaches (l : Limits) (t : Tape) (before now : Seen) (s : State) : Typ
   pub comes : Leads l (initial t) s
   pub text : Appends before.out.contents now.out.contents (output s)
   pub messages : Appends before.err.contents now.err.contents (reported s)
-  pub faults : NoFewerFaults before now
+  pub faults : NoSinkFault before now
 
 -- a run that ended so, in this state, may have looked at the item in front: a limit stopped it, or it was aborted, or it
 -- left its input
@@ -36,7 +37,7 @@ MayHaveLooked (Limited limit) s = Unit {0}
 abbrev pub IsRest : Status → Tape → State → Type 0
 IsRest status left s = (left ≡ s.tape) ⊎ (MayHaveLooked status s × (left ≡ behind_front s.tape))
 
--- The run ended by itself, with all of it written and reported, and left the tape of its last state; where it didn't
+-- The run ended by itself, with all of it written and reported without a fault of a sink, and left the tape of its last state; where it didn't
 -- come to its source's end perhaps without the item in front, which was looked at. If by a fault, the source's: its count
 -- rose.
 pub record Completes (l : Limits) (t left : Tape) (status : Status) (before now : Seen) : Type 0 where
@@ -52,9 +53,9 @@ pub record OutputStops (l : Limits) (t : Tape) (before now : Seen) (s : State) :
   pub comes : Leads l (initial t) s
   pub goes_on : s.ended ≡ None
   pub text : AppendsBetween before.out.contents now.out.contents (output s) (output (step l s))
-  pub fault : Rises before.out.failures now.out.failures
+  pub fault : CountsFault before.out.failures now.out.failures
 
--- The run ended as the output failed. The fault is reported with the line of that step; of this
+-- The run ended as the output failed, once. The fault is reported with the line of that step; of this
 -- message a beginning alone was written if the message sink failed too.
 pub record OutputFails (l : Limits) (t left : Tape) (status : Status) (before now : Seen) : Type 0 where
   pub is_device : status ≡ Device
@@ -62,13 +63,13 @@ pub record OutputFails (l : Limits) (t left : Tape) (status : Status) (before no
   pub stops : OutputStops l t before now state
   pub rest : IsLeftOf left state.tape
   pub messages : let told = reported state ++ message_line state.input.line WriteFailed in
-      Appends before.err.contents now.err.contents told
+      (Appends before.err.contents now.err.contents told × (now.err.failures ≡ before.err.failures))
       ⊎ (AppendsBetween before.err.contents now.err.contents (reported state) told
-      × Rises before.err.failures now.err.failures)
+      × CountsFault before.err.failures now.err.failures)
 
--- The run ended as the message sink failed, in the step that the run made from this state: what was
+-- The run ended as the message sink failed, once, in the step that the run made from this state: what was
 -- reported begins with the messages of all steps before it and is a beginning of these with the step's
--- own. The text is that of the steps before.
+-- own. The text is that of the steps before, and the output had no fault.
 pub record MessagesFail (l : Limits) (t left : Tape) (status : Status) (before now : Seen) : Type 0 where
   pub is_device : status ≡ Device
   pub state : State
@@ -76,7 +77,8 @@ pub record MessagesFail (l : Limits) (t left : Tape) (status : Status) (before n
   pub goes_on : state.ended ≡ None
   pub text : Appends before.out.contents now.out.contents (output state)
   pub messages : AppendsBetween before.err.contents now.err.contents (reported state) (reported (step l state))
-  pub fault : Rises before.err.failures now.err.failures
+  pub fault : CountsFault before.err.failures now.err.failures
+  pub output_stays : now.out.failures ≡ before.out.failures
   pub rest : IsLeftOf left (step l state).tape
 
 -- a run over a tape, of which this is left, comes to one of these

@@ -4,14 +4,13 @@ use Rattle.std.specs.Io.KnownBytes.{Appends}
 use Rattle.roff_num.specs.declared.limit.Limit.{Limit}
 use Rattle.roff_num.specs.declared.limits.Limits.{Limits}
 use Rattle.roff_source.specs.Tape.{Tape}
-use Rattle.roff_num.specs.Faults.{Rises}
 use Rattle.roff_lines.specs.declared.event.Event.TheVariants.{WordEnd, Break}
 use Rattle.roff_requests.specs.Environments.Standing.{StandFor}
 use Rattle.roff_requests.specs.declared.environments.Environments.{Environments as EnvironmentsOf}
 use Rattle.roff_engine.specs.declared.formatter.Formatter.{Formatter}
 use Rattle.roff_engine.specs.declared.halt.Halt.{Halt}
 use Rattle.roff_engine.specs.declared.halt.Halt.TheVariants.{Limit as Limited, Refused, Output, Messages}
-use Rattle.roff_engine.specs.Engine.Outcome.{Seen, AppendsBetween, NoFewerFaults, OutputStops, Reaches, seen}
+use Rattle.roff_engine.specs.Engine.Outcome.{Seen, AppendsBetween, NoSinkFault, OutputStops, Reaches, seen}
 use Rattle.roff_run.specs.Messages.{message_lines}
 use Rattle.roff_run.specs.Output.{PageHistory, written}
 use Rattle.roff_run.specs.Reading.Items.{PageInput, Taking}
@@ -23,7 +22,7 @@ use Rattle.roff_run.specs.declared.line_state.LineState.{LineState}
 use Rattle.roff_run.specs.Run.{State, Leads, initial, step, stopped_by, made, taken_as, known_at, output, reported}
 use Rattle.roff_reader.specs.Reader.Taken.{CameTo, IsReady}
 use Rattle.roff_run.specs.Reading.Items.{PageUnread}
-use Rattle.roff_pages.specs.Sinks.{Sunk}
+use Rattle.roff_pages.specs.Sinks.{CountsFault, Sunk}
 
 -- the same state going on, with these events to do behind this history
 abbrev pub acting : State → List PageEvent → PageHistory → State
@@ -50,7 +49,7 @@ pub record FailedAt (l : Limits) (t : Tape) (before now : Seen) (s : State) : Ty
   pub history : PageHistory
   pub stops : OutputStops l t before now (acting s (next ∷ to_do) history)
   pub messages : Appends before.err.contents now.err.contents (reported s)
-  pub faults : NoFewerFaults before now
+  pub messages_stay : now.err.failures ≡ before.err.failures
 
 -- how far the code performed the events in front of `rest`, by its answer
 abbrev pub Performs : Limits → Tape → Seen → Seen → State → List PageEvent → Result (Unit {0}) Halt → EnvironmentsOf → Type 0
@@ -86,7 +85,8 @@ pub record LostAt (l : Limits) (t : Tape) (before now : Seen) (from : State) : T
   pub goes_on : from.ended ≡ None
   pub text : Appends before.out.contents now.out.contents (output from)
   pub messages : AppendsBetween before.err.contents now.err.contents (reported from) (reported (step l from))
-  pub fault : Rises before.err.failures now.err.failures
+  pub fault : CountsFault before.err.failures now.err.failures
+  pub output_stays : now.out.failures ≡ before.out.failures
 
 -- how far the code did what an item means, by its answer
 abbrev pub MeaningDone : Limits → Tape → Seen → Seen → State → State → List PageEvent → Result (Unit {0}) Halt → EnvironmentsOf → Type 0

@@ -13,7 +13,7 @@ use Rattle.roff_run.specs.declared.status.Status.{Status}
 use Rattle.roff_run.specs.declared.status.Status.TheVariants.{Device}
 use Rattle.roff_engine.specs.declared.halt.Halt.{Halt}
 use Rattle.roff_engine.specs.declared.halt.Halt.TheVariants.{Limit as Limited, Refused, Output, Messages}
-use Rattle.roff_engine.specs.Engine.Outcome.{Seen, seen, NoFewerFaults, IsLeftOf, Reaches, OutputStops, MessagesFail, Outcome}
+use Rattle.roff_engine.specs.Engine.Outcome.{Seen, seen, NoSinkFault, IsLeftOf, Reaches, OutputStops, MessagesFail, Outcome}
 use Rattle.roff_pages.specs.Sinks.{Sunk}
 use Rattle.roff_engine.specs.Formatter.Performing.{Opens, going}
 use Rattle.roff_reader.specs.Reader.State.{fresh_reader}
@@ -75,7 +75,7 @@ pub record OutputStopsAt (l : Limits) (t left : Tape) (line : ℕ) (before now :
   pub state : State
   pub stops : OutputStops l t before now state
   pub messages : Appends before.err.contents now.err.contents (reported state)
-  pub faults : NoFewerFaults before now
+  pub messages_stay : now.err.failures ≡ before.err.failures
   pub rest : IsLeftOf left state.tape
   pub line_is : state.input.line ≡ line
 

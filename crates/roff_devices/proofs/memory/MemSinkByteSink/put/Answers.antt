@@ -12,7 +12,6 @@ returns-clause-puts c = record {
       split = rw (c.split_at.ensures.front, c.split_at.ensures.back) (sym (take-append-drop _ _));
       written = search rules;
     };
-    failures = search rules;
     fault = search rules;
   };
 }

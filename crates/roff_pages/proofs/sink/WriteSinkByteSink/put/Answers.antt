@@ -7,5 +7,5 @@ pub loop-rest-preserved : goal.loop-rest-preserved
 loop-rest-preserved g c = record {
   front = c.loop-rest.invariant.front ++ take c.in-Some.count c.loop-rest.rest.now;
   split = rw (c.split_at.ensures.back, append_assoc, take-append-drop) c.loop-rest.invariant.split;
-  writes = Writes-append _ _ c.loop-rest.invariant.writes (record { written = c.in-Some.ensures.some; failures = c.write_some.ensures.failures });
+  writes = Writes-append _ _ c.loop-rest.invariant.writes (record { written = c.in-Some.ensures.some; failures = c.in-Some.ensures.counts });
 }
