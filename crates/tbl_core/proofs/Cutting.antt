@@ -22,7 +22,7 @@ use Rattle.tbl_core.proofs.NotesStaying.{begins_same, notes_stay}
 begins_none : {A : Type 0} (xs : List A) → Begins [] xs
 begins_none xs = record { rest = xs; is = refl }
 
-begins_more : {A : Type 0} (xs ys zs : List A) → Begins xs ys → Begins xs (ys ++ zs)
+pub begins_more : {A : Type 0} (xs ys zs : List A) → Begins xs ys → Begins xs (ys ++ zs)
 begins_more xs ys zs begins = record { rest = begins.rest ++ zs; is = ap (λ all. all ++ zs) begins.is ∙ append_assoc xs begins.rest zs }
 
 begins_then : {A : Type 0} (xs ys zs : List A) → Begins xs ys → Begins ys zs → Begins xs zs
@@ -31,11 +31,11 @@ begins_then xs ys zs first second = record {
   is = second.is ∙ ap (λ all. all ++ second.rest) first.is ∙ append_assoc xs first.rest second.rest;
 }
 
-begins_both : {A : Type 0} (front xs ys : List A) → Begins xs ys → Begins (front ++ xs) (front ++ ys)
+pub begins_both : {A : Type 0} (front xs ys : List A) → Begins xs ys → Begins (front ++ xs) (front ++ ys)
 begins_both front xs ys begins = record { rest = begins.rest; is = ap (λ all. front ++ all) begins.is ∙ sym (append_assoc front xs begins.rest) }
 
 -- messages, as items
-begins_told : (xs ys : List Told) → Begins xs ys → Begins (told_items xs) (told_items ys)
+pub begins_told : (xs ys : List Told) → Begins xs ys → Begins (told_items xs) (told_items ys)
 begins_told xs ys begins = record { rest = told_items begins.rest; is = ap told_items begins.is ∙ map-append told_item xs begins.rest }
 
 -- messages that a step gives first, or that are still those of the place behind it

@@ -7,3 +7,6 @@ pub mod NotesLeft
 pub mod Stopping
 pub mod NotesStaying
 pub mod Cutting
+pub mod Passing
+pub mod Ready
+pub mod Limiting

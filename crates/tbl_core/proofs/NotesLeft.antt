@@ -34,7 +34,7 @@ noted-told : (ms : List Told) → noted (told_items ms) ≡ length ms
 noted-told [] = refl
 noted-told (m ∷ ms) = let more = noted-told ms in omega (arith, more)
 
-noted-bytes : (bytes : List ℕ) → noted (map OneByte bytes) ≡ 0
+pub noted-bytes : (bytes : List ℕ) → noted (map OneByte bytes) ≡ 0
 noted-bytes [] = refl
 noted-bytes (b ∷ bytes) = noted-bytes bytes
 

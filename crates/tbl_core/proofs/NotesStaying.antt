@@ -92,6 +92,11 @@ ended_stays InFormat n t = begins_longer t.notes _
 ended_stays InData n t = begins_same t.notes
 ended_stays Bad n t = begins_same t.notes
 
+-- behind the line that goes on
+pub behind_closed : (line line_length : ℕ) (t : TableRead) → Begins (notes (closed t)) (notes (ended line line_length t))
+unfolding notes closed ended
+behind_closed line line_length t = let done = closed_line t.pending t in ended_stays done.phase line done
+
 at_end : (line line_length : ℕ) (t : TableRead) → Begins (told_at_cut t) (notes (ended line line_length t))
 unfolding told_at_cut notes closed ended
 at_end line line_length t =

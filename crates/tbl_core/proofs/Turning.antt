@@ -1,5 +1,5 @@
 -- A turn of a source over its inner one, by what the inner one answers.
-use Rattle.std.proofs.Common.{◌≡◌, ℕ, List, [], ◌∷◌, ◌++◌, Option, Some, None, refl, sym, ap, ◌∙◌, subst, IfSome}
+use Rattle.std.proofs.Common.{◌≡◌, ℕ, Bool, true, List, [], ◌∷◌, ◌++◌, Option, Some, None, refl, sym, ap, ◌∙◌, subst, IfSome}
 use Rattle.std.specs.Prelude.{unwrap_or}
 use Rattle.std.specs.Option.{MatchOption}
 use Rattle.roff_num.specs.declared.limit.Limit.{Limit}
@@ -108,6 +108,12 @@ alive_then inner old new item is (NotAsked fresh) =
 
 pub alive_given : (inner : Tape → Type 0) (old new : TablesState) (taken : Taken) → IsGiven old new taken → IsAlive inner old.at → IsAlive inner new.at
 alive_given inner old new taken given alive = let some = alive_then inner old new given.item given.is alive in WasAsked some.0 some.1
+
+-- so it wasn't known that nothing is
+pub idle_given : (old new : TablesState) (taken : Taken) (idle : Bool) → IsGiven old new taken → (idle ≡ true → old.at.pending ≡ []) → idle ≡ true → new.at.pending ≡ []
+idle_given old new taken idle given idles is =
+    let wrong : given.item ∷ new.at.pending ≡ [] = ap (λ (t : TablesState). t.at.pending) (sym given.is) ∙ idles is in
+    cc
 
 -- what was pending is given
 pub given_now : (inner : Tape → Type 0) (old new : TablesState) (taken : Taken) → IsGiven old new taken → IsAlive inner old.at

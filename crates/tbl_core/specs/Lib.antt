@@ -4,6 +4,7 @@ pub mod Yields
 pub mod Stages
 pub mod Tables
 pub mod TablesKept
+pub mod Passing
 pub mod Source
 pub mod SourceKept
 pub mod NotesLeft

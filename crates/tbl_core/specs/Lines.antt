@@ -47,6 +47,14 @@ is_of_name Letter = true
 is_of_name Name = true
 is_of_name Other = false
 
+-- the line begins otherwise
+abbrev pub is_other : Front → Bool
+is_other Nothing = false
+is_other Dot = false
+is_other Letter = false
+is_other Name = false
+is_other Other = true
+
 -- before the first byte
 abbrev pub nothing_counted : Count
 nothing_counted = record { taken = 0; line = 1; ended = false }
@@ -54,3 +62,11 @@ nothing_counted = record { taken = 0; line = 1; ended = false }
 -- a byte is taken: it stands on the next line where the one before ended its line
 abbrev pub counted : ℕ → Count → Count
 counted b c = record { taken = c.taken + 1; line = if c.ended then c.line + 1 else c.line; ended = b == newline }
+
+-- the next byte's line
+abbrev pub next_line : Count → ℕ
+next_line c = if c.ended then c.line + 1 else c.line
+
+-- so many bytes of a line are taken, at least one, and none of them its newline
+abbrev pub line_counted : ℕ → Count → Count
+line_counted n c = record { taken = c.taken + n; line = next_line c; ended = false }

@@ -1,6 +1,6 @@
 -- How many messages may still come.
-use Rattle.std.specs.Prelude.{ℕ, ◌+◌, ◌-◌, ◌*◌, List, [], ◌∷◌, length, if◌then◌else◌}
-use Rattle.roff_source.specs.Tape.{Item, OneByte, OneNote}
+use Rattle.std.specs.Prelude.{ℕ, Bool, true, false, ◌+◌, ◌-◌, ◌*◌, List, [], ◌∷◌, length, if◌then◌else◌}
+use Rattle.roff_source.specs.Tape.{Item, OneByte, OneNote, Answer, Gives, Ends}
 use Rattle.tbl_layout.specs.declared.limits.TblLimits.{TblLimits}
 use Rattle.tbl_core.specs.Lines.{is_name}
 use Rattle.tbl_core.specs.Machine.{Place, Outside, RestOfStart, Inside, Standing, Reads, Over}
@@ -12,6 +12,12 @@ abbrev pub noted : List Item → ℕ
 noted [] = 0
 noted (OneByte b ∷ items) = noted items
 noted (OneNote message ∷ items) = 1 + noted items
+
+-- a byte is answered
+abbrev pub gives_byte : Answer → Bool
+gives_byte (Gives (OneByte b)) = true
+gives_byte (Gives (OneNote message)) = false
+gives_byte (Ends ending) = false
 
 -- as many as may come without a further byte: of a table fewer than it has bytes, but for some
 abbrev pub most_here : Place → ℕ

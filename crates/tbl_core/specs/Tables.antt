@@ -1,5 +1,5 @@
 -- The machine, as its calls make its steps.
-use Rattle.std.specs.Prelude.{◌≡◌, ℕ, ◌+◌, ◌<◌, ◌≤◌, ◌==◌, List, [], ◌∷◌, ◌++◌, map, length, Option, Some, None, option_to_list, if◌then◌else◌}
+use Rattle.std.specs.Prelude.{◌≡◌, ℕ, ◌+◌, ◌<◌, ◌≤◌, ◌==◌, false, List, [], ◌∷◌, ◌++◌, map, length, Option, Some, None, option_to_list, if◌then◌else◌}
 use Rattle.roff_num.specs.declared.limit.Limit.{Limit}
 use Rattle.roff_source.specs.Bytes.{newline}
 use Rattle.roff_source.specs.Tape.{Item, OneByte, Ending, Gives, answer_of}
@@ -11,6 +11,7 @@ use Rattle.tbl_core.specs.declared.place.Front.{Front}
 use Rattle.tbl_core.specs.declared.place.Front.TheVariants.{Nothing, Dot, Letter, Name, Other}
 use Rattle.tbl_core.specs.declared.place.Position.{Position}
 use Rattle.tbl_core.specs.declared.place.Position.TheVariants.{Outside as AtOutside, RestOfStart as AtRestOfStart, Inside as AtInside, Over as AtOver}
+use Rattle.tbl_core.specs.Lines.{is_name, next_line}
 use Rattle.tbl_core.specs.Machine.{Outside, RestOfStart, Inside, Standing, Reads, Over, Step, take, take_at}
 use Rattle.tbl_layout.specs.Messages.{told_items}
 use Rattle.tbl_table.specs.Reading.{Reading, KeptTable, bytes_read, kept_nothing}
@@ -63,6 +64,10 @@ pub record IsGiven (old new : TablesState) (taken : Taken) : Type 0 where
   pub answer : answer_of taken ≡ Gives item
   pub is : old ≡ record new { at = record { pending = item ∷ new.at.pending; standing = new.at.standing } }
 
+-- a byte that was pending was given
+abbrev pub IsByteGiven : TablesState → TablesState → ℕ → Type 0
+IsByteGiven old new b = old ≡ record new { at = record { pending = OneByte b ∷ new.at.pending; standing = new.at.standing } }
+
 -- how the run stands, by where the next byte stands
 abbrev pub standing_of : Count → Position → Reading → Standing
 standing_of count (AtOutside front) r = Reads (record { count = count; place = Outside front })
@@ -104,6 +109,18 @@ pub record IsRoomFor (l : TblLimits) (b : ℕ) (r : Reading) : Type 0 where
   pub rows : b ≡ newline → rows_behind r.table r.line ≤ l.rows
   pub columns : b ≡ newline → columns_at r.table (r.line ++ newline ∷ []) ≤ l.columns
 
+-- the next byte is one of a table that goes on behind it, whatever it is
+pub record ReadsAny (l : TblLimits) (s : Standing) : Type 0 where
+  pub count : Count
+  pub front : Front
+  pub reading : Reading
+  pub is : s ≡ Reads (record { count = count; place = Inside front reading })
+  pub no_name : is_name front ≡ false
+  pub bytes : count.taken < l.bytes
+  pub rows : rows_behind reading.table reading.line ≤ l.rows
+  pub columns : (b : ℕ) → columns_at reading.table (reading.line ++ b ∷ []) ≤ l.columns
+  pub text : length (bytes_read reading) < l.text
+
 -- where the next byte stands behind a table, unless a limit has stopped there
 abbrev pub position_behind : Option Limit → Front → Position
 position_behind None front = AtOutside front
@@ -122,10 +139,6 @@ told_at (AtOutside front) r = []
 told_at AtRestOfStart r = []
 told_at (AtInside front) r = told_at_cut r.table
 told_at (AtOver limit) r = []
-
--- the next byte's line
-abbrev pub next_line : Count → ℕ
-next_line c = if c.ended then c.line + 1 else c.line
 
 -- the counts are within their limits
 pub record IsCounted (l : TblLimits) (c : Count) : Type 0 where

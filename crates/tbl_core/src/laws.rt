@@ -1,6 +1,7 @@
 //! Facts about the definitions alone, as contracts of functions that do nothing.
 
-ghost use Rattle.tbl_core.specs.Laws.{AnswersAreGiven, FailingOnlyCuts, MessagesComeFirst, NotesStay};
+ghost use Rattle.tbl_core.specs.Laws.{AnswersAreGiven, FailingOnlyCuts, LimitsOnlyCut};
+ghost use Rattle.tbl_core.specs.Laws.{MessagesComeFirst, NotesStay};
 
 /// The messages of a table so far are a beginning of those of a longer one, and of those at its
 /// end.
@@ -19,6 +20,12 @@ pub fn messages()
 #[tactic(auto, using(crate::proofs::Cutting::failing_cuts))]
 pub fn cut()
     ensures { FailingOnlyCuts }
+{}
+
+/// Within smaller limits a beginning is given of what is given within larger ones, and then the
+/// message of the limit that was met.
+pub fn limits()
+    ensures { LimitsOnlyCut }
 {}
 
 /// The answers, one at a time, are those of what is given for the input.

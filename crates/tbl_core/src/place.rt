@@ -1,7 +1,8 @@
 //! Where in the input the next byte stands.
 
-ghost use Rattle.std.specs.Prelude.{◌≡◌, ◌<◌, ◌^◌};
+ghost use Rattle.std.specs.Prelude.{◌≡◌, ◌+◌, ◌<◌, ◌^◌};
 ghost use Rattle.tbl_core.specs.Lines.{counted, ends_name, front_behind, is_name, is_of_name};
+ghost use Rattle.tbl_core.specs.Lines.{is_other, line_counted, next_line};
 
 use roff_num::Limit;
 
@@ -35,6 +36,14 @@ impl Front {
         ensures { result ≡ is_of_name self }
     {
         matches!(self, Front::Dot | Front::Letter | Front::Name)
+    }
+
+    /// Whether the line begins otherwise.
+    #[inline(always)]
+    pub(crate) fn is_other(self) -> bool
+        ensures { result ≡ is_other self }
+    {
+        matches!(self, Front::Other)
     }
 
     /// What stands there behind one byte more; `last` is the name's last letter.
@@ -91,6 +100,20 @@ impl Count {
             self.line += 1;
         }
         self.ended = byte == b'\n';
+    }
+
+    /// Counts bytes of one line, at least one, and none its newline.
+    #[inline(always)]
+    pub(crate) fn pass(&mut self, bytes: u32)
+        requires taken { self.old.taken + bytes < 2 ^ 32 }
+        requires line { next_line self.old < 2 ^ 32 }
+        ensures { self.new ≡ line_counted bytes self.old }
+    {
+        self.taken += bytes;
+        if self.ended {
+            self.line += 1;
+        }
+        self.ended = false;
     }
 }
 

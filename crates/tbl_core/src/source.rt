@@ -1,21 +1,26 @@
 //! A source over a source: the pictures of the tables stand in their places.
 
-ghost use Rattle.std.specs.Prelude.{◌≡◌, ◌+◌, ◌<◌, ◌≤◌, [], IfErr, IfOk, IfSome, None};
-ghost use Rattle.roff_source.specs.Tape.{Answers, Ends, Failed, Gives, OneNote, answer_of};
+ghost use Rattle.std.specs.Prelude.{◌≡◌, ◌+◌, ◌<◌, ◌≤◌, [], false, true, IfErr, IfOk, IfSome, None};
+ghost use Rattle.roff_source.specs.Tape.{Answers, Ends, Failed, Gives, OneByte, OneNote, answer_of};
 ghost use Rattle.roff_num.specs.Faults.{Rises};
+ghost use Rattle.tbl_core.specs.NotesLeft.{gives_byte};
 
 use crate::tables::Tables;
-use roff_source::{ByteSource, Taken};
+use roff_source::{ByteSource, Taken, at_most};
 use std::alloc::{AllocError, Global};
 use std::marker::Model;
 use tbl_layout::limits::TblLimits;
 
-/// A source that gives what its inner source gives, with each table in it as its picture. Its items are
-/// taken one by one.
+/// A source that gives what its inner source gives, with each table in it as its picture. Bytes outside
+/// tables stand ready where those of the inner source do.
 #[derive(Drop)]
 pub struct TblSource<S: ByteSource> {
     inner: S,
     tables: Tables,
+    /// Whether it is known that nothing is pending.
+    idle: bool,
+    /// Whether it is known that no message is pending: bytes alone are given.
+    giving: bool,
 }
 
 impl<S: ByteSource> Model for TblSource<S> {
@@ -23,12 +28,12 @@ impl<S: ByteSource> Model for TblSource<S> {
 
     ghost Value = { Sourced S };
 
-    ghost use Rattle.tbl_core.specs.Source.{IsAlive};
+    ghost use Rattle.tbl_core.specs.Source.{IsSourced};
     ghost use Rattle.tbl_core.specs.SourceKept.{sourced};
 
     ghost view = { sourced };
 
-    ghost invariant = { λ a. IsAlive (S.gives a.inner) a.tables.at };
+    ghost invariant = { λ a. IsSourced (S.gives a.inner) a.tables.at a.idle a.giving };
 }
 
 impl<S: ByteSource> TblSource<S> {
@@ -53,11 +58,17 @@ impl<S: ByteSource> TblSource<S> {
           inner = inner;
           tables
               = record { limits = limits; line_length = line_length; at = at_start };
+          idle = true;
         }) }
         ensures refused { IfErr result (λ e. e.1 ≡ inner) }
     {
         match Tables::new(alloc, limits, line_length) {
-            Ok(tables) => Ok(TblSource { inner, tables }),
+            Ok(tables) => Ok(TblSource {
+                inner,
+                tables,
+                idle: true,
+                giving: false,
+            }),
             Err(error) => Err((error, inner)),
         }
     }
@@ -66,7 +77,12 @@ impl<S: ByteSource> TblSource<S> {
     pub fn into_inner(self) -> S
         ensures { result ≡ self.inner }
     {
-        let TblSource { inner, tables: _ } = self;
+        let TblSource {
+            inner,
+            tables: _,
+            idle: _,
+            giving: _,
+        } = self;
         inner
     }
 
@@ -103,6 +119,7 @@ impl<S: ByteSource> TblSource<S> {
             → Rises (S.failures self.old.inner) (S.failures self.new.inner) }
     {
         if let Some(taken) = self.tables.next() {
+            self.giving = is_byte(&taken);
             return taken;
         }
         match self.tables.stopped() {
@@ -111,7 +128,41 @@ impl<S: ByteSource> TblSource<S> {
         }
     }
 
+    /// The next byte to give, where one stands ready: one that is pending where no message is, or one
+    /// of the inner source that passes. Otherwise nothing happens.
+    #[inline(always)]
+    pub fn take_ready(&mut self) -> Option<u8>
+        ensures gives { IfSome result (λ b. Answers (source_gives S.gives self.old)
+            (source_gives S.gives self.new) (Gives (OneByte b))) }
+        ensures takes { IfSome result (λ b. Takes (S.gives self.old.inner) (S.gives self.new.inner)
+            self.old.tables.limits self.old.tables.line_length self.old.tables.at
+            self.new.tables.at (Gives (OneByte b))) }
+        ensures kept { result ≡ None → self.new ≡ self.old }
+        ensures limits { self.new.tables.limits ≡ self.old.tables.limits }
+        ensures line_length { self.new.tables.line_length ≡ self.old.tables.line_length }
+        ensures notes { notes_left self.new.tables ≤ notes_left self.old.tables }
+        ensures failures { S.failures self.old.inner ≤ S.failures self.new.inner }
+    {
+        if self.giving {
+            return self.tables.next_byte();
+        }
+        if !self.idle {
+            return None;
+        }
+        if !self.tables.passes_next() {
+            return None;
+        }
+        match self.inner.ready_byte() {
+            Some(byte) => {
+                self.tables.byte(byte);
+                Some(byte)
+            }
+            None => None,
+        }
+    }
+
     /// Takes one item of the inner source, and answers the first that is given for it, if one is.
+    #[inline(never)]
     fn turn(&mut self) -> Option<Taken>
         requires pending { self.old.tables.at.pending ≡ [] }
         requires reads { stopped_by self.old.tables.at.standing ≡ None }
@@ -141,9 +192,14 @@ impl<S: ByteSource> TblSource<S> {
         ensures fault { IfSome result (λ taken. answer_of taken ≡ Ends Failed
             → Rises (S.failures self.old.inner) (S.failures self.new.inner)) }
     {
+        self.idle = false;
+        self.giving = false;
         match self.inner.next_byte() {
             Taken::Byte(byte) => match self.tables.byte(byte) {
-                Some(byte) => Some(Taken::Byte(byte)),
+                Some(byte) => {
+                    self.idle = true;
+                    Some(Taken::Byte(byte))
+                }
                 None => self.tables.next(),
             },
             Taken::Note(_) => None,
@@ -159,6 +215,42 @@ impl<S: ByteSource> TblSource<S> {
                 self.tables.cut();
                 Some(self.tables.next().unwrap_or(Taken::Stop(limit)))
             }
+        }
+    }
+
+    /// Takes a byte of the inner source that stands ready, if it is one of a table that goes on
+    /// behind it. Answers whether it did; otherwise nothing happens.
+    #[inline(always)]
+    fn read_ready(&mut self) -> bool
+        requires pending { self.old.tables.at.pending ≡ [] }
+        requires reads { stopped_by self.old.tables.at.standing ≡ None }
+        ensures kept { result ≡ false → self.new ≡ self.old }
+        ensures silent { result ≡ true
+            → Continues (source_gives S.gives self.old) (source_gives S.gives self.new) }
+        ensures takes_on { result ≡ true → TakesOn (S.gives self.old.inner)
+            (S.gives self.new.inner) self.old.tables.limits self.old.tables.line_length
+            self.old.tables.at self.new.tables.at }
+        ensures limits { self.new.tables.limits ≡ self.old.tables.limits }
+        ensures line_length { self.new.tables.line_length ≡ self.old.tables.line_length }
+        ensures pending { self.new.tables.at.pending ≡ [] }
+        ensures reads { stopped_by self.new.tables.at.standing ≡ None }
+        ensures falls { result ≡ true
+            → bytes_left self.new.tables.limits self.new.tables.at.standing
+            + S.notes self.new.inner
+            < bytes_left self.old.tables.limits self.old.tables.at.standing
+            + S.notes self.old.inner }
+        ensures notes { notes_left self.new.tables ≤ notes_left self.old.tables }
+        ensures failures { S.failures self.old.inner ≤ S.failures self.new.inner }
+    {
+        if !self.tables.reads_next() {
+            return false;
+        }
+        match self.inner.ready_byte() {
+            Some(byte) => {
+                self.tables.read_next(byte);
+                true
+            }
+            None => false,
         }
     }
 
@@ -183,9 +275,56 @@ impl<S: ByteSource> TblSource<S> {
             → Rises (S.failures self.old.inner) (S.failures self.new.inner) }
     {
         loop {
-            if let Some(taken) = self.turn() {
-                return taken;
+            if !self.read_ready() {
+                if let Some(taken) = self.turn() {
+                    return taken;
+                }
             }
         }
     }
+}
+
+impl<S: ByteSource> ByteSource for TblSource<S> {
+    ghost use Rattle.tbl_core.specs.NotesLeft.{notes_left};
+    ghost use Rattle.tbl_core.specs.Source.{source_gives, source_ready};
+
+    ghost gives = { source_gives S.gives };
+
+    ghost ready = { source_ready S.ready };
+
+    ghost notes = { λ s. notes_left s.tables };
+
+    ghost failures = { λ s. S.failures s.inner };
+
+    fn next_byte(&mut self) -> Taken {
+        self.take()
+    }
+
+    #[inline(always)]
+    fn ready_byte(&mut self) -> Option<u8> {
+        self.take_ready()
+    }
+
+    #[inline(always)]
+    fn buffered(&self) -> &[u8] {
+        if self.idle {
+            self.tables.passing(self.inner.buffered())
+        } else {
+            &[]
+        }
+    }
+
+    #[inline(always)]
+    fn pass(&mut self, count: usize) {
+        self.tables.pass(at_most(self.inner.buffered(), count));
+        self.inner.pass(count);
+    }
+}
+
+/// Whether it is a byte.
+#[inline(always)]
+fn is_byte(taken: &Taken) -> bool
+    ensures { result ≡ gives_byte (answer_of taken.now) }
+{
+    matches!(taken, Taken::Byte(_))
 }

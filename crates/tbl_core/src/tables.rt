@@ -1,13 +1,18 @@
 //! The machine over bytes: what is given for each.
 
-ghost use Rattle.std.specs.Prelude.{◌≡◌, ◌++◌, [], IfOk, option_to_list};
+ghost use Rattle.std.specs.Prelude.{◌≡◌, ◌++◌, [], true, Some, IfOk, IfSome, option_to_list};
 ghost use Rattle.std.specs.Option.{MatchOption};
-ghost use Rattle.roff_source.specs.Tape.{Ended, Failed};
+ghost use Rattle.roff_source.specs.Tape.{Ended, Failed, answer_of};
 ghost use Rattle.tbl_core.specs.Machine.{limit_inside, not_ended, own_told, reading_on};
-ghost use Rattle.tbl_core.specs.Tables.{IsGiven, IsRoomFor, begun_behind, byte_step, counted_step};
+ghost use Rattle.tbl_core.specs.Passing.{passes_next, reads_outside};
+ghost use Rattle.tbl_core.specs.NotesLeft.{gives_byte, noted};
+ghost use Rattle.tbl_core.specs.Tables.{IsByteGiven, IsGiven, IsRoomFor, begun_behind, byte_step, counted_step};
 ghost use Rattle.tbl_core.specs.Tables.{ending_step, handed, line_of, position_behind};
 ghost use Rattle.tbl_core.specs.Tables.{position_on_start_line, stopped_by, told_at};
 ghost use Rattle.tbl_core.specs.Yields.{at_start, behind_step};
+
+mod passing;
+mod reading;
 
 use crate::place::{Count, Front, Position, ends_name};
 use roff_num::Limit;
@@ -91,9 +96,34 @@ impl Tables {
     }
 
     /// The next item that is pending.
+    #[inline(always)]
     pub(crate) fn next(&mut self) -> Option<Taken>
-        ensures { MatchOption result ((self.old.at.pending ≡ []) × (self.new ≡ self.old))
+        ensures next { MatchOption result ((self.old.at.pending ≡ []) × (self.new ≡ self.old))
             (λ taken. IsGiven self.old self.new taken) }
+        ensures bytes { IfSome result (λ taken. gives_byte (answer_of taken) ≡ true
+            → noted self.new.at.pending ≡ 0) }
+    {
+        if self.is_quiet() {
+            return None;
+        }
+        self.next_pending()
+    }
+
+    /// Whether nothing is pending.
+    #[inline(always)]
+    fn is_quiet(&self) -> bool
+        ensures { result ≡ true → self.now.at.pending ≡ [] }
+    {
+        self.own.is_none() && self.table.is_quiet()
+    }
+
+    /// The next item that is pending, where one may be.
+    #[inline(never)]
+    fn next_pending(&mut self) -> Option<Taken>
+        ensures next { MatchOption result ((self.old.at.pending ≡ []) × (self.new ≡ self.old))
+            (λ taken. IsGiven self.old self.new taken) }
+        ensures bytes { IfSome result (λ taken. gives_byte (answer_of taken) ≡ true
+            → noted self.new.at.pending ≡ 0) }
     {
         if let Some(told) = self.table.next_told() {
             return Some(Taken::Note(told.note()));
@@ -107,8 +137,19 @@ impl Tables {
         }
     }
 
+    /// The next byte that is pending, where no message is.
+    #[inline]
+    pub(crate) fn next_byte(&mut self) -> Option<u8>
+        requires { noted self.old.at.pending ≡ 0 }
+        ensures { MatchOption result (self.new ≡ self.old)
+            (λ b. IsByteGiven self.old self.new b) }
+    {
+        self.table.next()
+    }
+
     /// Takes a byte of the input. One that passes by itself is handed out; what is given otherwise
     /// is pending.
+    #[inline(always)]
     pub(crate) fn byte(&mut self, byte: u8) -> Option<u8>
         requires { self.old.at.pending ≡ [] }
         ensures out { handed result ++ self.new.at.pending
@@ -117,6 +158,9 @@ impl Tables {
             ≡ (byte_step self.old.limits self.old.line_length byte self.old.at.standing).behind }
         ensures limits { self.new.limits ≡ self.old.limits }
         ensures line_length { self.new.line_length ≡ self.old.line_length }
+        ensures passes { passes_next self.old.limits self.old.at.standing ≡ true
+            → result ≡ Some byte }
+        ensures alone { IfSome result (λ b. self.new.at.pending ≡ []) }
     {
         if let Position::Over(_) = self.position {
             return None;
@@ -132,6 +176,7 @@ impl Tables {
     }
 
     /// Takes a byte that was counted.
+    #[inline(always)]
     fn take_counted(&mut self, byte: u8) -> Option<u8>
         requires { self.old.at.pending ≡ [] }
         ensures out { handed result ++ self.new.at.pending
@@ -140,6 +185,8 @@ impl Tables {
             ≡ (counted_step self.old.limits self.old.line_length byte self.old.at.standing).behind }
         ensures limits { self.new.limits ≡ self.old.limits }
         ensures line_length { self.new.line_length ≡ self.old.line_length }
+        ensures passes { reads_outside self.old.at.standing ≡ true → result ≡ Some byte }
+        ensures alone { IfSome result (λ b. self.new.at.pending ≡ []) }
     {
         match self.position {
             Position::Outside(front) => {
@@ -251,6 +298,7 @@ fn begin_behind(table: &mut Table, byte: u8) -> Position
 }
 
 /// A byte of a table that ends neither it nor the run.
+#[inline(always)]
 fn read_on(table: &mut Table, line: u32, byte: u8)
     requires room { IsRoomFor table.old.limits byte table.old.reading }
     ensures reading { table.new.reading ≡ reading_on line byte table.old.reading }

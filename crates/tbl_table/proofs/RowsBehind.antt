@@ -1,5 +1,5 @@
 -- The rows of a table behind a line.
-use Rattle.std.proofs.Common.{◌≡◌, ℕ, suc, ◌+◌, Bool, true, false, not, ◌&&◌, List, [], ◌∷◌, ◌++◌, length, take, drop, Option, Some, None, refl, ap, arith, length-append, if◌then◌else◌}
+use Rattle.std.proofs.Common.{◌≡◌, ℕ, suc, ◌+◌, ◌≤◌, Bool, true, false, not, ◌&&◌, List, [], ◌∷◌, ◌++◌, length, take, drop, Option, Some, None, refl, ap, arith, length-append, if◌then◌else◌}
 use Rattle.roff_source.specs.Bytes.{newline}
 use Rattle.tbl_layout.specs.Data.{is_row, judged, kept_fields}
 use Rattle.tbl_layout.specs.Format.{format_read}
@@ -61,3 +61,13 @@ rows-behind t line = rows-in t.phase 0 line t
 pub columns-in : (t : TableRead) (line : List ℕ) (p : Phase) → t.phase ≡ p → columns_at t line ≡ columns_in p t line
 unfolding columns_at
 columns-in t line p is = ap (λ (q : Phase). columns_in q t line) is
+
+-- a line makes one row at most
+one-at_most : (ends : Bool) → (if ends then 1 else 0) ≤ 1
+one-at_most true = omega arith
+one-at_most false = omega arith
+
+pub rows-few : (t : TableRead) (line : List ℕ) → rows_behind t line ≤ length t.rows + 1
+rows-few t line =
+    let one = one-at_most (ends_row t line) in
+    omega (arith, rows-behind t line, one)

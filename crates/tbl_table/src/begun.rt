@@ -38,6 +38,7 @@ impl Begun {
     }
 
     /// What is known behind one byte more of this line.
+    #[inline(always)]
     pub fn behind(self, line: &[u8], byte: u8) -> Begun
         requires { FewKeys (2 ^ 62) self }
         ensures value { (phase : Phase) (f : Format) → self ≡ begun_in phase f line.now
@@ -85,6 +86,7 @@ impl Begun {
 }
 
 /// Behind one byte more of a line whose options haven't ended.
+#[inline(never)]
 fn front_behind(inside: bool, line: &[u8], byte: u8) -> Begun
     ensures value { Front inside ≡ head_begun (options_end line.now) line.now
         → result ≡ head_begun (options_end (line.now ++ byte ∷ [])) (line.now ++ byte ∷ []) }

@@ -1,6 +1,6 @@
 //! What is still to give of a table: its bytes as they were read, or its picture.
 
-ghost use Rattle.std.specs.Prelude.{◌≡◌, ◌+◌, ◌*◌, ◌<◌, ◌++◌, [], ◌∷◌, length, drop, IfOk};
+ghost use Rattle.std.specs.Prelude.{◌≡◌, ◌+◌, ◌*◌, ◌<◌, ◌++◌, [], ◌∷◌, true, length, drop, IfOk};
 ghost use Rattle.std.specs.Option.{MatchOption};
 ghost use Rattle.tbl_layout.specs.FormatRows.{KeptFormat};
 ghost use Rattle.tbl_table.specs.Joined.{RiseWithin, unjoined};
@@ -66,6 +66,7 @@ impl Giving {
     }
 
     /// No byte is to give.
+    #[inline(always)]
     pub fn give_nothing(&mut self)
         ensures nothing { GivesNothing self.new }
         ensures room { self.new.pieces.room ≡ self.old.pieces.room }
@@ -99,7 +100,17 @@ impl Giving {
         self.rest = Rest::Lines(0, 0);
     }
 
+    /// Whether no byte is left to give.
+    #[inline(always)]
+    pub fn is_given(&self, text: &TableText, rows: &TableRows, format: &FormatRows) -> bool
+        requires { CanGive text.now rows.now format.now self.now }
+        ensures { result ≡ true → coming text.now rows.now format.now self.now ≡ [] }
+    {
+        !self.pieces.has_piece()
+    }
+
     /// The next byte to give.
+    #[inline(always)]
     pub fn next(&mut self, text: &TableText, rows: &TableRows, format: &FormatRows) -> Option<u8>
         requires { CanGive text.now rows.now format.now self.old }
         ensures byte { MatchOption result

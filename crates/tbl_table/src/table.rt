@@ -1,10 +1,10 @@
 //! The table that is being read.
 
-ghost use Rattle.std.specs.Prelude.{◌≡◌, ◌+◌, ◌-◌, ◌<◌, [], ◌∷◌, length, IfOk};
+ghost use Rattle.std.specs.Prelude.{◌≡◌, ℕ, ◌+◌, ◌-◌, ◌<◌, ◌≤◌, ◌++◌, [], ◌∷◌, true, length, IfOk};
 ghost use Rattle.std.specs.Option.{MatchOption};
 ghost use Rattle.tbl_layout.specs.Data.{judged};
 ghost use Rattle.tbl_table.specs.Reading.{byte_read, bytes_read, kept_nothing};
-ghost use Rattle.tbl_table.specs.Table.{columns, told_at_cut};
+ghost use Rattle.tbl_table.specs.Table.{columns, columns_at, rows_behind, told_at_cut};
 
 mod ending;
 mod lines;
@@ -89,6 +89,7 @@ impl Table {
     }
 
     /// A byte of the line that is begun, but its newline.
+    #[inline(always)]
     pub fn push(&mut self, byte: u8)
         requires room { length (bytes_read self.old.reading) < self.old.limits.text + 4 }
         ensures { self.new ≡ record self.old
@@ -97,6 +98,41 @@ impl Table {
         self.giving.give_nothing();
         self.begun = self.begun.behind(self.text.line(), byte);
         self.text.push(byte);
+    }
+
+    /// Whether a byte of the data can be read, whatever it is, and no limit is met.
+    #[inline(always)]
+    #[tactic(auto, unfolding(crate::specs::Table::rows_behind, crate::specs::Table::columns_at))]
+    pub fn reads_any(&self) -> bool
+        ensures rows { result ≡ true
+            → rows_behind self.now.reading.table self.now.reading.line ≤ self.now.limits.rows }
+        ensures columns { result ≡ true → (b : ℕ)
+            → columns_at self.now.reading.table (self.now.reading.line ++ b ∷ [])
+            ≤ self.now.limits.columns }
+        ensures text { result ≡ true
+            → length (bytes_read self.now.reading) < self.now.limits.text }
+    {
+        match self.phase {
+            Phase::AtHead => false,
+            Phase::InFormat => false,
+            Phase::InData => self.has_room(),
+            Phase::Bad => false,
+        }
+    }
+
+    /// Whether there is room for a byte and a row.
+    #[inline(always)]
+    fn has_room(&self) -> bool
+        ensures rows { result ≡ true
+            → length self.now.reading.table.rows < self.now.limits.rows }
+        ensures columns { result ≡ true
+            → columns self.now.reading.table ≤ self.now.limits.columns }
+        ensures text { result ≡ true
+            → length (bytes_read self.now.reading) < self.now.limits.text }
+    {
+        self.rows.count() < self.limits.rows as usize
+            && self.format.columns() <= self.limits.columns as usize
+            && self.text.len() < self.limits.text as usize
     }
 
     /// How many bytes were read of it.
@@ -126,6 +162,15 @@ impl Table {
         self.notes.tell();
     }
 
+    /// Whether no message is to tell and no byte to give.
+    #[inline(always)]
+    pub fn is_quiet(&self) -> bool
+        ensures told { result ≡ true → self.now.told ≡ [] }
+        ensures to_come { result ≡ true → self.now.to_come ≡ [] }
+    {
+        self.notes.are_told() && self.giving.is_given(&self.text, &self.rows, &self.format)
+    }
+
     /// The next message to tell.
     pub fn next_told(&mut self) -> Option<Told>
         ensures { MatchOption result ((self.old.told ≡ []) × (self.new ≡ self.old))
@@ -138,6 +183,7 @@ impl Table {
     }
 
     /// The next byte to give.
+    #[inline(always)]
     pub fn next(&mut self) -> Option<u8>
         ensures { MatchOption result ((self.old.to_come ≡ []) × (self.new ≡ self.old))
             (λ b. self.old ≡ record self.new { to_come = b ∷ self.new.to_come }) }

@@ -1,6 +1,6 @@
 //! The messages of a table, and those that are to tell.
 
-ghost use Rattle.std.specs.Prelude.{◌≡◌, ◌+◌, ◌-◌, ◌<◌, ◌≤◌, [], ◌∷◌, ◌++◌, length, map, slice_range, IfOk};
+ghost use Rattle.std.specs.Prelude.{◌≡◌, ◌+◌, ◌-◌, ◌<◌, ◌≤◌, [], ◌∷◌, ◌++◌, true, length, map, slice_range, IfOk};
 ghost use Rattle.std.specs.Option.{MatchOption};
 ghost use Rattle.tbl_layout.specs.Notes.{NotesWithin, ignored_message, told_at, told_of_all};
 ghost use Rattle.tbl_layout.specs.Options.{ignored_options};
@@ -87,6 +87,14 @@ impl TableNotes {
     {
         self.next = 0;
         self.end = self.notes.len();
+    }
+
+    /// Whether no message is left to tell.
+    #[inline(always)]
+    pub fn are_told(&self) -> bool
+        ensures { result ≡ true → self.now.to_tell ≡ [] }
+    {
+        self.next == self.end
     }
 
     /// The next message to tell.

@@ -71,6 +71,7 @@ impl TableText {
     }
 
     /// A byte of the line that is begun, but its newline.
+    #[inline(always)]
     pub fn push(&mut self, byte: u8)
         requires { length (self.old.read ++ self.old.line) < self.old.text_room + 4 }
         ensures { self.new ≡ record self.old { line = self.old.line ++ byte ∷ [] } }
@@ -121,6 +122,7 @@ impl TableText {
     }
 
     /// How many bytes were read.
+    #[inline(always)]
     pub fn len(&self) -> usize
         ensures { result ≡ length (self.now.read ++ self.now.line) }
     {
@@ -128,6 +130,7 @@ impl TableText {
     }
 
     /// The line that is begun.
+    #[inline(always)]
     pub fn line(&self) -> &[u8]
         ensures { result.now ≡ self.now.line }
     {

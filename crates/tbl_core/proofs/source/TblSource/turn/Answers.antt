@@ -13,22 +13,22 @@ use Rattle.tbl_core.proofs.Turning.{byte_goes_on, ending_next, first_given, may_
 use Rattle.tbl_core.proofs.source.TblSource.turn.Goals as goal
 
 pub invariant_of-self : goal.invariant_of-self
-invariant_of-self g c = WasAsked c.next_byte.ensures.gives.some c.next_byte.ensures.gives.some_given
+invariant_of-self g c = record { alive = WasAsked c.next_byte.ensures.gives.some c.next_byte.ensures.gives.some_given; idles = λ is. c.in-Some.ensures.alone; quiet = λ is. cc }
 
 pub invariant_of-self-in-None : goal.invariant_of-self-in-None
-invariant_of-self-in-None g c = WasAsked c.next_byte.ensures.gives.some c.next_byte.ensures.gives.some_given
+invariant_of-self-in-None g c = record { alive = WasAsked c.next_byte.ensures.gives.some c.next_byte.ensures.gives.some_given; idles = λ is. cc; quiet = λ is. cc }
 
 pub invariant_of-self-in-Note : goal.invariant_of-self-in-Note
-invariant_of-self-in-Note g c = WasAsked c.next_byte.ensures.gives.some c.next_byte.ensures.gives.some_given
+invariant_of-self-in-Note g c = record { alive = WasAsked c.next_byte.ensures.gives.some c.next_byte.ensures.gives.some_given; idles = λ is. cc; quiet = λ is. cc }
 
 pub invariant_of-self-in-End : goal.invariant_of-self-in-End
-invariant_of-self-in-End g c = WasAsked c.next_byte.ensures.gives.some c.next_byte.ensures.gives.some_given
+invariant_of-self-in-End g c = record { alive = WasAsked c.next_byte.ensures.gives.some c.next_byte.ensures.gives.some_given; idles = λ is. cc; quiet = λ is. cc }
 
 pub invariant_of-self-in-Fault : goal.invariant_of-self-in-Fault
-invariant_of-self-in-Fault g c = WasAsked c.next_byte.ensures.gives.some c.next_byte.ensures.gives.some_given
+invariant_of-self-in-Fault g c = record { alive = WasAsked c.next_byte.ensures.gives.some c.next_byte.ensures.gives.some_given; idles = λ is. cc; quiet = λ is. cc }
 
 pub invariant_of-self-in-Stop : goal.invariant_of-self-in-Stop
-invariant_of-self-in-Stop g c = WasAsked c.next_byte.ensures.gives.some c.next_byte.ensures.gives.some_given
+invariant_of-self-in-Stop g c = record { alive = WasAsked c.next_byte.ensures.gives.some c.next_byte.ensures.gives.some_given; idles = λ is. cc; quiet = λ is. cc }
 
 pub returns-in-Some-clause-given : goal.returns-in-Some-clause-given
 returns-in-Some-clause-given g c =
@@ -44,20 +44,20 @@ returns-in-None-clause-given g c =
     let reads = ap (λ s. stopped_by s.tables.at.standing) c.self.view_is ∙ c.requires.reads in
     let taken = c.in-Byte.ensures.gives in
     let goes_on = byte_goes_on c.self.inside.tables c.byte.new.self c.in-Byte.byte _ _ None none reads taken c.in-None.ensures.out c.byte.ensures.behind c.byte.ensures.limits c.byte.ensures.line_length in
-    rw (← c.self.view_is) (may_be_given _ _ taken.some taken.some_given c.byte.new.self c.next.new.self c.next.result c.next.ensures goes_on)
+    rw (← c.self.view_is) (may_be_given _ _ taken.some taken.some_given c.byte.new.self c.next.new.self c.next.result c.next.ensures.next goes_on)
 
 pub returns-in-None-clause-silent : goal.returns-in-None-clause-silent
 returns-in-None-clause-silent g c = λ is.
     let none = ap (λ s. s.tables.at.pending) c.self.view_is ∙ c.requires.pending in
     let reads = ap (λ s. stopped_by s.tables.at.standing) c.self.view_is ∙ c.requires.reads in
     let goes_on = byte_goes_on c.self.inside.tables c.byte.new.self c.in-Byte.byte _ _ None none reads c.in-Byte.ensures.gives c.in-None.ensures.out c.byte.ensures.behind c.byte.ensures.limits c.byte.ensures.line_length in
-    let kept = MatchOption-at_none _ _ is c.next.ensures in
+    let kept = MatchOption-at_none _ _ is c.next.ensures.next in
     rw (← c.self.view_is, kept.1) goes_on
 
 pub returns-in-None-clause-reads : goal.returns-in-None-clause-reads
 returns-in-None-clause-reads g c = λ is.
     let reads = ap (λ s. stopped_by s.tables.at.standing) c.self.view_is ∙ c.requires.reads in
-    let kept = MatchOption-at_none _ _ is c.next.ensures in
+    let kept = MatchOption-at_none _ _ is c.next.ensures.next in
     let empty = sym c.in-None.ensures.out ∙ kept.0 in
     rw (kept.1, c.byte.ensures.behind) (byte_reads c.self.inside.tables.limits c.self.inside.tables.line_length c.in-Byte.byte c.self.inside.tables.at.standing reads empty)
 
@@ -67,7 +67,7 @@ returns-in-End-clause-given g c =
     let reads = ap (λ s. stopped_by s.tables.at.standing) c.self.view_is ∙ c.requires.reads in
     let t = c.self.inside.tables in
     rw (← c.self.view_is, c.unwrap_or.ensures)
-    (ending_next t.limits t.line_length Ended t.at.pending t.at.standing _ _ none reads c.in-End.ensures.gives c.end.new.self c.next-in-End.new.self c.next-in-End.result End c.end.ensures c.next-in-End.ensures refl)
+    (ending_next t.limits t.line_length Ended t.at.pending t.at.standing _ _ none reads c.in-End.ensures.gives c.end.new.self c.next-in-End.new.self c.next-in-End.result End c.end.ensures c.next-in-End.ensures.next refl)
 
 pub returns-in-Fault-clause-given : goal.returns-in-Fault-clause-given
 returns-in-Fault-clause-given g c =
@@ -75,7 +75,7 @@ returns-in-Fault-clause-given g c =
     let reads = ap (λ s. stopped_by s.tables.at.standing) c.self.view_is ∙ c.requires.reads in
     let t = c.self.inside.tables in
     rw (← c.self.view_is, c.unwrap_or-in-Fault.ensures)
-    (ending_next t.limits t.line_length Failed t.at.pending t.at.standing _ _ none reads c.in-Fault.ensures.gives c.cut.new.self c.next-in-Fault.new.self c.next-in-Fault.result Fault c.cut.ensures c.next-in-Fault.ensures refl)
+    (ending_next t.limits t.line_length Failed t.at.pending t.at.standing _ _ none reads c.in-Fault.ensures.gives c.cut.new.self c.next-in-Fault.new.self c.next-in-Fault.result Fault c.cut.ensures c.next-in-Fault.ensures.next refl)
 
 pub returns-in-Stop-clause-given : goal.returns-in-Stop-clause-given
 returns-in-Stop-clause-given g c =
@@ -85,7 +85,7 @@ returns-in-Stop-clause-given g c =
     let limit = c.in-Stop.limit in
     let is = c.cut-in-Stop.ensures ∙ ap (λ (s : Step). record { limits = t.limits; line_length = t.line_length; at = behind_step s }) (sym (stop_is_fault t.limits t.line_length limit t.at.standing)) in
     rw (← c.self.view_is, c.unwrap_or-in-Stop.ensures)
-    (ending_next t.limits t.line_length (Stopped limit) t.at.pending t.at.standing _ _ none reads c.in-Stop.ensures.gives c.cut-in-Stop.new.self c.next-in-Stop.new.self c.next-in-Stop.result (Stop limit) is c.next-in-Stop.ensures refl)
+    (ending_next t.limits t.line_length (Stopped limit) t.at.pending t.at.standing _ _ none reads c.in-Stop.ensures.gives c.cut-in-Stop.new.self c.next-in-Stop.new.self c.next-in-Stop.result (Stop limit) is c.next-in-Stop.ensures.next refl)
 
 pub returns-in-Some-clause-notes : goal.returns-in-Some-clause-notes
 returns-in-Some-clause-notes g c =
@@ -94,46 +94,46 @@ returns-in-Some-clause-notes g c =
 pub returns-in-None-clause-notes : goal.returns-in-None-clause-notes
 returns-in-None-clause-notes g c =
     let few = few_behind_byte c.self.inside.tables c.byte.new.self c.in-Byte.byte None c.in-None.ensures.out c.byte.ensures.behind c.byte.ensures.limits in
-    let given = few_given c.byte.new.self c.next.new.self c.next.result c.next.ensures in
+    let given = few_given c.byte.new.self c.next.new.self c.next.result c.next.ensures.next in
     rw (← c.self.view_is) (omega (arith, few, given))
 
 pub returns-in-None-clause-note : goal.returns-in-None-clause-note
 returns-in-None-clause-note g c =
     let few = few_behind_byte c.self.inside.tables c.byte.new.self c.in-Byte.byte None c.in-None.ensures.out c.byte.ensures.behind c.byte.ensures.limits in
-    rw (← c.self.view_is) (notes_given c.byte.new.self c.next.new.self c.next.result _ few c.next.ensures)
+    rw (← c.self.view_is) (notes_given c.byte.new.self c.next.new.self c.next.result _ few c.next.ensures.next)
 
 pub returns-in-End-clause-notes : goal.returns-in-End-clause-notes
 returns-in-End-clause-notes g c =
     let few = few_behind_ending c.self.inside.tables c.end.new.self Ended c.end.ensures in
-    let given = few_given c.end.new.self c.next-in-End.new.self c.next-in-End.result c.next-in-End.ensures in
+    let given = few_given c.end.new.self c.next-in-End.new.self c.next-in-End.result c.next-in-End.ensures.next in
     rw (← c.self.view_is) (omega (arith, few, given))
 
 pub returns-in-End-clause-note : goal.returns-in-End-clause-note
 returns-in-End-clause-note g c =
     let few = few_behind_ending c.self.inside.tables c.end.new.self Ended c.end.ensures in
-    rw (← c.self.view_is, c.unwrap_or.ensures) (last_note_given c.end.new.self c.next-in-End.new.self c.next-in-End.result End Ended _ few c.next-in-End.ensures refl)
+    rw (← c.self.view_is, c.unwrap_or.ensures) (last_note_given c.end.new.self c.next-in-End.new.self c.next-in-End.result End Ended _ few c.next-in-End.ensures.next refl)
 
 pub returns-in-Fault-clause-notes : goal.returns-in-Fault-clause-notes
 returns-in-Fault-clause-notes g c =
     let few = few_behind_ending c.self.inside.tables c.cut.new.self Failed c.cut.ensures in
-    let given = few_given c.cut.new.self c.next-in-Fault.new.self c.next-in-Fault.result c.next-in-Fault.ensures in
+    let given = few_given c.cut.new.self c.next-in-Fault.new.self c.next-in-Fault.result c.next-in-Fault.ensures.next in
     rw (← c.self.view_is) (omega (arith, few, given))
 
 pub returns-in-Fault-clause-note : goal.returns-in-Fault-clause-note
 returns-in-Fault-clause-note g c =
     let few = few_behind_ending c.self.inside.tables c.cut.new.self Failed c.cut.ensures in
-    rw (← c.self.view_is, c.unwrap_or-in-Fault.ensures) (last_note_given c.cut.new.self c.next-in-Fault.new.self c.next-in-Fault.result Fault Failed _ few c.next-in-Fault.ensures refl)
+    rw (← c.self.view_is, c.unwrap_or-in-Fault.ensures) (last_note_given c.cut.new.self c.next-in-Fault.new.self c.next-in-Fault.result Fault Failed _ few c.next-in-Fault.ensures.next refl)
 
 pub returns-in-Stop-clause-notes : goal.returns-in-Stop-clause-notes
 returns-in-Stop-clause-notes g c =
     let few = few_behind_ending c.self.inside.tables c.cut-in-Stop.new.self Failed c.cut-in-Stop.ensures in
-    let given = few_given c.cut-in-Stop.new.self c.next-in-Stop.new.self c.next-in-Stop.result c.next-in-Stop.ensures in
+    let given = few_given c.cut-in-Stop.new.self c.next-in-Stop.new.self c.next-in-Stop.result c.next-in-Stop.ensures.next in
     rw (← c.self.view_is) (omega (arith, few, given))
 
 pub returns-in-Stop-clause-note : goal.returns-in-Stop-clause-note
 returns-in-Stop-clause-note g c =
     let few = few_behind_ending c.self.inside.tables c.cut-in-Stop.new.self Failed c.cut-in-Stop.ensures in
-    rw (← c.self.view_is, c.unwrap_or-in-Stop.ensures) (last_note_given c.cut-in-Stop.new.self c.next-in-Stop.new.self c.next-in-Stop.result (Stop c.in-Stop.limit) (Stopped c.in-Stop.limit) _ few c.next-in-Stop.ensures refl)
+    rw (← c.self.view_is, c.unwrap_or-in-Stop.ensures) (last_note_given c.cut-in-Stop.new.self c.next-in-Stop.new.self c.next-in-Stop.result (Stop c.in-Stop.limit) (Stopped c.in-Stop.limit) _ few c.next-in-Stop.ensures.next refl)
 
 pub returns-in-Some-clause-takes : goal.returns-in-Some-clause-takes
 returns-in-Some-clause-takes g c =
@@ -151,7 +151,7 @@ returns-in-None-clause-takes g c =
     let t = c.self.inside.tables in
     let taken = c.in-Byte.ensures.gives in
     let on = byte_takes t c.byte.new.self c.in-Byte.byte _ _ None none reads taken c.in-None.ensures.out c.byte.ensures.behind in
-    rw (← c.self.view_is) (may_takes _ _ taken.some taken.some_given t.limits t.line_length t.at c.byte.new.self c.next.new.self c.next.result c.next.ensures on)
+    rw (← c.self.view_is) (may_takes _ _ taken.some taken.some_given t.limits t.line_length t.at c.byte.new.self c.next.new.self c.next.result c.next.ensures.next on)
 
 pub returns-in-None-clause-takes_on : goal.returns-in-None-clause-takes_on
 returns-in-None-clause-takes_on g c = λ is.
@@ -159,16 +159,16 @@ returns-in-None-clause-takes_on g c = λ is.
     let reads = ap (λ s. stopped_by s.tables.at.standing) c.self.view_is ∙ c.requires.reads in
     let t = c.self.inside.tables in
     let on = byte_takes t c.byte.new.self c.in-Byte.byte _ _ None none reads c.in-Byte.ensures.gives c.in-None.ensures.out c.byte.ensures.behind in
-    let kept = MatchOption-at_none _ _ is c.next.ensures in
+    let kept = MatchOption-at_none _ _ is c.next.ensures.next in
     rw (← c.self.view_is, kept.1) on
 
 pub returns-in-None-clause-limits : goal.returns-in-None-clause-limits
 returns-in-None-clause-limits g c =
-    rw (← c.self.view_is) (limits_given c.byte.new.self c.next.new.self c.next.result c.next.ensures ∙ c.byte.ensures.limits)
+    rw (← c.self.view_is) (limits_given c.byte.new.self c.next.new.self c.next.result c.next.ensures.next ∙ c.byte.ensures.limits)
 
 pub returns-in-None-clause-line_length : goal.returns-in-None-clause-line_length
 returns-in-None-clause-line_length g c =
-    rw (← c.self.view_is) (length_given c.byte.new.self c.next.new.self c.next.result c.next.ensures ∙ c.byte.ensures.line_length)
+    rw (← c.self.view_is) (length_given c.byte.new.self c.next.new.self c.next.result c.next.ensures.next ∙ c.byte.ensures.line_length)
 
 pub returns-in-Note-clause-takes_on : goal.returns-in-Note-clause-takes_on
 returns-in-Note-clause-takes_on g c = λ is.
@@ -183,15 +183,15 @@ returns-in-End-clause-takes g c =
     let reads = ap (λ s. stopped_by s.tables.at.standing) c.self.view_is ∙ c.requires.reads in
     let t = c.self.inside.tables in
     rw (← c.self.view_is, c.unwrap_or.ensures)
-    (ending_takes t.limits t.line_length (Ended) t.at.pending t.at.standing _ _ none reads c.in-End.ensures.gives c.end.new.self c.next-in-End.new.self c.next-in-End.result (End) c.end.ensures c.next-in-End.ensures refl)
+    (ending_takes t.limits t.line_length (Ended) t.at.pending t.at.standing _ _ none reads c.in-End.ensures.gives c.end.new.self c.next-in-End.new.self c.next-in-End.result (End) c.end.ensures c.next-in-End.ensures.next refl)
 
 pub returns-in-End-clause-limits : goal.returns-in-End-clause-limits
 returns-in-End-clause-limits g c =
-    rw (← c.self.view_is) (limits_given c.end.new.self c.next-in-End.new.self c.next-in-End.result c.next-in-End.ensures ∙ ap (λ (t : TablesState). t.limits) c.end.ensures)
+    rw (← c.self.view_is) (limits_given c.end.new.self c.next-in-End.new.self c.next-in-End.result c.next-in-End.ensures.next ∙ ap (λ (t : TablesState). t.limits) c.end.ensures)
 
 pub returns-in-End-clause-line_length : goal.returns-in-End-clause-line_length
 returns-in-End-clause-line_length g c =
-    rw (← c.self.view_is) (length_given c.end.new.self c.next-in-End.new.self c.next-in-End.result c.next-in-End.ensures ∙ ap (λ (t : TablesState). t.line_length) c.end.ensures)
+    rw (← c.self.view_is) (length_given c.end.new.self c.next-in-End.new.self c.next-in-End.result c.next-in-End.ensures.next ∙ ap (λ (t : TablesState). t.line_length) c.end.ensures)
 
 pub returns-in-Fault-clause-takes : goal.returns-in-Fault-clause-takes
 returns-in-Fault-clause-takes g c =
@@ -199,15 +199,15 @@ returns-in-Fault-clause-takes g c =
     let reads = ap (λ s. stopped_by s.tables.at.standing) c.self.view_is ∙ c.requires.reads in
     let t = c.self.inside.tables in
     rw (← c.self.view_is, c.unwrap_or-in-Fault.ensures)
-    (ending_takes t.limits t.line_length (Failed) t.at.pending t.at.standing _ _ none reads c.in-Fault.ensures.gives c.cut.new.self c.next-in-Fault.new.self c.next-in-Fault.result (Fault) c.cut.ensures c.next-in-Fault.ensures refl)
+    (ending_takes t.limits t.line_length (Failed) t.at.pending t.at.standing _ _ none reads c.in-Fault.ensures.gives c.cut.new.self c.next-in-Fault.new.self c.next-in-Fault.result (Fault) c.cut.ensures c.next-in-Fault.ensures.next refl)
 
 pub returns-in-Fault-clause-limits : goal.returns-in-Fault-clause-limits
 returns-in-Fault-clause-limits g c =
-    rw (← c.self.view_is) (limits_given c.cut.new.self c.next-in-Fault.new.self c.next-in-Fault.result c.next-in-Fault.ensures ∙ ap (λ (t : TablesState). t.limits) c.cut.ensures)
+    rw (← c.self.view_is) (limits_given c.cut.new.self c.next-in-Fault.new.self c.next-in-Fault.result c.next-in-Fault.ensures.next ∙ ap (λ (t : TablesState). t.limits) c.cut.ensures)
 
 pub returns-in-Fault-clause-line_length : goal.returns-in-Fault-clause-line_length
 returns-in-Fault-clause-line_length g c =
-    rw (← c.self.view_is) (length_given c.cut.new.self c.next-in-Fault.new.self c.next-in-Fault.result c.next-in-Fault.ensures ∙ ap (λ (t : TablesState). t.line_length) c.cut.ensures)
+    rw (← c.self.view_is) (length_given c.cut.new.self c.next-in-Fault.new.self c.next-in-Fault.result c.next-in-Fault.ensures.next ∙ ap (λ (t : TablesState). t.line_length) c.cut.ensures)
 
 pub returns-in-Stop-clause-takes : goal.returns-in-Stop-clause-takes
 returns-in-Stop-clause-takes g c =
@@ -217,12 +217,12 @@ returns-in-Stop-clause-takes g c =
     let limit = c.in-Stop.limit in
     let is = c.cut-in-Stop.ensures ∙ ap (λ (s : Step). record { limits = t.limits; line_length = t.line_length; at = behind_step s }) (sym (stop_is_fault t.limits t.line_length limit t.at.standing)) in
     rw (← c.self.view_is, c.unwrap_or-in-Stop.ensures)
-    (ending_takes t.limits t.line_length (Stopped limit) t.at.pending t.at.standing _ _ none reads c.in-Stop.ensures.gives c.cut-in-Stop.new.self c.next-in-Stop.new.self c.next-in-Stop.result (Stop limit) is c.next-in-Stop.ensures refl)
+    (ending_takes t.limits t.line_length (Stopped limit) t.at.pending t.at.standing _ _ none reads c.in-Stop.ensures.gives c.cut-in-Stop.new.self c.next-in-Stop.new.self c.next-in-Stop.result (Stop limit) is c.next-in-Stop.ensures.next refl)
 
 pub returns-in-Stop-clause-limits : goal.returns-in-Stop-clause-limits
 returns-in-Stop-clause-limits g c =
-    rw (← c.self.view_is) (limits_given c.cut-in-Stop.new.self c.next-in-Stop.new.self c.next-in-Stop.result c.next-in-Stop.ensures ∙ ap (λ (t : TablesState). t.limits) c.cut-in-Stop.ensures)
+    rw (← c.self.view_is) (limits_given c.cut-in-Stop.new.self c.next-in-Stop.new.self c.next-in-Stop.result c.next-in-Stop.ensures.next ∙ ap (λ (t : TablesState). t.limits) c.cut-in-Stop.ensures)
 
 pub returns-in-Stop-clause-line_length : goal.returns-in-Stop-clause-line_length
 returns-in-Stop-clause-line_length g c =
-    rw (← c.self.view_is) (length_given c.cut-in-Stop.new.self c.next-in-Stop.new.self c.next-in-Stop.result c.next-in-Stop.ensures ∙ ap (λ (t : TablesState). t.line_length) c.cut-in-Stop.ensures)
+    rw (← c.self.view_is) (length_given c.cut-in-Stop.new.self c.next-in-Stop.new.self c.next-in-Stop.result c.next-in-Stop.ensures.next ∙ ap (λ (t : TablesState). t.line_length) c.cut-in-Stop.ensures)

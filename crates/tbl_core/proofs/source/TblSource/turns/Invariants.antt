@@ -6,8 +6,8 @@ use Rattle.tbl_core.specs.Tables.{stopped_by}
 use Rattle.tbl_core.specs.Yields.{Continues}
 use Rattle.tbl_core.proofs.source.TblSource.turns.Given as goal
 
-abbrev pub invariant-loop-taken : goal.invariant-loop-taken
-invariant-loop-taken g l = record {
+abbrev pub invariant-loop-self : goal.invariant-loop-self
+invariant-loop-self g l = record {
   pending : l.self.tables.at.pending ≡ [];
   reads : stopped_by l.self.tables.at.standing ≡ None;
   goes_on : Continues (source_gives g.S.ByteSource.gives l.initial.self) (source_gives g.S.ByteSource.gives l.self);
@@ -18,5 +18,5 @@ invariant-loop-taken g l = record {
   failures : g.S.ByteSource.failures l.initial.self.inner ≤ g.S.ByteSource.failures l.self.inner;
 }
 
-abbrev pub decreases-loop-taken : goal.decreases-loop-taken
-decreases-loop-taken g l = bytes_left l.self.tables.limits l.self.tables.at.standing + g.S.ByteSource.notes l.self.inner
+abbrev pub decreases-loop-self : goal.decreases-loop-self
+decreases-loop-self g l = bytes_left l.self.tables.limits l.self.tables.at.standing + g.S.ByteSource.notes l.self.inner
