@@ -1,5 +1,5 @@
 -- The command line.
-use Rattle.std.proofs.Common.{◌≡◌, ◌∙◌, ◌<◌, ◌+◌, ◌^◌, ℕ, Bool, true, false, not, ◌&&◌, is_some, List, [], ◌∷◌, map, take, get_or, length, nat_lt, ap, refl, sym, subst, codes, Option, Some, None, option_map, lt-ltb, ltb-true}
+use Rattle.std.proofs.Common.{◌≡◌, ◌∙◌, ◌<◌, ◌+◌, ◌^◌, ℕ, Bool, true, false, not, ◌&&◌, is_some, List, [], ◌∷◌, map, take, get_or, length, nat_lt, ap, refl, sym, subst, Option, Some, None, option_map, lt-ltb, ltb-true}
 use Rattle.std.specs.Prelude.{Box, IsErrAnd, MatchResult, Ok, Err, Result, fold, option_and_then, unwrap_or}
 use Rattle.std.specs.Box.{box_value}
 use Rattle.std.specs.Char.{digit_value}
@@ -19,19 +19,17 @@ use Rattle.clap.proofs.OnLiterals.{clap_on_literals}
 use Rattle.clap.proofs.SimpleLemmas.{is_false}
 use Rattle.clap.proofs.WalkLemmas.{both, one_text-rows}
 use Rattle.roff_num.specs.declared.limit.Limit.{Limit}
-use Rattle.roff_num.specs.declared.limits.Limits.{Limits}
-use Rattle.roff_num.specs.Clauses.{default_limits, limit_name}
-use Rattle.roff_command.specs.CommandLine.{Asks, AsksFor, limits_asked_by, limits_set, nroff_app, number_of, roff_app}
-use Rattle.roff_command.specs.declared.command.Request.{Request}
+use Rattle.roff_num.specs.Clauses.{limit_name}
+use Rattle.roff_command.specs.CommandLine.{both_app, nroff_app, number_of, roff_app, set_by, set_if_asked, tbl_app}
 
 -- the words of the command line give its matches
 pub roff_app-is_simple : is_simple roff_app ≡ true
-unfolding clap_on_literals roff_app nroff_app
+unfolding clap_on_literals roff_app nroff_app tbl_app both_app
 roff_app-is_simple = refl
 
 -- and no argument has a rule on another
 pub roff_app-is_free : is_simple_and_free roff_app ≡ true
-unfolding clap_on_literals roff_app nroff_app
+unfolding clap_on_literals roff_app nroff_app tbl_app both_app
 roff_app-is_free = refl
 
 -- `?` passes an error up as it is
@@ -107,15 +105,15 @@ one-number_of G f id r only none some = rw (← one_text-rows f id) (go (one_tex
     go (Some t) e = read-number_of G t r only (some t e) ∙ rw e refl
 
 -- one option more
-pub asked-next : {X : Type 0} (of : X → Limit) (rows : List Row) (options : List X) (i : ℕ) (d : X) (name : Text) (n : Option ℕ) (now next : Limits)
-    → i < length options → next ≡ limits_set now (of (get_or options i d)) n
+pub asked-next : {L X : Type 0} (set_one : L → Limit → ℕ → L) (of : X → Limit) (rows : List Row) (options : List X) (i : ℕ) (d : X) (name : Text) (n : Option ℕ)
+    (default now next : L) → i < length options → next ≡ set_if_asked set_one now (of (get_or options i d)) n
     → name ≡ limit_name (of (get_or options i d)) → n ≡ option_and_then number_of (one_of name rows)
-    → now ≡ fold (limits_asked_by rows) default_limits (map of (take i options))
-    → next ≡ fold (limits_asked_by rows) default_limits (map of (take (i + 1) options))
-asked-next of rows options i d name n now next within set named number so_far =
+    → now ≡ fold (set_by set_one rows) default (map of (take i options))
+    → next ≡ fold (set_by set_one rows) default (map of (take (i + 1) options))
+asked-next set_one of rows options i d name n default now next within set named number so_far =
     let limit = of (get_or options i d) in
-    set ∙ (ap (limits_set now limit) (number ∙ ap (λ id. option_and_then number_of (one_of id rows)) named)
-    ∙ (ap (λ l. limits_asked_by rows l limit) so_far ∙ sym (fold-take-more (limits_asked_by rows) default_limits of options i d within)))
+    set ∙ (ap (set_if_asked set_one now limit) (number ∙ ap (λ id. option_and_then number_of (one_of id rows)) named)
+    ∙ (ap (λ l. set_by set_one rows l limit) so_far ∙ sym (fold-take-more (set_by set_one rows) default of options i d within)))
 
 -- the files that the parser lends
 pub lent-files : (lent : Option (Bor (List (Bor (List ℕ))))) (other : Bor (List (Bor (List ℕ)))) (found : Option (List Text)) → other.now ≡ []
@@ -123,24 +121,23 @@ pub lent-files : (lent : Option (Bor (List (Bor (List ℕ))))) (other : Bor (Lis
 lent-files None other found empty is = rw (← is, empty) refl
 lent-files (Some s) other found empty is = rw (← is) refl
 
--- the request for the command that was found
-pub found-AsksFor : (m : ArgMatches) (name : Text) (rows : List Row) (request : Request)
-    → subcommand_name_of m ≡ Some name → option_map (λ p. p.1) (subcommand_rows_of m) ≡ Some rows
-    → name ≡ codes "nroff" → Asks rows request → AsksFor (subcommand_rows_of m) request
-found-AsksFor m name rows request named found is asks = go (out-ArgMatches m).subcommand named found
+-- the command that was found, with its rows
+pub found-rows : (m : ArgMatches) (name : Text) (rows : List Row) → subcommand_name_of m ≡ Some name
+    → option_map (λ p. p.1) (subcommand_rows_of m) ≡ Some rows → subcommand_rows_of m ≡ Some (name, rows)
+found-rows m name rows named found = go (out-ArgMatches m).subcommand named found
   where
     go : {Z : Type 0} (o : Option (Box SubCommand Z)) → option_map (λ b. (out-SubCommand (box_value b)).name.now) o ≡ Some name
-        → option_map (λ p. p.1) (subcommand_rows o) ≡ Some rows → AsksFor (subcommand_rows o) request
+        → option_map (λ p. p.1) (subcommand_rows o) ≡ Some rows → subcommand_rows o ≡ Some (name, rows)
     go None e r = cc
     go (Some b) e r =
         let name_is : (out-SubCommand (box_value b)).name.now ≡ name = cc in
-        let rows_are : rows ≡ rows_of (found_of (out-SubCommand (box_value b)).matches) = cc in
-        (name_is ∙ is, subst (λ (rs : List Row). Asks rs request) rows_are asks)
+        let rows_are : rows_of (found_of (out-SubCommand (box_value b)).matches) ≡ rows = cc in
+        rw (name_is, rows_are) refl
 
--- the name of the command that was found
-pub subcommand_name-rows : (m : ArgMatches) (name : Text) (rows : List Row) → subcommand_rows_of m ≡ Some (name, rows) → subcommand_name_of m ≡ Some name
-subcommand_name-rows m name rows found = go (out-ArgMatches m).subcommand found
+-- none was found
+pub none-rows : (m : ArgMatches) → subcommand_name_of m ≡ None → subcommand_rows_of m ≡ None
+none-rows m none = go (out-ArgMatches m).subcommand none
   where
-    go : {Z : Type 0} (o : Option (Box SubCommand Z)) → subcommand_rows o ≡ Some (name, rows) → option_map (λ b. (out-SubCommand (box_value b)).name.now) o ≡ Some name
-    go None e = cc
-    go (Some b) e = ap (option_map (λ (p : Text × List Row). p.0)) e
+    go : {Z : Type 0} (o : Option (Box SubCommand Z)) → option_map (λ b. (out-SubCommand (box_value b)).name.now) o ≡ None → subcommand_rows o ≡ None
+    go None e = refl
+    go (Some b) e = cc

@@ -1,4 +1,4 @@
--- A command line without a fault names the command `nroff`.
+-- A command line without a fault names one of the commands.
 use Rattle.std.proofs.Common.{◌≡◌, ◌≢◌, ◌∙◌, Bool, true, false, ◌||◌, ◌⊎◌, List, [], ◌∷◌, Option, Some, None, is_some, ap, inl, inr, refl, sym, subst, codes}
 use Rattle.std.specs.Prelude.{fold, bytes_eq}
 use Rattle.std.proofs.lemmas.Slice.Eq.{bytes_eq-Decides}
@@ -7,10 +7,10 @@ use Rattle.clap.specs.Kinds.{Kinds, or_else}
 use Rattle.clap.specs.Lexer.{long_of, short_of}
 use Rattle.clap.specs.Simple.{App, Shape, argument_words, built, entered, label_of, names_of, rows_at}
 use Rattle.clap.specs.Walk.{Held, Names, Outcome, Rule, Step, Text, Waiting, Walk, after_flag, after_step, answers_to, arg_by_index, done, finished, idle, long_or_other, next, nothing_held, option, plain, plain_word, positional, refused, short_or_plain, stop_after, subcommand, subcommand_met, subcommand_or_other, to_positional, trailing, value, waits, walk, walk_from, walked, walked_from, word_met}
-use Rattle.clap.specs.Words.{HasMatchesOf, Row, fault_of, is_simple, subcommand_name_of, subcommand_of}
+use Rattle.clap.specs.Words.{HasMatchesOf, Row, fault_of, is_simple, subcommand_of, subcommand_rows_of}
 use Rattle.clap.specs.declared.parser.matches.ArgMatches.{ArgMatches}
-use Rattle.roff_command.proofs.CommandLine.{roff_app-is_simple, subcommand_name-rows}
-use Rattle.roff_command.specs.CommandLine.{nroff_app, roff_app}
+use Rattle.roff_command.proofs.CommandLine.{roff_app-is_simple}
+use Rattle.roff_command.specs.CommandLine.{asked_by, asked_in, both_app, nroff_app, roff_app, tbl_app}
 
 -- both lists are empty where the first that isn't would count
 or_else-empty : (first second : Kinds) → or_else first second ≡ [] → (first ≡ []) × (second ≡ [])
@@ -113,44 +113,61 @@ abbrev whole : App
 whole = built roff_app
 
 whole-has_help : whole.top.disable_help_subcommand ≡ false
-unfolding roff_app nroff_app
+unfolding roff_app nroff_app tbl_app both_app
 whole-has_help = refl
 
--- of two commands, the one that isn't `help`
-first-entered : (a : App) (n h : Shape) (p : Text × List Text) → a.subs ≡ n ∷ h ∷ [] → n.name ≡ codes "nroff" → h.name ≡ codes "help" → h.aliases ≡ []
-    → p.0 ≢ codes "help" → is_some (entered a (Some p)) ≡ true → (rows : List Row) × (entered a (Some p) ≡ Some (codes "nroff", rows))
-first-entered a n h p subs nroff help no_alias not_help some = go (answers_to p.0 (label_of n)) refl
-  where
-    no : answers_to p.0 (label_of h) ≡ true → ⊥
-    no e = elim (either (bytes_eq h.name p.0) _ e) [
-      | inl same ↦ not_help (sym ((bytes_eq-Decides h.name p.0).0 same) ∙ help)
-      | inr alias ↦ let bad = rw no_alias at alias in cc
-    ]
+-- a command that was found: it is one of the program's
+record Entered (found : Option (Text × List Row)) : Type 0 where
+  name : Text
+  rows : List Row
+  is : found ≡ Some (name, rows)
+  asks : is_some (asked_by name rows) ≡ true
 
-    go : (b : Bool) → answers_to p.0 (label_of n) ≡ b → (rows : List Row) × (entered a (Some p) ≡ Some (codes "nroff", rows))
-    go true e = ((rows_at n p.1).1, rw (subs, e, nroff) refl)
-    go false e = absurd (second (answers_to p.0 (label_of h)) refl)
-      where
-        second : (b : Bool) → answers_to p.0 (label_of h) ≡ b → ⊥
-        second true e2 = no e2
-        second false e2 =
-            let bad = rw (subs, e, e2) at some in
-            cc
+-- the name is that of a command, and not of another one
+no_alias : (s : Shape) (name word : Text) → s.name ≡ name → s.aliases ≡ [] → word ≢ name → answers_to word (label_of s) ≡ true → ⊥
+no_alias s name word is none other e = elim (either (bytes_eq s.name word) _ e) [
+  | inl same ↦ other (sym ((bytes_eq-Decides s.name word).0 same) ∙ is)
+  | inr alias ↦ let bad = rw none at alias in cc
+]
 
--- a command that the words go down to is `nroff`
-entered-nroff : (stop : Option (Text × List Text)) → IsNotHelp stop → is_some (entered whole stop) ≡ true
-    → (rows : List Row) × (entered whole stop ≡ Some (codes "nroff", rows))
-unfolding roff_app nroff_app
-entered-nroff None not_help some = cc
-entered-nroff (Some p) not_help some = first-entered whole _ _ p refl refl refl refl not_help some
+-- of four commands, one that isn't `help`
+module _ (a : App) (n t b h : Shape) (p : Text × List Text) (subs : a.subs ≡ n ∷ t ∷ b ∷ h ∷ [])
+    (nroff : n.name ≡ codes "nroff") (tbl : t.name ≡ codes "tbl") (both : b.name ≡ codes "both") (help : h.name ≡ codes "help") (no_aliases : h.aliases ≡ [])
+    (not_help : p.0 ≢ codes "help") (some : is_some (entered a (Some p)) ≡ true) where
+  met-help : (answers : Bool) → answers_to p.0 (label_of h) ≡ answers → answers_to p.0 (label_of n) ≡ false → answers_to p.0 (label_of t) ≡ false
+      → answers_to p.0 (label_of b) ≡ false → ⊥
+  met-help true e not_nroff not_tbl not_both = no_alias h (codes "help") p.0 help no_aliases not_help e
+  met-help false e not_nroff not_tbl not_both =
+      let bad = rw (subs, not_nroff, not_tbl, not_both, e) at some in
+      cc
+
+  met-both : (answers : Bool) → answers_to p.0 (label_of b) ≡ answers → answers_to p.0 (label_of n) ≡ false → answers_to p.0 (label_of t) ≡ false → Entered (entered a (Some p))
+  met-both true e not_nroff not_tbl =
+      record { name = codes "both"; rows = (rows_at b p.1).1; is = rw (subs, not_nroff, not_tbl, e, both) refl; asks = refl }
+  met-both false e not_nroff not_tbl = absurd (met-help (answers_to p.0 (label_of h)) refl not_nroff not_tbl e)
+
+  met-tbl : (answers : Bool) → answers_to p.0 (label_of t) ≡ answers → answers_to p.0 (label_of n) ≡ false → Entered (entered a (Some p))
+  met-tbl true e not_nroff = record { name = codes "tbl"; rows = (rows_at t p.1).1; is = rw (subs, not_nroff, e, tbl) refl; asks = refl }
+  met-tbl false e not_nroff = met-both (answers_to p.0 (label_of b)) refl not_nroff e
+
+  met-nroff : (answers : Bool) → answers_to p.0 (label_of n) ≡ answers → Entered (entered a (Some p))
+  met-nroff true e = record { name = codes "nroff"; rows = (rows_at n p.1).1; is = rw (subs, e, nroff) refl; asks = refl }
+  met-nroff false e = met-tbl (answers_to p.0 (label_of t)) refl e
+
+-- a command that the words go down to is one of the program's
+entered-whole : (stop : Option (Text × List Text)) → IsNotHelp stop → is_some (entered whole stop) ≡ true → Entered (entered whole stop)
+unfolding roff_app nroff_app tbl_app both_app
+entered-whole None not_help some = cc
+entered-whole (Some p) not_help some =
+    met-nroff whole _ _ _ _ p refl refl refl refl refl refl not_help some (answers_to p.0 (label_of nroff_app.top)) refl
 
 check-has_subcommand : (rows : List Row) (has : Bool) → check_fault whole.top rows has ≡ [] → has ≡ true
-unfolding roff_app nroff_app
+unfolding roff_app nroff_app tbl_app both_app
 check-has_subcommand rows true empty = refl
 check-has_subcommand rows false empty = cc
 
--- without a fault the words name the command `nroff`
-faultless-subcommand_of : (words : List Text) → fault_of roff_app words ≡ [] → (rows : List Row) × (subcommand_of roff_app words ≡ Some (codes "nroff", rows))
+-- without a fault the words name one of the commands
+faultless-subcommand_of : (words : List Text) → fault_of roff_app words ≡ [] → Entered (subcommand_of roff_app words)
 faultless-subcommand_of words empty =
     let given = argument_words roff_app words in
     let stop = stop_after whole.top.rules (names_of whole) given in
@@ -158,13 +175,21 @@ faultless-subcommand_of words empty =
     let below = or_else-empty (entered_fault whole stop) _ walked_faultless.1 in
     let settled = or_else-empty _ _ below.1 in
     let defaults = or_else-empty _ _ settled.1 in
-    entered-nroff stop (walk-IsNotHelp whole.top (names_of whole) given (walk_from nothing_held) whole-has_help tt walked_faultless.0)
+    entered-whole stop (walk-IsNotHelp whole.top (names_of whole) given (walk_from nothing_held) whole-has_help tt walked_faultless.0)
     (check-has_subcommand (finished whole.top.rules (walk whole.top.rules (names_of whole) nothing_held given).held) (is_some (entered whole stop)) defaults.1)
 
--- so the parser finds that command
-pub faultless-subcommand_name_of : (m : ArgMatches) (app : App) (words : List Text) → app ≡ roff_app → HasMatchesOf app words m → fault_of app words ≡ []
-    → subcommand_name_of m ≡ Some (codes "nroff")
-faultless-subcommand_name_of m app words is has empty =
+-- so what the parser finds asks for something
+faultless-asked : (m : ArgMatches) (app : App) (words : List Text) → app ≡ roff_app → HasMatchesOf app words m → fault_of app words ≡ []
+    → is_some (asked_in (subcommand_rows_of m)) ≡ true
+faultless-asked m app words is has empty =
     let named = faultless-subcommand_of words (ap (λ (a : App). fault_of a words) (sym is) ∙ empty) in
     let matches = has (ap is_simple is ∙ roff_app-is_simple) in
-    subcommand_name-rows m (codes "nroff") named.0 (matches.1 ∙ (ap (λ (a : App). subcommand_of a words) is ∙ named.1))
+    rw (matches.1 ∙ (ap (λ (a : App). subcommand_of a words) is ∙ named.is)) named.asks
+
+-- where it asks for nothing there is a fault
+pub nothing_asked-fault : (m : ArgMatches) (app : App) (words : List Text) → app ≡ roff_app → HasMatchesOf app words m
+    → asked_in (subcommand_rows_of m) ≡ None → fault_of app words ≡ [] → ⊥
+nothing_asked-fault m app words is has none empty =
+    let asked = faultless-asked m app words is has empty in
+    let bad = rw none at asked in
+    cc

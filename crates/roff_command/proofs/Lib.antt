@@ -1,3 +1,3 @@
 pub mod CommandLine
 pub mod Commands
-pub mod Options
+pub mod OptionLaws

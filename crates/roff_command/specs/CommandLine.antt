@@ -1,5 +1,5 @@
 -- The command line: its commands, options and operands, and what its words ask for.
-use Rattle.std.specs.Prelude.{◌≡◌, ◌≢◌, ◌⊎◌, ◌^◌, ◌-◌, ◌&&◌, ℕ, true, List, [], ◌∷◌, length, map, fold, nat_lt, Option, Some, None, if◌then◌else◌, option_and_then, unwrap_or, codes, decimal, pos}
+use Rattle.std.specs.Prelude.{◌≡◌, ◌≢◌, ◌⊎◌, ◌^◌, ◌-◌, ◌&&◌, ℕ, true, List, [], ◌∷◌, length, map, fold, bytes_eq, nat_lt, Option, Some, None, if◌then◌else◌, option_and_then, unwrap_or, codes, decimal, pos}
 use Rattle.std.specs.Char.{digit_value}
 use Rattle.std.specs.List.{list_all}
 use Rattle.std.specs.Str.Parse.{digits_value, without_leading_plus}
@@ -9,23 +9,49 @@ use Rattle.clap.specs.declared.error.ErrorKind.{ErrorKind}
 use Rattle.clap.specs.declared.error.ErrorKind.TheVariants.{DisplayHelp, DisplayVersion}
 use Rattle.clap.specs.declared.builder.value_parser.ValueParser.TheVariants.{Signed}
 use Rattle.roff_num.specs.declared.limit.Limit.{Limit}
-use Rattle.roff_num.specs.declared.limit.Limit.TheVariants.{Bytes, Store, Stack, Depth, Names, Line, Traps, Output, Diversions, Environments, Conditions}
+use Rattle.roff_num.specs.declared.limit.Limit.TheVariants.{Bytes, Store, Stack, Depth, Names, Line, Traps, Output, Diversions, Environments, Conditions, Rows, Columns, Text as TableText, Width, TblBytes}
 use Rattle.roff_num.specs.declared.limits.Limits.{Limits}
 use Rattle.roff_num.specs.Clauses.{default_limits, limit_name, limits_with, value_of}
-use Rattle.roff_command.specs.declared.command.Request.{Request}
+use Rattle.tbl_layout.specs.declared.limits.TblLimits.{TblLimits}
+use Rattle.tbl_layout.specs.TblLimits.{default_tbl_limits, tbl_limits_with, tbl_value_of}
+use Rattle.roff_command.specs.declared.options.LimitOf.{LimitOf}
+use Rattle.roff_command.specs.declared.options.LimitOf.TheVariants.{Formatter, Tables}
+use Rattle.roff_command.specs.declared.request.Asked.{Asked}
+use Rattle.roff_command.specs.declared.request.Asked.TheVariants.{Nroff, Tbl, Both}
+use Rattle.roff_command.specs.declared.request.Request.{Request}
 
--- the limits that have an option, in the order of help
+-- the limits of the formatter that have an option, in the order of help
 abbrev pub option_limits : List Limit
 option_limits = Bytes ∷ Store ∷ Stack ∷ Depth ∷ Names ∷ Line ∷ Traps ∷ Output ∷ Diversions ∷ Environments ∷ Conditions ∷ []
 
--- a limit's option: it has the limit's name and default, and takes a number from 0 to 1,000,000,000
-abbrev pub limit_option : Limit → Rule
-limit_option limit = record (new_rule (limit_name limit)) {
-  long = Some (limit_name limit);
+-- those of tables beside the formatter, and those of tables alone
+abbrev pub table_limits : List Limit
+table_limits = Rows ∷ Columns ∷ TableText ∷ Width ∷ []
+
+abbrev pub tbl_limits : List Limit
+tbl_limits = Rows ∷ Columns ∷ TableText ∷ Width ∷ TblBytes ∷ Output ∷ []
+
+-- an option that takes a number from 0 to 1,000,000,000, with its default
+abbrev pub number_option : Text → ℕ → Rule
+number_option name default = record (new_rule name) {
+  long = Some name;
   value_names = 1;
   parser = Some (Signed (pos 0) (pos 1000000000));
-  defaults = decimal (value_of default_limits limit) ∷ [];
+  defaults = decimal default ∷ [];
 }
+
+-- a limit's default
+abbrev pub default_of : LimitOf → Limit → ℕ
+default_of Formatter limit = value_of default_limits limit
+default_of Tables limit = tbl_value_of default_tbl_limits limit
+
+-- its option has its name and default
+abbrev pub limit_option : LimitOf → Limit → Rule
+limit_option of limit = number_option (limit_name limit) (default_of of limit)
+
+-- the line length, in columns, within which tables are centred
+abbrev pub line_length_option : Rule
+line_length_option = number_option (codes "line-length") 65
 
 -- the operands: any number of files, and standard input where there is none
 abbrev pub file_operand : Rule
@@ -35,15 +61,28 @@ file_operand = record (new_rule (codes "FILE")) {
   defaults = codes "-" ∷ [];
 }
 
--- the command `nroff`
+-- a command of this name, before its options
+abbrev pub command_named : Text → App
+command_named name = with_rule (new_app name) file_operand
+
+-- the command `nroff` formats text, `tbl` puts pictures for tables, and `both` does one behind the other
 unfoldable pub nroff_app : App
-nroff_app = fold with_rule (with_rule (new_app (codes "nroff")) file_operand) (map limit_option option_limits)
+nroff_app = fold with_rule (command_named (codes "nroff")) (map (limit_option Formatter) option_limits)
+
+unfoldable pub tbl_app : App
+tbl_app = with_rule (fold with_rule (command_named (codes "tbl")) (map (limit_option Tables) tbl_limits)) line_length_option
+
+unfoldable pub both_app : App
+both_app =
+    let formatter = fold with_rule (command_named (codes "both")) (map (limit_option Formatter) option_limits) in
+    with_rule (fold with_rule formatter (map (limit_option Tables) table_limits)) line_length_option
 
 -- the program `roff`: it has a version, and wants a command
 unfoldable pub roff_app : App
 roff_app =
     let roff = new_app (codes "roff") in
-    with_subcommand (record roff { top = record roff.top { has_version = true; subcommand_required = true } }) nroff_app.top
+    let top = record roff { top = record roff.top { has_version = true; subcommand_required = true } } in
+    with_subcommand (with_subcommand (with_subcommand top nroff_app.top) tbl_app.top) both_app.top
 
 -- the number that a text writes, if it writes one below 2^32
 abbrev pub number_of : Text → Option ℕ
@@ -53,43 +92,69 @@ number_of text =
     then Some (digits_value 10 digits)
     else None
 
--- the limits with one of them set, if there is a number for it
-abbrev pub limits_set : Limits → Limit → Option ℕ → Limits
-limits_set l limit None = l
-limits_set l limit (Some n) = limits_with l limit n
-
 -- the number that a limit's option is given
 abbrev pub number_asked : List Row → Limit → Option ℕ
 number_asked rows limit = option_and_then number_of (one_of (limit_name limit) rows)
 
--- the limits with one of them set by its option
-abbrev pub limits_asked_by : List Row → Limits → Limit → Limits
-limits_asked_by rows l limit = limits_set l limit (number_asked rows limit)
+-- limits with one of them set, if there is a number for it; how one is set is passed
+abbrev pub set_if_asked : {L : Type 0} → (L → Limit → ℕ → L) → L → Limit → Option ℕ → L
+set_if_asked set l limit None = l
+set_if_asked set l limit (Some n) = set l limit n
+
+-- limits with one of them set by its option
+abbrev pub set_by : {L : Type 0} → (L → Limit → ℕ → L) → List Row → L → Limit → L
+set_by set rows l limit = set_if_asked set l limit (number_asked rows limit)
 
 -- the limits that the options ask for, and the default of each other one
 abbrev pub limits_asked : List Row → Limits
-limits_asked rows = fold (limits_asked_by rows) default_limits option_limits
+limits_asked rows = fold (set_by limits_with rows) default_limits option_limits
+
+abbrev pub tbl_limits_asked : List Row → TblLimits
+tbl_limits_asked rows = fold (set_by tbl_limits_with rows) default_tbl_limits tbl_limits
+
+-- beside the formatter: its limit on the bytes of the input is that of tables too
+abbrev pub table_limits_asked : List Row → TblLimits
+table_limits_asked rows =
+    record (fold (set_by tbl_limits_with rows) default_tbl_limits table_limits) { bytes = (limits_asked rows).bytes }
+
+-- the line length that is asked for
+abbrev pub line_length_asked : List Row → ℕ
+line_length_asked rows = unwrap_or (option_and_then number_of (one_of (codes "line-length") rows)) 65
+
+-- what a command's options ask for, by its name
+abbrev pub asked_by : Text → List Row → Option Asked
+asked_by name rows =
+    if bytes_eq name (codes "nroff") then Some (Nroff (limits_asked rows))
+    else if bytes_eq name (codes "tbl") then Some (Tbl (tbl_limits_asked rows) (line_length_asked rows))
+    else if bytes_eq name (codes "both") then Some (Both (limits_asked rows) (table_limits_asked rows) (line_length_asked rows))
+    else None
+
+-- the same of the command that the parser found
+abbrev pub asked_in : Option (Text × List Row) → Option Asked
+asked_in None = None
+asked_in (Some (name, rows)) = asked_by name rows
 
 -- each limit has the number that its option is given, and its default where it is given none; one without an
--- option is of tables, and none of the formatter's
-abbrev pub EachOptionSetsItsLimit : Type 0
-EachOptionSetsItsLimit = (rows : List Row) (limit : Limit)
-    → (value_of (limits_asked rows) limit ≡ unwrap_or (number_asked rows limit) (value_of default_limits limit))
-    ⊎ ((l : Limits) → value_of l limit ≡ 0)
+-- option is none of these
+abbrev pub EachOptionSetsItsLimit : {L : Type 0} → (L → Limit → ℕ) → (List Row → L) → L → Type 0
+EachOptionSetsItsLimit {L} value asked default =
+    (rows : List Row) (limit : Limit)
+    → (value (asked rows) limit ≡ unwrap_or (number_asked rows limit) (value default limit))
+    ⊎ ((l : L) → value l limit ≡ 0)
 
 -- the files that the operands name
 abbrev pub files_asked : List Row → List Text
 files_asked rows = unwrap_or (all_of (codes "FILE") rows) []
 
--- the request is for these files, with these limits
-pub record Asks (rows : List Row) (request : Request) : Type 0 where
-  pub files : map (λ name. name.now) request.files.items ≡ files_asked rows
-  pub limits : request.limits ≡ limits_asked rows
+-- the request is for these files, and what the command's options ask for
+pub record Asks (name : Text) (rows : List Row) (request : Request) : Type 0 where
+  pub files : map (λ file. file.now) request.files.items ≡ files_asked rows
+  pub asked : Some request.asked ≡ asked_by name rows
 
 -- the request is for the command that the parser found, with its options and operands
 abbrev pub AsksFor : Option (Text × List Row) → Request → Type 0
 AsksFor None request = ⊥
-AsksFor (Some (name, rows)) request = (name ≡ codes "nroff") × Asks rows request
+AsksFor (Some (name, rows)) request = Asks name rows request
 
 -- the words ask for help or for the version
 abbrev pub AskForHelp : Kinds → Type 0

@@ -3,25 +3,35 @@ use Rattle.std.specs.Prelude.{ℕ, List, ◌∷◌, codes, Option, Some, None, i
 use Rattle.clap.specs.Words.{Kinds, Text, fault_of, subcommand_of, takes}
 use Rattle.roff_num.specs.declared.limits.Limits.{Limits}
 use Rattle.roff_num.specs.Clauses.{default_limits}
-use Rattle.roff_command.specs.CommandLine.{files_asked, limits_asked, roff_app}
+use Rattle.tbl_layout.specs.declared.limits.TblLimits.{TblLimits}
+use Rattle.roff_command.specs.CommandLine.{asked_by, files_asked, roff_app}
+use Rattle.roff_command.specs.declared.request.Asked.{Asked}
+use Rattle.roff_command.specs.declared.request.Asked.TheVariants.{Nroff, Tbl, Both}
 
--- a command, the files that it is asked to read and its limits
-pub record Asked : Type 0 where
-  pub command : Text
+-- the files that a command is asked to read, and what its options ask for
+pub record AskedOf : Type 0 where
   pub files : List Text
-  pub limits : Limits
+  pub asked : Option Asked
 
 -- what the words ask for, where they are in order
-abbrev pub asked : List Text → Option Asked
+abbrev pub asked : List Text → Option AskedOf
 asked words =
     let all = codes "roff" ∷ words in
     if takes roff_app all
-    then option_map (λ p. record { command = p.0; files = files_asked p.1; limits = limits_asked p.1 }) (subcommand_of roff_app all)
+    then option_map (λ p. record { files = files_asked p.1; asked = asked_by p.0 p.1 }) (subcommand_of roff_app all)
     else None
 
 -- `nroff` with these files and these limits
-abbrev pub formats : List Text → Limits → Option Asked
-formats files limits = Some (record { command = codes "nroff"; files = files; limits = limits })
+abbrev pub formats : List Text → Limits → Option AskedOf
+formats files limits = Some (record { files = files; asked = Some (Nroff limits) })
+
+-- `tbl`, and `both`, for this line length
+abbrev pub tables : List Text → TblLimits → ℕ → Option AskedOf
+tables files limits line_length = Some (record { files = files; asked = Some (Tbl limits line_length) })
+
+abbrev pub formats_tables : List Text → Limits → TblLimits → ℕ → Option AskedOf
+formats_tables files limits table_limits line_length =
+    Some (record { files = files; asked = Some (Both limits table_limits line_length) })
 
 -- the default limits, with these on the bytes and on a line
 abbrev pub limited : ℕ → ℕ → Limits
@@ -42,6 +52,10 @@ numbered = record {
   environments = 10;
   conditions = 11;
 }
+
+-- the same of the limits of tables
+abbrev pub tables_numbered : TblLimits
+tables_numbered = record { rows = 1; columns = 2; text = 3; width = 4; bytes = 5; output = 6 }
 
 -- the fault of the words
 abbrev pub fault : List Text → Kinds

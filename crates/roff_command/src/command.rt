@@ -1,112 +1,43 @@
-//! The command line: its commands and options, and what its words ask for.
+//! The program's commands, with their options, as the parser takes them.
 
-ghost use Rattle.std.specs.Prelude.{◌≡◌, true, IfOk, IfErr, fold, map};
-ghost use Rattle.roff_command.specs.Clauses.{Asks, AsksFor, FailsBy, app_of, default_limits};
-ghost use Rattle.roff_command.specs.Clauses.{fault_of, file_operand, found_of, kind_of, limit_option};
-ghost use Rattle.roff_command.specs.Clauses.{limits_asked_by, limits_set, nroff_app, roff_app};
-ghost use Rattle.roff_command.specs.Clauses.{rows_of, rule_of, subcommand_of, takes, with_rule};
+ghost use Rattle.std.specs.Prelude.{◌≡◌, ℕ, IfOk, decimal, fold, map};
+ghost use Rattle.roff_command.specs.Clauses.{app_of, both_app, command_named, file_operand};
+ghost use Rattle.roff_command.specs.Clauses.{limit_option, line_length_option, nroff_app};
+ghost use Rattle.roff_command.specs.Clauses.{number_option, roff_app, rule_of, tbl_app, with_rule};
 
+use crate::options::{FORMATTER_OPTIONS, LimitOption, TABLE_OPTIONS, TBL_OPTIONS, default_text};
 use crate::texts;
-use clap::error::ErrorKind;
-use clap::{Arg, ArgAction, ArgMatches, Command, Error, value_parser};
-use roff_num::{Limit, Limits};
+use clap::{Arg, ArgAction, Command, value_parser};
 use std::alloc::{AllocError, Global};
-use std::convert::AsStr;
 
 const ROFF: &str = "roff";
 
-const NROFF: &str = "nroff";
+/// The command that formats text.
+pub const NROFF: &str = "nroff";
 
-const FILE: &str = "FILE";
+/// The command that puts pictures in the places of tables.
+pub const TBL: &str = "tbl";
+
+/// The command that does both.
+pub const BOTH: &str = "both";
+
+/// The operands.
+pub const FILE: &str = "FILE";
+
+/// The option of the line length.
+pub const LINE_LENGTH: &str = "line-length";
+
+/// The line length, in columns, where no option sets it.
+pub const DEFAULT_LINE_LENGTH: u32 = 65;
 
 /// The name of standard input among the files.
 pub const STANDARD_INPUT: &str = "-";
 
-/// The greatest value that an option of a limit takes.
-const GREATEST_LIMIT: i64 = 1_000_000_000;
+/// The greatest value that an option takes.
+const GREATEST_NUMBER: i64 = 1_000_000_000;
 
-/// An option that sets a limit. It has the limit's name.
-struct LimitOption {
-    limit: Limit,
-    help: &'static str,
-}
-
-/// The options that set limits. The parser takes them, and their values are read, by this table.
-static LIMIT_OPTIONS: [LimitOption; 11] = [
-    LimitOption {
-        limit: Limit::Bytes,
-        help: texts::BYTES,
-    },
-    LimitOption {
-        limit: Limit::Store,
-        help: texts::STORE,
-    },
-    LimitOption {
-        limit: Limit::Stack,
-        help: texts::STACK,
-    },
-    LimitOption {
-        limit: Limit::Depth,
-        help: texts::DEPTH,
-    },
-    LimitOption {
-        limit: Limit::Names,
-        help: texts::NAMES,
-    },
-    LimitOption {
-        limit: Limit::Line,
-        help: texts::LINE,
-    },
-    LimitOption {
-        limit: Limit::Traps,
-        help: texts::TRAPS,
-    },
-    LimitOption {
-        limit: Limit::Output,
-        help: texts::OUTPUT,
-    },
-    LimitOption {
-        limit: Limit::Diversions,
-        help: texts::DIVERSIONS,
-    },
-    LimitOption {
-        limit: Limit::Environments,
-        help: texts::ENVIRONMENTS,
-    },
-    LimitOption {
-        limit: Limit::Conditions,
-        help: texts::CONDITIONS,
-    },
-];
-
-/// What a command line asks for.
-#[derive(Drop)]
-pub struct Request<'a> {
-    /// The limits that the formatter is to stay within.
-    pub limits: Limits,
-    /// The files to be read, in their order. `STANDARD_INPUT` is among them where it is meant.
-    pub files: Vec<&'a str>,
-}
-
-/// Reads the words of a command line, the first of which names the program. An `Err` holds the
-/// text to be shown: a mistake in the words, or what `--help` or `--version` asks for.
-pub fn parse_words<'a, S: AsStr>(alloc: Global, words: &'a [S]) -> Result<Request<'a>, Error>
-    ensures ok { IfOk result (AsksFor (subcommand_of roff_app (map S.text words.entry.now))) }
-    // The error is the first fault of the words; where they are in order, memory is missing.
-    ensures fault { FailsBy (fault_of roff_app (map S.text words.entry.now)) result }
-    ensures taken { IfErr result (λ e. takes roff_app (map S.text words.entry.now) ≡ true
-        → kind_of e ≡ ErrorKind.OutOfMemory) }
-{
-    let mut command = roff_command(alloc)?;
-    let matches = command.try_get_matches_from_mut(words)?;
-    match matches.subcommand_matches(NROFF) {
-        Some(nroff) => Ok(nroff_request(alloc, nroff)?),
-        // The parser wants a command, and this is the only one.
-        None => Err(command.error(ErrorKind::MissingSubcommand, "a command is missing")?),
-    }
-}
-
-fn roff_command<'a>(alloc: Global) -> Result<Command<'a>, AllocError>
+/// The program, with its commands.
+pub fn roff_command<'a>(alloc: Global) -> Result<Command<'a>, AllocError>
     ensures { IfOk result (λ command. app_of command ≡ roff_app) }
 {
     Command::new(alloc, ROFF)
@@ -114,17 +45,46 @@ fn roff_command<'a>(alloc: Global) -> Result<Command<'a>, AllocError>
         .about(texts::ROFF)
         .after_help(texts::ROFF_NOTES)
         .subcommand_required(true)
-        .subcommand(nroff_command(alloc)?)
+        .subcommand(nroff_command(alloc)?)?
+        .subcommand(tbl_command(alloc)?)?
+        .subcommand(both_command(alloc)?)
 }
 
 fn nroff_command<'a>(alloc: Global) -> Result<Command<'a>, AllocError>
     ensures { IfOk result (λ command. app_of command ≡ nroff_app) }
 {
-    let command = Command::new(alloc, NROFF)
-        .about(texts::NROFF)
-        .after_help(texts::NROFF_NOTES)
-        .arg(file_argument(alloc))?;
-    with_options(alloc, command, &LIMIT_OPTIONS)
+    let command = command(alloc, NROFF, texts::NROFF, texts::NROFF_NOTES)?;
+    with_options(alloc, command, &FORMATTER_OPTIONS)
+}
+
+fn tbl_command<'a>(alloc: Global) -> Result<Command<'a>, AllocError>
+    ensures { IfOk result (λ command. app_of command ≡ tbl_app) }
+{
+    let command = command(alloc, TBL, texts::TBL, texts::TBL_NOTES)?;
+    with_options(alloc, command, &TBL_OPTIONS)?.arg(line_length_argument(alloc))
+}
+
+fn both_command<'a>(alloc: Global) -> Result<Command<'a>, AllocError>
+    ensures { IfOk result (λ command. app_of command ≡ both_app) }
+{
+    let command = command(alloc, BOTH, texts::BOTH, texts::BOTH_NOTES)?;
+    let command = with_options(alloc, command, &FORMATTER_OPTIONS)?;
+    with_options(alloc, command, &TABLE_OPTIONS)?.arg(line_length_argument(alloc))
+}
+
+/// A command of this name, before its options.
+fn command<'a>(
+    alloc: Global,
+    name: &'static str,
+    about: &'static str,
+    notes: &'static str,
+) -> Result<Command<'a>, AllocError>
+    ensures { IfOk result (λ command. app_of command ≡ command_named name.now) }
+{
+    Command::new(alloc, name)
+        .about(about)
+        .after_help(notes)
+        .arg(file_argument(alloc))
 }
 
 fn with_options<'a>(
@@ -134,7 +94,7 @@ fn with_options<'a>(
 ) -> Result<Command<'a>, AllocError>
     ensures { IfOk result (λ r. app_of r
         ≡ fold with_rule (app_of command.entry)
-        (map (λ option. limit_option option.limit) options.now)) }
+        (map (λ option. limit_option option.of option.limit) options.now)) }
 {
     let mut command = command;
     for option in options {
@@ -154,45 +114,35 @@ fn file_argument<'a>(alloc: Global) -> Arg<'a>
 }
 
 fn limit_argument<'a>(alloc: Global, option: &'static LimitOption) -> Arg<'a>
-    ensures { rule_of result ≡ limit_option option.now.limit }
+    ensures { rule_of result ≡ limit_option option.now.of option.now.limit }
 {
-    Arg::new(alloc, option.limit.name())
-        .long(option.limit.name())
+    number_argument(
+        alloc,
+        option.limit.name(),
+        default_text(option.of, option.limit),
+        option.help,
+    )
+}
+
+fn line_length_argument<'a>(alloc: Global) -> Arg<'a>
+    ensures { rule_of result ≡ line_length_option }
+{
+    number_argument(alloc, LINE_LENGTH, "65", texts::LINE_LENGTH)
+}
+
+/// An option that takes a number.
+fn number_argument<'a>(
+    alloc: Global,
+    name: &'static str,
+    default: &'static str,
+    help: &'static str,
+) -> Arg<'a>
+    ensures { (n : ℕ) → default.now ≡ decimal n → rule_of result ≡ number_option name.now n }
+{
+    Arg::new(alloc, name)
+        .long(name)
         .value_name("N")
-        .value_parser(value_parser!(u32).range(0..=GREATEST_LIMIT))
-        .default_value(Limits::default_text(option.limit))
-        .help(option.help)
-}
-
-/// The request of a command `nroff`.
-fn nroff_request<'a>(alloc: Global, nroff: &ArgMatches<'a>) -> Result<Request<'a>, AllocError>
-    ensures { IfOk result (Asks (rows_of (found_of nroff.now))) }
-{
-    let mut files = Vec::new(alloc);
-    files.extend_from_slice(nroff.get_strs(FILE).unwrap_or(&[]))?;
-    Ok(Request {
-        limits: read_limits(nroff, &LIMIT_OPTIONS),
-        files,
-    })
-}
-
-fn read_limits(matches: &ArgMatches<'_>, options: &[LimitOption]) -> Limits
-    ensures { result ≡ fold (limits_asked_by (rows_of (found_of matches.now))) default_limits
-        (map (λ option. option.limit) options.now) }
-{
-    let mut limits = Limits::default();
-    for option in options {
-        let number = matches.get_one::<u32>(option.limit.name());
-        set_limit(&mut limits, option.limit, number);
-    }
-    limits
-}
-
-/// Sets a limit, if there is a number for it.
-fn set_limit(limits: &mut Limits, limit: Limit, number: Option<u32>)
-    ensures { limits.new ≡ limits_set limits.old limit number }
-{
-    if let Some(number) = number {
-        limits.set(limit, number);
-    }
+        .value_parser(value_parser!(u32).range(0..=GREATEST_NUMBER))
+        .default_value(default)
+        .help(help)
 }

@@ -2,13 +2,17 @@
 
 ghost use Rattle.std.specs.Prelude.{◌≡◌, [], ◌∷◌, codes};
 ghost use Rattle.roff_command.specs.Clauses.{ArgumentConflict, DisplayHelp, DisplayVersion};
-ghost use Rattle.roff_command.specs.Clauses.{EachOptionSetsItsLimit, InvalidValue, MissingSubcommand};
-ghost use Rattle.roff_command.specs.Clauses.{UnknownArgument, ValueValidation, asked, default_limits};
-ghost use Rattle.roff_command.specs.Clauses.{fault, formats, limited, numbered};
+ghost use Rattle.roff_command.specs.Clauses.{EachOptionSetsItsLimit, InvalidValue};
+ghost use Rattle.roff_command.specs.Clauses.{MissingSubcommand, UnknownArgument, ValueValidation};
+ghost use Rattle.roff_command.specs.Clauses.{asked, default_limits, default_tbl_limits, fault};
+ghost use Rattle.roff_command.specs.Clauses.{formats, formats_tables, limited, limits_asked};
+ghost use Rattle.roff_command.specs.Clauses.{numbered, tables, tables_numbered, tbl_limits_asked};
+ghost use Rattle.roff_command.specs.Clauses.{tbl_value_of, value_of};
 
-/// Each limit of the formatter has an option, which sets it alone.
+/// Each limit of the formatter has an option, which sets it alone; and so has each of tables.
 pub fn limit_options()
-    ensures each { EachOptionSetsItsLimit }
+    ensures each { EachOptionSetsItsLimit value_of limits_asked default_limits }
+    ensures of_tables { EachOptionSetsItsLimit tbl_value_of tbl_limits_asked default_tbl_limits }
 {}
 
 /// What command lines ask for: files and limits.
@@ -26,6 +30,16 @@ pub fn command_lines()
         ∷ codes "--bytes=1" ∷ []) ≡ formats (codes "-" ∷ []) numbered }
     ensures operands { asked (codes "nroff" ∷ codes "--" ∷ codes "--line" ∷ codes "-" ∷ [])
         ≡ formats (codes "--line" ∷ codes "-" ∷ []) default_limits }
+    ensures tables { asked (codes "tbl" ∷ codes "a" ∷ [])
+        ≡ tables (codes "a" ∷ []) default_tbl_limits 65 }
+    ensures all_of_tables { asked (codes "tbl" ∷ codes "--output=6" ∷ codes "--bytes=5"
+        ∷ codes "--width=4" ∷ codes "--text=3" ∷ codes "--columns=2" ∷ codes "--rows=1"
+        ∷ codes "--line-length=7" ∷ [])
+        ≡ tables (codes "-" ∷ []) tables_numbered 7 }
+    ensures both { asked (codes "both" ∷ codes "--bytes=7" ∷ codes "--line=0"
+        ∷ codes "--line-length" ∷ codes "21" ∷ codes "a" ∷ [])
+        ≡ formats_tables (codes "a" ∷ []) (limited 7 0)
+        (record default_tbl_limits { bytes = 7 }) 21 }
 {}
 
 /// The faults of command lines.
@@ -43,4 +57,6 @@ pub fn command_line_faults()
     ensures no_value { fault (codes "nroff" ∷ codes "--bytes" ∷ []) ≡ InvalidValue ∷ [] }
     ensures twice { fault (codes "nroff" ∷ codes "--line=1" ∷ codes "--line=2" ∷ [])
         ≡ ArgumentConflict ∷ [] }
+    ensures not_of_tables { fault (codes "tbl" ∷ codes "--depth=1" ∷ []) ≡ UnknownArgument ∷ [] }
+    ensures not_of_text { fault (codes "nroff" ∷ codes "--rows=1" ∷ []) ≡ UnknownArgument ∷ [] }
 {}

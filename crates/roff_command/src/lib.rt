@@ -3,6 +3,11 @@
 
 mod command;
 pub mod laws;
+mod options;
+mod request;
 mod texts;
+mod words;
 
-pub use command::{Request, STANDARD_INPUT, parse_words};
+pub use command::STANDARD_INPUT;
+pub use request::{Asked, Request};
+pub use words::parse_words;

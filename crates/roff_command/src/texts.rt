@@ -9,6 +9,12 @@ pub const ROFF: &str = "Format documents of the roff language as plain text";
 /// What the command `nroff` does.
 pub const NROFF: &str = "Format text for a terminal or a line printer";
 
+/// What the command `tbl` does.
+pub const TBL: &str = "Put pictures in the places of tables, for nroff to print";
+
+/// What the command `both` does.
+pub const BOTH: &str = "Format text with tables: tbl, and behind it nroff";
+
 /// What the operands are.
 pub const FILE: &str = "Files to be read; '-' is standard input";
 
@@ -45,9 +51,27 @@ pub const ENVIRONMENTS: &str = "Most environments not gone back from";
 /// What the option `--conditions` bounds.
 pub const CONDITIONS: &str = "Most conditions that wait for .el";
 
-// Help ends in these lines, after what it says of the command itself.
+/// What the option `--rows` bounds.
+pub const ROWS: &str = "Most rows of a table";
+
+/// What the option `--columns` bounds.
+pub const COLUMNS: &str = "Most columns of a table";
+
+/// What the option `--text` bounds.
+pub const TEXT: &str = "Most bytes of a table's lines";
+
+/// What the option `--width` bounds.
+pub const WIDTH: &str = "Most columns of a table's picture";
+
+/// What the option `--line-length` sets.
+pub const LINE_LENGTH: &str = "Columns within which tables are centred";
+
+// Help ends in these lines, after what it says of the command itself. A request may end the formatter.
 macro_rules! help_end {
-    ($notes:literal) => {
+    (formatter: $notes:literal) => {
+        help_end!($notes, "\n  4  the request .ab ended the run")
+    };
+    ($notes:literal $(, $other:literal)?) => {
         concat!(
             $notes,
             "Files are read one after another as one input; all are opened before the first\n",
@@ -57,20 +81,41 @@ macro_rules! help_end {
             "  0  done\n",
             "  1  wrong command line, a file that cannot be opened, or no memory to start\n",
             "  2  reading or writing failed\n",
-            "  3  a limit was reached\n",
-            "  4  the request .ab ended the run"
+            "  3  a limit was reached"
+            $(, $other)?
         )
     };
 }
 
 /// The end of the program's help.
-pub const ROFF_NOTES: &str = help_end!("'roff help COMMAND' says more about a command.\n\n");
+pub const ROFF_NOTES: &str = help_end!(
+    formatter: "'roff help COMMAND' says more about a command.\n\n"
+);
 
 /// The end of the help of the command `nroff`.
 pub const NROFF_NOTES: &str = help_end!(
-    "nroff fills lines with the words of its input, and obeys its control lines, which
+    formatter: "nroff fills lines with the words of its input, and obeys its control lines, which
 begin with a period or an apostrophe. Each N is a number from 0 to 1000000000; a
 run stops, with status 3, before it would pass one.
+
+"
+);
+
+/// The end of the help of the command `tbl`.
+pub const TBL_NOTES: &str = help_end!(
+    "tbl passes its input on, but for the tables in it, each between the lines .TS and
+.TE: these are replaced by lines for nroff that print the table. Each N is a
+number from 0 to 1000000000; a run stops, with status 3, before it would pass a
+limit.
+
+"
+);
+
+/// The end of the help of the command `both`.
+pub const BOTH_NOTES: &str = help_end!(
+    formatter: "both does what tbl and nroff do one behind the other, in one program. Each N is a
+number from 0 to 1000000000; a run stops, with status 3, before it would pass a
+limit.
 
 "
 );

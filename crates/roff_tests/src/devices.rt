@@ -76,14 +76,14 @@ static ROWS: [Row; 5] = [
 fn failing_devices(rt: HostRuntime) -> Result<(), Fail> {
     for row in &ROWS {
         let name = row.name;
-        let mut source = MemSource::new(row.input, row.source_fails_after);
+        let source = MemSource::new(row.input, row.source_fails_after);
         let mut out = MemSink::new(rt.alloc(), row.output_capacity)?;
         let mut err = MemSink::new(rt.alloc(), row.message_capacity)?;
         let job = Job::Nroff(Limits::default(), Start {});
-        let status = run(rt.alloc(), job, &mut source, &mut out, &mut err)?;
+        let (status, _source) = run(rt.alloc(), job, source, &mut out, &mut err);
         assert_eq!(rt; out.kept(), row.output, "output where {name}");
         assert_eq!(rt; err.kept(), row.messages, "messages where {name}");
-        assert_eq!(rt; status, row.status, "status where {name}");
+        assert_eq!(rt; status?, row.status, "status where {name}");
     }
     Ok(())
 }

@@ -4,46 +4,90 @@ use Rattle.std.proofs.lemmas.List.{take-append-le}
 use Rattle.std.specs.Option.{option_to_list}
 use Rattle.roff_num.specs.Lists.{IsBeginning}
 use Rattle.roff_num.specs.declared.limits.Limits.{Limits}
-use Rattle.roff_engine.specs.Engine.Outcome.{Outcome, Runs, Seen, seen}
+use Rattle.roff_engine.specs.Engine.Outcome.{Outcome}
+use Rattle.roff_engine.specs.declared.engine.Start.{Start}
 use Rattle.roff_engine.specs.Outcomes.{Gives, GivesAll, HadNoFault}
 use Rattle.roff_run.specs.Results.{output_of, messages_of, status_of}
-use Rattle.roff_pages.specs.Sinks.{AppendsFront}
 use Rattle.roff_run.specs.declared.status.Status.{Status}
+use Rattle.roff_pages.specs.Devices.{Seen, seen}
+use Rattle.roff_pages.specs.Sinks.{AppendsFront, Sunk}
 use Rattle.roff_engine.proofs.Outcomes.{each_outcome_gives}
 use Rattle.roff_source.specs.Tape.{Tape}
-use Rattle.roff_devices.specs.Memory.{kept_by, room_of, tape_of}
+use Rattle.roff_devices.specs.Memory.{kept_by, room_of}
 use Rattle.roff_devices.specs.WatchedSink.Telling.{IsSound, given_to, nothing_told, told_by}
-use Rattle.roff_devices.specs.declared.memory.MemSource.{MemSource}
 use Rattle.roff_devices.specs.declared.watched.WatchedSink.{WatchedSink}
 use Rattle.roff_devices.proofs.Overflows.{overflow_or_not, kept-first, kept-all, given-longer}
+use Rattle.tbl_layout.specs.declared.limits.TblLimits.{TblLimits}
+use Rattle.tbl_core.specs.Yields.{at_start, yields}
+use Rattle.roff_tools.specs.InMemory.{IsWholeResult, RanInMemory}
+use Rattle.roff_tools.specs.declared.in_memory.Formatted.{Formatted}
+use Rattle.roff_tools.specs.declared.in_memory.Room.{Room}
+use Rattle.roff_tools.specs.Jobs.{RunsJob}
+use Rattle.roff_tools.specs.declared.job.Job.{Job}
+use Rattle.roff_tools.specs.declared.job.Job.TheVariants.{Nroff, Both}
 
--- a run in memory: what it gives, and the sinks behind it
-pub record RunInMemory (l : Limits) (t : Tape) (status : Status) (out_room err_room : ℕ) (out err : WatchedSink) : Type 0 where
+-- a run of a job over one tape, between sinks of which this is told
+pub RunsJob-told : (job : Job) (status : Status) (t t' left : Tape) (faults : ℕ) (out out' err err' : Sunk) (now : Seen)
+    → t ≡ t' → out ≡ out' → err ≡ err'
+    → RunsJob job status (λ u. u ≡ t) (λ u. u ≡ left) (seen faults out err) now → RunsJob job status (λ u. u ≡ t') (λ u. u ≡ left) (seen faults out' err') now
+RunsJob-told job status t t' left faults out out' err err' now tape_is out_is err_is runs =
+    let over = subst (λ (v : Tape). RunsJob job status (λ u. u ≡ v) (λ u. u ≡ left) (seen faults out err) now) tape_is runs in
+    let to_out = subst (λ (o : Sunk). RunsJob job status (λ u. u ≡ t') (λ u. u ≡ left) (seen faults o err) now) out_is over in
+    subst (λ (e : Sunk). RunsJob job status (λ u. u ≡ t') (λ u. u ≡ left) (seen faults out' e) now) err_is to_out
+
+-- what a run in memory gives of the definition's over a tape
+pub record RunInMemory (l : Limits) (t : Tape) (room : Room) (f : Formatted) : Type 0 where
+  pub out : WatchedSink
+  pub err : WatchedSink
   pub left : Tape
   pub faults_before : ℕ
   pub faults : ℕ
-  pub gives : Gives l t left status (seen faults_before (nothing_told out_room) (nothing_told err_room)) (seen faults (told_by out) (told_by err))
+  pub gives : Gives l t left f.status (seen faults_before (nothing_told room.output) (nothing_told room.messages)) (seen faults (told_by out) (told_by err))
+  pub output : f.output.items ≡ kept_by out.sink
+  pub messages : f.messages.items ≡ kept_by err.sink
   pub out_sound : IsSound out
   pub err_sound : IsSound err
 
--- what a run of the code over a source in memory gives
-pub RunInMemory-Runs : (l : Limits) (t : Tape) (status : Status) (out_room err_room : ℕ) (old new : MemSource) (faults_before faults : ℕ) (out_before err_before out err : WatchedSink)
-    → tape_of old ≡ t → told_by out_before ≡ nothing_told out_room → told_by err_before ≡ nothing_told err_room → IsSound out → IsSound err
-    → Runs l status (λ u. u ≡ tape_of old) (λ u. u ≡ tape_of new) (seen faults_before (told_by out_before) (told_by err_before)) (seen faults (told_by out) (told_by err))
-    → RunInMemory l t status out_room err_room out err
-RunInMemory-Runs l t status out_room err_room old new faults_before faults out_before err_before out err is out_empty err_empty out_sound err_sound runs =
+-- the formatter ran
+pub formatter_ran : (l : Limits) (start : Start) (t : Tape) (room : Room) (f : Formatted) → RanInMemory (Nroff l start) t room f → RunInMemory l t room f
+formatter_ran l start t room f ran =
+    let runs = ran.runs in
     let rest : Tape = runs.took.some in
-    let now : Seen = seen faults (told_by out) (told_by err) in
-    let over = runs.took.before rest runs.took.some_given ∙ is in
-    let outcome = subst (λ (u : Tape). Outcome l u rest status (seen faults_before (told_by out_before) (told_by err_before)) now) over (runs.outcome rest runs.took.some_given) in
-    let from_out = subst (λ o. Outcome l t rest status (seen faults_before o (told_by err_before)) now) out_empty outcome in
-    let from_both = subst (λ e. Outcome l t rest status (seen faults_before (nothing_told out_room) e) now) err_empty from_out in record {
+    let before = seen ran.faults_before (nothing_told room.output) (nothing_told room.messages) in
+    let now = seen ran.faults (told_by ran.out) (told_by ran.err) in
+    let over = runs.took.before rest runs.took.some_given in
+    let outcome = subst (λ (u : Tape). Outcome l u rest f.status before now) over (runs.outcome rest runs.took.some_given) in record {
+      out = ran.out;
+      err = ran.err;
       left = rest;
-      faults_before = faults_before;
-      faults = faults;
-      gives = each_outcome_gives _ _ _ _ _ _ from_both;
-      out_sound = out_sound;
-      err_sound = err_sound;
+      faults_before = ran.faults_before;
+      faults = ran.faults;
+      gives = each_outcome_gives _ _ _ _ _ _ outcome;
+      output = ran.output;
+      messages = ran.messages;
+      out_sound = ran.out_sound;
+      err_sound = ran.err_sound;
+    }
+
+-- the formatter ran over what tables give
+pub both_ran : (l : Limits) (start : Start) (tables : TblLimits) (line_length : ℕ) (t : Tape) (room : Room) (f : Formatted)
+    → RanInMemory (Both l start tables line_length) t room f → RunInMemory l (yields tables line_length at_start t) room f
+both_ran l start tables line_length t room f ran =
+    let runs = ran.runs in
+    let over = runs.over runs.some runs.some_given in
+    let before = seen ran.faults_before (nothing_told room.output) (nothing_told room.messages) in
+    let now = seen ran.faults (told_by ran.out) (told_by ran.err) in
+    let outcome = subst (λ (u : Tape). Outcome l (yields tables line_length at_start u) over.rest f.status before now) over.given over.outcome in record {
+      out = ran.out;
+      err = ran.err;
+      left = over.rest;
+      faults_before = ran.faults_before;
+      faults = ran.faults;
+      gives = each_outcome_gives _ _ _ _ _ _ outcome;
+      output = ran.output;
+      messages = ran.messages;
+      out_sound = ran.out_sound;
+      err_sound = ran.err_sound;
     }
 
 -- a sink that was given a beginning of a text
@@ -83,15 +127,27 @@ IsGiven-first room w text given sound byte is =
     ∙ ap (take (room_of w.sink)) (sym given.split) ∙ ap (λ n. take n text) given.room_stays
 
 -- a sink that keeps all that it was given had no fault
-had_no_fault : (room : ℕ) (w : WatchedSink) → w.overflow ≡ None → HadNoFault (nothing_told room) (told_by w)
-had_no_fault room w none rises = let rose = rw none at rises in omega (arith, rose)
+had_no_fault : (room : ℕ) (w : WatchedSink) → IsSound w → w.overflow ≡ None → HadNoFault (nothing_told room) (told_by w)
+had_no_fault room w sound none rises = let rose = rw (sound.faultless none) at rises in omega (arith, rose)
 
-module _ (l : Limits) (t : Tape) (status : Status) (out_room err_room : ℕ) (out err : WatchedSink) (run : RunInMemory l t status out_room err_room out err) where
+module _ (l : Limits) (t : Tape) (room : Room) (f : Formatted) (run : RunInMemory l t room f) where
+  abbrev out_room : ℕ
+  out_room = room.output
+
+  abbrev err_room : ℕ
+  err_room = room.messages
+
+  abbrev out : WatchedSink
+  out = run.out
+
+  abbrev err : WatchedSink
+  err = run.err
+
   out_given : IsGiven out_room out (output_of l t)
   out_given = IsGiven-front out_room out _ run.gives.text
 
   -- a beginning of the text is kept
-  pub output_begins : IsBeginning (kept_by out.sink) (output_of l t)
+  output_begins : IsBeginning (kept_by out.sink) (output_of l t)
   output_begins = IsGiven-kept out_room out _ out_given
 
   -- the messages have room, if the text has and there is room for all of them
@@ -100,18 +156,18 @@ module _ (l : Limits) (t : Tape) (status : Status) (out_room err_room : ℕ) (ou
       elim (overflow_or_not err.overflow) [
         | inl err_none ↦ err_none
         | inr some ↦
-            let given = IsGiven-front err_room err _ (run.gives.messages (had_no_fault out_room out none)) in
+            let given = IsGiven-front err_room err _ (run.gives.messages (had_no_fault out_room out run.out_sound none)) in
             let longer = IsGiven-longer err_room err _ given run.err_sound some.0 some.1 in
             absurd (omega (arith, longer, fits))
       ]
 
   -- then the run gives all
   all_given : out.overflow ≡ None → length (messages_of l t) ≤ err_room
-      → GivesAll l t run.left status (seen run.faults_before (nothing_told out_room) (nothing_told err_room)) (seen run.faults (told_by out) (told_by err))
-  all_given none fits = run.gives.all (had_no_fault out_room out none) (had_no_fault err_room err (messages_have_room none fits))
+      → GivesAll l t run.left f.status (seen run.faults_before (nothing_told out_room) (nothing_told err_room)) (seen run.faults (told_by out) (told_by err))
+  all_given none fits = run.gives.all (had_no_fault out_room out run.out_sound none) (had_no_fault err_room err run.err_sound (messages_have_room none fits))
 
   -- the text has room if there is room for all of it
-  pub output_has_room : length (output_of l t) ≤ out_room → out.overflow ≡ None
+  output_has_room : length (output_of l t) ≤ out_room → out.overflow ≡ None
   output_has_room fits =
       elim (overflow_or_not out.overflow) [
         | inl none ↦ none
@@ -121,25 +177,25 @@ module _ (l : Limits) (t : Tape) (status : Status) (out_room err_room : ℕ) (ou
       ]
 
   -- all of the text is kept
-  pub output_kept : out.overflow ≡ None → length (messages_of l t) ≤ err_room → kept_by out.sink ≡ output_of l t
+  output_kept : out.overflow ≡ None → length (messages_of l t) ≤ err_room → kept_by out.sink ≡ output_of l t
   output_kept none fits =
       let told : room_of out.sink ∷ given_to out ≡ out_room ∷ output_of l t = (all_given none fits).text in
       let given : given_to out ≡ output_of l t = cc in
       kept-all out none ∙ given
 
   -- and all of the messages
-  pub messages_kept : out.overflow ≡ None → length (messages_of l t) ≤ err_room → kept_by err.sink ≡ messages_of l t
+  messages_kept : out.overflow ≡ None → length (messages_of l t) ≤ err_room → kept_by err.sink ≡ messages_of l t
   messages_kept none fits =
       let told : room_of err.sink ∷ given_to err ≡ err_room ∷ messages_of l t = (all_given none fits).messages in
       let given : given_to err ≡ messages_of l t = cc in
       kept-all err (messages_have_room none fits) ∙ given
 
   -- and the run ends as the definition's
-  pub status_given : out.overflow ≡ None → length (messages_of l t) ≤ err_room → Some status ≡ status_of l t
+  status_given : out.overflow ≡ None → length (messages_of l t) ≤ err_room → Some f.status ≡ status_of l t
   status_given none fits = sym (all_given none fits).ended
 
   -- the first bytes of the text are kept, whether it has room or not
-  pub output_first : length (messages_of l t) ≤ err_room → kept_by out.sink ≡ take out_room (output_of l t)
+  output_first : length (messages_of l t) ≤ err_room → kept_by out.sink ≡ take out_room (output_of l t)
   output_first fits =
       elim (overflow_or_not out.overflow) [
         | inl none ↦ first_of_all none
@@ -150,5 +206,22 @@ module _ (l : Limits) (t : Tape) (status : Status) (out_room err_room : ℕ) (ou
       first_of_all none =
           let told : room_of out.sink ∷ given_to out ≡ out_room ∷ output_of l t = (all_given none fits).text in
           let given : given_to out ≡ output_of l t = cc in
-          let room : room_of out.sink ≡ out_room = cc in
-          kept-first out run.out_sound ∙ ap (take (room_of out.sink)) given ∙ ap (λ n. take n (output_of l t)) room
+          let stays : room_of out.sink ≡ out_room = cc in
+          kept-first out run.out_sound ∙ ap (take (room_of out.sink)) given ∙ ap (λ n. take n (output_of l t)) stays
+
+  -- with room for all of it, the run gives the definition's result
+  pub whole_result : length (output_of l t) ≤ room.output → length (messages_of l t) ≤ room.messages → IsWholeResult l t f
+  whole_result output_fits messages_fit =
+      let none = output_has_room output_fits in record {
+        output = run.output ∙ output_kept none messages_fit;
+        messages = run.messages ∙ messages_kept none messages_fit;
+        status = status_given none messages_fit;
+      }
+
+  -- with room for the messages, as many of its first bytes as there is room for
+  pub first_bytes : length (messages_of l t) ≤ room.messages → f.output.items ≡ take room.output (output_of l t)
+  first_bytes fits = run.output ∙ output_first fits
+
+  -- and in any case a beginning of it
+  pub begins : IsBeginning f.output.items (output_of l t)
+  begins = rw run.output output_begins

@@ -1,3 +1,4 @@
+pub mod Both
 pub mod InMemory
 pub mod Named
 pub mod RunOver

@@ -1,8 +1,10 @@
 pub use Rattle.roff_source.specs.Tape
 pub use Rattle.roff_engine.specs.Engine
-pub mod InMemory
 pub mod StartFault
 pub mod Exit
+pub mod Both
+pub mod Jobs
+pub mod InMemory
 pub mod RunOver
 pub mod Program
 pub mod Clauses

@@ -1,14 +1,16 @@
 //! A whole run in memory, from bytes to bytes.
 
 ghost use Rattle.std.specs.Prelude.{◌≡◌, ◌≤◌, length, take, IfOk};
-ghost use Rattle.roff_tools.specs.Clauses.{IsBeginning, IsWholeResult, messages_of, output_of};
-ghost use Rattle.roff_tools.specs.Clauses.{tape_of_bytes};
+ghost use Rattle.tbl_core.specs.Yields.{at_start, yields};
+ghost use Rattle.roff_tools.specs.Clauses.{IsBeginning, IsWholeResult, RanInMemory, messages_of};
+ghost use Rattle.roff_tools.specs.Clauses.{output_of, tape_of_bytes};
 
 use crate::{Job, run};
 use roff_devices::{MemSource, WatchedSink};
 use roff_engine::{Start, Status};
 use roff_num::Limits;
 use std::alloc::{AllocError, Global};
+use tbl_core::TblLimits;
 
 /// Room, in bytes, for what a run writes and reports.
 #[derive(Clone, Copy, Debug, PartialEq, Eq)]
@@ -58,13 +60,59 @@ pub fn format_in_memory(
     ensures beginning { IfOk result (λ f.
         IsBeginning f.output.items (output_of limits (tape_of_bytes text.now fail_at))) }
 {
-    let mut source = MemSource::new(text, fail_at);
+    run_in_memory(alloc, Job::Nroff(limits, start), text, fail_at, room)
+}
+
+/// Formats a text with tables that stands in memory, as [`format_in_memory`] does one without them.
+/// The tables have their own limits, and this line length, in columns.
+///
+/// # Errors
+///
+/// [`AllocError`] if the room, or the memory that the limits ask for, can't be had.
+pub fn format_tables_in_memory(
+    alloc: Global,
+    limits: Limits,
+    start: Start,
+    tables: (TblLimits, u32),
+    text: &[u8],
+    fail_at: Option<usize>,
+    room: Room,
+) -> Result<Formatted, AllocError>
+    // With room for all of it, the definition's result over what tables give, and nothing else.
+    ensures whole { let t = yields tables.0 tables.1 at_start (tape_of_bytes text.now fail_at) in
+        length (output_of limits t) ≤ room.output → length (messages_of limits t) ≤ room.messages →
+        IfOk result (λ f. IsWholeResult limits t f) }
+
+    // With room for the messages, as many of the definition's first bytes as there is room for.
+    ensures output { let t = yields tables.0 tables.1 at_start (tape_of_bytes text.now fail_at) in
+        length (messages_of limits t) ≤ room.messages →
+        IfOk result (λ f. f.output.items ≡ take room.output (output_of limits t)) }
+
+    // In any case a beginning of what the definition writes.
+    ensures beginning { IfOk result (λ f. IsBeginning f.output.items (output_of limits
+        (yields tables.0 tables.1 at_start (tape_of_bytes text.now fail_at)))) }
+{
+    let (table_limits, line_length) = tables;
+    let job = Job::Both(limits, start, table_limits, line_length);
+    run_in_memory(alloc, job, text, fail_at, room)
+}
+
+/// Runs a job over a text that stands in memory.
+fn run_in_memory(
+    alloc: Global,
+    job: Job,
+    text: &[u8],
+    fail_at: Option<usize>,
+    room: Room,
+) -> Result<Formatted, AllocError>
+    ensures { IfOk result (RanInMemory job (tape_of_bytes text.now fail_at) room) }
+{
+    let source = MemSource::new(text, fail_at);
     let mut out = WatchedSink::new(alloc, room.output)?;
     let mut err = WatchedSink::new(alloc, room.messages)?;
-    let job = Job::Nroff(limits, start);
-    let status = run(alloc, job, &mut source, &mut out, &mut err)?;
+    let (status, _source) = run(alloc, job, source, &mut out, &mut err);
     Ok(Formatted {
-        status,
+        status: status?,
         output: out.into_kept(),
         messages: err.into_kept(),
     })

@@ -17,3 +17,4 @@ pub use roff_engine::{Engine, Start, Status};
 pub use roff_num::{Limit, Limits};
 pub use roff_pages::{ByteSink, SinkFault, WriteSink};
 pub use roff_scan::{ByteSource, Note, ReadSource, Taken};
+pub use tbl_core::TblLimits;

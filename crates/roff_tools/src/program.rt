@@ -1,9 +1,9 @@
 //! The program: it reads its words, opens its files, runs the job and tells how it went.
 
 ghost use Rattle.std.specs.Prelude.{◌≡◌, ◌≢◌, ◌≤◌, ◌⊎◌, true, is_ok, IfOk, IfErr, OnErr, map};
-ghost use Rattle.roff_tools.specs.Clauses.{AreMistaken, AreNamed, AskForHelp, Formats};
-ghost use Rattle.roff_tools.specs.Clauses.{FormatsAsked, IsNamed, NamesFile, NamesOneOf};
-ghost use Rattle.roff_tools.specs.Clauses.{exit_flushed, exit_status, fault_of, kind_of};
+ghost use Rattle.roff_tools.specs.Clauses.{AreMistaken, AreNamed, AskForHelp, Performs};
+ghost use Rattle.roff_tools.specs.Clauses.{IsNamed, NamesFile, NamesOneOf, PerformsAsked};
+ghost use Rattle.roff_tools.specs.Clauses.{exit_flushed, exit_status, fault_of, job_of, kind_of};
 ghost use Rattle.roff_tools.specs.Clauses.{roff_app, subcommand_of, takes};
 
 use crate::exit::Exit;
@@ -11,7 +11,7 @@ use crate::fault::StartFault;
 use crate::text_sink::TextSink;
 use crate::{ByteSink, Job, ReadSource, SinkFault, Start, WriteSink, run};
 use clap::error::ErrorKind;
-use roff_command::{Request, STANDARD_INPUT, parse_words};
+use roff_command::{Asked, Request, STANDARD_INPUT, parse_words};
 use roff_devices::{Inputs, Part, Readers};
 use std::convert::AsStr;
 use std::fmt::Write as _;
@@ -87,9 +87,9 @@ where
     S: AsStr,
     O: ByteSink,
     E: ByteSink,
-    // Where the words are in order the formatter runs as they ask, or can't start.
-    ensures formats { takes roff_app (map S.text words.now) ≡ true → (result ≡ Exit.NotStarted) ⊎
-        FormatsAsked (R.opens rt.now) (R.stands rt.now) R.File.remaining R.Standard.remaining
+    // Where the words are in order a command runs as they ask, or can't start.
+    ensures performs { takes roff_app (map S.text words.now) ≡ true → (result ≡ Exit.NotStarted) ⊎
+        PerformsAsked (R.opens rt.now) (R.stands rt.now) R.File.remaining R.Standard.remaining
         (subcommand_of roff_app (map S.text words.now)) result
         (O.sunk out.old) (O.sunk out.new) (E.sunk err.old) (E.sunk err.new) }
     // Help and the version go to the output alone, and nothing of a mistake does.
@@ -131,7 +131,7 @@ fn show<O: ByteSink, E: ByteSink>(shown: &clap::Error, out: &mut O, err: &mut E)
     }
 }
 
-/// Opens all files and then runs the formatter over them.
+/// Opens all files and then runs the command over them.
 fn perform<R, O, E>(
     rt: &R,
     request: &Request<'_>,
@@ -142,18 +142,30 @@ where
     R: Readers + AllocGlobal,
     O: ByteSink,
     E: ByteSink,
-    ensures formats { IfOk result (λ exit. Formats (R.opens rt.now) (R.stands rt.now)
+    ensures performs { IfOk result (λ exit. Performs (R.opens rt.now) (R.stands rt.now)
         R.File.remaining R.Standard.remaining (map (λ name. name.now) request.now.files.items)
-        request.now.limits exit
+        request.now.asked exit
         (O.sunk out.old) (O.sunk out.new) (E.sunk err.old) (E.sunk err.new)) }
     ensures fault { IfErr result (NamesOneOf (map (λ name. name.now) request.now.files.items)) }
     ensures unwritten { OnErr result ((out.new ≡ out.old) × (err.new ≡ err.old)) }
 {
     let inputs = open_all(rt, request.files.as_slice())?;
-    let mut source = ReadSource::new(rt.alloc(), inputs)?;
-    let job = Job::Nroff(request.limits, Start::default());
-    let status = run(rt.alloc(), job, &mut source, out, err)?;
-    Ok(Exit::after(status))
+    let source = ReadSource::new(rt.alloc(), inputs)?;
+    let (status, _source) = run(rt.alloc(), job_of(request.asked), source, out, err);
+    Ok(Exit::after(status?))
+}
+
+/// The job of a request.
+fn job_of(asked: Asked) -> Job
+    ensures { result ≡ job_of asked }
+{
+    match asked {
+        Asked::Nroff(limits) => Job::Nroff(limits, Start {}),
+        Asked::Tbl(limits, line_length) => Job::Tbl(limits, line_length),
+        Asked::Both(limits, table_limits, line_length) => {
+            Job::Both(limits, Start {}, table_limits, line_length)
+        }
+    }
 }
 
 /// Opens the files in their order.

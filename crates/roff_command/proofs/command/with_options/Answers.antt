@@ -8,4 +8,4 @@ pub loop-option-preserved : goal.loop-option-preserved
 loop-option-preserved c =
     c.in_ok-command.ensures.shape (simple-global c.limit_argument.result (ap (λ (r : Rule). r.is_simple) c.limit_argument.ensures))
     ∙ ap₂ with_rule c.loop-option.invariant c.limit_argument.ensures
-    ∙ sym (fold-take-more with_rule (app_of c.args.command) (λ option. limit_option option.limit) c.args.options.now c.loop-option.option-index _ c.loop-option-test.true)
+    ∙ sym (fold-take-more with_rule (app_of c.args.command) (λ option. limit_option option.of option.limit) c.args.options.now c.loop-option.option-index _ c.loop-option-test.true)

@@ -1,9 +1,9 @@
-use Rattle.std.proofs.Common.{◌∙◌, ap, map, refl, subst, sym}
+use Rattle.std.proofs.Common.{◌∙◌, ap, map, subst, sym}
 use Rattle.clap.specs.Words.{App, HasKind, fault_of, is_simple, is_simple_and_free, subcommand_of, takes}
 use Rattle.clap.proofs.TakesLemmas.{passed_up}
-use Rattle.roff_command.proofs.CommandLine.{found-AsksFor, passed-MatchResult, roff_app-is_free, roff_app-is_simple}
-use Rattle.roff_command.proofs.Commands.{faultless-subcommand_name_of}
-use Rattle.roff_command.proofs.command.parse_words.Goals as goal
+use Rattle.roff_command.proofs.CommandLine.{passed-MatchResult, roff_app-is_free, roff_app-is_simple}
+use Rattle.roff_command.proofs.Commands.{nothing_asked-fault}
+use Rattle.roff_command.proofs.words.parse_words.Goals as goal
 
 pub returns-in_err-matches-clause-fault : goal.returns-in_err-matches-clause-fault
 returns-in_err-matches-clause-fault g c =
@@ -25,19 +25,16 @@ pub returns-in-Some-clause-ok : goal.returns-in-Some-clause-ok
 returns-in-Some-clause-ok g c =
     let matches = c.in_ok-matches.ensures.ok.2 (ap is_simple c.in_ok-command.ensures ∙ roff_app-is_simple) in
     rw (← (matches.1 ∙ ap (λ (a : App). subcommand_of a (map g.S.AsStr.text c.args.words.now)) c.in_ok-command.ensures))
-    (found-AsksFor c.in_ok-matches.matches _ _ _ (c.in-Some.ensures.found.0 refl) c.in-Some.ensures.rows
-    refl c.in_ok-nroff_request-in-Some.ensures)
+    (rw c.in-Some.is at c.in_ok-request.ensures.some)
 
 pub returns-clause-fault : goal.returns-clause-fault
 returns-clause-fault g c = absurd (
-    let missing = c.in-None.ensures.found.1 (faultless-subcommand_name_of c.in_ok-matches.matches _ (map g.S.AsStr.text c.args.words.now) c.in_ok-command.ensures
-    c.in_ok-matches.ensures.ok.2 (c.in_ok-matches.ensures.kinds (ap is_simple_and_free c.in_ok-command.ensures ∙ roff_app-is_free))) in
-    cc
+    nothing_asked-fault c.in_ok-matches.matches _ (map g.S.AsStr.text c.args.words.now) c.in_ok-command.ensures c.in_ok-matches.ensures.ok.2
+    (c.in_ok-request.ensures.none c.in-None.is) (c.in_ok-matches.ensures.kinds (ap is_simple_and_free c.in_ok-command.ensures ∙ roff_app-is_free))
     )
 
 pub returns-clause-taken : goal.returns-clause-taken
 returns-clause-taken g c = absurd (
-    let missing = c.in-None.ensures.found.1 (faultless-subcommand_name_of c.in_ok-matches.matches _ (map g.S.AsStr.text c.args.words.now) c.in_ok-command.ensures
-    c.in_ok-matches.ensures.ok.2 (c.in_ok-matches.ensures.kinds (ap is_simple_and_free c.in_ok-command.ensures ∙ roff_app-is_free))) in
-    cc
+    nothing_asked-fault c.in_ok-matches.matches _ (map g.S.AsStr.text c.args.words.now) c.in_ok-command.ensures c.in_ok-matches.ensures.ok.2
+    (c.in_ok-request.ensures.none c.in-None.is) (c.in_ok-matches.ensures.kinds (ap is_simple_and_free c.in_ok-command.ensures ∙ roff_app-is_free))
     )

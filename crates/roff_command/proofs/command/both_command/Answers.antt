@@ -1,0 +1,18 @@
+use Rattle.std.proofs.Common.{◌∙◌, ap, ap₂, map}
+use Rattle.std.specs.Prelude.{fold}
+use Rattle.std.proofs.lemmas.Result.{IfOk-weaker}
+use Rattle.clap.specs.Words.{App, Rule, with_rule}
+use Rattle.roff_command.specs.CommandLine.{both_app, limit_option, option_limits, table_limits}
+use Rattle.roff_command.specs.declared.options.LimitOf.TheVariants.{Formatter, Tables}
+use Rattle.roff_command.proofs.CommandLine.{simple-global}
+use Rattle.roff_command.proofs.command.both_command.Goals as goal
+
+pub returns : goal.returns
+unfolding both_app
+returns c =
+    let formatter = c.in_ok-command-2.ensures ∙ ap (λ (a : App). fold with_rule a (map (limit_option Formatter) option_limits)) c.in_ok-command.ensures in
+    let limits = c.in_ok-with_options.ensures ∙ ap (λ (a : App). fold with_rule a (map (limit_option Tables) table_limits)) formatter in
+    IfOk-weaker c.arg.result _ _
+    (λ r adds. adds.shape (simple-global c.line_length_argument.result (ap (λ (r : Rule). r.is_simple) c.line_length_argument.ensures))
+    ∙ ap₂ with_rule limits c.line_length_argument.ensures)
+    c.arg.ensures

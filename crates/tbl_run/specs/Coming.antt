@@ -1,0 +1,24 @@
+-- How far the loop has come, as a run of the definition.
+use Rattle.std.specs.Prelude.{◌≡◌, ℕ, ◌≤◌, List, length, None}
+use Rattle.std.specs.Io.KnownBytes.{Appends}
+use Rattle.roff_pages.specs.Devices.{NoSinkFault, Seen}
+use Rattle.roff_source.specs.Tape.{Item, Tape, items_then}
+use Rattle.tbl_layout.specs.declared.limits.TblLimits.{TblLimits}
+use Rattle.tbl_core.specs.Yields.{At}
+use Rattle.tbl_run.specs.Run.{Written, initial, steps}
+
+-- The source took items; whatever may still come, the run over these and then that comes to a state that reads on, in which
+-- so many bytes are written.
+pub record HasCome (l : TblLimits) (line_length : ℕ) (old new : Tape → Type 0) (at : At) (count : ℕ) (before now : Seen) : Type 0 where
+  pub taken : List Item
+  pub gave : (left : Tape) → new left → old (items_then taken left)
+  pub turns : ℕ
+  pub written : Written
+  pub goes_on : written.ended ≡ None
+  pub comes : (left : Tape) → new left → steps l line_length turns (initial (items_then taken left))
+      ≡ record { stage = record { tape = left; at = at }; written = written }
+  pub text : Appends before.out.contents now.out.contents written.output
+  pub told : Appends before.err.contents now.err.contents written.messages
+  pub faults : NoSinkFault before now
+  pub counted : count ≡ length written.output
+  pub within : count ≤ l.output

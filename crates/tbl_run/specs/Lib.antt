@@ -1,0 +1,4 @@
+pub mod Run
+pub mod Outcome
+pub mod Turns
+pub mod Coming

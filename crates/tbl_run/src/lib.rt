@@ -1,0 +1,6 @@
+//! A run of the command `tbl`, from a source to its sinks.
+#![tactic(auto)]
+
+mod run;
+
+pub use run::put_tables;

@@ -1,0 +1,112 @@
+//! The loop over what a source with tables answers.
+
+ghost use Rattle.std.specs.Prelude.{◌≡◌, ◌≤◌, None, length};
+ghost use Rattle.roff_source.specs.Tape.{Gives, OneByte, answer_of};
+ghost use Rattle.roff_pages.specs.Devices.{seen};
+ghost use Rattle.tbl_core.specs.Yields.{at_start};
+ghost use Rattle.tbl_run.specs.Outcome.{PutsTables};
+ghost use Rattle.tbl_run.specs.Run.{Written};
+ghost use Rattle.tbl_run.specs.Turns.{Tells, Turned};
+
+use roff_num::Limit;
+use roff_pages::ByteSink;
+use roff_run::Status;
+use roff_source::{ByteSource, Taken};
+use tbl_core::{Message, TblLimits, TblSource, Told};
+
+/// Writes what a source with tables gives, of which nothing was asked yet: its bytes to `out`, one
+/// by one, and its messages to `err`.
+pub fn put_tables<S: ByteSource, O: ByteSink, E: ByteSink>(
+    source: &mut TblSource<S>,
+    out: &mut O,
+    err: &mut E,
+) -> Status
+    requires { source.old.tables.at ≡ at_start }
+    ensures { PutsTables source.old.tables.limits source.old.tables.line_length result
+        (S.gives source.old.inner) (S.gives source.new.inner)
+        (seen (S.failures source.old.inner) (O.sunk out.old) (E.sunk err.old))
+        (seen (S.failures source.new.inner) (O.sunk out.new) (E.sunk err.new)) }
+{
+    let limits = source.limits();
+    let mut written = 0;
+    loop {
+        match source.take_ready() {
+            Some(byte) => match put_byte(limits, source.line(), byte, written, out, err) {
+                Ok(count) => written = count,
+                Err(status) => return status,
+            },
+            None => {
+                let taken = source.take();
+                match turn(limits, source.line(), taken, written, out, err) {
+                    Ok(count) => written = count,
+                    Err(status) => return status,
+                }
+            }
+        }
+    }
+}
+
+/// Writes an answer, behind so many bytes that were written, where the last byte taken stands on
+/// this line. Answers how many bytes are written then, or how the run ends.
+#[inline(never)]
+fn turn<O: ByteSink, E: ByteSink>(
+    limits: TblLimits,
+    line: u32,
+    taken: Taken,
+    written: u32,
+    out: &mut O,
+    err: &mut E,
+) -> Result<u32, Status>
+    requires { written ≤ limits.output }
+    ensures { (w : Written) → w.ended ≡ None → length w.output ≡ written
+        → Turned limits line (answer_of taken) w result
+        (O.sunk out.old) (O.sunk out.new) (E.sunk err.old) (E.sunk err.new) }
+{
+    match taken {
+        Taken::Byte(byte) => put_byte(limits, line, byte, written, out, err),
+        Taken::Note(note) => match err.put(note.as_slice()) {
+            Ok(()) => Ok(written),
+            Err(_) => Err(Status::Device),
+        },
+        Taken::End => Err(Status::Done),
+        Taken::Fault => Err(tell(line, Message::ReadFailed, Status::Device, err)),
+        Taken::Stop(limit) => Err(Status::Limit(limit)),
+    }
+}
+
+/// Writes a byte, unless it would pass the limit on the output.
+#[inline(always)]
+fn put_byte<O: ByteSink, E: ByteSink>(
+    limits: TblLimits,
+    line: u32,
+    byte: u8,
+    written: u32,
+    out: &mut O,
+    err: &mut E,
+) -> Result<u32, Status>
+    requires { written ≤ limits.output }
+    ensures { (w : Written) → w.ended ≡ None → length w.output ≡ written
+        → Turned limits line (Gives (OneByte byte)) w result
+        (O.sunk out.old) (O.sunk out.new) (E.sunk err.old) (E.sunk err.new) }
+{
+    if written == limits.output {
+        let message = Message::LimitReached(Limit::Output, limits.output);
+        return Err(tell(line, message, Status::Limit(Limit::Output), err));
+    }
+    match out.put(&[byte]) {
+        Ok(()) => Ok(written + 1),
+        Err(_) => Err(tell(line, Message::WriteFailed, Status::Device, err)),
+    }
+}
+
+/// Tells a message of the run's own, behind which it ends so, or by a fault where it can't be told.
+#[inline(never)]
+fn tell<E: ByteSink>(line: u32, message: Message, status: Status, err: &mut E) -> Status
+    ensures { Tells line message status result (E.sunk err.old) (E.sunk err.new) }
+{
+    let told = Told { line, message };
+    match err.put(told.note().as_slice()) {
+        Ok(()) => status,
+        Err(_) => Status::Device,
+    }
+}
