@@ -8,12 +8,13 @@
     bench/make_text.py skipped MEGABYTES    running text as the branch of a condition that is false
     bench/make_text.py macros MEGABYTES     running text with macros, strings and registers of its own
     bench/make_text.py loop MEGABYTES       macros that call each other until so many bytes of them were read; writes nothing
+    bench/make_text.py tables MEGABYTES     tables of 200 rows of three columns, with a line of text before each
 """
 import functools
 import random
 import sys
 
-KINDS = ("text", "requests", "registers", "code", "skipped", "macros", "loop")
+KINDS = ("text", "requests", "registers", "code", "skipped", "macros", "loop", "tables")
 
 MEGABYTE = 1_000_000
 
@@ -151,6 +152,11 @@ LOOPED = '.\\\\" counted in a register\n.nr a +1\n.if \\\\na<0 .tm below\n'
 
 CALLERS = "bc"
 
+# What stands around the rows of a table, and how many rows it has.
+TABLE = (".TS\nl l r.\n", ".TE\n")
+
+TABLE_ROWS = 200
+
 
 class Writer:
     def __init__(self, number):
@@ -198,6 +204,26 @@ class Writer:
             lines.append(line[: LONGEST_CODE - 2] + self.one_of(ENDS))
             depth = min(max(depth + self.between(-1, 1), 0), 6)
         return lines
+
+    def table_row(self):
+        """Returns a line of a table: a thing, a place, and a number."""
+        thing = " ".join(self.one_of(WORDS) for _ in range(self.between(2, 4)))
+        place = " ".join(self.one_of(WORDS).capitalize() for _ in range(self.between(1, 3)))
+        return f"{thing}\t{place}\t{self.between(1, 99999)}\n"
+
+    def tables(self, size):
+        """Returns whole tables, with a line of text before each, of so many bytes at most."""
+        text, length = [], 0
+        while True:
+            part = " ".join(self.sentence()) + "\n" + self.table(TABLE_ROWS)
+            length += len(part)
+            if length > size:
+                return "".join(text).encode()
+            text.append(part)
+
+    def table(self, rows):
+        """Returns a table of so many rows."""
+        return TABLE[0] + "".join(self.table_row() for _ in range(rows)) + TABLE[1]
 
     def document(self, kind, size):
         """Returns so many bytes of text, cut at a line's end."""
@@ -250,6 +276,9 @@ def write_document(kind, size, file, number=0):
     """Writes a document of so many bytes; of several documents alike, the one of this number."""
     if kind == "loop":
         file.write(loop(size))
+        return
+    if kind == "tables":
+        file.write(Writer(number).tables(size))
         return
     around = {"skipped": SKIPPED, "macros": (MACROS.encode(), b""), "code": (UNFILLED, b"")}
     front, behind = around.get(kind, (b"", b""))

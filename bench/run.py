@@ -1,15 +1,15 @@
 #!/usr/bin/env python3
 """Measures the built program beside the formatters that are installed, and prints tables.
 
-    bench/run.py [PROGRAM]
+    bench/run.py [--tables] [PROGRAM]
 
-PROGRAM is crates/roff/out/roff where none is given. Documents of made-up text (make_text.py) are written into a
-temporary folder; docs/BENCHMARKS.md says what each work is. Each formatter reads them from there and writes on
-/dev/null. All take turns, three times each, and the best time counts: that of the processor, with the system's part of
-it, and with the processes that a formatter starts. `perf` counts the instructions where it can, and else callgrind on
-documents of 0.3 MB; those of a document without text are taken away. GNU time measures the memory, which is that of a
-formatter's largest process. Behind the tables stands which aims are met. It takes about ten minutes, most of them
-groff's.
+PROGRAM is crates/roff/out/roff where none is given. With `--tables` the works on tables alone are measured. Documents of
+made-up text (make_text.py) are written into a temporary folder; docs/BENCHMARKS.md says what each work is. Each formatter
+reads them from there and writes on /dev/null. All take turns, three times each or more, and the best time counts: that of
+the processor, with the system's part of it, and with the processes that a formatter starts. `perf` counts the instructions
+where it can, and else callgrind on documents of 0.3 MB; those of a document without text are taken away. GNU time measures
+the memory, which is that of a formatter's largest process. Behind the tables stands which aims are met. It takes about a
+quarter of an hour, most of it groff's.
 """
 import glob
 import os
@@ -31,12 +31,19 @@ MEGABYTE = 1_000_000
 # The documents that callgrind sees.
 COUNTED_SIZE = 0.3
 # Documents for the memory at the limits that hold where none is given.
-DEFAULT_WORKS = (("text", 1), ("text", 10), ("text", 40), ("macros", 5), ("loop", 30))
+DEFAULT_WORKS = (("nroff", "text", 1), ("nroff", "text", 10), ("nroff", "text", 40), ("nroff", "macros", 5),
+                 ("nroff", "loop", 30), ("tbl", "text", 40), ("both", "text", 40), ("tbl", "tables", 5), ("both", "tables", 5))
 MOST_MEMORY = 8
+# One table of so many rows, and one of four times as many, with the options that let them pass, and how often each is read.
+FEW_ROWS = 5_000
+MANY_ROWS = 4 * FEW_ROWS
+ROWS_OPTIONS = ("--rows", "100000", "--text", "1000000")
+ROWS_ROUNDS = 7
 
 # No hyphenation. Pages keep their usual length: nothing is printed at their ends, and on one page of all the text
 # groff's driver for terminals would take many times as long.
 PRELUDE = ".nh\n"
+MANDOC_PRELUDE = ".TH BENCH 1 2000-01-01\n"
 
 
 class Formatter:
@@ -69,22 +76,25 @@ class Aim:
 
 
 class Work:
-    """A work: its title, the kind of document, its megabytes, and the aims. Many small documents are formatted by a
-    process each."""
+    """A work: its title, the kind of document, its megabytes, the aims, and the command that does it. Many small documents
+    are formatted by a process each."""
 
-    def __init__(self, title, kind, size, *aims, count=1, rounds=3):
+    def __init__(self, title, kind, size, *aims, count=1, rounds=3, command="nroff"):
         self.title, self.kind, self.size, self.aims, self.count, self.rounds = title, kind, size, aims, count, rounds
+        self.command = command
 
     def is_small(self):
         return self.count > 1
 
 
-def times_9base(work, formatters, runs):
-    """How many times as fast as 9base ours is."""
-    for formatter, run in zip(formatters[1:], runs[1:]):
-        if formatter.name.startswith("9base"):
-            return run.seconds / runs[0].seconds
-    return None
+def times(name):
+    """How many times as fast as the formatter whose name begins so ours is."""
+    def figure(work, formatters, runs):
+        for formatter, run in zip(formatters[1:], runs[1:]):
+            if formatter.name.startswith(name):
+                return run.seconds / runs[0].seconds
+        return None
+    return figure
 
 
 def times_fastest(work, formatters, runs):
@@ -106,15 +116,15 @@ def instructions(work, formatters, runs):
 
 WORKS = (
     Work("Running text", "text", 50,
-         Aim(times_9base, "times as fast as 9base", least=10),
+         Aim(times("9base"), "times as fast as 9base", least=10),
          Aim(instructions, "instructions a byte", most=50)),
     Work("Requests", "requests", 5,
-         Aim(times_9base, "times as fast as 9base", least=6)),
+         Aim(times("9base"), "times as fast as 9base", least=6)),
     Work("Registers", "registers", 5),
     Work("Code", "code", 50,
-         Aim(times_9base, "times as fast as 9base", least=10)),
+         Aim(times("9base"), "times as fast as 9base", least=10)),
     Work("Macros", "macros", 5,
-         Aim(times_9base, "times as fast as 9base", least=6)),
+         Aim(times("9base"), "times as fast as 9base", least=6)),
     Work("Loop", "loop", 30,
          Aim(times_fastest, "times as fast as the fastest peer", least=2)),
     Work("Skipped", "skipped", 50,
@@ -125,18 +135,59 @@ WORKS = (
          count=1000, rounds=10),
 )
 
+WORKS_ON_TABLES = (
+    Work("Tables", "tables", 0.67,
+         Aim(speed, "MB/s", least=4),
+         Aim(times("groff"), "times as fast as groff -t", least=10),
+         rounds=10, command="both"),
+    Work("Tables for nroff", "tables", 0.67,
+         Aim(instructions, "instructions a byte", most=180),
+         rounds=10, command="tbl"),
+    Work("Text without tables", "text", 50,
+         Aim(times("roff nroff"), "times as fast as nroff alone", least=0.9),
+         command="both"),
+    Work("Text without tables for nroff", "text", 50,
+         Aim(speed, "MB/s", least=50),
+         command="tbl"),
+)
+
 
 def is_there(program):
     folders = [""] if "/" in program else os.environ.get("PATH", "").split(os.pathsep)
     return any(os.access(os.path.join(folder, program), os.X_OK) for folder in folders)
 
 
-def ours(program, *options):
-    return Formatter("roff", [program, "nroff", *options], PRELUDE)
+def ours(program, command, *options):
+    return Formatter("roff " + command, [program, command, *options], PRELUDE)
 
 
-def peers():
-    """Returns the formatters that are installed, and says which aren't."""
+def all_formatters(program):
+    """Returns the formatters for each of our commands, ours in front."""
+    found = {command: [ours(program, command, "--bytes", "1000000000"), *peers(command)] for command in ("nroff", "tbl", "both")}
+    found["both"].insert(1, found["nroff"][0])
+    return found
+
+
+def peers(command):
+    """Returns the formatters that are installed and do what this command does; for `nroff` says which aren't."""
+    return {"nroff": peers_of_nroff, "tbl": peers_of_tbl, "both": peers_of_both}[command]()
+
+
+def peers_of_tbl():
+    return [Formatter("groff's tbl", ["tbl", "-C"], PRELUDE)] if is_there("tbl") else []
+
+
+def peers_of_both():
+    found = []
+    if is_there("groff"):
+        command = ["groff", "-t", "-C", "-Tascii", "-P-cbou"]
+        found.append(Formatter("groff -t -Tascii", command, ".do cflags 0 -\n" + PRELUDE))
+    if is_there("mandoc"):
+        found.append(Formatter("mandoc -Tascii", ["mandoc", "-Tascii"], MANDOC_PRELUDE))
+    return found
+
+
+def peers_of_nroff():
     found = []
     nroff, troff = f"{PLAN9}/nroff", f"{PLAN9}/troff"
     if is_there(nroff):
@@ -154,7 +205,7 @@ def peers():
         print("groff isn't installed: left out")
     if is_there("mandoc"):
         remark = "mandoc reads a manual page, writes lines of 78 columns, and adjusts nothing: it ignores .ad and .na"
-        found.append(Formatter("mandoc -Tascii", ["mandoc", "-Tascii"], ".TH BENCH 1 2000-01-01\n", remark))
+        found.append(Formatter("mandoc -Tascii", ["mandoc", "-Tascii"], MANDOC_PRELUDE, remark))
     else:
         print("mandoc isn't installed: left out")
     return found
@@ -292,14 +343,34 @@ def default_memory(program):
     """Prints our times and memory for documents of several sizes, without limits asked for, and returns the greatest
     memory."""
     rows, memories = [], []
-    for kind, size in DEFAULT_WORKS:
-        (run,) = best_of(Work("", kind, size), [ours(program)])
-        name = f"{kind}, {size} MB" if run.status == 0 else f"{kind}, {size} MB (status {run.status})"
+    for command, kind, size in DEFAULT_WORKS:
+        (run,) = best_of(Work("", kind, size), [ours(program, command)])
+        name = f"{command}: {kind}, {size} MB"
+        name += "" if run.status == 0 else f" (status {run.status})"
         rows.append([name, shown(run.seconds, 2), shown(size / run.seconds), shown(run.memory)])
         memories.append(run.memory)
     print("roff alone, at its default limits\n")
     show_table(["Document", "seconds", "MB/s", "peak MB"], rows)
     return None if None in memories else max(memories)
+
+
+def rows_grow(program):
+    """Prints how long a table takes, and one of four times as many rows, and returns for how many times the former."""
+    rows, best = [], []
+    with tempfile.TemporaryDirectory() as folder:
+        for count in (FEW_ROWS, MANY_ROWS):
+            path = os.path.join(folder, str(count))
+            with open(path, "w", encoding="ascii") as file:
+                file.write(make_text.Writer(0).table(count))
+            runs = [spend([program, "both", *ROWS_OPTIONS, path]) for _ in range(ROWS_ROUNDS)]
+            best.append(min(seconds for seconds, _ in runs))
+            status = max(status for _, status in runs)
+            name = f"{count:,} rows" if status == 0 else f"{count:,} rows (status {status})"
+            memory = peak([program, "both", *ROWS_OPTIONS, path])
+            rows.append([name, shown(best[-1], 3), shown(os.path.getsize(path) / MEGABYTE / best[-1]), shown(memory)])
+    print("roff both, one table\n")
+    show_table(["Table", "seconds", "MB/s", "peak MB"], rows)
+    return best[1] / best[0]
 
 
 def judged(title, aim, value):
@@ -318,22 +389,28 @@ def machine():
 
 
 def main():
-    if len(sys.argv) > 2 or sys.argv[1:] in (["-h"], ["--help"]):
+    words = sys.argv[1:]
+    works = WORKS_ON_TABLES if words[:1] == ["--tables"] else WORKS + WORKS_ON_TABLES
+    words = words[1:] if words[:1] == ["--tables"] else words
+    if len(words) > 1 or words in (["-h"], ["--help"]):
         sys.exit(__doc__.strip())
-    program = os.path.abspath(sys.argv[1]) if sys.argv[1:] else PROGRAM
+    program = os.path.abspath(words[0]) if words else PROGRAM
     if not is_there(program):
         sys.exit(f"bench/run.py: {program} is missing; ./roff --version builds it")
     if not is_there(GNU_TIME):
         print(f"{GNU_TIME} isn't installed: no memory is measured")
-    formatters, counting, aims = [ours(program, "--bytes", "1000000000"), *peers()], counter(), []
+    formatters, counting, aims = all_formatters(program), counter(), []
     print(f"{machine()}, {time.strftime('%Y-%m-%d')}; instructions counted by {counting[1]}\n")
     with tempfile.TemporaryDirectory() as folder:
-        for work in WORKS:
-            runs = compare(folder, work, formatters, counting)
-            aims += [judged(work.title, aim, aim.figure(work, formatters, runs)) for aim in work.aims]
+        for work in works:
+            those = formatters[work.command]
+            runs = compare(folder, work, those, counting)
+            aims += [judged(work.title, aim, aim.figure(work, those, runs)) for aim in work.aims]
+    growth = Aim(None, "times the time of a quarter of its rows", most=4.5)
+    aims.append(judged("One table", growth, rows_grow(program)))
     memory = Aim(None, "MB", most=MOST_MEMORY)
     aims.append(judged("Memory", memory, default_memory(program)))
-    for remark in [formatter.remark for formatter in formatters if formatter.remark]:
+    for remark in [formatter.remark for formatter in formatters["nroff"] if formatter.remark]:
         print(f"Note: {remark}.\n")
     show_table(["Work", "Wanted", "measured", ""], aims, left=2)
 

@@ -24,7 +24,9 @@ PROGRAM = os.path.join(os.path.dirname(HERE), "crates", "roff", "out", "roff")
 
 SIZE = 300_000
 PRELUDE = b".nh\n"
-KINDS = ("text", "requests", "registers", "code", "macros", "loop", "skipped")
+KINDS = ("text", "requests", "registers", "code", "macros", "loop", "skipped", "tables")
+# The command that a kind of document is for, where it isn't `nroff`.
+COMMANDS = {"tables": "both"}
 
 # The stages, and the modules or functions of each. The longest name that a function begins with decides. The compiler
 # puts `Engine::format` into `job::run`, with the turn of a byte that stands ready and with the glyph that it adds; and
@@ -52,6 +54,7 @@ STAGES = {
     ],
     "writing": ["roff_pages", "roff_lines::line_bytes", "roff_lines::stretch"],
     "store": ["roff_store"],
+    "tables": ["tbl_layout", "tbl_table", "tbl_core", "tbl_run"],
 }
 REST = "rest"
 
@@ -103,7 +106,7 @@ def profile(program, kind, size, folder):
     with open(document, "wb") as file:
         file.write(PRELUDE)
         make_text.write_document(kind, size, file)
-    words = ["valgrind", "--tool=callgrind", f"--callgrind-out-file={path}", program, "nroff", document]
+    words = ["valgrind", "--tool=callgrind", f"--callgrind-out-file={path}", program, COMMANDS.get(kind, "nroff"), document]
     none = subprocess.DEVNULL
     if subprocess.run(words, stdin=none, stdout=none, stderr=none).returncode != 0:
         sys.exit(f"bench/stages.py: {' '.join(words)} failed")

@@ -4,14 +4,14 @@ and environments:
 
     tests/hostile.py [KIND ..]
 
-Some are long, some nest deeply, some end in the middle; some have each byte behind a backslash, as a delimiter and
-in other places, and some are made at random, always the same. Each document is formatted twice. Both runs must end
-alike, with the same output and messages and a status from 0 to 4; a run may take a few seconds of processor time and
-a few megabytes of memory. A long document may take no more than its share beside one of a quarter of its length, is
-stopped by the limit that is named for it, or by none, and some must begin as they are said to. Short documents whose
-lines go far are formatted once: of their output, which is up to two gigabytes, the beginning and the length are
-compared. GNU time measures both time and memory. It takes about three minutes. The exit status is 1 if something is
-wrong.
+Some are long, some nest deeply, some end in the middle; some are tables, which both `tbl` and `both` are given; some have
+each byte behind a backslash, as a delimiter and in other places, and some are made at random, always the same. Each
+document is formatted twice. Both runs must end alike, with the same output and messages and a status from 0 to 4; a run
+may take a few seconds of processor time and a few megabytes of memory, 20 where a table is as large as the limits let it
+be. A long document may take no more than its share beside one of a quarter of its length, is stopped by the limit that is
+named for it, or by none, and some must begin as they are said to. Short documents whose lines go far are formatted once:
+of their output, which is up to two gigabytes, the beginning and the length are compared. GNU time measures both time and
+memory. It takes about five minutes. The exit status is 1 if something is wrong.
 """
 import pathlib
 import random
@@ -30,6 +30,7 @@ MEGABYTE = 1_000_000
 # a second. Far behind its time a run is stopped.
 MOST_SECONDS = 5
 MOST_KILOBYTES = 8_000
+MOST_KILOBYTES_OF_TABLES = 20_000
 STOPPED_SECONDS = 60
 # What a long document may take beside one of a quarter of its length, and seconds that don't count there.
 MOST_RATIO = 6
@@ -271,6 +272,55 @@ BEGINS = {
     "rest_of_an_interrupted_line": b"ab\n",
 }
 
+# Long documents with tables: what stands in front, what is repeated, what stands behind, the bytes of it all, the options,
+# the limit that stops it, or none, and what `tbl` writes first.
+PICTURE = b".TS\n.nr TF \\n(.u\n.nf\n"
+OF_ONE_CELL = PICTURE + b"\\&a\n.if \\n(TF .fi\n.TE\n"
+TABLES = {
+    "tables_of_one_cell": (b"", b".TS\nl.\na\n.TE\n", b"", 13 * 100_000, (), None, 2 * OF_ONE_CELL),
+    "tables_of_one_option": (b"", b".TS\nx;l.\n.TE\n", b"", 13 * 100_000, (), None, PICTURE + b".if"),
+    "tables_that_pass": (b"", b".TS\nbox;\nl.\na\n.TE\n", b"", 18 * 100_000, (), None, 2 * b".TS\nbox;\nl.\na\n.TE\n"),
+    "tables_that_never_begin": (b"", b".T", b"\n", 10 * MEGABYTE, (), None, b".T.T"),
+    "table_of_many_rows": (b".TS\nl l.\n", b"a\tb\n", b".TE\n", 8 * MEGABYTE, (), "rows", b".TS\n"),
+    "table_of_many_empty_rows": (b".TS\nl l.\n", b"\n", b".TE\n", 2 * MEGABYTE, (), "rows", b".TS\n"),
+    "table_of_many_fields": (
+        b".TS\n" + b"l" * 40 + b".\n", 39 * b"\t" + b"\n", b".TE\n", 40 * 4949, (), None, PICTURE + 9 * b"\\&\n"),
+    "table_of_wide_rows": (
+        b".TS\nr.\n%s\n" % (4096 * b"x"), b"a\n", b".TE\n", 4108 + 2 * 4999, (), None, PICTURE + b"\\&xxx"),
+    "table_of_surplus_fields": (b".TS\nl.\na", b"\tx", b"\n.TE\n", 262_144, (), None, PICTURE + b"\\&a\n"),
+    "table_of_surplus_in_each_row": (b".TS\nl.\n", b"a\tx\n", b".TE\n", 4 * 4999, (), None, PICTURE + b"\\&a\n"),
+    "table_without_an_end": (
+        b".TS\nl.\n", b"A row of a table that has no end, and is so long.\n", b"", 10 * MEGABYTE, (), "rows", b".TS\n"),
+    "table_without_an_end_of_long_rows": (b".TS\nl.\n", 16 * b"long " + b"\n", b"", 10 * MEGABYTE, (), "text", b".TS\n"),
+    "table_without_an_end_that_passes": (b".TS\nbox;\n", b"A row.\n", b"", 10 * MEGABYTE, (), "text", b".TS\n"),
+    "table_that_ends_nearly": (b".TS\nl.\n", b".TE.TE", b"\n", 10 * MEGABYTE, (), "text", b".TS\n"),
+    "field": (b".TS\nl.\n", b"x", b"\n.TE\n", 10 * MEGABYTE, (), "text", b".TS\n"),
+    "field_of_width": (b".TS\nl.\n", b"x", b"\n.TE\n", 262_144, (), "width", b".TS\n"),
+    "field_that_prints_nothing": (b".TS\nl.\n", b"\x01", b"\n.TE\n", 262_144, (), None, PICTURE + b"\\&\n"),
+    "field_of_blanks": (b".TS\nl.\n", b" ", b"\n.TE\n", 4_096, (), None, PICTURE + b"\\&\n"),
+    "field_of_joined_lines": (b".TS\nl.\n", b"\\\n", b"\n.TE\n", 262_144, (), None, PICTURE + b"\\&\n"),
+    "field_of_joined_lines_without_an_end": (b".TS\nl.\n", b"x\\\n", b"", 10 * MEGABYTE, (), "text", b".TS\n"),
+    "options": (b".TS\n", b"abc ", b";\nl.\na\n.TE\n", 4_000, (), None, OF_ONE_CELL),
+    "options_past_the_text": (b".TS\n", b"abc ", b";\nl.\na\n.TE\n", 10 * MEGABYTE, (), "text", b".TS\n"),
+    "options_that_set": (b".TS\n", b"tab(:)\t", b";\nl.\na\n.TE\n", 8_000, (), None, OF_ONE_CELL),
+    "option_with_brackets": (b".TS\nlinesize(", b"(;", b");\nl.\na\n.TE\n", 262_144, (), None, OF_ONE_CELL),
+    "columns": (b".TS\n;", b"l ", b".\n.TE\n", 2_000, (), "columns", b".TS\n"),
+    "columns_on_a_first_line": (b".TS\n", b"l ", b".\n.TE\n", 2_000, (), "columns", b".TS\n"),
+    "columns_enough": (b".TS\n", b"l ", b".\na\n.TE\n", 2_000, ("--columns=1000",), None, OF_ONE_CELL),
+    "rows_of_a_format": (b".TS\n", b"l,", b"l.\na\n.TE\n", 262_144, (), None, OF_ONE_CELL),
+    "rows_of_a_format_without_keys": (b".TS\n", b",\n", b"l.\na\n.TE\n", 262_144, (), None, OF_ONE_CELL),
+    "number": (b".TS\nl", b"9", b"l.\na\n.TE\n", 262_144, (), "width", b".TS\n"),
+    "numbers": (b".TS\nl", b"3 ", b"l.\na\n.TE\n", 262_144, (), None, OF_ONE_CELL),
+    "format_without_an_end": (b".TS\nl", b" \n", b"", 10 * MEGABYTE, (), "text", b".TS\n"),
+    "rest_of_an_end": (b".TS\nl.\na\n.TE ", b".TS ", b"\n", 10 * MEGABYTE, (), None, OF_ONE_CELL[:-1] + b" .TS .TS"),
+}
+# Columns that are far apart, with the limit that stops each command; `nroff` counts blanks for its line at the glyph behind.
+FAR_TABLES = {
+    "columns_far_apart": (b".TS\nl40000000 l.\na\tb\n.TE\n", {"tbl": None, "both": "line"}),
+    "columns_farthest_apart": (b".TS\nl999999990 l.\na\tb\n.TE\n", {"tbl": "output", "both": "bytes"}),
+}
+FAR_OPTIONS = ("--width=1000000000", "--output=50000000")
+
 # Short documents whose lines go far: the document, the limit that stops it, what its output begins with, and how long it
 # is. The greatest length is 89,478,485 columns, and the greatest spacing 2,147,483,647 lines.
 FARTHEST = 89_478_485
@@ -379,6 +429,26 @@ RANDOM = {
     "random_environments": PIECES + 20 * PIECES_OF_ENVIRONMENTS + 2 * PIECES_OF_MACROS,
 }
 RANDOM_DOCUMENTS = 100
+PIECES_OF_TABLES = (
+    4 * [b"\n.TE\n", b"\n.TS\n", b"\n.TS\nl l.\n", b"\n.TS\ntab(:);\nl r.\n", b":", b"\t", b"\n"]
+    + [b"l", b"r", b"c", b",", b".\n", b";", b"tab(:)", b"tab(", b")", b"center ", b"box", b"9", b"n", b"|", b"_\n", b"=\n"]
+    + [b"T{\n", b"\nT}", b"\n.T&\n", b"\\\n", b"\\\\\n", b"\n.TE", b"\n.TS x\n", b"\n.TEx\n", b"a", b"words", b" "]
+)
+RANDOM_TABLES = {
+    "random_bytes_in_a_table": [bytes([value]) for value in range(256)],
+    "random_tables": PIECES_OF_TABLES,
+    "random_tables_and_bytes": PIECES + 12 * PIECES_OF_TABLES,
+}
+OPTIONS_OF_TABLES = ((), ("--rows=3", "--text=90"), ("--columns=2", "--width=9"), ("--bytes=900",), ("--output=900",))
+# Documents in which each byte stands in the place of `%s`: as a separator, in options, keys, fields, and behind names.
+TABLES_AROUND = (
+    b".TS\ntab(%s);\nl r c.\na%sb%sc\n%s\n%s%s\n.TE\n",
+    b".TS\ntab(:)%scenter;\nl l.\na:b\n.TE\n",
+    b".TS\nl %s l%s.\na\tb\n.TE\n",
+    b".TS\nl 3%s4 l.%s\na%s\tb%s\n%sc%s\n.TE\n",
+    b".TS\nl.\n%s\n\\%s\n.TE%s\nx\n.TE\n",
+    b".TS%s\nl.\na\n.TE\n.TS\nl.\na\\\n%s\n.TE",
+)
 OPTIONS = ((), ("--stack=9", "--depth=2"), ("--line=30", "--bytes=900"), ("--conditions=1", "--environments=2"),
            ("--store=9", "--names=2"))
 
@@ -386,11 +456,11 @@ OPTIONS = ((), ("--stack=9", "--depth=2"), ("--line=30", "--bytes=900"), ("--con
 class Run:
     """What a run gave, and what it took. Of its output what `read` makes of it is kept."""
 
-    def __init__(self, folder, options, read=lambda output: output.read()):
+    def __init__(self, folder, options, read=lambda output: output.read(), command="nroff"):
         measured, messages = folder / "measured", folder / "messages"
-        command = [GNU_TIME, "-q", "-o", measured, "-f", "%U %S %M", PROGRAM, "nroff", *options, folder / "document"]
+        words = [GNU_TIME, "-q", "-o", measured, "-f", "%U %S %M", PROGRAM, command, *options, folder / "document"]
         with messages.open("wb") as told:
-            run = subprocess.Popen(command, stdin=subprocess.DEVNULL, stdout=subprocess.PIPE, stderr=told,
+            run = subprocess.Popen(words, stdin=subprocess.DEVNULL, stdout=subprocess.PIPE, stderr=told,
                                    preexec_fn=limit_time)
             output = read(run.stdout)
             run.stdout.close()
@@ -410,23 +480,24 @@ def limit_time():
     resource.setrlimit(resource.RLIMIT_CPU, (STOPPED_SECONDS, STOPPED_SECONDS))
 
 
-def too_much(run, kilobytes):
+def too_much(run, kilobytes, most=MOST_KILOBYTES):
     """What is wrong with how a run ended, and with what it took."""
     wrong = []
     if run.given[0] not in range(5):
         wrong.append("status %d" % run.given[0])
     if run.seconds > MOST_SECONDS:
         wrong.append("%.1f seconds" % run.seconds)
-    if kilobytes > MOST_KILOBYTES:
+    if kilobytes > most:
         wrong.append("%d kilobytes" % kilobytes)
     return wrong
 
 
-def formatted(folder, name, document, options=()):
+def formatted(folder, name, document, options=(), command="nroff"):
     """Formats a document twice. Answers the quicker run, and what is wrong."""
     (folder / "document").write_bytes(document)
-    first, second = sorted((Run(folder, options), Run(folder, options)), key=lambda run: run.seconds)
-    wrong = too_much(first, max(first.kilobytes, second.kilobytes))
+    first, second = sorted((Run(folder, options, command=command) for _ in range(2)), key=lambda run: run.seconds)
+    most = MOST_KILOBYTES if command == "nroff" else MOST_KILOBYTES_OF_TABLES
+    wrong = too_much(first, max(first.kilobytes, second.kilobytes), most)
     if first.given != second.given:
         wrong.append("two runs differ")
     return first, ["%s: %s" % (" ".join([name, *options]), what) for what in wrong]
@@ -434,18 +505,31 @@ def formatted(folder, name, document, options=()):
 
 def check_long(folder, name):
     """A long document, and one of a quarter of its length."""
-    front, text, behind, size = LONG[name]
+    parts, options = LONG[name], ROOM + LESS_TO_READ.get(name, ())
+    return check_beside_a_quarter(folder, name, parts, options, STOPPED_BY.get(name), BEGINS.get(name, b""))
+
+
+def check_tables(folder, name):
+    """The same of one with tables, by both commands."""
+    *parts, options, limit, beginning = TABLES[name]
+    wrong = check_beside_a_quarter(folder, name + ", tbl", parts, options, limit, beginning, "tbl")
+    return wrong + check_beside_a_quarter(folder, name + ", both", parts, options, limit, b"", "both")
+
+
+def check_beside_a_quarter(folder, name, parts, options, limit, beginning, command="nroff"):
+    """A document that repeats a text, and one that repeats it a quarter as often."""
+    front, text, behind, size = parts
     times = (size - len(front + behind)) // len(text)
     if times < 4:
         raise SystemExit("tests/hostile.py: %s repeats its text %d times" % (name, times))
-    options = ROOM + LESS_TO_READ.get(name, ())
-    whole, wrong = formatted(folder, name, front + text * times + behind, options)
-    quarter, wrong_of_quarter = formatted(folder, name + ", a quarter", front + text * (times // 4) + behind, options)
+    whole, wrong = formatted(folder, name, front + text * times + behind, options, command)
+    shorter = front + text * (times // 4) + behind
+    quarter, wrong_of_quarter = formatted(folder, name + ", a quarter", shorter, options, command)
     if whole.seconds > MOST_RATIO * quarter.seconds + SMALL_CHANGE:
         wrong.append("%s: %.2f seconds, and %.2f for a quarter of it" % (name, whole.seconds, quarter.seconds))
-    if whole.stopped_by() != STOPPED_BY.get(name):
-        wrong.append("%s: stopped by %s, and not by %s" % (name, whole.stopped_by(), STOPPED_BY.get(name)))
-    if not whole.given[1].startswith(BEGINS.get(name, b"")):
+    if whole.stopped_by() != limit:
+        wrong.append("%s: stopped by %s, and not by %s" % (name, whole.stopped_by(), limit))
+    if not whole.given[1].startswith(beginning):
         wrong.append("%s: begins with %r" % (name, whole.given[1][:SHOWN]))
     return wrong + wrong_of_quarter
 
@@ -470,6 +554,40 @@ def check_far(folder, name):
     if not run.given[1][0].startswith(beginning) or run.given[1][1] != length:
         wrong.append("%d bytes that begin with %r" % (run.given[1][1], run.given[1][0]))
     return ["%s: %s" % (name, what) for what in wrong]
+
+
+def check_far_table(folder, name):
+    """A picture that goes far, by both commands."""
+    document, limits = FAR_TABLES[name]
+    (folder / "document").write_bytes(document)
+    wrong = []
+    for command, limit in limits.items():
+        run = Run(folder, FAR_OPTIONS, beginning_and_length, command)
+        wrong += too_much(run, run.kilobytes, MOST_KILOBYTES_OF_TABLES)
+        if run.stopped_by() != limit:
+            wrong.append("%s is stopped by %s, and not by %s" % (command, run.stopped_by(), limit))
+    return ["%s: %s" % (name, what) for what in wrong]
+
+
+def check_bytes_of_tables(folder, name):
+    """Each byte in all places of tables, by both commands."""
+    wrong = []
+    for value in range(256):
+        document = b"".join(TABLES_AROUND).replace(b"%s", bytes([value]))
+        for command in ("tbl", "both"):
+            wrong += formatted(folder, "%s %d, %s" % (name, value, command), document, (), command)[1]
+    return wrong
+
+
+def check_random_tables(folder, name):
+    """Tables of random pieces, by both commands."""
+    wrong = []
+    for seed in range(RANDOM_DOCUMENTS):
+        document = b".TS\n" + b"".join(random.Random(seed).choices(RANDOM_TABLES[name], k=600))
+        for options in OPTIONS_OF_TABLES:
+            for command in ("tbl", "both"):
+                wrong += formatted(folder, "%s %d, %s" % (name, seed, command), document, options, command)[1]
+    return wrong
 
 
 def check_nested(folder, name):
@@ -508,6 +626,8 @@ def main():
         raise SystemExit("tests/hostile.py: %s is missing, which measures" % GNU_TIME)
     checks = dict.fromkeys(LONG, check_long) | dict.fromkeys(FAR, check_far) | dict.fromkeys(NESTED, check_nested)
     checks |= {"bytes": check_bytes} | dict.fromkeys(RANDOM, check_random)
+    checks |= dict.fromkeys(TABLES, check_tables) | dict.fromkeys(RANDOM_TABLES, check_random_tables)
+    checks |= {"bytes_of_tables": check_bytes_of_tables} | dict.fromkeys(FAR_TABLES, check_far_table)
     kinds = sys.argv[1:] or list(checks)
     for kind in set(kinds) - set(checks):
         raise SystemExit("tests/hostile.py: no documents are named %s" % kind)

@@ -1,46 +1,89 @@
 #!/usr/bin/env python3
-"""Runs the worked rows and the examples on the built program, within each of some limits in turn:
+"""Runs the worked rows and the examples on the built program, within each of some limits in turn, and with devices that
+fail behind each byte:
 
     tests/sweeps.py [NAME ..]
 
-NAME is a row or a folder of rows. Each document is formatted with `--bytes`, `--store`, `--stack`, `--depth`,
-`--names`, `--line`, `--environments` and `--conditions` from 0 up to the first value with which no limit stops it.
-Within a smaller limit the output must be a beginning of what it is within the next one, and so must the messages
-without the one that tells of the limit. Rows that have options are left out, and so are those that don't end with
-status 0. The exit status is 1 if an output or the messages aren't a beginning.
+NAME is a row or a folder of rows. Each document is run by its command with each of the command's limits from 0 up to the
+first value with which no limit stops it. Within a smaller limit the output must be a beginning of what it is within the
+next one, and so must the messages without the one that tells of the limit; where no limit stops it they must be the row's.
+The same must hold where the source fails behind each of the document's bytes: there a folder, which can be opened but not
+read, follows a file with the bytes before. A document of `tbl` or `both` is also run with an output, and with messages,
+that take so many bytes and no more: they must have the first bytes of the row's, and the status is 2. Rows that have
+options are left out, and so are those that don't end with status 0. The exit status is 1 if something else comes out.
 """
 import pathlib
+import resource
 import subprocess
 import sys
+import tempfile
 
 TOP = pathlib.Path(__file__).resolve().parent.parent
 PROGRAM = TOP / "crates" / "roff" / "out" / "roff"
 DATA = TOP / "crates" / "roff_rows" / "data"
-LIMITS = ("bytes", "store", "stack", "depth", "names", "line", "environments", "conditions")
-# What a row has if it isn't swept: options, or a status that isn't 0.
-LEFT_OUT = (".args", ".status")
+OF_TEXT = ("bytes", "store", "stack", "depth", "names", "line", "environments", "conditions")
+OF_TABLES = ("rows", "columns", "text", "width")
+LIMITS = {"nroff": OF_TEXT, "tbl": OF_TABLES + ("bytes", "output"), "both": OF_TEXT + OF_TABLES}
 
 
-def formatted(document, limit, value):
+class Document:
+    """A document, with its command and what the command makes of it; the output and the messages of it last."""
+
+    def __init__(self, path):
+        self.path = path
+        self.words = beside(path, ".args", b"nroff").decode().split("\n")
+        self.command = self.words[0]
+        self.wanted = beside(path, ".txt", b""), beside(path, ".messages", b"")
+        self.is_swept = not any(self.words[1:]) and beside(path, ".status", b"0").strip() == b"0"
+
+    def run(self, *words, **more):
+        command = [PROGRAM, self.command, *words]
+        return subprocess.run(command, stdin=subprocess.DEVNULL, timeout=60, **more)
+
+
+def beside(path, ending, usual):
+    """What the file of this ending has, or what is usual."""
+    path = path.with_suffix(ending)
+    return path.read_bytes() if path.exists() else usual
+
+
+def within_limit(document, limit, value):
     """Output, messages without that of the limit, and whether the limit stopped the run."""
-    run = subprocess.run([PROGRAM, "nroff", "--%s=%d" % (limit, value), document],
-                         stdin=subprocess.DEVNULL, capture_output=True, timeout=60)
+    run = document.run("--%s=%d" % (limit, value), document.path, capture_output=True)
+    return without_last(document, run, 3, b"limit %s (%d) reached\n" % (limit.encode(), value))
+
+
+def behind_bytes(document, folder, value):
+    """The same where the source fails behind so many bytes."""
+    source = document.path.read_bytes()
+    if value > len(source):
+        return *document.wanted, False
+    (folder / "front").write_bytes(source[:value])
+    run = document.run(folder / "front", folder, capture_output=True)
+    # A run that `.ex` ended, or that ended with the last byte, didn't ask its source again.
+    return without_last(document, run, 2, b"read failed\n") if run.returncode else (run.stdout, run.stderr, True)
+
+
+def without_last(document, run, status, text):
     messages = run.stderr.splitlines(keepends=True)
-    if run.returncode == 3:
+    if run.returncode == status:
         last = messages.pop()
-        if b"limit %s (%d) reached" % (limit.encode(), value) not in last:
-            raise SystemExit("%s --%s=%d: %r" % (document, limit, value, last))
-    return run.stdout, b"".join(messages), run.returncode == 3
+        if not last.endswith(text):
+            raise SystemExit("%s: %r, where %r was to come" % (document.path, last, text))
+    return run.stdout, b"".join(messages), run.returncode == status
 
 
-def sweep(document, limit):
+def sweep(document, name, formatted):
     """How many runs it took; what is wrong is printed, and answered as None."""
     before = (b"", b"")
     value = 0
     while True:
-        output, messages, is_stopped = formatted(document, limit, value)
+        output, messages, is_stopped = formatted(value)
         if not (output.startswith(before[0]) and messages.startswith(before[1])):
-            print("%s: --%s=%d takes something back" % (document.name, limit, value))
+            print("%s: %s %d takes something back" % (document.path.name, name, value))
+            return None
+        if not is_stopped and (output, messages) != document.wanted:
+            print("%s: %s %d isn't the row" % (document.path.name, name, value))
             return None
         if not is_stopped:
             return value + 1
@@ -48,22 +91,53 @@ def sweep(document, limit):
         value += 1
 
 
+def sweep_sinks(document, folder):
+    """The same for sinks that take so many bytes. A file may become no longer than that."""
+    runs = 0
+    for which, name in enumerate(("stdout", "stderr")):
+        wanted = document.wanted[which]
+        for room in range(len(wanted) + 1):
+            with (folder / "kept").open("wb") as kept:
+                pipes = {"stdout": subprocess.PIPE, "stderr": subprocess.PIPE, name: kept}
+                run = document.run(document.path, **pipes, restore_signals=False, preexec_fn=lambda: limit_files(room))
+            other = run.stderr if which == 0 else run.stdout
+            kept = (folder / "kept").read_bytes()
+            is_cut = room < len(wanted)
+            if kept != wanted[:room] or run.returncode != (2 if is_cut else 0) or not document.wanted[1 - which].startswith(other):
+                print("%s: %s with room for %d: status %d, %r" % (document.path.name, name, room, run.returncode, kept))
+                return None
+            runs += 1
+    return runs
+
+
+def limit_files(size):
+    resource.setrlimit(resource.RLIMIT_FSIZE, (size, size))
+
+
+def sweeps_of(document, folder):
+    """How many runs each sweep of a document took."""
+    for limit in LIMITS[document.command]:
+        yield sweep(document, "--" + limit, lambda value: within_limit(document, limit, value))
+    yield sweep(document, "a source that fails behind", lambda value: behind_bytes(document, folder, value))
+    if document.command != "nroff":
+        yield sweep_sinks(document, folder)
+
+
 def main():
     if not PROGRAM.exists():
         raise SystemExit("tests/sweeps.py: %s is missing; ./roff --version builds it" % PROGRAM)
     names = set(sys.argv[1:])
-    failed = runs = documents = 0
-    for document in sorted(DATA.rglob("*.roff")):
-        if any(document.with_suffix(ending).exists() for ending in LEFT_OUT):
-            continue
-        if names and not names & {document.stem, document.parent.name}:
-            continue
-        documents += 1
-        for limit in LIMITS:
-            count = sweep(document, limit)
-            failed += count is None
-            runs += count or 0
-    print("%d documents, %d runs, %d failed" % (documents, runs, failed))
+    counts, documents = [], 0
+    with tempfile.TemporaryDirectory() as folder:
+        for path in sorted(DATA.rglob("*.roff")):
+            if names and not names & {path.stem, path.parent.name}:
+                continue
+            document = Document(path)
+            if document.is_swept:
+                documents += 1
+                counts += sweeps_of(document, pathlib.Path(folder))
+    failed = counts.count(None)
+    print("%d documents, %d runs, %d failed" % (documents, sum(count or 0 for count in counts), failed))
     sys.exit(1 if failed or not documents else 0)
 
 

@@ -10,7 +10,6 @@
 //! is standard input.
 #![tactic(auto)]
 
-mod machine;
 mod row;
 #[cfg(test)]
 mod tests;

@@ -1,7 +1,7 @@
 //! A worked row.
 
-use crate::machine::{Given, Machine, Paper};
 use anyhow::Result;
+use roff_machine::{Given, Machine, Paper};
 use roff_tools::main_with;
 use std::alloc::{AllocError, Global};
 use std::process::ExitCode;

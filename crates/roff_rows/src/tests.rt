@@ -3,9 +3,10 @@
 mod command_lines;
 mod devices;
 mod long_documents;
+mod table_commands;
 mod texts;
 
-use crate::machine::{Given, Machine, Paper};
+use roff_machine::{Given, Machine, Paper};
 use roff_tools::main_with;
 use std::alloc::Global;
 use std::process::{Abort, ExitCode};

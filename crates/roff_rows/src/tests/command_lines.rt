@@ -1,7 +1,7 @@
 //! Command lines and what they give.
 
 use super::{Expected, check, machine, texts};
-use crate::machine::Paper;
+use roff_machine::Paper;
 use std::alloc::Global;
 use std::process::Abort;
 

@@ -1,7 +1,7 @@
 //! Devices that fail, and devices that take or give one byte at a time.
 
 use super::{Expected, check, machine};
-use crate::machine::{Given, Machine, Paper};
+use roff_machine::{Given, Machine, Paper};
 use std::alloc::Global;
 
 /// A writer that takes so many bytes and no more.
@@ -111,6 +111,64 @@ fn reader_that_fails(rt: HostRuntime) {
     };
     let (stdout, stderr) = (Paper::new(alloc), Paper::new(alloc));
     check(&rt, &machine, stdout, stderr, expected);
+}
+
+/// A command, what it is given before its input fails, and what is written on each writer. Nothing of
+/// a table is given by then but its first line, and a line that has no newline yet tells nothing.
+static CUT_TABLES: [(&str, &str, &str, &str); 6] = [
+    (
+        "tbl",
+        "x\n.TS\nl.\nab",
+        "x\n.TS\n",
+        "tbl: line 4: read failed\n",
+    ),
+    ("both", "x\n.TS\nl.\nab", "", "nroff: line 2: read failed\n"),
+    (
+        "tbl",
+        ".TS\ntab(:);\nl.\na:b\n",
+        ".TS\n",
+        "tbl: line 4: too many fields\ntbl: line 4: read failed\n",
+    ),
+    (
+        "both",
+        ".TS\ntab(:);\nl.\na:b\n",
+        "",
+        "tbl: line 4: too many fields\nnroff: line 1: read failed\n",
+    ),
+    (
+        "tbl",
+        ".TS\ntab(:);\nl.\na:b\\\nc",
+        ".TS\n",
+        "tbl: line 5: read failed\n",
+    ),
+    (
+        "tbl",
+        ".TS\nl.\na\n.TE",
+        ".TS\n",
+        "tbl: line 4: read failed\n",
+    ),
+];
+
+#[test]
+fn reader_that_fails_within_a_table(rt: HostRuntime) {
+    let alloc = rt.alloc();
+    for (command, given, out, err) in &CUT_TABLES {
+        let words = ["roff", *command];
+        let machine = Machine {
+            standard_input: Given {
+                fails: true,
+                ..Given::new(given.as_bytes())
+            },
+            ..machine(alloc, words.as_slice())
+        };
+        let expected = Expected {
+            status: 2,
+            out: out.as_bytes(),
+            err: err.as_bytes(),
+        };
+        let (stdout, stderr) = (Paper::new(alloc), Paper::new(alloc));
+        check(&rt, &machine, stdout, stderr, expected);
+    }
 }
 
 #[test]

@@ -1,7 +1,7 @@
 //! Documents, lines and lists of files that are longer than any buffer.
 
 use super::{Expected, check, machine};
-use crate::machine::{Given, Machine, Paper};
+use roff_machine::{Given, Machine, Paper};
 use std::alloc::Global;
 use std::process::Abort;
 use std::test::Fail;

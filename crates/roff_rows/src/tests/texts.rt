@@ -7,6 +7,8 @@ Usage: roff <COMMAND>
 
 Commands:
   nroff  Format text for a terminal or a line printer
+  tbl    Put pictures in the places of tables, for nroff to print
+  both   Format text with tables: tbl, and behind it nroff
   help   Print this message or the help of the given subcommand(s)
 
 Options:
@@ -65,9 +67,86 @@ Exit status:
   4  the request .ab ended the run
 ";
 
+pub const TBL_HELP: &str = "\
+Put pictures in the places of tables, for nroff to print
+
+Usage: roff tbl [OPTIONS] [FILE]...
+
+Arguments:
+  [FILE]...  Files to be read; '-' is standard input [default: -]
+
+Options:
+      --rows <N>         Most rows of a table [default: 5000]
+      --columns <N>      Most columns of a table [default: 40]
+      --text <N>         Most bytes of a table's lines [default: 262144]
+      --width <N>        Most columns of a table's picture [default: 4096]
+      --bytes <N>        Most bytes read [default: 50000000]
+      --output <N>       Most bytes of output [default: 200000000]
+      --line-length <N>  Columns within which tables are centred [default: 65]
+  -h, --help             Print help
+
+tbl passes its input on, but for the tables in it, each between the lines .TS and
+.TE: these are replaced by lines for nroff that print the table. Each N is a
+number from 0 to 1000000000; a run stops, with status 3, before it would pass a
+limit.
+
+Files are read one after another as one input; all are opened before the first
+is read. '-', or no file at all, is standard input. Text is written on standard
+output, and messages on standard error.
+
+Exit status:
+  0  done
+  1  wrong command line, a file that cannot be opened, or no memory to start
+  2  reading or writing failed
+  3  a limit was reached
+";
+
+pub const BOTH_HELP: &str = "\
+Format text with tables: tbl, and behind it nroff
+
+Usage: roff both [OPTIONS] [FILE]...
+
+Arguments:
+  [FILE]...  Files to be read; '-' is standard input [default: -]
+
+Options:
+      --bytes <N>         Most bytes read [default: 50000000]
+      --store <N>         Most bytes of strings and macros [default: 1048576]
+      --stack <N>         Most inserted bytes not yet read [default: 262144]
+      --depth <N>         Most inserted texts not yet ended [default: 200]
+      --names <N>         Most names, and as many registers [default: 2000]
+      --line <N>          Most bytes of a pending line or title [default: 4096]
+      --traps <N>         Most page traps planted [default: 64]
+      --output <N>        Most bytes of output [default: 200000000]
+      --diversions <N>    Most diversions open at once [default: 16]
+      --environments <N>  Most environments not gone back from [default: 32]
+      --conditions <N>    Most conditions that wait for .el [default: 64]
+      --rows <N>          Most rows of a table [default: 5000]
+      --columns <N>       Most columns of a table [default: 40]
+      --text <N>          Most bytes of a table's lines [default: 262144]
+      --width <N>         Most columns of a table's picture [default: 4096]
+      --line-length <N>   Columns within which tables are centred [default: 65]
+  -h, --help              Print help
+
+both does what tbl and nroff do one behind the other, in one program. Each N is a
+number from 0 to 1000000000; a run stops, with status 3, before it would pass a
+limit.
+
+Files are read one after another as one input; all are opened before the first
+is read. '-', or no file at all, is standard input. Text is written on standard
+output, and messages on standard error.
+
+Exit status:
+  0  done
+  1  wrong command line, a file that cannot be opened, or no memory to start
+  2  reading or writing failed
+  3  a limit was reached
+  4  the request .ab ended the run
+";
+
 pub const NO_COMMAND: &str = "\
 error: 'roff' requires a subcommand but one was not provided
-  [subcommands: nroff, help]
+  [subcommands: nroff, tbl, both, help]
 
 Usage: roff <COMMAND>
 
@@ -208,6 +287,46 @@ error: unexpected argument '-1' found
   tip: to pass '-1' as a value, use '-- -1'
 
 Usage: roff nroff [OPTIONS] [FILE]...
+
+For more information, try '--help'.
+";
+
+pub const OPTION_OF_TEXT: &str = "\
+error: unexpected argument '--depth' found
+
+  tip: to pass '--depth' as a value, use '-- --depth'
+
+Usage: roff tbl [OPTIONS] [FILE]...
+
+For more information, try '--help'.
+";
+
+pub const OPTION_OF_TABLES: &str = "\
+error: unexpected argument '--rows' found
+
+  tip: to pass '--rows' as a value, use '-- --rows'
+
+Usage: roff nroff [OPTIONS] [FILE]...
+
+For more information, try '--help'.
+";
+
+pub const NO_LINE_LENGTH: &str = "\
+error: invalid value 'x' for '--line-length <N>': invalid digit found in string
+
+For more information, try '--help'.
+";
+
+pub const ROWS_ABOVE_RANGE: &str = "\
+error: invalid value '1000000001' for '--rows <N>': 1000000001 is not in 0..=1000000000
+
+For more information, try '--help'.
+";
+
+pub const COLUMNS_TWICE: &str = "\
+error: the argument '--columns <N>' cannot be used multiple times
+
+Usage: roff both [OPTIONS] [FILE]...
 
 For more information, try '--help'.
 ";

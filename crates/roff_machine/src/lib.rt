@@ -1,4 +1,6 @@
-//! A machine in memory: its words, files and standard input, and writers that may fail.
+//! A machine in memory: its words, files and standard input, and writers that may fail. Tests run
+//! the program on it.
+#![tactic(auto)]
 
 use std::alloc::{Allocator, Global};
 use std::convert::AsSlice;
