@@ -8,7 +8,6 @@ sources, it is proved and built first. With callgrind (of valgrind) the table ha
 those of 21,000 calls less those of 1,000, so that the start counts nowhere. Without it, it has nanoseconds a call: the
 best time of three for 5,000,000 calls, less the best for none. It takes about ten seconds.
 """
-import os
 import re
 import shutil
 import subprocess
@@ -16,10 +15,12 @@ import sys
 import tempfile
 import time
 
-HERE = os.path.dirname(os.path.realpath(__file__))
-CRATES = os.path.join(os.path.dirname(HERE), "crates")
-CRATE = os.path.join(CRATES, "pages_bench")
-PROGRAM = os.path.join(CRATE, "out", "pages_bench")
+sys.dont_write_bytecode = True
+import built
+
+CRATE = "pages_bench"
+BELOW = ("roff_num", "roff_lines", "roff_pages")
+PROGRAM = built.program_of(CRATE)
 
 FEW, MANY = 1_000, 21_000
 TIMED = 5_000_000
@@ -51,31 +52,6 @@ WORKS = (
 def most(counts):
     """The most instructions that a call may take, for each work that has such an aim."""
     return {"place": counts["line"] + 15, "unlisted": 40, "title": 6 * COLUMNS + 150}
-
-
-def is_outdated():
-    """Whether the program is missing, or a source is newer."""
-    if not os.access(PROGRAM, os.X_OK):
-        return True
-    built = os.path.getmtime(PROGRAM)
-    for crate in ("roff_num", "roff_lines", "roff_pages", "pages_bench"):
-        for part in ("src", "specs", "proofs"):
-            for folder, _, files in os.walk(os.path.join(CRATES, crate, part)):
-                if any(os.path.getmtime(os.path.join(folder, file)) > built for file in files):
-                    return True
-    return False
-
-
-def build():
-    print("bench/pages.py: proving and building crates/pages_bench, which takes minutes", file=sys.stderr)
-    none = subprocess.DEVNULL
-    try:
-        status = subprocess.run(["rt", "run", "--", "none", "0"], cwd=CRATE, stdin=none, stdout=none, stderr=none).returncode
-    except FileNotFoundError:
-        sys.exit("bench/pages.py: building needs the command rt of the Rattle toolchain, which isn't in PATH")
-    if status != 0 or not os.access(PROGRAM, os.X_OK):
-        sys.exit("bench/pages.py: the build failed; rt run in crates/pages_bench says why")
-    os.utime(PROGRAM)
 
 
 def perform(work, times, front=()):
@@ -111,8 +87,8 @@ def seconds(work, times):
 def main():
     if len(sys.argv) > 1:
         sys.exit(__doc__.strip())
-    if is_outdated():
-        build()
+    if built.is_outdated(CRATE, BELOW):
+        built.build("bench/pages.py", CRATE, ("none", "0"))
     width = max(len(work.title) for work in WORKS)
     if shutil.which("valgrind") is None:
         print(f"| {'Work'.ljust(width)} | ns a call |\n| {'-' * width} | --------- |")

@@ -7,15 +7,16 @@ The program of crates/store_bench does each work, which its head explains. Where
 sources, it is proved and built first. All works take turns, three times each, and the best time counts; the best time
 of the same work done no times is taken away. It takes about ten seconds.
 """
-import os
 import subprocess
 import sys
 import time
 
-HERE = os.path.dirname(os.path.realpath(__file__))
-CRATES = os.path.join(os.path.dirname(HERE), "crates")
-CRATE = os.path.join(CRATES, "store_bench")
-PROGRAM = os.path.join(CRATE, "out", "store_bench")
+sys.dont_write_bytecode = True
+import built
+
+CRATE = "store_bench"
+BELOW = ("roff_num", "roff_store")
+PROGRAM = built.program_of(CRATE)
 
 ROUNDS = 3
 
@@ -45,32 +46,6 @@ WORKS = (
 )
 
 
-def is_outdated():
-    """Whether the program is missing, or a source is newer."""
-    if not os.access(PROGRAM, os.X_OK):
-        return True
-    built = os.path.getmtime(PROGRAM)
-    for crate in ("roff_num", "roff_store", "store_bench"):
-        for part in ("src", "specs", "proofs"):
-            for folder, _, files in os.walk(os.path.join(CRATES, crate, part)):
-                if any(os.path.getmtime(os.path.join(folder, file)) > built for file in files):
-                    return True
-    return False
-
-
-def build():
-    print("bench/store.py: proving and building crates/store_bench, which takes minutes", file=sys.stderr)
-    words = ["rt", "run", "--", "none", "0", "0"]
-    none = subprocess.DEVNULL
-    try:
-        status = subprocess.run(words, cwd=CRATE, stdin=none, stdout=none, stderr=none).returncode
-    except FileNotFoundError:
-        sys.exit("bench/store.py: building needs the command rt of the Rattle toolchain, which isn't in PATH")
-    if status != 0 or not os.access(PROGRAM, os.X_OK):
-        sys.exit("bench/store.py: the build failed; rt run in crates/store_bench says why")
-    os.utime(PROGRAM)
-
-
 def measure(work, times):
     """Does a work so often, and returns the seconds; all of its calls have to do what they are to do."""
     began = time.perf_counter()
@@ -86,8 +61,8 @@ def measure(work, times):
 def main():
     if len(sys.argv) > 1:
         sys.exit(__doc__.strip())
-    if is_outdated():
-        build()
+    if built.is_outdated(CRATE, BELOW):
+        built.build("bench/store.py", CRATE, ("none", "0", "0"))
     rounds = [[(measure(work, work.times), measure(work, 0)) for work in WORKS] for _ in range(ROUNDS)]
     width = max(len(work.title) for work in WORKS)
     print(f"| {'Work'.ljust(width)} | ns a call |\n| {'-' * width} | --------- |")
