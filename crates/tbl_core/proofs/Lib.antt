@@ -10,3 +10,5 @@ pub mod Cutting
 pub mod Passing
 pub mod Ready
 pub mod Limiting
+pub mod ReadOn
+pub mod Given

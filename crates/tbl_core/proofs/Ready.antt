@@ -34,7 +34,7 @@ pub record ArePassed (l : TblLimits) (s : Standing) (known bytes : List ℕ) (n 
   pub first : take n known ≡ take n bytes
   pub few : n ≤ length bytes
 
-line-few : (most : ℕ) (bytes : List ℕ) → length (take_while is_of_line (take most bytes)) ≤ length (take most bytes)
+pub line-few : (most : ℕ) (bytes : List ℕ) → length (take_while is_of_line (take most bytes)) ≤ length (take most bytes)
 line-few most bytes =
     let all = length-take (prefix_len is_of_line (take most bytes)) (take most bytes) in
     omega (arith, all)

@@ -5,6 +5,7 @@ pub mod Stages
 pub mod Tables
 pub mod TablesKept
 pub mod Passing
+pub mod ReadOn
 pub mod Source
 pub mod SourceKept
 pub mod NotesLeft

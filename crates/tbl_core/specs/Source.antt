@@ -20,6 +20,11 @@ source_gives gives s = MayGive s.tables.limits s.tables.line_length s.tables.at 
 abbrev pub source_ready : {S : Type 0} → (S → List ℕ) → Sourced S → List ℕ
 source_ready ready s = if s.idle then passing s.tables.limits s.tables.at.standing (ready s.inner) else []
 
+-- there is a tape that a source may give
+pub record MayGiveSome (gives : Tape → Type 0) : Type 0 where
+  pub some : Tape
+  pub some_given : gives some
+
 -- either nothing was asked of the inner source yet, or there is a tape that it may give
 pub data IsAlive (gives : Tape → Type 0) (at : At) : Type 0 where
   NotAsked : (is : at ≡ at_start) → IsAlive gives at

@@ -1,5 +1,5 @@
 -- The machine, as its calls make its steps.
-use Rattle.std.specs.Prelude.{◌≡◌, ℕ, ◌+◌, ◌<◌, ◌≤◌, ◌==◌, false, List, [], ◌∷◌, ◌++◌, map, length, Option, Some, None, option_to_list, if◌then◌else◌}
+use Rattle.std.specs.Prelude.{◌≡◌, ℕ, ◌+◌, ◌<◌, ◌≤◌, ◌==◌, false, List, [], ◌∷◌, ◌++◌, map, length, drop, Option, Some, None, option_to_list, if◌then◌else◌}
 use Rattle.roff_num.specs.declared.limit.Limit.{Limit}
 use Rattle.roff_source.specs.Bytes.{newline}
 use Rattle.roff_source.specs.Tape.{Item, OneByte, Ending, Gives, answer_of}
@@ -67,6 +67,10 @@ pub record IsGiven (old new : TablesState) (taken : Taken) : Type 0 where
 -- a byte that was pending was given
 abbrev pub IsByteGiven : TablesState → TablesState → ℕ → Type 0
 IsByteGiven old new b = old ≡ record new { at = record { pending = OneByte b ∷ new.at.pending; standing = new.at.standing } }
+
+-- so many bytes that were pending were given
+abbrev pub behind_given : ℕ → TablesState → TablesState
+behind_given n t = record t { at = record { pending = drop n t.at.pending; standing = t.at.standing } }
 
 -- how the run stands, by where the next byte stands
 abbrev pub standing_of : Count → Position → Reading → Standing

@@ -1,9 +1,11 @@
 //! A source over a source: the pictures of the tables stand in their places.
 
 ghost use Rattle.std.specs.Prelude.{◌≡◌, ◌+◌, ◌<◌, ◌≤◌, [], false, true, IfErr, IfOk, IfSome, None};
+ghost use Rattle.std.specs.Prelude.{length, map};
 ghost use Rattle.roff_source.specs.Tape.{Answers, Ends, Failed, Gives, OneByte, OneNote, answer_of};
 ghost use Rattle.roff_num.specs.Faults.{Rises};
-ghost use Rattle.tbl_core.specs.NotesLeft.{gives_byte};
+ghost use Rattle.tbl_layout.specs.Parts.{IsFront};
+ghost use Rattle.tbl_core.specs.NotesLeft.{gives_byte, noted};
 
 use crate::tables::Tables;
 use roff_source::{ByteSource, Taken, at_most};
@@ -38,9 +40,9 @@ impl<S: ByteSource> Model for TblSource<S> {
 
 impl<S: ByteSource> TblSource<S> {
     ghost use Rattle.tbl_core.specs.NotesLeft.{bytes_left, notes_left};
-    ghost use Rattle.tbl_core.specs.Source.{source_gives};
+    ghost use Rattle.tbl_core.specs.Source.{MayGiveSome, source_gives};
     ghost use Rattle.tbl_core.specs.Stages.{Takes, TakesOn};
-    ghost use Rattle.tbl_core.specs.Tables.{line_of, stopped_by};
+    ghost use Rattle.tbl_core.specs.Tables.{behind_given, line_of, stopped_by};
     ghost use Rattle.tbl_core.specs.Yields.{Continues, at_start};
 
     /// A source over `inner`, of which nothing is read yet. The line length is in columns.
@@ -161,6 +163,30 @@ impl<S: ByteSource> TblSource<S> {
         }
     }
 
+    /// The next bytes to give that are pending and lie together; none where a message is pending.
+    #[inline(always)]
+    pub fn pending(&self) -> &[u8]
+        ensures front { IsFront (map OneByte result.now) self.now.tables.at.pending }
+        ensures bytes { 1 ≤ length result.now → noted self.now.tables.at.pending ≡ 0 }
+        ensures alive { 1 ≤ length result.now → MayGiveSome (S.gives self.now.inner) }
+    {
+        if self.giving {
+            self.tables.buffered()
+        } else {
+            &[]
+        }
+    }
+
+    /// So many bytes that were pending were given.
+    #[inline(always)]
+    pub fn give_bytes(&mut self, count: usize)
+        requires bytes { noted self.old.tables.at.pending ≡ 0 }
+        requires within { count ≤ length self.old.tables.at.pending }
+        ensures { self.new ≡ record self.old { tables = behind_given count self.old.tables } }
+    {
+        self.tables.give_bytes(count);
+    }
+
     /// Takes one item of the inner source, and answers the first that is given for it, if one is.
     #[inline(never)]
     fn turn(&mut self) -> Option<Taken>
@@ -254,6 +280,69 @@ impl<S: ByteSource> TblSource<S> {
         }
     }
 
+    /// Takes bytes of the inner source that stand ready, if they are of a table that goes on behind
+    /// them: the rest of a line, or one. Answers whether it did; otherwise nothing happens.
+    #[inline(always)]
+    fn read_on(&mut self) -> bool
+        requires pending { self.old.tables.at.pending ≡ [] }
+        requires reads { stopped_by self.old.tables.at.standing ≡ None }
+        ensures kept { result ≡ false → self.new ≡ self.old }
+        ensures silent { result ≡ true
+            → Continues (source_gives S.gives self.old) (source_gives S.gives self.new) }
+        ensures takes_on { result ≡ true → TakesOn (S.gives self.old.inner)
+            (S.gives self.new.inner) self.old.tables.limits self.old.tables.line_length
+            self.old.tables.at self.new.tables.at }
+        ensures limits { self.new.tables.limits ≡ self.old.tables.limits }
+        ensures line_length { self.new.tables.line_length ≡ self.old.tables.line_length }
+        ensures pending { self.new.tables.at.pending ≡ [] }
+        ensures reads { stopped_by self.new.tables.at.standing ≡ None }
+        ensures falls { result ≡ true
+            → bytes_left self.new.tables.limits self.new.tables.at.standing
+            + S.notes self.new.inner
+            < bytes_left self.old.tables.limits self.old.tables.at.standing
+            + S.notes self.old.inner }
+        ensures notes { notes_left self.new.tables ≤ notes_left self.old.tables }
+        ensures failures { S.failures self.old.inner ≤ S.failures self.new.inner }
+    {
+        if self.read_line() {
+            return true;
+        }
+        self.read_ready()
+    }
+
+    /// Takes bytes of the inner source that stand ready, if they are the rest of a line of a table
+    /// that goes on behind them. Answers whether it did; otherwise nothing happens.
+    #[inline(always)]
+    fn read_line(&mut self) -> bool
+        requires pending { self.old.tables.at.pending ≡ [] }
+        requires reads { stopped_by self.old.tables.at.standing ≡ None }
+        ensures kept { result ≡ false → self.new ≡ self.old }
+        ensures silent { result ≡ true
+            → Continues (source_gives S.gives self.old) (source_gives S.gives self.new) }
+        ensures takes_on { result ≡ true → TakesOn (S.gives self.old.inner)
+            (S.gives self.new.inner) self.old.tables.limits self.old.tables.line_length
+            self.old.tables.at self.new.tables.at }
+        ensures limits { self.new.tables.limits ≡ self.old.tables.limits }
+        ensures line_length { self.new.tables.line_length ≡ self.old.tables.line_length }
+        ensures pending { self.new.tables.at.pending ≡ [] }
+        ensures reads { stopped_by self.new.tables.at.standing ≡ None }
+        ensures falls { result ≡ true
+            → bytes_left self.new.tables.limits self.new.tables.at.standing
+            + S.notes self.new.inner
+            < bytes_left self.old.tables.limits self.old.tables.at.standing
+            + S.notes self.old.inner }
+        ensures notes { notes_left self.new.tables ≤ notes_left self.old.tables }
+        ensures failures { S.failures self.old.inner ≤ S.failures self.new.inner }
+    {
+        let count = self.tables.reading(self.inner.buffered()).len();
+        if count == 0 {
+            return false;
+        }
+        self.tables.read_line(at_most(self.inner.buffered(), count));
+        self.inner.pass(count);
+        true
+    }
+
     /// Takes items of the inner source, up to the first that something is given for, and answers
     /// that.
     #[inline(never)]
@@ -275,7 +364,7 @@ impl<S: ByteSource> TblSource<S> {
             → Rises (S.failures self.old.inner) (S.failures self.new.inner) }
     {
         loop {
-            if !self.read_ready() {
+            if !self.read_on() {
                 if let Some(taken) = self.turn() {
                     return taken;
                 }

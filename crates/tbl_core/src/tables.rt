@@ -1,11 +1,14 @@
 //! The machine over bytes: what is given for each.
 
-ghost use Rattle.std.specs.Prelude.{◌≡◌, ◌++◌, [], true, Some, IfOk, IfSome, option_to_list};
+ghost use Rattle.std.specs.Prelude.{◌≡◌, ◌≤◌, ◌++◌, [], true, Some, IfOk, IfSome, option_to_list};
+ghost use Rattle.std.specs.Prelude.{length, map};
 ghost use Rattle.std.specs.Option.{MatchOption};
-ghost use Rattle.roff_source.specs.Tape.{Ended, Failed, answer_of};
+ghost use Rattle.roff_source.specs.Tape.{Ended, Failed, OneByte, answer_of};
 ghost use Rattle.tbl_core.specs.Machine.{limit_inside, not_ended, own_told, reading_on};
 ghost use Rattle.tbl_core.specs.Passing.{passes_next, reads_outside};
 ghost use Rattle.tbl_core.specs.NotesLeft.{gives_byte, noted};
+ghost use Rattle.tbl_layout.specs.Parts.{IsFront};
+ghost use Rattle.tbl_core.specs.Tables.{behind_given};
 ghost use Rattle.tbl_core.specs.Tables.{IsByteGiven, IsGiven, IsRoomFor, begun_behind, byte_step, counted_step};
 ghost use Rattle.tbl_core.specs.Tables.{ending_step, handed, line_of, position_behind};
 ghost use Rattle.tbl_core.specs.Tables.{position_on_start_line, stopped_by, told_at};
@@ -145,6 +148,25 @@ impl Tables {
             (λ b. IsByteGiven self.old self.new b) }
     {
         self.table.next()
+    }
+
+    /// The next bytes that are pending and lie together, where no message is.
+    #[inline(always)]
+    pub(crate) fn buffered(&self) -> &[u8]
+        requires { noted self.now.at.pending ≡ 0 }
+        ensures { IsFront (map OneByte result.now) self.now.at.pending }
+    {
+        self.table.buffered()
+    }
+
+    /// So many bytes that were pending were given.
+    #[inline(always)]
+    pub(crate) fn give_bytes(&mut self, count: usize)
+        requires none { noted self.old.at.pending ≡ 0 }
+        requires within { count ≤ length self.old.at.pending }
+        ensures { self.new ≡ behind_given count self.old }
+    {
+        self.table.give_bytes(count);
     }
 
     /// Takes a byte of the input. One that passes by itself is handed out; what is given otherwise

@@ -1,6 +1,8 @@
 -- The bytes of pieces, one after another.
-use Rattle.std.proofs.Common.{◌≡◌, ℕ, ◌+◌, ◌<◌, List, ◌∷◌, ◌++◌, length, drop, get_or, sym, ap, ◌∙◌, arith, length-append}
-use Rattle.std.proofs.lemmas.List.{drop_more, get_or_append_left}
+use Rattle.std.proofs.Common.{◌≡◌, ℕ, ◌+◌, ◌-◌, ◌<◌, min, List, ◌∷◌, ◌++◌, length, take, drop, replicate, get_or, sym, ap, ◌∙◌, subst, arith, length-append}
+use Rattle.std.proofs.lemmas.List.{drop-append-le, drop-replicate, drop_more, get_or_append_left, length-replicate}
+use Rattle.tbl_layout.specs.Parts.{IsFront}
+use Rattle.tbl_layout.proofs.Slices.{front-more, take-replicate}
 use Rattle.tbl_layout.specs.Pieces.{bytes_of, bytes_of_all, piece_len}
 use Rattle.tbl_layout.specs.declared.picture.Piece.{Piece}
 
@@ -22,3 +24,22 @@ module _ (block frame : List ℕ) (piece : Piece) (pieces : List Piece) (offset 
       let inside : offset < length bytes = omega (arith, within, some) in
       drop_more (bytes ++ rest) offset 0 (omega (arith, inside, length-append bytes rest))
       ∙ ap (λ (b : ℕ). b ∷ drop (offset + 1) (bytes ++ rest)) (get_or_append_left bytes rest 0 offset inside)
+
+  -- the first bytes of what is left of the first piece are the first of all
+  pub front-left : (front : List ℕ) → offset < piece_len piece → IsFront front (drop offset (bytes_of block frame piece))
+      → IsFront front (drop offset (bytes_of_all block frame (piece ∷ pieces)))
+  front-left front some is =
+      let bytes = bytes_of block frame piece in
+      let rest = bytes_of_all block frame pieces in
+      subst (IsFront front) (sym (drop-append-le offset bytes rest (omega (arith, within, some))))
+      (front-more front (drop offset bytes) rest is)
+
+-- some blanks are the first of more
+pub front-blanks : (count at : ℕ) → IsFront {A = ℕ} (replicate (min (count - at) 64) 32) (drop at (replicate count 32))
+front-blanks count at =
+    let n = min (count - at) 64 in
+    let few : min n (count - at) ≡ n = omega arith in
+    ap (λ (k : ℕ). take k (drop at (replicate count 32))) (length-replicate n 32)
+    ∙ ap (λ (xs : List ℕ). take n xs) (drop-replicate at count 32)
+    ∙ take-replicate n (count - at) 32
+    ∙ ap (λ (k : ℕ). replicate k 32) few

@@ -1,10 +1,12 @@
 //! The picture of a table: its lines, one at a time (Lesk, "Tbl": Formatting).
 
-ghost use Rattle.std.specs.Prelude.{◌≡◌, ℕ, ◌+◌, ◌*◌, ◌<◌, ◌≤◌, ◌^◌, List, ◌++◌, length, take, drop};
+ghost use Rattle.std.specs.Prelude.{◌≡◌, ℕ, ◌+◌, ◌-◌, ◌*◌, ◌<◌, ◌≤◌, ◌^◌, List, ◌++◌, length, take, drop, min, replicate};
 ghost use Rattle.std.specs.Prelude.{slice_index, slice_range, vec_capacity, vec_len, if◌then◌else◌};
 ghost use Rattle.std.specs.List.{AllByRecursion};
+ghost use Rattle.roff_source.specs.Bytes.{blank};
 ghost use Rattle.tbl_layout.specs.Picture.{before_lines, behind_lines, first_key, indenting, is_glyph};
 ghost use Rattle.tbl_layout.specs.Picture.{line_of, shift, to_last_glyph};
+ghost use Rattle.tbl_layout.specs.Parts.{IsFront};
 ghost use Rattle.tbl_layout.specs.Pieces.{AreGlyphless, AreMeasured, AreWithin, EndsInGlyph, HaveBytes, IsNarrow};
 ghost use Rattle.tbl_layout.specs.Pieces.{bytes_of, bytes_of_all, cells, piece_len, some_piece, texts_of};
 
@@ -12,7 +14,7 @@ use crate::data::Field;
 use crate::format::Key;
 use crate::widths::separation;
 use itoa::Buffer;
-use roff_source::{is_dropped, is_silent};
+use roff_source::{at_most, is_dropped, is_silent};
 
 /// A piece of what is given.
 #[derive(Clone, Copy, Debug, PartialEq, Eq)]
@@ -60,6 +62,54 @@ impl Piece {
             Piece::Joint => [b'\\', b'\n'][at],
         }
     }
+
+    /// Those of its bytes that lie together from a place on: all, but of blanks at most 64.
+    #[inline(always)]
+    pub fn from<'a>(self, block: &'a [u8], frame: &'a [u8], at: usize) -> &'a [u8]
+        requires within { length (bytes_of block.now frame.now self) ≡ piece_len self }
+        requires some { at < piece_len self }
+        ensures { IsFront result.now (drop at (bytes_of block.now frame.now self)) }
+    {
+        match self {
+            Piece::Block(from, to) => part_behind(block, from, to, at),
+            Piece::Frame(from, to) => part_behind(frame, from, to, at),
+            Piece::Blanks(count) => blanks(count - at),
+            Piece::LineFront => behind(b"\\&", at),
+            Piece::LineEnd => behind(b"\n", at),
+            Piece::Joint => behind(b"\\\n", at),
+        }
+    }
+}
+
+/// A part of a block from a place in it on.
+#[inline(always)]
+fn part_behind(block: &[u8], from: usize, to: usize, at: usize) -> &[u8]
+    requires within { length (slice_range block.now from to) ≡ to - from }
+    requires some { at < to - from }
+    ensures { result.now ≡ drop at (slice_range block.now from to) }
+{
+    let part = &block[from..to];
+    &part[at..]
+}
+
+/// Bytes from a place on.
+#[inline(always)]
+fn behind(bytes: &[u8], at: usize) -> &[u8]
+    requires { at ≤ length bytes.now }
+    ensures { result.now ≡ drop at bytes.now }
+{
+    &bytes[at..]
+}
+
+/// As many blanks are given at once.
+const MOST_BLANKS: &[u8; 64] = b"                                                                ";
+
+/// So many blanks, or 64.
+#[inline(always)]
+fn blanks(most: usize) -> &'static [u8]
+    ensures { result.now ≡ replicate (min most 64) blank }
+{
+    at_most(MOST_BLANKS, most)
 }
 
 /// A byte of a part of a block.

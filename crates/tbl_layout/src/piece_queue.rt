@@ -1,11 +1,12 @@
 //! Pieces that are to give, of which a front was given.
 
-ghost use Rattle.std.specs.Prelude.{◌≡◌, ℕ, ◌+◌, ◌*◌, ◌<◌, ◌≤◌, ◌^◌, List, [], ◌∷◌, ◌++◌, length};
+ghost use Rattle.std.specs.Prelude.{◌≡◌, ℕ, ◌+◌, ◌*◌, ◌<◌, ◌≤◌, ◌^◌, List, [], ◌∷◌, ◌++◌, length, drop};
 ghost use Rattle.std.specs.Prelude.{IfOk, true};
 ghost use Rattle.std.specs.List.{AllByRecursion};
 ghost use Rattle.std.specs.Option.{MatchOption};
 ghost use Rattle.tbl_layout.specs.Format.{has_some};
 ghost use Rattle.tbl_layout.specs.Picture.{line_of};
+ghost use Rattle.tbl_layout.specs.Parts.{IsFront};
 ghost use Rattle.tbl_layout.specs.Pieces.{AreMeasured, AreWithin, IsNarrow, some_piece, texts_of};
 
 use crate::data::Field;
@@ -108,6 +109,47 @@ impl PieceQueue {
         ensures { result ≡ has_some self.now.pieces }
     {
         self.piece < self.pieces.len()
+    }
+
+    /// The next bytes to give that lie together, where the pieces are parts of these texts.
+    #[inline(always)]
+    pub fn buffered<'a>(&self, block: &'a [u8], frame: &'a [u8]) -> &'a [u8]
+        requires { AreWithin block.now frame.now self.now.pieces }
+        ensures { IsFront result.now (bytes_left block.now frame.now self.now) }
+    {
+        match self.pieces.get(self.piece) {
+            Some(piece) => piece.from(block, frame, self.offset),
+            None => &[],
+        }
+    }
+
+    /// Bytes of the first piece were given, so many at most. Answers how many.
+    #[inline(always)]
+    pub fn pass(&mut self, most: usize) -> usize
+        requires { 0 < most }
+        ensures few { result ≤ most }
+        ensures some { has_some self.old.pieces ≡ true → 0 < result }
+        ensures enough { (block frame : List ℕ) → AreWithin block frame self.old.pieces
+            → result ≤ length (bytes_left block frame self.old) }
+        ensures left { (block frame : List ℕ) → AreWithin block frame self.old.pieces
+            → bytes_left block frame self.new ≡ drop result (bytes_left block frame self.old) }
+        ensures within { (block frame : List ℕ) → AreWithin block frame self.old.pieces
+            → AreWithin block frame self.new.pieces }
+        ensures room { self.new.room ≡ self.old.room }
+    {
+        match self.pieces.get(self.piece) {
+            Some(piece) => {
+                let left = piece.len() - self.offset;
+                if most < left {
+                    self.offset += most;
+                    return most;
+                }
+                self.offset = 0;
+                self.piece += 1;
+                left
+            }
+            None => 0,
+        }
     }
 
     /// The next byte to give, where the pieces are parts of these texts.

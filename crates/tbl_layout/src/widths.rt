@@ -8,7 +8,20 @@ use roff_num::width_of_byte;
 use roff_source::{is_dropped, is_silent};
 
 /// The width of a byte of a text, in columns: of one that is dropped there is nothing.
+#[inline(always)]
 fn width_in_text(byte: u8) -> usize
+    ensures value { result ≡ width_in_text byte }
+    ensures most { result ≤ 1 }
+{
+    // Most bytes are such, and need no call.
+    if byte >= b' ' && byte < 127 {
+        return 1;
+    }
+    other_width(byte)
+}
+
+/// The same of any byte.
+fn other_width(byte: u8) -> usize
     ensures value { result ≡ width_in_text byte }
     ensures most { result ≤ 1 }
 {

@@ -23,12 +23,12 @@ items_then-append : (first others : List Item) (tape : Tape) → items_then (fir
 items_then-append first others tape = ap (λ (items : List Item). record { items = items; ending = tape.ending }) (append_assoc first others tape.items)
 
 -- a sink was given more behind what it has
-Appends-adds : (start : Option (List ℕ)) {now behind : Sunk} (from to : List ℕ) → Appends start now.contents from → Adds now behind from to
+pub Appends-adds : (start : Option (List ℕ)) {now behind : Sunk} (from to : List ℕ) → Appends start now.contents from → Adds now behind from to
     → Appends start behind.contents to
 Appends-adds start from to appends adds = rw adds.is (Appends-append start _ _ from adds.more appends adds.writes.written)
 
 -- or a beginning of it
-AppendsBetween-fails : (start : Option (List ℕ)) {now behind : Sunk} (from to : List ℕ) → Appends start now.contents from → FailsAdding now behind from to
+pub AppendsBetween-fails : (start : Option (List ℕ)) {now behind : Sunk} (from to : List ℕ) → Appends start now.contents from → FailsAdding now behind from to
     → AppendsBetween start behind.contents from to
 AppendsBetween-fails start from to appends adding = record {
   front = adding.fails.written.front;

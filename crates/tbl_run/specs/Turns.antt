@@ -1,5 +1,5 @@
 -- What a turn of the loop makes of the sinks.
-use Rattle.std.specs.Prelude.{◌≡◌, ◌⊎◌, ℕ, ◌≤◌, List, ◌++◌, length, Some, None, Result, Ok, Err}
+use Rattle.std.specs.Prelude.{◌≡◌, ◌⊎◌, ℕ, ◌+◌, ◌≤◌, List, ◌++◌, length, Some, None, Result, Ok, Err}
 use Rattle.roff_pages.specs.Sinks.{Fails, Sunk, Writes}
 use Rattle.roff_run.specs.declared.status.Status.{Status}
 use Rattle.roff_run.specs.declared.status.Status.TheVariants.{Device}
@@ -60,3 +60,18 @@ abbrev pub Tells : ℕ → Message → Status → Status → Sunk → Sunk → T
 Tells line message status result err err' =
     ((result ≡ status) × Writes err err' (tbl_message_line line message))
     ⊎ ((result ≡ Device) × Fails err err' (tbl_message_line line message))
+
+-- bytes were written at once, behind so many
+pub record FrontWritten (bytes : List ℕ) (written count : ℕ) (out out' err err' : Sunk) : Type 0 where
+  pub counted : count ≡ written + length bytes
+  pub text : Writes out out' bytes
+  pub messages : err' ≡ err
+
+-- or the sink failed in that, which was told
+pub record FrontFails (line : ℕ) (bytes : List ℕ) (status : Status) (out out' err err' : Sunk) : Type 0 where
+  pub text : Fails out out' bytes
+  pub messages : Tells line WriteFailed Device status err err'
+
+abbrev pub FrontPut : ℕ → List ℕ → ℕ → Result ℕ Status → Sunk → Sunk → Sunk → Sunk → Type 0
+FrontPut line bytes written (Ok count) out out' err err' = FrontWritten bytes written count out out' err err'
+FrontPut line bytes written (Err status) out out' err err' = FrontFails line bytes status out out' err err'

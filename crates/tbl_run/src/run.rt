@@ -1,21 +1,21 @@
 //! The loop over what a source with tables answers.
 
-ghost use Rattle.std.specs.Prelude.{◌≡◌, ◌≤◌, None, length};
+ghost use Rattle.std.specs.Prelude.{◌≡◌, ◌+◌, ◌≤◌, None, length, take};
 ghost use Rattle.roff_source.specs.Tape.{Gives, OneByte, answer_of};
 ghost use Rattle.roff_pages.specs.Devices.{seen};
 ghost use Rattle.tbl_core.specs.Yields.{at_start};
 ghost use Rattle.tbl_run.specs.Outcome.{PutsTables};
 ghost use Rattle.tbl_run.specs.Run.{Written};
-ghost use Rattle.tbl_run.specs.Turns.{Tells, Turned};
+ghost use Rattle.tbl_run.specs.Turns.{FrontPut, Tells, Turned};
 
 use roff_num::Limit;
 use roff_pages::ByteSink;
 use roff_run::Status;
-use roff_source::{ByteSource, Taken};
+use roff_source::{ByteSource, Taken, at_most};
 use tbl_core::{Message, TblLimits, TblSource, Told};
 
-/// Writes what a source with tables gives, of which nothing was asked yet: its bytes to `out`, one
-/// by one, and its messages to `err`.
+/// Writes what a source with tables gives, of which nothing was asked yet: its bytes to `out`, and
+/// its messages to `err`. Bytes of a picture that lie together are put at once, others one by one.
 pub fn put_tables<S: ByteSource, O: ByteSink, E: ByteSink>(
     source: &mut TblSource<S>,
     out: &mut O,
@@ -30,19 +30,65 @@ pub fn put_tables<S: ByteSource, O: ByteSink, E: ByteSink>(
     let limits = source.limits();
     let mut written = 0;
     loop {
-        match source.take_ready() {
-            Some(byte) => match put_byte(limits, source.line(), byte, written, out, err) {
-                Ok(count) => written = count,
-                Err(status) => return status,
-            },
-            None => {
-                let taken = source.take();
-                match turn(limits, source.line(), taken, written, out, err) {
+        let front = front_of(source.pending(), limits.output - written);
+        if front.is_empty() {
+            match source.take_ready() {
+                Some(byte) => match put_byte(limits, source.line(), byte, written, out, err) {
                     Ok(count) => written = count,
                     Err(status) => return status,
+                },
+                None => {
+                    let taken = source.take();
+                    match turn(limits, source.line(), taken, written, out, err) {
+                        Ok(count) => written = count,
+                        Err(status) => return status,
+                    }
                 }
             }
+        } else {
+            let given = front.len();
+            let line = source.line();
+            match put_front(limits, line, front, written, out, err) {
+                Ok(count) => {
+                    source.give_bytes(given);
+                    written = count;
+                }
+                Err(status) => return status,
+            }
         }
+    }
+}
+
+/// The first of some bytes, so many at most.
+#[inline(always)]
+fn front_of(bytes: &[u8], most: u32) -> &[u8]
+    ensures { result.now ≡ take most bytes.now }
+{
+    // Most often there are none: then nothing is counted.
+    if bytes.is_empty() {
+        return bytes;
+    }
+    at_most(bytes, most as usize)
+}
+
+/// Writes bytes that the limit on the output has room for, behind so many that were written, where
+/// the last byte taken stands on this line. Answers how many are written then, or how the run ends.
+#[inline(always)]
+fn put_front<O: ByteSink, E: ByteSink>(
+    limits: TblLimits,
+    line: u32,
+    bytes: &[u8],
+    written: u32,
+    out: &mut O,
+    err: &mut E,
+) -> Result<u32, Status>
+    requires { written + length bytes.now ≤ limits.output }
+    ensures { FrontPut line bytes.now written result
+        (O.sunk out.old) (O.sunk out.new) (E.sunk err.old) (E.sunk err.new) }
+{
+    match out.put(bytes) {
+        Ok(()) => Ok(written + bytes.len() as u32),
+        Err(_) => Err(tell(line, Message::WriteFailed, Status::Device, err)),
     }
 }
 

@@ -159,11 +159,12 @@ module _ (l : TblLimits) (phase : Phase) (begun : Begun) (text : KeptText) (form
   pub few-bytes : length text.line < 4611686018427387904
   few-bytes = omega (arith, fits.bytes.most, fits.rooms.small)
 
-  -- a byte more of the line
-  pub push-fits : (b : ℕ) (new : Begun) → length (text.read ++ text.line) < l.text + 4 → new ≡ begun_in phase format.format (text.line ++ b ∷ [])
-      → FewKeys (l.columns + length text.line + 1) new → PartsFit l phase new (record text { line = text.line ++ b ∷ [] }) format rows notes
-  push-fits b new room is few =
-      let longer = length-append text.line (b ∷ []) in
+  -- more bytes of the line
+  pub push-fits : (more : List ℕ) (new : Begun) → length (text.read ++ text.line) + length more ≤ l.text + 4
+      → new ≡ begun_in phase format.format (text.line ++ more) → FewKeys (l.columns + length text.line + length more) new
+      → PartsFit l phase new (record text { line = text.line ++ more }) format rows notes
+  push-fits more new room is few =
+      let longer = length-append text.line more in
       record {
         rooms = fits.rooms;
         bytes = record {
@@ -173,7 +174,7 @@ module _ (l : TblLimits) (phase : Phase) (begun : Begun) (text : KeptText) (form
         };
         keys = record {
           is = is;
-          few = FewKeys-more (l.columns + length text.line + 1) (l.columns + length (text.line ++ b ∷ [])) new (omega (arith, longer)) few;
+          few = FewKeys-more (l.columns + length text.line + length more) (l.columns + length (text.line ++ more)) new (omega (arith, longer)) few;
           keys = fits.keys.keys;
           asked = fits.keys.asked;
           columns = fits.keys.columns;
@@ -183,6 +184,19 @@ module _ (l : TblLimits) (phase : Phase) (begun : Begun) (text : KeptText) (form
         kept = fits.kept;
         by_phase = fits.by_phase;
       }
+
+  -- of the data nothing is known in front of its end
+  data-begun : (p : Phase) (f : Format) (line other : List ℕ) → p ≡ InData → begun_in p f line ≡ begun_in p f other
+  data-begun AtHead f line other is = cc
+  data-begun InFormat f line other is = cc
+  data-begun InData f line other is = refl
+  data-begun Bad f line other is = cc
+
+  pub push-data : (more : List ℕ) → phase ≡ InData → length (text.read ++ text.line) + length more ≤ l.text
+      → PartsFit l phase begun (record text { line = text.line ++ more }) format rows notes
+  push-data more is room =
+      push-fits more begun (omega (arith, room)) (fits.keys.is ∙ data-begun phase format.format text.line (text.line ++ more) is)
+      (FewKeys-more (l.columns + length text.line) (l.columns + length text.line + length more) begun (omega arith) fits.keys.few)
 
   -- behind the newline of a line that is done
   ended-read : length (text_ended text).read ≡ length text.read + length text.line + 1

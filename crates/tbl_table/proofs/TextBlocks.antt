@@ -166,23 +166,23 @@ module _ (block : List ℕ) (joints : List Joint) (line_start open_start open_jo
   pub length-read : length (unjoined 0 (take line_start block) joints ++ drop line_start block) ≡ length block + 2 * length joints
   length-read = ap (λ (xs : List ℕ). length xs) read-is ∙ omega (arith, length-unjoined 0 block joints rise-all)
 
-  -- a byte more of the line begun
-  module _ (room b : ℕ) where
-    pub text-push : text_of_block room (block ++ b ∷ []) joints line_start open_start open_joints
-        ≡ record (text_of_block room block joints line_start open_start open_joints) { line = drop line_start block ++ b ∷ [] }
+  -- more bytes of the line begun
+  module _ (room : ℕ) (more : List ℕ) where
+    pub text-push : text_of_block room (block ++ more) joints line_start open_start open_joints
+        ≡ record (text_of_block room block joints line_start open_start open_joints) { line = drop line_start block ++ more }
     unfolding kept
     text-push =
         let js = drop open_joints joints in
         let start : open_start ≤ length block = omega (arith, lies.order, lies.line) in
         same room joints _ _ _ _ _ _ _ _
-        (take-append-le open_start block (b ∷ []) start)
-        (ap (λ (bytes : List ℕ). pending_of open_start bytes js) (slice_range-append block (b ∷ []) open_start line_start lies.order lies.line))
-        (drop-append-le line_start block (b ∷ []) lies.line)
-        (ap (λ (bytes : List ℕ). unjoined 0 bytes joints) (take-append-le line_start block (b ∷ []) lies.line))
+        (take-append-le open_start block more start)
+        (ap (λ (bytes : List ℕ). pending_of open_start bytes js) (slice_range-append block more open_start line_start lies.order lies.line))
+        (drop-append-le line_start block more lies.line)
+        (ap (λ (bytes : List ℕ). unjoined 0 bytes joints) (take-append-le line_start block more lies.line))
 
-  pub Lies-push : (b : ℕ) → Lies (block ++ b ∷ []) joints line_start open_start open_joints
-  Lies-push b = record {
-    line = omega (arith, lies.line, length-append block (b ∷ []));
+  pub Lies-push : (more : List ℕ) → Lies (block ++ more) joints line_start open_start open_joints
+  Lies-push more = record {
+    line = omega (arith, lies.line, length-append block more);
     order = lies.order;
     rise = lies.rise;
     alone = lies.alone;

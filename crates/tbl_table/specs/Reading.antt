@@ -21,6 +21,10 @@ begun = record { table = no_lines; read = []; line = [] }
 abbrev pub byte_read : ℕ → Reading → Reading
 byte_read b r = record r { line = r.line ++ b ∷ [] }
 
+-- more bytes of the line
+abbrev pub all_read : List ℕ → Reading → Reading
+all_read bytes r = record r { line = r.line ++ bytes }
+
 -- the newline behind this line
 abbrev pub line_ended : ℕ → Reading → Reading
 line_ended line r = record { table = line_read line r.line r.table; read = r.read ++ r.line ++ newline ∷ []; line = [] }

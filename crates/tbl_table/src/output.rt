@@ -1,10 +1,14 @@
 //! What is still to give of a table: its bytes as they were read, or its picture.
 
-ghost use Rattle.std.specs.Prelude.{◌≡◌, ◌+◌, ◌*◌, ◌<◌, ◌++◌, [], ◌∷◌, true, length, drop, IfOk};
+ghost use Rattle.std.specs.Prelude.{◌≡◌, ◌+◌, ◌*◌, ◌<◌, ◌≤◌, ◌++◌, [], ◌∷◌, true, length, drop};
+ghost use Rattle.std.specs.Prelude.{IfOk};
 ghost use Rattle.std.specs.Option.{MatchOption};
 ghost use Rattle.tbl_layout.specs.FormatRows.{KeptFormat};
 ghost use Rattle.tbl_table.specs.Joined.{RiseWithin, unjoined};
+ghost use Rattle.tbl_layout.specs.Parts.{IsFront};
 ghost use Rattle.tbl_layout.specs.Picture.{next_of, picture};
+ghost use Rattle.tbl_layout.specs.PieceQueue.{bytes_left};
+ghost use Rattle.tbl_layout.specs.Pieces.{AreWithin};
 ghost use Rattle.tbl_table.specs.TableRows.{KeptRows};
 ghost use Rattle.tbl_table.specs.TableText.{KeptText, block_of};
 
@@ -125,6 +129,59 @@ impl Giving {
             self.refill(text, rows, format);
         }
         Some(byte)
+    }
+
+    /// The next bytes to give that lie together.
+    #[inline(always)]
+    pub fn buffered<'a>(&'a self, text: &'a TableText) -> &'a [u8]
+        requires { AreWithin (block_of text.now) self.now.frame self.now.pieces.pieces }
+        ensures { IsFront result.now
+            (bytes_left (block_of text.now) self.now.frame self.now.pieces) }
+    {
+        self.pieces.buffered(text.block(), self.frame.as_slice())
+    }
+
+    /// So many bytes were given.
+    #[inline(always)]
+    pub fn pass(&mut self, text: &TableText, rows: &TableRows, format: &FormatRows, count: usize)
+        requires can { CanGive text.now rows.now format.now self.old }
+        requires within { count ≤ length (coming text.now rows.now format.now self.old) }
+        ensures coming { coming text.now rows.now format.now self.new
+            ≡ drop count (coming text.now rows.now format.now self.old) }
+        ensures can { CanGive text.now rows.now format.now self.new }
+        ensures room { self.new.pieces.room ≡ self.old.pieces.room }
+    {
+        let mut left = count;
+        while left > 0 {
+            left -= self.pass_some(text, rows, format, left);
+        }
+    }
+
+    /// Bytes of the first piece were given, so many at most. Answers how many.
+    #[inline(always)]
+    fn pass_some(
+        &mut self,
+        text: &TableText,
+        rows: &TableRows,
+        format: &FormatRows,
+        most: usize,
+    ) -> usize
+        requires can { CanGive text.now rows.now format.now self.old }
+        requires most { 0 < most }
+        requires bytes { 0 < length (coming text.now rows.now format.now self.old) }
+        ensures few { result ≤ most }
+        ensures some { 0 < result }
+        ensures within { result ≤ length (coming text.now rows.now format.now self.old) }
+        ensures coming { coming text.now rows.now format.now self.new
+            ≡ drop result (coming text.now rows.now format.now self.old) }
+        ensures can { CanGive text.now rows.now format.now self.new }
+        ensures room { self.new.pieces.room ≡ self.old.pieces.room }
+    {
+        let count = self.pieces.pass(most);
+        if !self.pieces.has_piece() {
+            self.refill(text, rows, format);
+        }
+        count
     }
 
     /// Behind the last piece: the pieces that follow.

@@ -1,10 +1,12 @@
 //! The table that is being read.
 
-ghost use Rattle.std.specs.Prelude.{◌≡◌, ℕ, ◌+◌, ◌-◌, ◌<◌, ◌≤◌, ◌++◌, [], ◌∷◌, true, length, IfOk};
+ghost use Rattle.std.specs.Prelude.{◌≡◌, ℕ, ◌+◌, ◌-◌, ◌<◌, ◌≤◌, ◌++◌, [], ◌∷◌, true, drop, length, IfOk};
 ghost use Rattle.std.specs.Option.{MatchOption};
 ghost use Rattle.tbl_layout.specs.Data.{judged};
-ghost use Rattle.tbl_table.specs.Reading.{byte_read, bytes_read, kept_nothing};
+ghost use Rattle.tbl_layout.specs.Parts.{IsFront};
+ghost use Rattle.tbl_table.specs.Reading.{all_read, byte_read, bytes_read, kept_nothing};
 ghost use Rattle.tbl_table.specs.Table.{columns, columns_at, rows_behind, told_at_cut};
+ghost use Rattle.tbl_table.specs.declared.phase.Phase.TheVariants.{InData};
 
 mod ending;
 mod lines;
@@ -100,10 +102,26 @@ impl Table {
         self.text.push(byte);
     }
 
+    /// Bytes of the line that is begun, but its newline.
+    #[inline(always)]
+    pub fn push_all(&mut self, bytes: &[u8])
+        requires phase { self.old.reading.table.phase ≡ InData }
+        requires room { length (bytes_read self.old.reading) + length bytes.now
+            ≤ self.old.limits.text }
+        ensures { self.new ≡ record self.old
+            { reading = all_read bytes.now self.old.reading; to_come = [] } }
+    {
+        self.giving.give_nothing();
+        self.text.push_all(bytes);
+    }
+
     /// Whether a byte of the data can be read, whatever it is, and no limit is met.
     #[inline(always)]
     #[tactic(auto, unfolding(crate::specs::Table::rows_behind, crate::specs::Table::columns_at))]
     pub fn reads_any(&self) -> bool
+        ensures phase { result ≡ true → self.now.reading.table.phase ≡ InData }
+        ensures keys { result ≡ true
+            → columns self.now.reading.table ≤ self.now.limits.columns }
         ensures rows { result ≡ true
             → rows_behind self.now.reading.table self.now.reading.line ≤ self.now.limits.rows }
         ensures columns { result ≡ true → (b : ℕ)
@@ -180,6 +198,24 @@ impl Table {
             Some(note) => Some(note.told(self.text.block())),
             None => None,
         }
+    }
+
+    /// The next bytes to give that lie together.
+    #[inline(always)]
+    pub fn buffered(&self) -> &[u8]
+        ensures { IsFront result.now self.now.to_come }
+    {
+        self.giving.buffered(&self.text)
+    }
+
+    /// So many bytes were given.
+    #[inline(always)]
+    pub fn give_bytes(&mut self, count: usize)
+        requires { count ≤ length self.old.to_come }
+        ensures { self.new ≡ record self.old { to_come = drop count self.old.to_come } }
+    {
+        self.giving
+            .pass(&self.text, &self.rows, &self.format, count);
     }
 
     /// The next byte to give.

@@ -1,6 +1,7 @@
 //! The bytes of a table, as they are kept while they are read.
 
 ghost use Rattle.std.specs.Prelude.{◌≡◌, ◌+◌, ◌<◌, ◌≤◌, ◌++◌, [], ◌∷◌, length, drop, true, is_some, IfOk};
+ghost use Rattle.std.specs.Prelude.{vec_capacity, vec_len};
 ghost use Rattle.tbl_table.specs.Joined.{RiseWithin, behind_joined, ends_joined, goes_on, line_at, unjoined};
 ghost use Rattle.tbl_table.specs.TableText.{block_of, no_text, text_closed, text_ended, text_joined, text_whole};
 
@@ -77,6 +78,16 @@ impl TableText {
         ensures { self.new ≡ record self.old { line = self.old.line ++ byte ∷ [] } }
     {
         self.block.push_reserved(byte);
+    }
+
+    /// Bytes of the line that is begun, but its newline.
+    #[inline(always)]
+    pub fn push_all(&mut self, bytes: &[u8])
+        requires { length (self.old.read ++ self.old.line) + length bytes.now
+            ≤ self.old.text_room + 4 }
+        ensures { self.new ≡ record self.old { line = self.old.line ++ bytes.now } }
+    {
+        append(&mut self.block, bytes);
     }
 
     /// The newline behind a line that is done.
@@ -204,4 +215,14 @@ impl TableText {
     {
         self.open_start
     }
+}
+
+/// Adds bytes, for which there is room.
+#[inline(always)]
+fn append(block: &mut Vec<u8>, bytes: &[u8])
+    requires { vec_len block.old + length bytes.now ≤ vec_capacity block.old }
+    ensures items { block.new.items ≡ block.old.items ++ bytes.now }
+    ensures capacity { vec_capacity block.old ≤ vec_capacity block.new }
+{
+    block.extend_from_slice(bytes).unwrap();
 }

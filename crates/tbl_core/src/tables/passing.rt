@@ -59,8 +59,8 @@ impl Tables {
 }
 
 /// The bytes in front of the first newline.
-#[inline]
-fn line_front(bytes: &[u8]) -> &[u8]
+#[inline(always)]
+pub(super) fn line_front(bytes: &[u8]) -> &[u8]
     ensures { result.now ≡ take_while is_of_line bytes.now }
 {
     at_most(bytes, memchr(b'\n', bytes).unwrap_or(bytes.len()))

@@ -4,8 +4,8 @@ use Rattle.tbl_core.specs.NotesLeft.{notes_left}
 use Rattle.tbl_run.specs.Coming.{HasCome}
 use Rattle.tbl_run.proofs.run.put_tables.Given as goal
 
-abbrev pub invariant-loop-byte : goal.invariant-loop-byte
-invariant-loop-byte g l = record {
+abbrev pub invariant-loop-front : goal.invariant-loop-front
+invariant-loop-front g l = record {
   limits : l.limits ≡ l.initial.source.tables.limits;
   same : l.source.tables.limits ≡ l.initial.source.tables.limits;
   line_length : l.source.tables.line_length ≡ l.initial.source.tables.line_length;
@@ -16,5 +16,5 @@ invariant-loop-byte g l = record {
 }
 
 -- how many bytes and messages may still be written
-abbrev pub decreases-loop-byte : goal.decreases-loop-byte
-decreases-loop-byte g l = (l.limits.output - l.written) + notes_left l.source.tables
+abbrev pub decreases-loop-front : goal.decreases-loop-front
+decreases-loop-front g l = (l.limits.output - l.written) + notes_left l.source.tables

@@ -5,14 +5,14 @@ use Rattle.tbl_core.proofs.source.TblSource.turns.Goals as goal
 
 pub returns-in-Some-clause-gives : goal.returns-in-Some-clause-gives
 returns-in-Some-clause-gives g c =
-    let kept = c.read_ready.ensures.kept c.if-not-read_ready.true in
+    let kept = c.read_on.ensures.kept c.if-not-read_on.true in
     let given = rw kept at c.in-Some.ensures.given in
     answers_behind _ _ _ _ c.loop-self.invariant.goes_on given
 
 pub returns-in-Some-clause-takes : goal.returns-in-Some-clause-takes
 returns-in-Some-clause-takes g c =
     let inv = c.loop-self.invariant in
-    let kept = c.read_ready.ensures.kept c.if-not-read_ready.true in
+    let kept = c.read_on.ensures.kept c.if-not-read_on.true in
     let takes = rw kept at c.in-Some.ensures.takes in
     takes_behind _ _ _ c.args.self.now.tables c.loop-self.self.tables c.turn.new.self.tables _ inv.limits inv.line_length inv.takes_on takes
 
@@ -20,33 +20,33 @@ pub loop-self-preserved-in_default : goal.loop-self-preserved-in_default
 loop-self-preserved-in_default g c =
     let inv = c.loop-self.invariant in
     let out = c.in_default.ensures in
-    let kept = c.read_ready.ensures.kept c.if-not-read_ready.true in
+    let kept = c.read_on.ensures.kept c.if-not-read_on.true in
     let silent = rw kept at out.silent refl in
     let takes_on = rw kept at out.takes_on refl in
-    let notes = c.read_ready.ensures.notes in
-    let failures = c.read_ready.ensures.failures in
+    let notes = c.read_on.ensures.notes in
+    let failures = c.read_on.ensures.failures in
     record {
       pending = out.pending refl;
       reads = out.reads refl;
       goes_on = λ t given. inv.goes_on t (silent t given);
       notes = omega (arith, inv.notes, notes, out.notes);
       takes_on = takes_on_behind _ _ _ c.args.self.now.tables c.loop-self.self.tables c.turn.new.self.tables inv.limits inv.line_length inv.takes_on takes_on;
-      limits = out.limits ∙ c.read_ready.ensures.limits ∙ inv.limits;
-      line_length = out.line_length ∙ c.read_ready.ensures.line_length ∙ inv.line_length;
+      limits = out.limits ∙ c.read_on.ensures.limits ∙ inv.limits;
+      line_length = out.line_length ∙ c.read_on.ensures.line_length ∙ inv.line_length;
       failures = omega (arith, inv.failures, failures, out.failures);
     }
 
 pub loop-self-preserved : goal.loop-self-preserved
 loop-self-preserved g c =
     let inv = c.loop-self.invariant in
-    let out = c.read_ready.ensures in
-    let took = c.if-not-read_ready.false in
+    let out = c.read_on.ensures in
+    let took = c.if-not-read_on.false in
     record {
       pending = out.pending;
       reads = out.reads;
       goes_on = λ t given. inv.goes_on t (out.silent took t given);
       notes = omega (arith, inv.notes, out.notes);
-      takes_on = takes_on_behind _ _ _ c.args.self.now.tables c.loop-self.self.tables c.read_ready.new.self.tables inv.limits inv.line_length
+      takes_on = takes_on_behind _ _ _ c.args.self.now.tables c.loop-self.self.tables c.read_on.new.self.tables inv.limits inv.line_length
           inv.takes_on (out.takes_on took);
       limits = out.limits ∙ inv.limits;
       line_length = out.line_length ∙ inv.line_length;

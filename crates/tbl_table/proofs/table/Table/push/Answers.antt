@@ -1,4 +1,4 @@
-use Rattle.std.proofs.Common.{◌+◌, length, ◌∙◌}
+use Rattle.std.proofs.Common.{◌+◌, [], ◌∷◌, length, ◌∙◌, arith}
 use Rattle.tbl_table.proofs.TableFits.{push-fits}
 use Rattle.tbl_table.proofs.table.Table.push.Goals as goal
 
@@ -10,7 +10,7 @@ invariant_of-self c =
     let value = rw c.line.ensures at c.behind-self-inside.ensures.value in
     record {
       parts = rw c.push.ensures
-          (push-fits a.limits a.phase a.begun a.text a.format a.rows a.notes fits c.args.byte c.behind-self-inside.result room
+          (push-fits a.limits a.phase a.begun a.text a.format a.rows a.notes fits (c.args.byte ∷ []) c.behind-self-inside.result (omega (arith, room))
           (value a.phase a.format.format fits.keys.is) (c.behind-self-inside.ensures.few (a.limits.columns + length a.text.line) fits.keys.few));
       giving = c.give_nothing.ensures.nothing.can c.push.new.self a.rows a.format;
       pieces = c.give_nothing.ensures.room ∙ c.self.invariant.pieces;

@@ -17,11 +17,11 @@ invariant_of-self c =
       joints = c.self.invariant.joints;
       few = omega (arith, room, length-read a.block.items a.joints.items a.line_start a.open_start a.open_joints c.self.invariant.lies, ap (λ (xs : List ℕ). length xs) c.push_reserved.ensures.items, length-append a.block.items (c.args.byte ∷ []));
       most = c.self.invariant.most;
-      lies = rw c.push_reserved.ensures.items (Lies-push a.block.items a.joints.items a.line_start a.open_start a.open_joints c.self.invariant.lies c.args.byte);
+      lies = rw c.push_reserved.ensures.items (Lies-push a.block.items a.joints.items a.line_start a.open_start a.open_joints c.self.invariant.lies (c.args.byte ∷ []));
     }
 
 pub returns : goal.returns
 returns c =
     let a = c.self.inside in
     rw (← c.self.view_is, c.push_reserved.ensures.items)
-    (text-push a.block.items a.joints.items a.line_start a.open_start a.open_joints c.self.invariant.lies a.text_room c.args.byte)
+    (text-push a.block.items a.joints.items a.line_start a.open_start a.open_joints c.self.invariant.lies a.text_room (c.args.byte ∷ []))
