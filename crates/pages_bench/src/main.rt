@@ -139,8 +139,10 @@ fn placed(pages: &mut Pages, times: u32, out: &mut WriteSink<Dropped>) -> u64 {
         if pages.is_diverting() {
             return sprung;
         }
-        if let Ok(Some(_)) = pages.place(line(), out) {
-            sprung = sprung.wrapping_add(1);
+        match pages.place(line(), out) {
+            Ok(None) => continue,
+            Ok(Some(_)) => sprung = sprung.wrapping_add(1),
+            Err(_) => return sprung,
         }
     }
     sprung

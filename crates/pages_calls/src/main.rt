@@ -4,28 +4,29 @@
 //!
 //! What the pages write goes to the output too, as it is. A line of the input is a letter and its
 //! words, each behind a blank. In texts `_` stands for the blank of a gap, `%` for a further blank
-//! or a title's page number, `~` for a blank of a glyph, and `^` for a byte below them that is none.
+//! or a title's page number, `~` for a blank of a glyph, and `^` for a byte below them that is
+//! none.
 //!
-//! - `a ROOM TRAPS DIVERSIONS OUTPUT FIRST COUNT [FROM TO ..]` makes pages anew, within these limits, on a
-//!   sink that fails behind ROOM bytes. FIRST is the first page's number, or `-`, and COUNT that of
-//!   the ranges of pages behind it.
+//! - `a ROOM TRAPS DIVERSIONS OUTPUT FIRST COUNT [FROM TO ..]` makes pages anew, within these
+//!   limits, on a sink that fails behind ROOM bytes. FIRST is the first page's number, or `-`, and
+//!   COUNT that of the ranges of pages behind it.
 //! - `b` begins, `c` closes.
-//! - `p TEXT LEAD SPARE GAPS AFTER` places a line, `t LEFT CENTRE RIGHT LENGTH NUMBER` a title, in a
-//!   diversion if one is open. So do `s LINES`, which spaces, and `n LINES`, which needs.
+//! - `p TEXT LEAD SPARE GAPS AFTER` places a line, `t LEFT CENTRE RIGHT LENGTH NUMBER` a title, in
+//!   a diversion if one is open. So do `s LINES`, which spaces, and `n LINES`, which needs.
 //! - `e ASKED NUMBER`, `o ASKED` and `l` eject, go on ejecting, and eject at last.
-//! - `L`, `O`, `X`, `N` and `M` with a number set the page length, the offset, the number of the next
-//!   page and of this one, and no-space mode (1 or 0).
-//! - `w PLACE NAME` plants a trap, `u PLACE` removes it; `m NAME PLACE` and `r NAME` move and remove
-//!   one by its name.
-//! - `d NAME APPENDS` opens a diversion, `D` ends it, `T PLACE NAME` sets its trap, and `T -` takes it
-//!   away.
+//! - `L`, `O`, `X`, `N` and `M` with a number set the page length, the offset, the number of the
+//!   next page and of this one, and no-space mode (1 or 0).
+//! - `w PLACE NAME` plants a trap, `u PLACE` removes it; `m NAME PLACE` and `r NAME` move and
+//!   remove one by its name.
+//! - `d NAME APPENDS` opens a diversion, `D` ends it, `T PLACE NAME` sets its trap, and `T -` takes
+//!   it away.
 //!
 //! Behind each line stands `=`, what the call answered (a name as a number, 0 for none, -1 where
-//! the limit on the output would be passed, -2 where the sink failed, -3 for another limit), and then
-//! what the pages answer: the place on the page and where text goes, the way to the next trap, the
-//! page's number, length, offset and previous offset, the height and the width of the diversion that
-//! ended last, the name of the open one, and whether one is open, text may be taken, and the layout
-//! is over; -1 where there is none.
+//! the limit on the output would be passed, -2 where the sink failed, -3 for another limit), and
+//! then what the pages answer: the place on the page and where text goes, the way to the next trap,
+//! the page's number, length, offset and previous offset, the height and the width of the diversion
+//! that ended last, the name of the open one, and whether one is open, text may be taken, and the
+//! layout is over; -1 where there is none.
 #![tactic(auto)]
 
 mod calls;

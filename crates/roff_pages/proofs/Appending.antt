@@ -1,5 +1,5 @@
 -- What is written to sinks, piece by piece.
-use Rattle.std.proofs.Common.{ℕ, Option, Some, None, List, [], ◌∷◌, ◌++◌, Result, Ok, Err, refl, append_assoc, append-nil, arith, sym, ◌∙◌}
+use Rattle.std.proofs.Common.{ℕ, Option, Some, None, List, [], ◌∷◌, ◌++◌, Result, Ok, Err, refl, append_assoc, append-nil, sym, ◌∙◌}
 use Rattle.std.specs.Io.KnownBytes.{Appends}
 use Rattle.roff_pages.specs.Sinks.{Sunk, Writes, HoldsBack, Fails, Puts}
 

@@ -1,5 +1,5 @@
 -- What is put within so many bytes: all of a text, or nothing.
-use Rattle.std.specs.Prelude.{◌≡◌, ℕ, ◌<◌, ◌≤◌, List, length, Result, Ok, Err}
+use Rattle.std.specs.Prelude.{◌≡◌, ℕ, ◌<◌, ◌≤◌, Bool, true, false, List, [], length, Result, Ok, Err}
 use Rattle.roff_pages.specs.declared.page_fault.PageFault.{PageFault}
 use Rattle.roff_pages.specs.declared.page_fault.PageFault.TheVariants.{Output, Sink}
 use Rattle.roff_pages.specs.Sinks.{Sunk, Writes, Fails}
@@ -25,3 +25,13 @@ abbrev pub PutsWithin : ℕ → List ℕ → Result ℕ PageFault → Sunk → S
 PutsWithin room text (Ok count) old new = PutsAll room text count old new
 PutsWithin room text (Err Output) old new = IsTooLong room text old new
 PutsWithin room text (Err Sink) old new = IsPutInPart room text old new
+
+-- A line is put at once: all of it stands in the block then. Or it isn't put, as the block has no room for it, and is empty; or
+-- the sink failed.
+pub record PutsAtOnce (old new : Sunk) (line : List ℕ) (result : Bool) (block : List ℕ) : Type 0 where
+  pub writes : result ≡ true → Writes old new line
+  pub whole : result ≡ true → block ≡ line
+  pub few : length block ≤ 8192
+  pub none : result ≡ false → block ≡ [] → new ≡ old
+  pub fails : result ≡ false → 0 < length block → Fails old new line
+  pub held : 0 < length block → block ≡ line

@@ -1,7 +1,7 @@
 //! The block through which lines are written.
 
 ghost use Rattle.std.specs.Prelude.{◌≡◌, ◌≤◌, [], ◌∷◌, ◌++◌, length, replicate, vec_capacity, OnOk};
-ghost use Rattle.std.specs.Prelude.{OnErr, ◌+◌, ◌<◌, ◌^◌};
+ghost use Rattle.std.specs.Prelude.{OnErr, ◌+◌, ◌<◌, ◌^◌, true, false};
 ghost use Rattle.roff_lines.specs.Columns.{device_line, finished_of, line_bytes, printed};
 ghost use Rattle.roff_lines.specs.Columns.{spaces};
 ghost use Rattle.roff_lines.specs.Glyphs.{text_width};
@@ -9,26 +9,27 @@ ghost use Rattle.roff_lines.specs.LineBytes.Fronts.{Moves};
 ghost use Rattle.roff_pages.specs.Sinks.{Fails, HoldsBack, Puts};
 ghost use Rattle.roff_pages.specs.TitleLeft.{title_of};
 ghost use Rattle.roff_pages.specs.TitleParts.{HasNoBlank};
+ghost use Rattle.roff_pages.specs.Within.{PutsAtOnce};
 ghost use Rattle.roff_pages.specs.Titles.{part_text, title_text};
 
 mod added_title;
 mod within;
 
+use self::within::add_line;
 use crate::sink::{ByteSink, SinkFault};
 use crate::title::{TitleLine, TitlePieces};
 use roff_lines::{Line, LineBytes};
 use std::alloc::{AllocError, Global};
 
 /// How many bytes are put at once, at the most.
-const BLOCK: usize = 8_192;
+pub(crate) const BLOCK: usize = 8_192;
 
-/// A block of bytes, reserved from the start, and empty between two lines. A line that it has room
-/// for is put in one piece.
+/// A block of bytes, reserved from the start. A line that it has room for is put in one piece, and
+/// stays in it until the next one.
 #[derive(Drop)]
 pub struct Block {
     bytes: Vec<u8>,
     ghost reserved: { 8192 ≤ vec_capacity bytes },
-    ghost empty: { bytes.items ≡ [] },
 }
 
 impl Block {
@@ -73,18 +74,41 @@ impl Block {
         ensures { Puts (O.sunk out.old) (O.sunk out.new)
             (device_line columns (printed (finished_of line.entry)) ++ replicate after 10) result }
     {
-        if after < BLOCK as u64 {
-            return self.put_pieces(line, columns, after, out);
+        if self.put_at_once(line, columns, after, out) {
+            return Ok(());
         }
-        match self.put_pieces(line, columns, 0, out) {
-            Ok(()) => self.put_newlines(after, out),
-            Err(fault) => Err(fault),
+        if !self.is_empty() {
+            return Err(SinkFault);
         }
+        self.put_in_parts(line, columns, after, out)
     }
 
-    /// Writes a line piece by piece, its blank lines a byte at a time.
+    /// Writes a line and so many blank lines in one piece, and tells whether that was done. If not,
+    /// the block had no room for them and is empty, or the sink failed.
+    #[inline(always)]
+    pub(crate) fn put_at_once<O: ByteSink>(
+        &mut self,
+        line: Line<'_>,
+        columns: u64,
+        after: u64,
+        out: &mut O,
+    ) -> bool
+        ensures { PutsAtOnce (O.sunk out.old) (O.sunk out.new)
+            (device_line columns (printed (finished_of line.entry)) ++ replicate after 10)
+            result self.new.bytes.items }
+    {
+        let bytes = &mut self.bytes;
+        bytes.clear();
+        if add_line(bytes, line, columns, after) {
+            return out.put(bytes).is_ok();
+        }
+        bytes.clear();
+        false
+    }
+
+    /// Writes a line piece by piece, and then so many blank lines.
     #[inline(never)]
-    fn put_pieces<O: ByteSink>(
+    fn put_in_parts<O: ByteSink>(
         &mut self,
         line: Line<'_>,
         columns: u64,
@@ -94,14 +118,29 @@ impl Block {
         ensures { Puts (O.sunk out.old) (O.sunk out.new)
             (device_line columns (printed (finished_of line.entry)) ++ replicate after 10) result }
     {
-        let bytes = &mut self.bytes;
-        let mut to_come = LineBytes::behind_columns(line, columns, after);
-        to_come.add_text(bytes, BLOCK);
-        if bytes.len() < BLOCK && to_come.take_last_newline() {
-            bytes.push(b'\n').unwrap();
-            return put(bytes, out);
+        self.bytes.clear();
+        let to_come = LineBytes::behind_columns(line, columns, 0);
+        match put_rest(&mut self.bytes, to_come, out) {
+            Ok(()) => self.put_newlines(after, out),
+            Err(fault) => Err(fault),
         }
-        put_rest(bytes, to_come, out)
+    }
+
+    /// How many bytes the line has that was put last.
+    #[inline(always)]
+    pub(crate) fn len(&self) -> u64
+        ensures { result ≡ length self.now.bytes.items }
+    {
+        self.bytes.len() as u64
+    }
+
+    /// Whether there is none.
+    #[inline(always)]
+    pub(crate) fn is_empty(&self) -> bool
+        ensures some { result ≡ false → 0 < length self.now.bytes.items }
+        ensures none { result ≡ true → self.now.bytes.items ≡ [] }
+    {
+        self.bytes.is_empty()
     }
 
     /// Writes a title behind so many columns, such as the page offset.
@@ -125,6 +164,7 @@ impl Block {
             (device_line columns (title_text (title_of title.entry))) result }
     {
         let bytes = &mut self.bytes;
+        bytes.clear();
         let mut to_come = TitlePieces::of(title, columns);
         while let Some(piece) = to_come.next_piece() {
             push_blanks(bytes, piece.blanks, out)?;
@@ -155,6 +195,7 @@ impl Block {
         ensures { Puts (O.sunk out.old) (O.sunk out.new) (replicate count 10) result }
     {
         let bytes = &mut self.bytes;
+        bytes.clear();
         for _ in 0..count / BLOCK as u64 {
             bytes.resize(BLOCK, b'\n').unwrap();
             put(bytes, out)?;

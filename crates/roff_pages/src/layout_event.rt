@@ -12,7 +12,8 @@ pub enum LayoutEvent {
     ListPages(Num, Num),
     /// The first page begins. Those behind it begin by themselves.
     Begin,
-    /// The closing phase begins: open diversions are dropped, and no page begins any more by itself.
+    /// The closing phase begins: open diversions are dropped, and no page begins any more by
+    /// itself.
     Close,
     /// So many blank lines, unless no-space mode is on (manual, section 5.3, the request `sp`).
     Space(u32),

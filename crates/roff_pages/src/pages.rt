@@ -45,6 +45,9 @@ pub struct Pages {
     place: u64,
     /// The next trap beyond the place, or the page's end.
     stop: u64,
+    /// How many lines may be placed before the stop, the limit on the output, whether the page is
+    /// written, or no-space mode has to be looked at.
+    free: u64,
     is_listed: bool,
     no_space: bool,
     /// The innermost open diversion.
@@ -108,6 +111,7 @@ impl Pages {
             most_traps: limits.traps,
             place: 0,
             stop: 66,
+            free: 0,
             is_listed: false,
             no_space: false,
             innermost: None,

@@ -128,8 +128,8 @@ fn passed_beyond(height: u64, lines: u64, trap: Trap) -> Option<ShortName>
     }
 }
 
-/// Plants a trap among others: in the place in turn of the first with the same place as given, or as
-/// the last one, if there are fewer than may be.
+/// Plants a trap among others: in the place in turn of the first with the same place as given, or
+/// as the last one, if there are fewer than may be.
 pub(crate) fn plant_among(traps: &mut Vec<Trap>, trap: Trap, most: u32) -> Result<(), Limit>
     requires room { most ≤ vec_capacity traps.old }
     requires few { length traps.old.items ≤ most }

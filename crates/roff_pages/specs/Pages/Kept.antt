@@ -1,5 +1,5 @@
 -- What the code keeps of a layout: boxes are counted.
-use Rattle.std.specs.Prelude.{◌≡◌, ℕ, ◌<◌, ◌≤◌, ◌^◌, Bool, List, [], ◌∷◌, reverse, length, Option, Some, None, vec_capacity}
+use Rattle.std.specs.Prelude.{◌≡◌, ℕ, ◌+◌, ◌-◌, ◌*◌, ◌<◌, ◌≤◌, ◌^◌, Bool, true, false, List, [], ◌∷◌, reverse, length, Option, Some, None, vec_capacity}
 use Rattle.roff_num.specs.declared.num.Num.{Num}
 use Rattle.roff_pages.specs.declared.trap.Trap.{Trap}
 use Rattle.roff_pages.specs.declared.open_diversion.OpenDiversion.{OpenDiversion}
@@ -61,7 +61,8 @@ kept_by a = record {
 }
 
 -- Counts are within what is counted, the stop is the next one beyond the place, and there is room for what may be there. Where
--- no diversion is open none is left.
+-- no diversion is open none is left. Lines that may be placed freely stand on a written page in front of the stop, without
+-- no-space mode, and as many whole blocks are within the limit on the output.
 pub record IsSound (a : Inside) : Type 0 where
   pub begun : a.begun ≤ 2 ^ 32
   pub short : a.length < 2 ^ 32
@@ -71,5 +72,8 @@ pub record IsSound (a : Inside) : Type 0 where
   pub traps_room : a.most_traps ≤ vec_capacity a.traps
   pub outer : length a.outer.items ≤ a.most_diversions
   pub outer_room : a.most_diversions ≤ vec_capacity a.outer
-  pub written : a.written ≤ a.output
+  pub free : a.free ≤ (a.stop - a.place) - 1
+  pub room : a.written + 8192 * a.free ≤ a.output
+  pub listed : 0 < a.free → a.is_listed ≡ true
+  pub mode : 0 < a.free → a.no_space ≡ false
   pub none_open : a.innermost ≡ None → a.outer.items ≡ []

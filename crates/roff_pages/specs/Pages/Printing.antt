@@ -50,7 +50,8 @@ DidTo L x (Err fault) old new out out_then = IsUnprinted fault old new out out_t
 -- The same for whatever layout the pages stand for: what springs, and what is written, is the definition's; a limit is answered
 -- exactly where it would be passed, with nothing written; a failing sink got a beginning of the text; and behind both the pages
 -- are as before. The limits stay.
-pub record HappensWriting (x : Happening) (old new : Kept) (out out_then : Sunk) (result : Result (Option ShortName) PageFault) : Type 0 where
+pub record HappensWriting (x : Happening) (old new : Kept) (out out_then : Sunk) (result : Result (Option ShortName) PageFault)
+    : Type 0 where
   pub did : (L : Layout) → StandsAs L old → DidTo L x result old new out out_then
   pub limits : SameLimits old new
 

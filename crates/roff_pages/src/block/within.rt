@@ -1,7 +1,7 @@
 //! What is put within so many bytes: all of a text, or nothing.
 
-ghost use Rattle.std.specs.Prelude.{◌≡◌, ◌+◌, ◌<◌, ◌≤◌, ◌^◌, ◌++◌, [], length, replicate, vec_capacity};
-ghost use Rattle.std.specs.Prelude.{IfSome, IfNone, true};
+ghost use Rattle.std.specs.Prelude.{◌≡◌, ◌+◌, ◌<◌, ◌≤◌, ◌^◌, ◌++◌, [], length, replicate};
+ghost use Rattle.std.specs.Prelude.{IfSome, IfNone, true, vec_capacity};
 ghost use Rattle.roff_lines.specs.Columns.{device_line, finished_of, printed};
 ghost use Rattle.roff_lines.specs.Glyphs.{text_width};
 ghost use Rattle.roff_pages.specs.TitleLeft.{title_of};
@@ -32,16 +32,21 @@ impl Block {
             (device_line columns (printed (finished_of line.entry)) ++ replicate after 10)
             result (O.sunk out.old) (O.sunk out.new) }
     {
-        if add_line(&mut self.bytes, line, columns, after) {
-            return put_within(&mut self.bytes, room, out);
+        if room < BLOCK as u64 {
+            return self.put_counted_line(line, columns, after, room, out);
         }
-        self.bytes.clear();
-        self.put_long_line(line, columns, after, room, out)
+        if self.put_at_once(line, columns, after, out) {
+            return Ok(self.len());
+        }
+        if !self.is_empty() {
+            return Err(PageFault::Sink);
+        }
+        self.put_counted_line(line, columns, after, room, out)
     }
 
-    /// The same of a line that a block has no room for: its bytes are counted first.
+    /// The same of any line: its bytes are counted first.
     #[inline(never)]
-    fn put_long_line<O: ByteSink>(
+    fn put_counted_line<O: ByteSink>(
         &mut self,
         line: Line<'_>,
         columns: u64,
@@ -80,16 +85,16 @@ impl Block {
         ensures { PutsWithin room (device_line columns (title_text (title_of title.entry)))
             result (O.sunk out.old) (O.sunk out.new) }
     {
+        self.bytes.clear();
         if add_title(&mut self.bytes, &title, columns) {
             return put_within(&mut self.bytes, room, out);
         }
-        self.bytes.clear();
-        self.put_long_title(title, columns, room, out)
+        self.put_counted_title(title, columns, room, out)
     }
 
     /// The same of a title that a block has no room for: its bytes are counted first.
     #[inline(never)]
-    fn put_long_title<O: ByteSink>(
+    fn put_counted_title<O: ByteSink>(
         &mut self,
         title: TitleLine<'_>,
         columns: u64,
@@ -118,10 +123,11 @@ impl Block {
 /// Adds to an empty block the bytes of a line behind so many columns, and so many blank lines.
 /// Tells whether it had room for all.
 #[inline(never)]
-fn add_line(bytes: &mut Vec<u8>, line: Line<'_>, columns: u64, after: u64) -> bool
+pub(super) fn add_line(bytes: &mut Vec<u8>, line: Line<'_>, columns: u64, after: u64) -> bool
     requires capacity { 8192 ≤ vec_capacity bytes.old }
     requires empty { bytes.old.items ≡ [] }
     ensures capacity { vec_capacity bytes.old ≤ vec_capacity bytes.new }
+    ensures few { length bytes.new.items ≤ 8192 }
     ensures whole { result ≡ true → bytes.new.items
         ≡ device_line columns (printed (finished_of line.entry)) ++ replicate after 10 }
 {
@@ -140,6 +146,7 @@ fn add_rest(bytes: &mut Vec<u8>, rest: LineBytes<'_>) -> bool
     requires capacity { 8192 ≤ vec_capacity bytes.old }
     requires few { length bytes.old.items ≤ 8192 }
     ensures capacity { vec_capacity bytes.old ≤ vec_capacity bytes.new }
+    ensures few { length bytes.new.items ≤ 8192 }
     ensures whole { result ≡ true → bytes.new.items ≡ bytes.old.items ++ rest.entry }
 {
     let mut to_come = rest;

@@ -30,8 +30,8 @@ use roff_num::ShortName;
 impl Pages {
     ghost use Rattle.roff_pages.specs.Pages.Stands.{StandsAs, Happens, SameLimits};
 
-    /// Puts a line in the innermost open diversion, and its blank lines up to the trap. Answers what
-    /// springs.
+    /// Puts a line in the innermost open diversion, and its blank lines up to the trap. Answers
+    /// what springs.
     pub fn divert_line(&mut self, line: Line<'_>) -> Option<ShortName>
         requires { 0 < length self.old.diversions }
         ensures happens { Happens (Places (finished_of line.entry)) self.old self.new }

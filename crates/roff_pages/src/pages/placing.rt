@@ -10,6 +10,7 @@ ghost use Rattle.roff_pages.specs.Titles.{part_text, title_text};
 ghost use Rattle.roff_pages.specs.Pages.Printing.{HappensWriting, IsUnprinted, Printed, if_listed};
 
 use super::Pages;
+use crate::block::BLOCK;
 use crate::page_fault::PageFault;
 use crate::sink::ByteSink;
 use crate::title::TitleLine;
@@ -33,11 +34,58 @@ impl Pages {
         ensures { HappensWriting (Places (finished_of line.entry)) self.old self.new
             (O.sunk out.old) (O.sunk out.new) result }
     {
+        if line.after < self.free {
+            if self
+                .block
+                .put_at_once(line, u64::from(self.offset), line.after, out)
+            {
+                self.written += self.block.len();
+                self.place += line.after + 1;
+                self.free -= line.after + 1;
+                return Ok(None);
+            }
+            if !self.block.is_empty() {
+                return Err(PageFault::Sink);
+            }
+        } else if !self.is_listed {
+            let way = self.way();
+            let lines = line.after.min(way.saturating_sub(1)) + 1;
+            return Ok(self.put_text(lines, way));
+        }
+        self.place_checked(line, out)
+    }
+
+    /// Places a line as far as the next stop and the limit on the output let it.
+    #[inline(never)]
+    fn place_checked<O: ByteSink>(
+        &mut self,
+        line: Line<'_>,
+        out: &mut O,
+    ) -> Result<Option<ShortName>, PageFault>
+        requires { self.old.diversions ≡ [] }
+        ensures { HappensWriting (Places (finished_of line.entry)) self.old self.new
+            (O.sunk out.old) (O.sunk out.new) result }
+    {
         let way = self.way();
         let after = line.after.min(way.saturating_sub(1));
         match self.write_line(line, after, out) {
-            Ok(()) => Ok(self.put_text(after + 1, way)),
+            Ok(()) => {
+                let sprung = self.put_text(after + 1, way);
+                self.look_ahead();
+                Ok(sprung)
+            }
             Err(fault) => Err(fault),
+        }
+    }
+
+    /// Counts the lines that may be placed freely from now on.
+    fn look_ahead(&mut self)
+        ensures { self.new ≡ self.old }
+    {
+        self.free = 0;
+        if self.is_listed && !self.no_space {
+            let room = u64::from(self.output) - self.written;
+            self.free = self.way().saturating_sub(1).min(room / BLOCK as u64);
         }
     }
 
@@ -94,6 +142,7 @@ impl Pages {
         match self.block.put_line_within(line, columns, after, room, out) {
             Ok(count) => {
                 self.written += count;
+                self.free = 0;
                 Ok(())
             }
             Err(fault) => Err(fault),
@@ -129,6 +178,7 @@ impl Pages {
         match self.block.put_title_within(title, columns, room, out) {
             Ok(count) => {
                 self.written += count;
+                self.free = 0;
                 Ok(())
             }
             Err(fault) => Err(fault),

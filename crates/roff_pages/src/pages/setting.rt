@@ -21,6 +21,7 @@ impl Pages {
     {
         self.length = lines;
         self.stop = next_stop(lines, self.place, self.traps.as_slice());
+        self.free = 0;
     }
 
     /// Sets the page offset, in columns.
@@ -54,7 +55,10 @@ impl Pages {
                 diversion.no_space = on;
                 self.innermost = Some(diversion);
             }
-            None => self.no_space = on,
+            None => {
+                self.no_space = on;
+                self.free = 0;
+            }
         }
     }
 
@@ -75,6 +79,7 @@ impl Pages {
     {
         plant_among(&mut self.traps, trap, self.most_traps)?;
         self.stop = next_stop(self.length, self.place, self.traps.as_slice());
+        self.free = 0;
         Ok(())
     }
 
@@ -84,6 +89,7 @@ impl Pages {
     {
         remove_given(&mut self.traps, place);
         self.stop = next_stop(self.length, self.place, self.traps.as_slice());
+        self.free = 0;
     }
 
     /// Moves the first trap of this name.
@@ -92,6 +98,7 @@ impl Pages {
     {
         move_named(&mut self.traps, name, place);
         self.stop = next_stop(self.length, self.place, self.traps.as_slice());
+        self.free = 0;
     }
 
     /// Removes the first trap of this name.
@@ -100,5 +107,6 @@ impl Pages {
     {
         remove_named(&mut self.traps, name);
         self.stop = next_stop(self.length, self.place, self.traps.as_slice());
+        self.free = 0;
     }
 }

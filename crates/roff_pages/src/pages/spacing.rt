@@ -185,6 +185,7 @@ impl Pages {
         match self.block.put_newlines(count, out) {
             Ok(()) => {
                 self.written += count;
+                self.free = 0;
                 Ok(())
             }
             Err(_) => Err(PageFault::Sink),

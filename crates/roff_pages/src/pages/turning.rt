@@ -45,6 +45,7 @@ impl Pages {
     {
         self.next = next;
         self.no_space = no_space;
+        self.free = 0;
         let way = self.way();
         self.advance(lines, way)
     }
@@ -81,6 +82,7 @@ impl Pages {
     {
         if lines < way {
             self.place += lines;
+            self.free = 0;
             return None;
         }
         self.advance_past_stop(lines)
@@ -99,6 +101,7 @@ impl Pages {
         let from = self.place;
         self.place = self.place_behind(lines);
         self.stop = next_stop(self.length, self.place, self.traps.as_slice());
+        self.free = 0;
         if self.place >= u64::from(self.length) {
             return self.turn();
         }
@@ -156,6 +159,7 @@ impl Pages {
         self.place = 0;
         self.is_listed = is_in_ranges(self.ranges.as_slice(), number);
         self.stop = next_stop(self.length, 0, self.traps.as_slice());
+        self.free = 0;
         first_on_top(self.length, self.traps.as_slice())
     }
 }

@@ -24,8 +24,8 @@ Fails-behind front back rest first second =
 
 pub loop-init : goal.loop-init
 loop-init g c = record {
-  room = c.args.self.now.reserved;
-  empty = c.args.self.now.empty;
+  room = omega (arith, c.args.self.now.reserved, c.clear.ensures.capacity);
+  empty = c.clear.ensures.items;
   written = Writes-nothing _;
 }
 

@@ -23,7 +23,10 @@ invariant_of-self c =
       traps_room = inv.traps_room;
       outer = inv.outer;
       outer_room = inv.outer_room;
-      written = inv.written;
+      free = omega arith;
+      room = omega (arith, inv.room);
+      listed = λ some. absurd (omega (arith, some));
+      mode = λ some. absurd (omega (arith, some));
       none_open = inv.none_open;
     }
 

@@ -14,14 +14,14 @@ returns-then-self-from g c =
     let k : Kept = c.args.self.now in
     let pages : c.self.inside.begun ≡ k.begun = ap (λ (k : Kept). k.begun) c.self.view_is in
     let few : c.args.asked < 2 ^ 32 = omega (arith, c.ranges.asked) in
-    let within : k.written ≤ k.output = subst (λ (k : Kept). k.written ≤ k.output) c.self.view_is c.self.invariant.written in
+    let within : k.written ≤ k.output = subst (λ (k : Kept). k.written ≤ k.output) c.self.view_is (omega (arith, c.self.invariant.room)) in
     let other : k.begun ≡ c.args.asked → ⊥ = λ e. c.if-self-from.true (pages ∙ (e ∙ sym c.from.ensures)) in
     record { did = λ L s. did_nothing _ L k _ (eject_nothing c.args.asked c.args.number L k s few other) s within; limits = SameLimits-same k }
 
 pub returns-then-no_space : goal.returns-then-no_space
 returns-then-no_space g c =
     let k : Kept = c.args.self.now in
-    let within : k.written ≤ k.output = subst (λ (k : Kept). k.written ≤ k.output) c.self.view_is c.self.invariant.written in
+    let within : k.written ≤ k.output = subst (λ (k : Kept). k.written ≤ k.output) c.self.view_is (omega (arith, c.self.invariant.room)) in
     let on : k.no_space ≡ true = sym (ap (λ (k : Kept). k.no_space) c.self.view_is) ∙ c.if-no_space.true in
     let out = g.O.ByteSink.sunk c.args.out.now in
     record {

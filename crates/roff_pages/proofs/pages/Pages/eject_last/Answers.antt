@@ -1,4 +1,4 @@
-use Rattle.std.proofs.Common.{◌≡◌, ◌≤◌, ◌∙◌, not, ◌&&◌, ap, false, subst, sym, true}
+use Rattle.std.proofs.Common.{◌≡◌, ◌≤◌, ◌∙◌, not, ◌&&◌, ap, arith, false, subst, sym, true}
 use Rattle.std.specs.Prelude.{◌==◌}
 use Rattle.roff_pages.specs.Layout.{Layout, page_place}
 use Rattle.roff_pages.specs.Pages.Stands.{StandsAs}
@@ -11,7 +11,7 @@ use Rattle.roff_pages.proofs.pages.Pages.eject_last.Goals.{then-self-eq0-via-the
 pub returns-then-self-eq0 : goal.returns-then-self-eq0
 returns-then-self-eq0 g c =
     let k : Kept = c.args.self.now in
-    let within : k.written ≤ k.output = subst (λ (k : Kept). k.written ≤ k.output) c.self.view_is c.self.invariant.written in
+    let within : k.written ≤ k.output = subst (λ (k : Kept). k.written ≤ k.output) c.self.view_is (omega (arith, c.self.invariant.room)) in
     let nothing : (L : Layout) → StandsAs L k → (not (L.begun == 0) && not (page_place L == 0)) ≡ false = λ L s.
     elim c.then-self-eq0.branch [
       | then-self-eq0-via-then-self-eq0 w ↦ over_no_page L k s (sym (ap (λ (k : Kept). k.begun) c.self.view_is) ∙ w.if-self-eq0.true)

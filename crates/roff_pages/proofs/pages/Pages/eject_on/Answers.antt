@@ -10,7 +10,7 @@ pub returns-then-from-self : goal.returns-then-from-self
 returns-then-from-self g c =
     let k : Kept = c.args.self.now in
     let pages : c.self.inside.begun ≡ k.begun = ap (λ (k : Kept). k.begun) c.self.view_is in
-    let within : k.written ≤ k.output = subst (λ (k : Kept). k.written ≤ k.output) c.self.view_is c.self.invariant.written in
+    let within : k.written ≤ k.output = subst (λ (k : Kept). k.written ≤ k.output) c.self.view_is (omega (arith, c.self.invariant.room)) in
     let few : c.args.asked < 2 ^ 32 = omega (arith, c.ranges.asked) in
     let other : k.begun ≡ c.args.asked → ⊥ = λ e. c.if-from-self.true (sym (pages ∙ (e ∙ sym c.from.ensures))) in
     record { did = λ L s. did_nothing _ L k _ (eject_on_nothing c.args.asked L k s few other) s within; limits = SameLimits-same k }

@@ -1,47 +1,124 @@
-use Rattle.std.proofs.Common.{◌≡◌, ◌+◌, ◌++◌, ℕ, false, List, Ok, Err, ap, arith, replicate, sym}
+use Rattle.std.proofs.Common.{◌≡◌, ◌+◌, ◌<◌, ◌≤◌, ◌++◌, ◌∙◌, ℕ, true, false, List, None, Ok, Err, ap, arith, length, refl, replicate, subst, sym}
+use Rattle.std.specs.Prelude.{◌^◌}
 use Rattle.roff_lines.specs.Columns.{device_line, finished_of, printed}
+use Rattle.roff_lines.specs.Lines.{Finished}
+use Rattle.roff_pages.specs.declared.page_fault.PageFault.TheVariants.{Sink}
+use Rattle.roff_pages.specs.Sinks.{Fails, Writes}
 use Rattle.roff_pages.specs.Layout.{Box, Lined}
-use Rattle.roff_pages.specs.Happenings.{Happening, Places}
+use Rattle.roff_pages.specs.Happenings.{Places}
+use Rattle.roff_pages.specs.Stops.{next_stop}
 use Rattle.roff_pages.specs.DeviceText.{device_lines}
 use Rattle.roff_pages.specs.Pages.Kept.{Kept}
-use Rattle.roff_pages.proofs.PageBoxes.{SameLimits-behind, SameLimits-written, boxed, device_lines-behind, did_boxes, unboxed}
-use Rattle.roff_pages.proofs.Placing.{length-text_boxes, line_puts, text_boxes}
+use Rattle.roff_pages.specs.Pages.Printing.{DidTo}
+use Rattle.roff_pages.proofs.NextStop.{next_stop-stays, next_stop_le}
+use Rattle.roff_pages.proofs.PageBoxes.{boxed, device_lines-behind, did_boxes}
+use Rattle.roff_pages.proofs.Placing.{cut_freely, length-text_boxes, line_puts, line_text, placed_freely, printed_nowhere, text_boxes}
 use Rattle.roff_pages.proofs.pages.Pages.place.Goals as goal
 
-pub returns-in-Ok : goal.returns-in-Ok
-returns-in-Ok g c =
-    let k : Kept = c.args.self.now in
-    let x : Happening = Places (finished_of c.args.line) in
-    let boxes : List Box = text_boxes c.min-after.result (printed (finished_of c.args.line)) in
-    let text : List ℕ = device_line k.offset (printed (finished_of c.args.line)) ++ replicate c.min-after.result 10 in
-    let same : text ≡ device_lines k.offset boxes = sym (device_lines-behind k.offset c.min-after.result (Lined (printed (finished_of c.args.line)))) in
-    let mid : Kept = c.write_line.new.self in
-    let next : mid.next ≡ k.next = ap (λ (k : Kept). k.next) c.write_line.ensures.kept in
-    let put = c.put_text in
-    let out = g.O.ByteSink.sunk c.args.out.now in
-    let out_then = g.O.ByteSink.sunk c.write_line.new.out in
+pub invariant_of-self : goal.invariant_of-self
+invariant_of-self g c =
+    let a = c.self.inside in
+    let inv = c.self.invariant in
+    let lines : ℕ = c.args.line.after + 1 in
+    let before : a.place + lines < next_stop a.length a.place a.traps.items = omega (arith, inv.free, inv.stop, c.if-line-self.true) in
+    let last = next_stop_le a.length a.place a.traps.items in
+    let few : c.len.result ≤ 8192 = omega (arith, c.len.ensures, c.put_at_once.ensures.few) in
     record {
-      did = λ L s. did_boxes x L boxes mid.next false k put.new.self out out_then (Ok put.result)
-          (line_puts (finished_of c.args.line) L k c.min-after.result mid.next s c.way-way.ensures.short c.requires (omega (arith, c.min-after.ensures, c.saturating_sub.ensures, c.way-way.ensures.way)) next)
-          (boxed L k mid put.new.self boxes (c.min-after.result + 1) mid.next false put.result text out out_then s c.write_line.ensures.kept (length-text_boxes c.min-after.result (printed (finished_of c.args.line))) same
-          put.ensures.stands put.ensures.springs put.ensures.written c.in-Ok.ensures.ok);
-      limits = SameLimits-behind k mid put.new.self mid.written c.write_line.ensures.kept put.ensures.limits;
+      begun = inv.begun;
+      short = inv.short;
+      place = omega (arith, before, last, inv.short);
+      stop = inv.stop ∙ sym (next_stop-stays a.length a.place (a.place + lines) a.traps.items (omega arith) before);
+      traps = inv.traps;
+      traps_room = inv.traps_room;
+      outer = inv.outer;
+      outer_room = inv.outer_room;
+      free = omega (arith, inv.free, c.if-line-self.true);
+      room = omega (arith, inv.room, few, c.if-line-self.true);
+      listed = λ some. inv.listed (omega (arith, c.if-line-self.true));
+      mode = λ some. inv.mode (omega (arith, c.if-line-self.true));
+      none_open = inv.none_open;
     }
 
-pub returns-in-Err : goal.returns-in-Err
-returns-in-Err g c =
+pub returns-then-put_at_once : goal.returns-then-put_at_once
+returns-then-put_at_once g c =
     let k : Kept = c.args.self.now in
-    let x : Happening = Places (finished_of c.args.line) in
-    let boxes : List Box = text_boxes c.min-after.result (printed (finished_of c.args.line)) in
-    let text : List ℕ = device_line k.offset (printed (finished_of c.args.line)) ++ replicate c.min-after.result 10 in
-    let same : text ≡ device_lines k.offset boxes = sym (device_lines-behind k.offset c.min-after.result (Lined (printed (finished_of c.args.line)))) in
-    let mid : Kept = c.write_line.new.self in
-    let next : mid.next ≡ k.next = ap (λ (k : Kept). k.next) c.write_line.ensures.kept in
+    let a = c.self.inside in
+    let inv = c.self.invariant in
+    let line : Finished = finished_of c.args.line in
+    let n : ℕ = c.len.result in
     let out = g.O.ByteSink.sunk c.args.out.now in
-    let out_then = g.O.ByteSink.sunk c.write_line.new.out in
+    let out_then = g.O.ByteSink.sunk c.put_at_once.new.out in
+    let some : 0 < a.free = omega (arith, c.if-line-self.true) in
+    let few : n ≤ 8192 = omega (arith, c.len.ensures, c.put_at_once.ensures.few) in
+    let short : k.length < 2 ^ 32 = subst (λ (k : Kept). k.length < 2 ^ 32) c.self.view_is inv.short in
+    let ahead : k.place + (line.after + 1) < next_stop k.length k.place k.traps =
+    subst (λ (k : Kept). k.place + (line.after + 1) < next_stop k.length k.place k.traps) c.self.view_is (omega (arith, inv.free, inv.stop, c.if-line-self.true)) in
+    let listed : k.is_listed ≡ true = subst (λ (k : Kept). k.is_listed ≡ true) c.self.view_is (inv.listed some) in
+    let mode : k.no_space ≡ false = subst (λ (k : Kept). k.no_space ≡ false) c.self.view_is (inv.mode some) in
+    let same : device_line c.from.result (printed line) ++ replicate line.after 10 ≡ line_text k line =
+    ap (λ (columns : ℕ). device_line columns (printed line) ++ replicate line.after 10) (c.from.ensures ∙ ap (λ (k : Kept). k.offset) c.self.view_is) in
+    let whole : n ≡ length (line_text k line) = c.len.ensures ∙ ap length (c.put_at_once.ensures.whole c.if-put_at_once.true ∙ same) in
+    let within : k.written + n ≤ k.output = subst (λ (k : Kept). k.written + n ≤ k.output) c.self.view_is (omega (arith, inv.room, some, few)) in
+    let writes : Writes out out_then (line_text k line) =
+    subst (λ (bytes : List ℕ). Writes out out_then bytes) same (c.put_at_once.ensures.writes c.if-put_at_once.true) in
     record {
-      did = λ L s. did_boxes x L boxes mid.next false k mid out out_then (Err c.in-Err.fault)
-          (line_puts (finished_of c.args.line) L k c.min-after.result mid.next s c.way-way.ensures.short c.requires (omega (arith, c.min-after.ensures, c.saturating_sub.ensures, c.way-way.ensures.way)) next)
-          (unboxed L k mid c.in-Err.fault boxes text out out_then s same c.in-Err.ensures.err);
-      limits = SameLimits-written k mid mid.written c.write_line.ensures.kept;
+      did = λ L s. subst (λ (now : Kept). DidTo L (Places line) (Ok None) k (record now { place = now.place + (line.after + 1); written = now.written + n }) out out_then)
+          (sym c.self.view_is) (placed_freely line L k n out out_then s short c.requires ahead listed mode whole within writes);
+      limits = record {
+        traps = ap (λ (k : Kept). k.most_traps) c.self.view_is;
+        diversions = ap (λ (k : Kept). k.most_diversions) c.self.view_is;
+        output = ap (λ (k : Kept). k.output) c.self.view_is;
+      };
+    }
+
+pub returns-then-not-is_empty : goal.returns-then-not-is_empty
+returns-then-not-is_empty g c =
+    let k : Kept = c.args.self.now in
+    let a = c.self.inside in
+    let inv = c.self.invariant in
+    let line : Finished = finished_of c.args.line in
+    let out = g.O.ByteSink.sunk c.args.out.now in
+    let out_then = g.O.ByteSink.sunk c.put_at_once.new.out in
+    let bytes : List ℕ = c.put_at_once.new.self.bytes.items in
+    let put : 0 < length bytes = c.is_empty.ensures.some c.if-not-is_empty.true in
+    let some : 0 < a.free = omega (arith, c.if-line-self.true) in
+    let short : k.length < 2 ^ 32 = subst (λ (k : Kept). k.length < 2 ^ 32) c.self.view_is inv.short in
+    let ahead : k.place + (line.after + 1) < next_stop k.length k.place k.traps =
+    subst (λ (k : Kept). k.place + (line.after + 1) < next_stop k.length k.place k.traps) c.self.view_is (omega (arith, inv.free, inv.stop, c.if-line-self.true)) in
+    let listed : k.is_listed ≡ true = subst (λ (k : Kept). k.is_listed ≡ true) c.self.view_is (inv.listed some) in
+    let same : device_line c.from.result (printed line) ++ replicate line.after 10 ≡ line_text k line =
+    ap (λ (columns : ℕ). device_line columns (printed line) ++ replicate line.after 10) (c.from.ensures ∙ ap (λ (k : Kept). k.offset) c.self.view_is) in
+    let few : length (line_text k line) ≤ 8192 = omega (arith, c.put_at_once.ensures.few, ap length (c.put_at_once.ensures.held put ∙ same)) in
+    let within : k.written + length (line_text k line) ≤ k.output =
+    subst (λ (now : Kept). now.written + length (line_text k line) ≤ now.output) c.self.view_is (omega (arith, inv.room, some, few)) in
+    let fails : Fails out out_then (line_text k line) =
+    subst (λ (bytes : List ℕ). Fails out out_then bytes) same (c.put_at_once.ensures.fails c.if-put_at_once.false put) in
+    record {
+      did = λ L s. subst (λ (now : Kept). DidTo L (Places line) (Err Sink) k now out out_then)
+          (sym c.self.view_is) (cut_freely line L k out out_then s short c.requires ahead listed within fails);
+      limits = record {
+        traps = ap (λ (k : Kept). k.most_traps) c.self.view_is;
+        diversions = ap (λ (k : Kept). k.most_diversions) c.self.view_is;
+        output = ap (λ (k : Kept). k.output) c.self.view_is;
+      };
+    }
+
+pub returns-then-not-self : goal.returns-then-not-self
+returns-then-not-self g c =
+    let k : Kept = c.args.self.now in
+    let line : Finished = finished_of c.args.line in
+    let after : ℕ = c.min-lines.result in
+    let boxes : List Box = text_boxes after (printed line) in
+    let text : List ℕ = device_line k.offset (printed line) ++ replicate after 10 in
+    let same : text ≡ device_lines k.offset boxes = sym (device_lines-behind k.offset after (Lined (printed line))) in
+    let put = c.put_text in
+    let out = g.O.ByteSink.sunk c.args.out.now in
+    let unlisted : k.is_listed ≡ false = subst (λ (k : Kept). k.is_listed ≡ false) c.self.view_is c.if-not-self.true in
+    let within : k.written ≤ k.output = subst (λ (k : Kept). k.written ≤ k.output) c.self.view_is (omega (arith, c.self.invariant.room)) in
+    record {
+      did = λ L s. did_boxes (Places line) L boxes k.next false k put.new.self out out (Ok put.result)
+          (line_puts line L k after k.next s c.way-way.ensures.short c.requires (omega (arith, c.min-lines.ensures, c.saturating_sub.ensures, c.way-way.ensures.way)) refl)
+          (boxed L k k put.new.self boxes (after + 1) k.next false put.result text out out s refl (length-text_boxes after (printed line)) same
+          put.ensures.stands put.ensures.springs put.ensures.written (printed_nowhere k text out unlisted within));
+      limits = put.ensures.limits;
     }

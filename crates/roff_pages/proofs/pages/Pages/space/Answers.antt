@@ -8,7 +8,7 @@ pub returns-then-self : goal.returns-then-self
 returns-then-self g c =
     let k : Kept = c.args.self.now in
     let on : k.no_space ≡ true = sym (ap (λ (k : Kept). k.no_space) c.self.view_is) ∙ c.if-self.true in
-    let within : k.written ≤ k.output = subst (λ (k : Kept). k.written ≤ k.output) c.self.view_is c.self.invariant.written in
+    let within : k.written ≤ k.output = subst (λ (k : Kept). k.written ≤ k.output) c.self.view_is (omega (arith, c.self.invariant.room)) in
     record { did = λ L s. did_nothing _ L k _ (space_nothing c.args.lines L k s c.requires on) s within; limits = SameLimits-same k }
 
 pub returns : goal.returns
