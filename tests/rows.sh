@@ -5,8 +5,8 @@
 #
 # NAME is a row or a folder of rows. A row is a document NAME.roff, with its output in NAME.txt, its
 # messages in NAME.messages, its exit status in NAME.status and the words of the command line in
-# NAME.args. What isn't there is usual: no output, no messages, status 0, and the command nroff. The
-# exit status is 1 if a row differs.
+# NAME.args; where NAME.source says "fails", a folder is read behind it. What isn't there is usual: no
+# output, no messages, status 0, and the command nroff. The exit status is 1 if a row differs.
 
 top=$(CDPATH='' cd -P -- "$(dirname -- "$0")/.." && pwd -P) || exit 1
 program=$top/crates/roff/out/roff
@@ -33,7 +33,12 @@ run_row() {
     fi
     row=$1
     shift
-    "$program" "$@" "$row.roff" >"$work/txt" 2>"$work/messages"
+    if [ -e "$row.source" ]; then
+        set -- "$@" "$row.roff" "$work"
+    else
+        set -- "$@" "$row.roff"
+    fi
+    "$program" "$@" >"$work/txt" 2>"$work/messages"
     echo $? >"$work/status"
     for ending in txt messages status; do
         wanted=$row.$ending

@@ -20,6 +20,13 @@ no_arguments = record { whole = []; begun = []; place = Between }
 abbrev pub with_whole : Arguments → Arguments
 with_whole a = record { whole = reverse a.begun ∷ a.whole; begun = []; place = Between }
 
+-- whether the quote that was read last closes its argument unless another one follows
+abbrev pub is_behind_quote : Place → Bool
+is_behind_quote Between = false
+is_behind_quote InPlain = false
+is_behind_quote InQuotes = false
+is_behind_quote BehindQuote = true
+
 -- one byte more of the one being read
 abbrev pub with_byte : Arguments → Place → ℕ → Arguments
 with_byte a place b = record a { begun = b ∷ a.begun; place = place }

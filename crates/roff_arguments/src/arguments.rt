@@ -4,7 +4,7 @@ ghost use Rattle.std.specs.Prelude.{◌≡◌, ℕ, ◌+◌, ◌<◌, ◌≤◌,
 ghost use Rattle.std.specs.Prelude.{IfOk, ◌==◌, true};
 ghost use Rattle.std.specs.Option.{option_copied};
 ghost use Rattle.roff_arguments.specs.Arguments.{AreFewer, Arguments, no_arguments, with_unit};
-ghost use Rattle.roff_arguments.specs.Arguments.{with_argument_byte};
+ghost use Rattle.roff_arguments.specs.Arguments.{is_behind_quote, with_argument_byte};
 ghost use Rattle.roff_arguments.specs.Arguments.{with_kept, with_plain, with_byte, with_whole, settled};
 ghost use Rattle.roff_arguments.specs.Arguments.{finished, held, kept, in_argument, total_length};
 ghost use Rattle.roff_arguments.specs.ArgumentTexts.Ends.{is_kept, last_end, EndWithin, EndWithin-prop};
@@ -194,6 +194,14 @@ impl ArgumentTexts {
                 self.push(byte, Place::InPlain);
             }
         }
+    }
+
+    /// Whether the quote that was read last closes its argument unless another one follows.
+    #[inline(always)]
+    pub fn is_behind_quote(&self) -> bool
+        ensures { result ≡ is_behind_quote self.now.arguments.place }
+    {
+        matches!(self.place, Place::BehindQuote)
     }
 
     /// What follows is no quote: an argument within quotes whose last quote was read is whole.

@@ -321,7 +321,7 @@ line-escape_ended k reading i =
 counts_in-settling : (rs : AllRegisters) (i : PageInput) → counts_in rs (settling i) ≡ counts_in rs i
 counts_in-settling rs i =
     let first : List (Limit × ℕ) → List (Limit × ℕ) = λ rest.
-    (Names, length rs.named) ∷ (Diversions, length i.open_texts - 1) ∷ (Store, stored i) ∷ (Names, names_added i) ∷ rest in
+    (Names, length rs.named) ∷ (Store, stored i) ∷ (Names, names_added i) ∷ (Diversions, length i.open_texts - 1) ∷ rest in
     ap (λ bytes. first ((Stack, bytes) ∷ (Depth, depth i) ∷ (Conditions, result_count i) ∷ [])) (pushed-settling i)
 
 -- nor where something that isn't a byte of the line has come

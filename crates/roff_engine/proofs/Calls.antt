@@ -1,7 +1,7 @@
 -- What the calls of the unread input leave of a run: of its source, its limits and its turns to come.
 use Rattle.std.proofs.Common.{◌≡◌, ◌⊎◌, inl, inr, ℕ, ◌+◌, ◌≤◌, Bool, true, false, List, [], ◌∷◌, Option, Some, None, refl, sym, subst, arith}
 use Rattle.std.specs.Prelude.{nat_lt, is_none, ◌&&◌}
-use Rattle.roff_escape.specs.OpenEscapes.{decides_now}
+use Rattle.roff_escape.specs.Waiting.{is_ended_by}
 use Rattle.roff_ahead.specs.Input.{Ahead, ByteAhead, FreeAhead, EndAhead, ReturnAhead, DoAhead, cost, item_taken}
 use Rattle.roff_source.specs.Tape.{Tape, Item, Answer, OneByte, OneNote, Gives, Ends, items_then}
 use Rattle.roff_scan.specs.Unread.{Asked, asks_to_take, asks_to_look, answer_behind, looked_then, looking, looking_past, taking, taking_answer}
@@ -123,13 +123,13 @@ left-unasked : (looked : Option ℕ) (t : Tape) → IsLeftOf t (looked_then look
 left-unasked None t = inl refl
 left-unasked (Some b) t = inr refl
 
--- where a condition decides, there is a tape
-some-decides : (gives : Tape → Type 0) (u : PageUnread) → decides_now u.input.escapes ≡ true → AsksFirst u ⊎ ((t : Tape) × gives t) → (t : Tape) × gives t
+-- where something half read ends, whatever is seen, there is a tape
+some-decides : (gives : Tape → Type 0) (u : PageUnread) → is_ended_by u.input.escapes None ≡ true → AsksFirst u ⊎ ((t : Tape) × gives t) → (t : Tape) × gives t
 some-decides gives u decides (inl first) = let wrong : false ≡ true = rw first.0 at decides in cc
 some-decides gives u decides (inr known) = known
 
 -- no call: a condition decides, and nothing is taken or seen
-pub Leaves-deciding : (gives : Tape → Type 0) (u : PageUnread) → decides_now u.input.escapes ≡ true → Leaves gives gives u u []
+pub Leaves-deciding : (gives : Tape → Type 0) (u : PageUnread) → is_ended_by u.input.escapes None ≡ true → Leaves gives gives u u []
 Leaves-deciding gives u decides = record {
   before = λ t may. may;
   some = some-decides gives u decides;

@@ -6,7 +6,10 @@ use Rattle.roff_num.specs.declared.limit.Limit.{Limit}
 use Rattle.roff_num.specs.declared.limit.Limit.TheVariants.{Bytes}
 use Rattle.roff_num.specs.declared.limits.Limits.{Limits}
 use Rattle.roff_escape.specs.OpenEscape.{OpenEscape}
-use Rattle.roff_escape.specs.OpenEscapes.{newline_stays}
+use Rattle.roff_arguments.specs.declared.arguments.Place.{Place}
+use Rattle.roff_escape.specs.declared.open_escape.Waiting.{Waiting}
+use Rattle.roff_escape.specs.declared.open_escape.Waiting.TheVariants.{Takes as TakesAny}
+use Rattle.roff_run.specs.Reading.Waiting.{line_waits, waiting_above, waiting_in}
 use Rattle.roff_ahead.specs.Input.{Ahead, EndAhead, ReturnAhead, is_none_ahead, item_taken}
 use Rattle.roff_source.specs.Tape.{Tape}
 use Rattle.roff_scan.proofs.Asking.{takes_ahead}
@@ -18,7 +21,7 @@ use Rattle.roff_run.specs.Reading.Calls.{behind_return}
 use Rattle.roff_run.specs.Reading.Ends.{due}
 use Rattle.roff_run.specs.Reading.Items.{PageInput}
 use Rattle.roff_run.specs.Registers.{AllRegisters}
-use Rattle.roff_run.specs.Run.{Leads, State, in_front_taken, made, step, stopped_by, unless_refused, waiting}
+use Rattle.roff_run.specs.Run.{Leads, State, in_front_taken, made, read_waiting, step, stopped_by, unless_refused}
 use Rattle.roff_run.specs.Run.Counts.{counts_in, first_passed}
 use Rattle.roff_run.specs.ItemsTaken.{TakesItems}
 use Rattle.roff_run.specs.TurnsToCome.{begun, free_ahead, turns_to_come, turns_within}
@@ -82,7 +85,7 @@ end_of_call = record {
 }
 
 module _ (item : Ahead PageEvent) (reads_on : LineState → LineState) (ends : IsEnd item reads_on) (old : Coded) (after : PageUnread) (behind : List (Ahead PageEvent))
-    (none_due : due old.formatter.reader.reading ≡ None) (front : old.unread.input.ahead ≡ item ∷ behind) (stays : newline_stays old.unread.input.escapes ≡ false)
+    (none_due : due old.formatter.reader.reading ≡ None) (front : old.unread.input.ahead ≡ item ∷ behind) (takes : waiting_in old.formatter.reader.reading old.unread.input ≡ TakesAny)
     (allowed : old.unread.input.charge < old.unread.limits.bytes)
     (is : after ≡ record old.unread { input = item_taken item behind old.unread.input }) (within : IsWithin after) where
   -- what reads on behind it
@@ -90,13 +93,13 @@ module _ (item : Ahead PageEvent) (reads_on : LineState → LineState) (ends : I
   over = record old.formatter { reader = record old.formatter.reader { reading = reads_on old.formatter.reader.reading } }
 
   -- it is taken in a step
-  step-end : (l : Limits) (s : State) → TakesItems s → s.input.ahead ≡ item ∷ behind → newline_stays s.input.escapes ≡ false → s.input.charge < l.bytes
+  step-end : (l : Limits) (s : State) → TakesItems s → s.input.ahead ≡ item ∷ behind → waiting_in s.reading s.input ≡ TakesAny → s.input.charge < l.bytes
       → first_passed l (counts_in s.registers (item_taken item behind s.input)) ≡ None
       → step l s ≡ record s { input = item_taken item behind s.input; reading = reads_on s.reading }
-  step-end l s takes in_front stays few fits =
+  step-end l s takes in_front any few fits =
       let there : State = record s { input = item_taken item behind s.input; reading = reads_on s.reading } in
       step-TakesItems l s takes
-      ∙ ap (λ (c : Bool). if c then waiting l s else in_front_taken l s.input.ahead s) stays
+      ∙ ap (λ (w : Waiting). read_waiting l w s) any
       ∙ ap (λ (items : List (Ahead PageEvent)). in_front_taken l items s) in_front
       ∙ ends.taken l s behind
       ∙ ap (λ (c : Bool). if c then stopped_by l Bytes s else made l s there) (le-ltb l.bytes (s.input.charge + 1) (omega (arith, few)))
@@ -116,7 +119,7 @@ module _ (item : Ahead PageEvent) (reads_on : LineState → LineState) (ends : I
       first_passed-few_names l rs i (few_names old.formatter.reader.registers old.unread at.ready) ∙ IsWithin-allowed there inside in
       let leads : Leads l s t = record {
         steps = suc zero;
-        there = step-end l s (record { going = refl; not_closing = refl; idle = refl; none_due = none_due }) front stays allowed fits;
+        there = step-end l s (record { going = refl; not_closing = refl; idle = refl; none_due = none_due }) front takes allowed fits;
       } in
       subst (λ (u : PageUnread). IsAt whole tape start now (record old { formatter = over; unread = u })) (sym is)
       (IsAt-leads whole tape tape start now old over there at.history at
@@ -164,19 +167,20 @@ takes_end gave before after passes =
 
 -- past the end of a text, or past nothing
 pub goes_further_passed : (old new : Coded) (is_passed : Bool) → (is_passed ≡ true → due old.formatter.reader.reading ≡ None)
-    → (is_passed ≡ true → newline_stays old.unread.input.escapes ≡ false) → (is_passed ≡ true → PassesEnd old.unread new.unread)
+    → (is_passed ≡ true → waiting_in old.formatter.reader.reading old.unread.input ≡ TakesAny) → (is_passed ≡ true → PassesEnd old.unread new.unread)
     → (is_passed ≡ true → IsWithin new.unread) → (is_passed ≡ false → new ≡ old) → new ≡ record old { unread = new.unread }
     → (gave : Tape → Type 0) (notes : ℕ) (now : Seen) → GoesFurther is_passed gave gave notes notes old new now now
-goes_further_passed old new true none_due stays passed within kept others gave notes now =
+goes_further_passed old new true none_due takes passed within kept others gave notes now =
     let p = passed refl in
     subst (λ (run : Coded). GoesFurther true gave gave notes notes old run now now) (sym others)
-    (goes_further_end EndAhead (λ reading. reading) end_of_text old new.unread p.behind (none_due refl) p.in_front (stays refl) (omega (arith, p.within)) p.input (within refl) gave notes now)
-goes_further_passed old new false none_due stays passed within kept others gave notes now =
+    (goes_further_end EndAhead (λ reading. reading) end_of_text old new.unread p.behind (none_due refl) p.in_front (takes refl) (omega (arith, p.within)) p.input (within refl) gave notes now)
+goes_further_passed old new false none_due takes passed within kept others gave notes now =
     subst (λ (run : Coded). GoesFurther false gave gave notes notes old run now now) (sym (kept refl))
     (goes_further_none gave gave notes notes old old now now (goes_past_none gave notes old now))
 
 -- past the end of a call, or past nothing
-pub goes_further_returned : (old new : Coded) (is_passed : Bool) → due old.formatter.reader.reading ≡ None → old.unread.input.escapes ≡ []
+pub goes_further_returned : (old new : Coded) (is_passed : Bool) → due old.formatter.reader.reading ≡ None → ((place : Place) → line_waits old.formatter.reader.reading place ≡ TakesAny)
+    → old.unread.input.escapes ≡ []
     → (is_passed ≡ true → PassesReturn old.unread new.unread) → (is_passed ≡ true → IsWithin new.unread)
     → (is_passed ≡ true
     → new ≡ record old {
@@ -184,11 +188,12 @@ pub goes_further_returned : (old new : Coded) (is_passed : Bool) → due old.for
       unread = new.unread;
     })
     → (is_passed ≡ false → new ≡ old) → (gave : Tape → Type 0) (notes : ℕ) (now : Seen) → GoesFurther is_passed gave gave notes notes old new now now
-goes_further_returned old new true none_due none passed within is kept gave notes now =
+goes_further_returned old new true none_due takes none passed within is kept gave notes now =
     let p = passed refl in
     subst (λ (run : Coded). GoesFurther true gave gave notes notes old run now now) (sym (is refl))
-    (goes_further_end ReturnAhead behind_return end_of_call old new.unread p.behind none_due p.in_front (ap (λ (half : List OpenEscape). newline_stays half) none)
+    (goes_further_end ReturnAhead behind_return end_of_call old new.unread p.behind none_due p.in_front
+    (ap (λ (half : List OpenEscape). waiting_above old.formatter.reader.reading old.unread.input.arguments.place half) none ∙ takes old.unread.input.arguments.place)
     (omega (arith, p.within)) p.input (within refl) gave notes now)
-goes_further_returned old new false none_due none passed within is kept gave notes now =
+goes_further_returned old new false none_due takes none passed within is kept gave notes now =
     subst (λ (run : Coded). GoesFurther false gave gave notes notes old run now now) (sym (kept refl))
     (goes_further_none gave gave notes notes old old now now (goes_past_none gave notes old now))

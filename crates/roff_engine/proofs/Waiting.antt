@@ -4,14 +4,16 @@ use Rattle.std.proofs.Common.{◌≡◌, ℕ, ◌+◌, ◌<◌, ◌≤◌, Bool,
 use Rattle.std.specs.Prelude.{IsOkUnless, if◌then◌else◌}
 use Rattle.roff_num.specs.declared.limit.Limit.{Limit}
 use Rattle.roff_num.specs.declared.limits.Limits.{Limits}
-use Rattle.roff_escape.specs.OpenEscapes.{newline_stays, is_ended_by, decides_now}
+use Rattle.roff_arguments.specs.declared.arguments.Place.{Place}
+use Rattle.roff_escape.specs.Waiting.{decides as decides_by, is_ended_by}
+use Rattle.roff_escape.specs.declared.open_escape.Waiting.{Waiting}
+use Rattle.roff_escape.specs.declared.open_escape.Waiting.TheVariants.{Takes as TakesAny, Decides, Waits}
 use Rattle.roff_ahead.specs.Input.{Ahead, ByteAhead, FreeAhead, EndAhead, ReturnAhead, DoAhead}
 use Rattle.roff_source.specs.Tape.{Tape, Item, Answer, Gives, Ends, OneByte, OneNote, Ended, Failed, Stopped, items_then}
 use Rattle.roff_num.specs.Faults.{Rises}
 use Rattle.roff_scan.specs.Unread.{asks_to_look, asks_to_take, looking, taking}
 use Rattle.roff_ahead.specs.Shown.{Shown, ShowsByte, ShowsDo, ShowsEnd, ShowsRefusal, ShowsReturn, Sighted, SeesByte, SeesNothing, SeesNote, SeesEnding, seen_ahead}
 use Rattle.roff_scan.specs.Unread.Calls.{Looks, Takes}
-use Rattle.roff_escape.specs.Waiting.{WaitsFor}
 use Rattle.roff_run.specs.declared.event.PageEvent.{PageEvent}
 use Rattle.roff_run.specs.declared.message.Message.TheVariants.{ReadFailed}
 use Rattle.roff_run.specs.declared.status.Status.{Status}
@@ -20,7 +22,9 @@ use Rattle.roff_run.specs.Messages.{message_line}
 use Rattle.roff_run.specs.Output.{PageHistory}
 use Rattle.roff_run.specs.Reading.Items.{PageUnread}
 use Rattle.roff_run.specs.Reading.Items.{PageInput}
-use Rattle.roff_run.specs.Run.{State, awaited, awaited_of_source, byte_taken, front_seen, escape_ends, in_front_taken, known, made, step, waiting}
+use Rattle.roff_run.specs.Run.{State, awaited, awaited_of_source, byte_taken, front_seen, escape_ends, in_front_taken, known, made, read_waiting, item_read, step}
+use Rattle.roff_run.specs.Reading.Waiting.{waiting_in}
+use Rattle.roff_run.specs.declared.line_state.LineState.{LineState}
 use Rattle.roff_engine.specs.declared.running.Running.{Running as Coded}
 use Rattle.roff_engine.specs.Engine.Outcome.{Seen, seen}
 use Rattle.roff_engine.specs.Running.Turning.{DoesItem, IsAt, StepDoes, TurnsBy, state_at, turns_left}
@@ -29,7 +33,8 @@ use Rattle.roff_engine.proofs.Calls.{EndsThere, EndsThere-looks, IsEndingSeen, L
 use Rattle.roff_engine.proofs.Items.{looked_at, moved, note_told, source_failed, source_stopped}
 use Rattle.roff_engine.proofs.Turns.{LeavesFewer, acted, asks_or_given, falls_front, leaves_front, on_ok, on_ok-then, shown_front, turned, turns_of}
 use Rattle.roff_run.proofs.InFront.{Given, WasAsked, WasNot, Given-asked, IsNoNote, Looks-looking, items_asked, over_unread, over_unread-looking, front_step, seen as seen_step, sighted_step}
-use Rattle.roff_run.proofs.TurnsToCome.{length-newline_stays, turns_within-byte, turns_within-escape_ended}
+use Rattle.roff_run.proofs.TurnsToCome.{turns_within-byte, turns_within-escape_ended}
+use Rattle.roff_run.proofs.Waiting.{ended-deciding, length-is_ended_by, undecided}
 
 -- a look shows this in front, a byte or nothing that can be read: no message, fault or limit of the source's
 abbrev pub ShowsFront : Option ℕ → Sighted → Type 0
@@ -108,14 +113,13 @@ WaitingTurn gave gives noted notes old new now after r =
 module _ {gave gives : Tape → Type 0} {left : PageUnread} (old : Coded) (failed failures : ℕ) (out err : Sunk) (noted notes : ℕ) (more : failed ≤ failures) (less : notes ≤ noted) where
   -- what is seen stays: what is half read ends
   pub waiting_ends : (seen_byte : Option ℕ) (sight : Sighted) (new : Coded) (after : Seen) (r : Result (Unit {0}) Status) → ShowsFront seen_byte sight
-      → Looks gave gives old.unread left sight → is_ended_by left.input.escapes seen_byte ≡ true
-      → newline_stays old.unread.input.escapes ≡ true → DoesItem left.input.line escape_ends (moved old left) new (seen failures out err) after r
+      → Looks gave gives old.unread left sight → is_ended_by left.input.escapes seen_byte ≡ true → DoesItem left.input.line escape_ends (moved old left) new (seen failures out err) after r
       → WaitingTurn gave gives noted notes old new (seen failed out err) after r
-  waiting_ends seen_byte sight new after r is call stays half acts =
+  waiting_ends seen_byte sight new after r is call stays acts =
       let leaves = leaves_look old call in
       let same : left.input ≡ old.unread.input = input_look old call in
       let fewer : LeavesFewer escape_ends old left = λ s is same_reading.
-      let some : 1 ≤ length s.input.escapes = rw (is, same) (length-newline_stays old.unread.input.escapes half) in
+      let some : 1 ≤ length s.input.escapes = rw is (length-is_ended_by left.input.escapes seen_byte stays) in
       omega (arith, turns_within-escape_ended old.unread.limits.bytes (known s) s.reading s.input some, turns_of left old.unread.limits s.input leaves.limits (sym is), leaves.turns) in
       acted leaves _ noted notes escape_ends left.input.line new failed failures out err after r more less (ap (λ (i : PageInput). i.line) same)
       (λ limits tape may h ms.
@@ -155,12 +159,7 @@ module _ {gave gives : Tape → Type 0} {left : PageUnread} (old : Coded) (faile
       turned leaves _ noted notes (moved old left) (seen failed out err) (seen failures out err) (Err (Limited limit)) refl (λ t tape start may at goes.
       (source_stopped leaves failed failures out err more t tape start may at limit (ends_look old call tt) (goes ∙ sighted_look old call tape may at.history at.messages), tt))
 
--- where a condition decides, something is half read
-length-decides_now : (half : List OpenEscape) → decides_now half ≡ true → 1 ≤ length half
-length-decides_now [] decides = cc
-length-decides_now (first ∷ rest) decides = omega arith
-
--- a turn by one of two tests of the definition
+-- a turn as the definition's
 pub turn_as : {gave gives : Tape → Type 0} (does other : State → State) (noted notes : ℕ) (old new : Coded) (now behind : Seen) (r : Result (Unit {0}) Status)
     → ((tape : Tape) (h : PageHistory) (ms : List ℕ) → does (state_at tape old h ms) ≡ other (state_at tape old h ms))
     → TurnsBy other gave gives noted notes old new now behind r → TurnsBy does gave gives noted notes old new now behind r
@@ -176,16 +175,20 @@ turn_as does other noted notes old new now behind r same turn = record {
 -- a condition that is read decides
 pub waiting_decides :
     (gives : Tape → Type 0) (old new : Coded) (failures : ℕ) (out err : Sunk) (notes : ℕ) (after : Seen) (r : Result (Unit {0}) Status)
-    → decides_now old.unread.input.escapes ≡ true → DoesItem old.unread.input.line escape_ends old new (seen failures out err) after r
-    → TurnsBy (λ s. waiting old.limits s) gives gives notes notes old new (seen failures out err) after r
+    → waiting_in old.formatter.reader.reading old.unread.input ≡ Decides
+    → DoesItem old.unread.input.line escape_ends old new (seen failures out err) after r
+    → TurnsBy (λ s. item_read old.limits s) gives gives notes notes old new (seen failures out err) after r
 waiting_decides gives old new failures out err notes after r decides acts =
+    let reading : LineState = old.formatter.reader.reading in
+    let place : Place = old.unread.input.arguments.place in
+    let stays : is_ended_by old.unread.input.escapes None ≡ true = ended-deciding reading place old.unread.input.escapes None (ap decides_by decides) in
     let fewer : LeavesFewer escape_ends old old.unread = λ s is same_reading.
-    let some : 1 ≤ length s.input.escapes = rw is (length-decides_now old.unread.input.escapes decides) in
+    let some : 1 ≤ length s.input.escapes = rw is (length-is_ended_by old.unread.input.escapes None stays) in
     omega (arith, turns_within-escape_ended old.unread.limits.bytes (known s) s.reading s.input some, turns_of old.unread old.unread.limits s.input refl (sym is)) in
-    acted (Leaves-deciding gives old.unread decides) _ notes notes escape_ends old.unread.input.line new failures failures out err after r (omega arith) (omega arith) refl
+    acted (Leaves-deciding gives old.unread stays) _ notes notes escape_ends old.unread.input.line new failures failures out err after r (omega arith) (omega arith) refl
     (λ limits tape may h ms.
     let s : State = state_at tape old h ms in
-    ap (λ (c : Bool). if c then made old.limits s (escape_ends s) else awaited old.limits (seen_ahead old.unread.input.ahead) s) decides)
+    ap (λ (w : Waiting). read_waiting old.limits w s) decides)
     (on_ok r fewer) acts
 
 -- items, and then others, are both in this order
@@ -285,12 +288,24 @@ awaited_byte l limits i s b goes_on (ReturnAhead ∷ items) looked a tape behind
 awaited_byte l limits i s b goes_on (DoAhead event ∷ items) looked a tape behind given shows =
     let wrong : ShowsDo event ≡ ShowsByte b = shows_byte _ _ _ _ _ b shows in cc
 
--- a byte was taken that what is half read waits for
+-- the byte that is shown is taken, whether it is waited for or not
+read_byte : (l limits : Limits) (w : Waiting) (i : PageInput) (s : State) (b : ℕ) → is_ended_by i.escapes (Some b) ≡ false → decides_by w ≡ false
+    → (looked : Option ℕ) (a : Answer) (tape behind : Tape)
+    → let u : PageUnread = record { input = i; looked = looked; limits = limits } in
+    Given a (asks_to_take u) tape behind → (taking a u).0 ≡ ShowsByte b
+    → read_waiting l w (over_unread u tape s) ≡ in_front_taken l i.ahead (over_unread u tape s)
+read_byte l limits TakesAny i s b goes_on undecided looked a tape behind given shows = refl
+read_byte l limits Decides i s b goes_on undecided looked a tape behind given shows = absurd (cc)
+read_byte l limits Waits i s b goes_on undecided looked a tape behind given shows =
+    awaited_byte l limits i s b goes_on i.ahead looked a tape behind given shows
+
+-- a byte was taken, whether it is waited for or not
 module _ {gave gives : Tape → Type 0} {left : PageUnread} (old : Coded) (failed failures : ℕ) (out err : Sunk) (noted notes : ℕ) (more : failed ≤ failures) (less : notes ≤ noted) where
-  pub waiting_byte : (b line : ℕ) (new : Coded) (after : Seen) (r : Result (Unit {0}) Status) → Takes gave gives old.unread left (ShowsByte b)
-      → WaitsFor old.unread.input.escapes b → line ≡ old.unread.input.line → DoesItem line (byte_taken b) (moved old left) new (seen failures out err) after r
-      → TurnsBy (λ s. waiting old.limits s) gave gives noted notes old new (seen failed out err) after r
-  waiting_byte b line new after r call waits line_is acts =
+  pub byte_by : (w : Waiting) → decides_by w ≡ false → (b line : ℕ) (new : Coded) (after : Seen) (r : Result (Unit {0}) Status)
+      → Takes gave gives old.unread left (ShowsByte b) → is_ended_by old.unread.input.escapes (Some b) ≡ false → line ≡ old.unread.input.line
+      → DoesItem line (byte_taken b) (moved old left) new (seen failures out err) after r
+      → TurnsBy (λ s. read_waiting old.limits w s) gave gives noted notes old new (seen failed out err) after r
+  byte_by w undecided b line new after r call goes_on line_is acts =
       let u : PageUnread = old.unread in
       let leaves = leaves_front old call in
       let asked : List Item = items_asked (asks_to_take u) call.answer in
@@ -299,8 +314,17 @@ module _ {gave gives : Tape → Type 0} {left : PageUnread} (old : Coded) (faile
       acted leaves _ noted notes (byte_taken b) line new failed failures out err after r more less line_is
       (λ limits tape may h ms.
       let from : State = state_at (items_then asked tape) old h ms in
-      ap (λ (c : Bool). if c then made old.limits from (escape_ends from) else awaited old.limits (seen_ahead u.input.ahead) from) waits.undecided
-      ∙ awaited_byte old.limits u.limits u.input from b waits.goes_on u.input.ahead u.looked call.answer (items_then asked tape) tape
+      read_byte old.limits u.limits w u.input from b goes_on undecided u.looked call.answer (items_then asked tape) tape
       (Given-asked gave gives (asks_to_take u) call.answer call.asked tape may) (ap (λ (c : Shown PageEvent × PageUnread). c.0) (sym call.taken))
       ∙ shown_front old call limits tape may h ms)
       (on_ok r fewer) acts
+
+  -- where nothing is half read, whatever the line waits for
+  pub byte_alone : (b line : ℕ) (new : Coded) (after : Seen) (r : Result (Unit {0}) Status) → Takes gave gives old.unread left (ShowsByte b)
+      → old.unread.input.escapes ≡ [] → line ≡ old.unread.input.line → DoesItem line (byte_taken b) (moved old left) new (seen failures out err) after r
+      → TurnsBy (λ s. item_read old.limits s) gave gives noted notes old new (seen failed out err) after r
+  byte_alone b line new after r call none line_is acts =
+      let goes_on : is_ended_by old.unread.input.escapes (Some b) ≡ false = ap (λ (half : List OpenEscape). is_ended_by half (Some b)) none in
+      let w : Waiting = waiting_in old.formatter.reader.reading old.unread.input in
+      turn_as (λ s. item_read old.limits s) (λ s. read_waiting old.limits w s) noted notes old new (seen failed out err) after r (λ tape h ms. refl)
+      (byte_by w (undecided old.formatter.reader.reading old.unread.input.arguments.place old.unread.input.escapes (Some b) goes_on) b line new after r call goes_on line_is acts)

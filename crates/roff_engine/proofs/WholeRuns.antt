@@ -3,7 +3,6 @@ use Rattle.std.proofs.Common.{◌≡◌, ℕ, ◌+◌, ◌<◌, Bool, true, fals
 use Rattle.std.specs.Prelude.{nat_lt, if◌then◌else◌}
 use Rattle.std.proofs.lemmas.Bool.{le-ltb}
 use Rattle.roff_num.specs.declared.limits.Limits.{Limits}
-use Rattle.roff_escape.specs.OpenEscapes.{newline_stays}
 use Rattle.roff_source.specs.Tape.{Tape, items_then}
 use Rattle.roff_scan.specs.Unread.{asks_to_take, looked_then}
 use Rattle.roff_run.specs.declared.status.Status.{Status}
@@ -13,7 +12,7 @@ use Rattle.roff_reader.specs.Reader.State.{ReaderState, fresh_reader}
 use Rattle.roff_reader.specs.Reader.Taken.{IsReady}
 use Rattle.roff_run.specs.Reading.Items.{PageUnread}
 use Rattle.roff_run.specs.Registers.{no_registers}
-use Rattle.roff_run.specs.Run.{State, Leads, first_input, first_unread, in_front_taken, initial, reading_by, step, waiting}
+use Rattle.roff_run.specs.Run.{State, Leads, first_input, first_unread, initial, item_read, reading_by, step}
 use Rattle.roff_run.specs.Run.Counts.{counts_in, first_passed}
 use Rattle.roff_run.specs.Reading.Ends.{due}
 use Rattle.roff_run.specs.declared.line_state.Due.{Due}
@@ -38,28 +37,16 @@ step_turn does gave gives noted notes old new now behind r is turn = record {
   falls = λ t tape start may at goes. turn.falls t tape start may at (is (items_then turn.taken tape) at.history at.messages);
 }
 
-module _ (gave gives : Tape → Type 0) (noted notes : ℕ) (old new : Coded) (now behind : Seen) (r : Result (Unit {0}) Status) where
-  -- what is half read waits
-  pub waiting_turn : due old.formatter.reader.reading ≡ None → newline_stays old.unread.input.escapes ≡ true
-      → TurnsBy (λ s. waiting old.limits s) gave gives noted notes old new now behind r
-      → TurnsBy (step old.limits) gave gives noted notes old new now behind r
-  waiting_turn none_due stays turn =
-      step_turn _ gave gives noted notes old new now behind r (λ tape h ms.
-      let s : State = state_at tape old h ms in
-      ap (λ (what : Option Due). reading_by old.limits what s) none_due
-      ∙ ap (λ (c : Bool). if c then waiting old.limits s else in_front_taken old.limits old.unread.input.ahead s) stays)
-      turn
-
-  -- it waits for nothing
-  pub front_turn : due old.formatter.reader.reading ≡ None → newline_stays old.unread.input.escapes ≡ false
-      → TurnsBy (λ s. in_front_taken old.limits s.input.ahead s) gave gives noted notes old new now behind r
-      → TurnsBy (step old.limits) gave gives noted notes old new now behind r
-  front_turn none_due stays turn =
-      step_turn _ gave gives noted notes old new now behind r (λ tape h ms.
-      let s : State = state_at tape old h ms in
-      ap (λ (what : Option Due). reading_by old.limits what s) none_due
-      ∙ ap (λ (c : Bool). if c then waiting old.limits s else in_front_taken old.limits old.unread.input.ahead s) stays)
-      turn
+-- nothing is due: an item of the input is read
+pub read_turn : (gave gives : Tape → Type 0) (noted notes : ℕ) (old new : Coded) (now behind : Seen) (r : Result (Unit {0}) Status)
+    → due old.formatter.reader.reading ≡ None
+    → TurnsBy (λ s. item_read old.limits s) gave gives noted notes old new now behind r
+    → TurnsBy (step old.limits) gave gives noted notes old new now behind r
+read_turn gave gives noted notes old new now behind r none_due turn =
+    step_turn _ gave gives noted notes old new now behind r (λ tape h ms.
+    let s : State = state_at tape old h ms in
+    ap (λ (what : Option Due). reading_by old.limits what s) none_due)
+    turn
 
 -- before the first item no count is above its limit
 none_passed-fresh : (l : Limits) → first_passed l (counts_in no_registers first_input) ≡ None

@@ -7,6 +7,7 @@ pub use Rattle.roff_reader.specs.Reader.State.{fresh_reader}
 pub use Rattle.roff_run.specs.Reading.{escape_ended, interrupted, taking}
 pub use Rattle.roff_run.specs.Reading.Calls.{behind_return}
 pub use Rattle.roff_run.specs.Reading.Ends.{due, end_taking, line_ends_first}
+pub use Rattle.roff_run.specs.Reading.Waiting.{waiting_in}
 pub use Rattle.roff_run.specs.declared.line_state.Due.TheVariants.{Tells}
 pub use Rattle.roff_run.specs.declared.line_state.LineState.TheVariants.{LineStart}
 pub use Rattle.roff_run.specs.declared.event.PageEvent.TheVariants.{Text, Space, Environment}

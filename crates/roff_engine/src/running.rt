@@ -1,9 +1,8 @@
 //! A run under way: what each item of the input does.
 
-ghost use Rattle.std.specs.Prelude.{◌≡◌, ℕ, true, None, IsOkUnless};
+ghost use Rattle.std.specs.Prelude.{◌≡◌, ℕ, [], None, IsOkUnless};
 ghost use Rattle.roff_run.specs.Run.{ahead_taken, awaited, byte_taken, in_front_taken, step};
-ghost use Rattle.roff_run.specs.Run.{waiting};
-ghost use Rattle.roff_escape.specs.OpenEscapes.{newline_stays};
+ghost use Rattle.roff_run.specs.Run.{item_read};
 ghost use Rattle.roff_ahead.specs.Input.{DoAhead};
 ghost use Rattle.roff_ahead.specs.Shown.{seen_ahead};
 ghost use Rattle.roff_engine.specs.Clauses.{Puts, seen, due, Device};
@@ -18,7 +17,7 @@ use crate::halt::Halt;
 use roff_num::Limits;
 use roff_pages::ByteSink;
 use roff_run::{PageEvent, Status};
-use roff_scan::{ByteSource, Item, Note, Sight, Unread};
+use roff_scan::{ByteSource, Item, Note, Sight, Unread, Waiting};
 
 /// A run under way.
 #[derive(Drop)]
@@ -47,15 +46,82 @@ impl Running {
             (seen (S.failures source.old) (O.sunk out.old) (E.sunk err.old))
             (seen (S.failures source.new) (O.sunk out.new) (E.sunk err.new)) result }
     {
-        if self.unread.newline_stays() {
-            self.turn_waiting(source, out, err)
+        if self.unread.has_open_escape() {
+            self.turn_half_read(source, out, err)
         } else {
-            self.turn_in_front(source, out, err)
+            self.turn_alone(source, out, err)
         }
     }
 
-    /// The same where what is half read waits: a condition that is read decides, and else what
-    /// stands in front stays, and ends it, or is taken. Most often it is a byte that is taken.
+    /// The same where nothing is half read: most often a byte that stands ready is taken, whether it is
+    /// waited for or not.
+    #[inline(always)]
+    fn turn_alone<S: ByteSource, O: ByteSink, E: ByteSink>(
+        &mut self,
+        source: &mut S,
+        out: &mut O,
+        err: &mut E,
+    ) -> Result<(), Status>
+        requires none_half { self.old.unread.input.escapes ≡ [] }
+        ensures { TurnsBy (λ s. item_read self.old.limits s)
+            (S.gives source.old) (S.gives source.new) (S.notes source.old) (S.notes source.new)
+            self.old self.new
+            (seen (S.failures source.old) (O.sunk out.old) (E.sunk err.old))
+            (seen (S.failures source.new) (O.sunk out.new) (E.sunk err.new)) result }
+    {
+        let line = self.unread.line();
+        match self.unread.take_ready(source) {
+            Some(byte) => self.take(byte, line, out, err),
+            None => self.turn_line(source, out, err),
+        }
+    }
+
+    /// The same where no byte stands ready: what waits for one looks at what is in front.
+    #[inline(never)]
+    fn turn_line<S: ByteSource, O: ByteSink, E: ByteSink>(
+        &mut self,
+        source: &mut S,
+        out: &mut O,
+        err: &mut E,
+    ) -> Result<(), Status>
+        requires none_half { self.old.unread.input.escapes ≡ [] }
+        ensures { TurnsBy (λ s. item_read self.old.limits s)
+            (S.gives source.old) (S.gives source.new) (S.notes source.old) (S.notes source.new)
+            self.old self.new
+            (seen (S.failures source.old) (O.sunk out.old) (E.sunk err.old))
+            (seen (S.failures source.new) (O.sunk out.new) (E.sunk err.new)) result }
+    {
+        if self.formatter.reader.waits_alone(&self.unread) {
+            self.turn_looking(source, out, err)
+        } else {
+            self.turn_item(source, out, err)
+        }
+    }
+
+    /// The same where something is half read: it takes the item in front, or waits for a byte, or a
+    /// condition that is read decides.
+    #[inline(always)]
+    fn turn_half_read<S: ByteSource, O: ByteSink, E: ByteSink>(
+        &mut self,
+        source: &mut S,
+        out: &mut O,
+        err: &mut E,
+    ) -> Result<(), Status>
+        ensures { TurnsBy (λ s. item_read self.old.limits s)
+            (S.gives source.old) (S.gives source.new) (S.notes source.old) (S.notes source.new)
+            self.old self.new
+            (seen (S.failures source.old) (O.sunk out.old) (E.sunk err.old))
+            (seen (S.failures source.new) (O.sunk out.new) (E.sunk err.new)) result }
+    {
+        match self.formatter.reader.waiting(&self.unread) {
+            Waiting::Takes => self.turn_in_front(source, out, err),
+            Waiting::Waits => self.turn_waiting(source, out, err),
+            Waiting::Decides => self.end_escape(out, err),
+        }
+    }
+
+    /// What is half read waits: what stands in front stays, and ends it, or is taken. Most often it is a
+    /// byte that is taken.
     #[inline(never)]
     fn turn_waiting<S: ByteSource, O: ByteSink, E: ByteSink>(
         &mut self,
@@ -63,16 +129,12 @@ impl Running {
         out: &mut O,
         err: &mut E,
     ) -> Result<(), Status>
-        requires { newline_stays self.old.unread.input.escapes ≡ true }
-        ensures { TurnsBy (λ s. waiting self.old.limits s)
+        ensures { TurnsBy (λ s. awaited self.old.limits (seen_ahead s.input.ahead) s)
             (S.gives source.old) (S.gives source.new) (S.notes source.old) (S.notes source.new)
             self.old self.new
             (seen (S.failures source.old) (O.sunk out.old) (E.sunk err.old))
             (seen (S.failures source.new) (O.sunk out.new) (E.sunk err.new)) result }
     {
-        if self.unread.decides_now() {
-            return self.end_escape(out, err);
-        }
         let line = self.unread.line();
         match self.unread.take_waiting(source) {
             Some(byte) => self.take(byte, line, out, err),
@@ -80,14 +142,14 @@ impl Running {
         }
     }
 
-    /// The same where it looks.
+    /// What waits looks at the first byte behind any ends of texts.
+    #[inline(always)]
     fn turn_looking<S: ByteSource, O: ByteSink, E: ByteSink>(
         &mut self,
         source: &mut S,
         out: &mut O,
         err: &mut E,
     ) -> Result<(), Status>
-        requires { newline_stays self.old.unread.input.escapes ≡ true }
         ensures { TurnsBy (λ s. awaited self.old.limits (seen_ahead s.input.ahead) s)
             (S.gives source.old) (S.gives source.new) (S.notes source.old) (S.notes source.new)
             self.old self.new

@@ -6,7 +6,8 @@ use Rattle.roff_source.specs.Bytes.{blank, is_dropped, newline, tab}
 use Rattle.roff_escape.specs.OpenEscape.{OpenEscape, text_held, texts_held}
 use Rattle.roff_escape.specs.EscapeFronts.{ReadsOn}
 use Rattle.roff_escape.specs.EscapeTexts.{KeptEscapes}
-use Rattle.roff_escape.specs.OpenEscapes.{byte_read, is_ended_by}
+use Rattle.roff_escape.specs.OpenEscapes.{byte_read}
+use Rattle.roff_escape.specs.Waiting.{is_ended_by}
 use Rattle.roff_escape.specs.declared.open_escape.CopyUnit.TheVariants.{Byte}
 use Rattle.roff_escape.specs.declared.open_escape.Found.TheVariants.{Holds}
 use Rattle.roff_escape.specs.declared.open_escape.Surroundings.{Surroundings}

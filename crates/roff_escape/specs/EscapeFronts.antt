@@ -2,7 +2,8 @@
 use Rattle.std.specs.Prelude.{◌≡◌, ℕ, ◌≤◌, Bool, true, false, List, [], ◌∷◌, length, take, Some, ◌==◌}
 use Rattle.roff_source.specs.Bytes.{is_dropped, newline}
 use Rattle.roff_escape.specs.OpenEscape.{OpenEscape, texts_held}
-use Rattle.roff_escape.specs.OpenEscapes.{byte_read, is_ended_by}
+use Rattle.roff_escape.specs.OpenEscapes.{byte_read}
+use Rattle.roff_escape.specs.Waiting.{is_ended_by}
 use Rattle.roff_escape.specs.EscapeTexts.{KeptEscapes}
 use Rattle.roff_escape.specs.declared.escapes.NameUse.{NameUse}
 use Rattle.roff_escape.specs.declared.escapes.NameUse.TheVariants.{Register, Text}

@@ -5,7 +5,7 @@
 use Rattle.std.specs.Prelude.{ℕ, ℤ, pos, Bool, true, false, ◌&&◌, ◌||◌, not, List, [], ◌∷◌, take, nat_le, Option, Some, None, if◌then◌else◌, ◌==◌}
 use Rattle.roff_num.specs.declared.direction.Direction.TheVariants.{Up, Down}
 use Rattle.roff_source.specs.Bytes.{start_of_text, tab, newline, quote, dot, backslash, is_digit, is_dropped}
-use Rattle.roff_escape.specs.Conditions.{byte_of_condition, condition_ended, ends_at_backslash, is_decided, ends_at_newline, ends_condition, is_read_in_arguments, unit_of_condition}
+use Rattle.roff_escape.specs.Conditions.{byte_of_condition, condition_ended, unit_of_condition}
 use Rattle.roff_escape.specs.Escapes.{escape_of, is_copied}
 pub use Rattle.roff_escape.specs.OpenEscape.{Reads}
 use Rattle.roff_escape.specs.OpenEscape.{OpenEscape, Backslash, Comment, Name, Size, Delimited, Width, Condition, unit_bytes, names_in, widths_in}
@@ -252,46 +252,3 @@ reading_ended base (Size part ∷ rest) = size_over rest
 reading_ended base (Delimited purpose d text ∷ rest) = text_given (place_above base) rest purpose text
 reading_ended base (Width d width is_deep ∷ rest) = (Measures width, rest)
 reading_ended base (Condition part text ∷ rest) = condition_ended rest part text
-
--- whether the reading on top is a condition that decides, before anything is taken or seen
-abbrev pub decides_now : List OpenEscape → Bool
-decides_now (Condition part text ∷ rest) = is_decided part
-decides_now (_) = false
-
--- whether a backslash above these is taken alone where its escape would be kept: the byte behind it stays then
-abbrev pub takes_backslash_alone : List OpenEscape → Bool
-takes_backslash_alone (Condition part text ∷ rest) = ends_at_backslash part
-takes_backslash_alone (_) = false
-
--- whether the reading on top looks at what stands in front before it is taken: a newline stays then, and ends most
-abbrev pub newline_stays : List OpenEscape → Bool
-newline_stays [] = false
-newline_stays (Backslash ∷ rest) = takes_backslash_alone rest
-newline_stays (half ∷ rest) = true
-
--- whether a byte belongs to a size of which so much is read
-abbrev pub is_of_size : SizePart → ℕ → Bool
-is_of_size NoSize b = is_sign b || is_digit b
-is_of_size Sign b = is_digit b
-is_of_size Digit b = is_digit b
-
--- whether what is seen in front stays, and ends a size: all but a byte that belongs to it
-abbrev pub ends_size : SizePart → Option ℕ → Bool
-ends_size part None = true
-ends_size part (Some b) = not (is_of_size part b)
-
--- whether it stays, and ends a backslash that is taken alone before a byte that isn't read behind one in arguments
-abbrev pub ends_backslash : Option ℕ → Bool
-ends_backslash None = false
-ends_backslash (Some b) = not (is_read_in_arguments b || is_dropped b)
-
--- whether what is seen in front stays, and ends the reading on top: a byte, or nothing that can be read
-abbrev pub is_ended_by : List OpenEscape → Option ℕ → Bool
-is_ended_by [] seen = false
-is_ended_by (Backslash ∷ rest) seen = takes_backslash_alone rest && ends_backslash seen
-is_ended_by (Comment ∷ rest) seen = ends_at_newline seen
-is_ended_by (Name purpose part ∷ rest) seen = ends_at_newline seen
-is_ended_by (Size part ∷ rest) seen = ends_size part seen
-is_ended_by (Delimited purpose d text ∷ rest) seen = ends_at_newline seen
-is_ended_by (Width d width is_deep ∷ rest) seen = ends_at_newline seen
-is_ended_by (Condition part text ∷ rest) seen = ends_condition part seen

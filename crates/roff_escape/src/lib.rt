@@ -12,6 +12,6 @@ mod open_escapes;
 pub use characters::character;
 pub use escapes::{Escape, NameUse, TextUse, escape_of};
 pub use open_escape::{
-    ConditionPart, CopyUnit, Decision, Found, NamePart, Remark, SizePart, Surroundings,
+    ConditionPart, CopyUnit, Decision, Found, NamePart, Remark, SizePart, Surroundings, Waiting,
 };
 pub use open_escapes::OpenEscapes;

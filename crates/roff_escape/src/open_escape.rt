@@ -108,6 +108,17 @@ impl Surroundings {
     }
 }
 
+/// What something that is read does at the next item.
+#[derive(Clone, Copy, Debug, PartialEq, Eq)]
+pub enum Waiting {
+    /// It takes the item in front, whatever that is.
+    Takes,
+    /// It was read to its end, and decides before anything is taken or seen.
+    Decides,
+    /// It waits for a byte: the first one behind any ends of texts is seen before one is taken.
+    Waits,
+}
+
 /// Something that is half read. The texts stand behind each other in one block.
 #[derive(Clone, Copy, Debug, Default, PartialEq, Eq)]
 pub(crate) enum HeldEscape {

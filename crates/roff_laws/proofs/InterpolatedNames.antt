@@ -11,7 +11,8 @@ use Rattle.roff_escape.specs.Conditions.{delimiter_met, ends_condition}
 use Rattle.roff_escape.specs.EscapeLaws.{is_special, sign}
 use Rattle.roff_escape.specs.declared.escapes.NameUse.{NameUse}
 use Rattle.roff_escape.specs.declared.escapes.NameUse.TheVariants.{Register, Text as OfText, Argument}
-use Rattle.roff_escape.specs.OpenEscapes.{Reads, byte_read, ends_backslash, most_names, name_given, is_ended_by, takes_backslash_alone}
+use Rattle.roff_escape.specs.OpenEscapes.{Reads, byte_read, most_names, name_given}
+use Rattle.roff_escape.specs.Waiting.{ends_backslash, is_ended_by, takes_backslash_alone}
 use Rattle.roff_ahead.specs.Input.{Ahead, pushing}
 use Rattle.roff_escape.specs.OpenEscape.{OpenEscape, Backslash, Comment, Name, Size, Delimited, Width, Condition, names_in}
 use Rattle.roff_escape.specs.declared.open_escape.ConditionPart.{ConditionPart}

@@ -6,7 +6,8 @@ use Rattle.roff_num.specs.declared.limits.Limits.{Limits}
 use Rattle.roff_arguments.proofs.Settling.{settled-only_kept, held-only_kept-settled}
 use Rattle.roff_arguments.specs.Arguments.{Arguments, settled, only_kept, held}
 use Rattle.roff_source.specs.Bytes.{newline, backslash, is_dropped}
-use Rattle.roff_escape.specs.OpenEscapes.{byte_read, is_ended_by}
+use Rattle.roff_escape.specs.OpenEscapes.{byte_read}
+use Rattle.roff_escape.specs.Waiting.{is_ended_by}
 use Rattle.roff_ahead.specs.Input.{Ahead, ByteAhead, EndAhead, cost, depth}
 use Rattle.roff_source.specs.Tape.{Tape}
 use Rattle.roff_escape.specs.OpenEscape.{OpenEscape, Backslash, texts_held}

@@ -8,6 +8,7 @@ pub mod Endings
 pub mod ResultsOnlyCut
 pub mod Taking
 pub mod StatusesTell
+pub mod RefusedSteps
 pub mod RunsAppend
 pub mod RequestNames
 pub mod RegisterLaws
@@ -21,3 +22,4 @@ pub mod SkippingRuns
 pub mod CallLaws
 pub mod DefinitionLaws
 pub mod EnvironmentTurns
+pub mod TapeInFront

@@ -7,7 +7,10 @@ use Rattle.std.proofs.Common.{◌≡◌, ℕ, ◌+◌, Bool, true, false, List, 
 use Rattle.std.specs.Prelude.{nat_lt, if◌then◌else◌}
 use Rattle.roff_num.specs.declared.limit.Limit.{Limit}
 use Rattle.roff_num.specs.declared.limits.Limits.{Limits}
-use Rattle.roff_escape.specs.OpenEscapes.{decides_now, is_ended_by, newline_stays}
+use Rattle.roff_escape.specs.Waiting.{is_ended_by}
+use Rattle.roff_escape.specs.declared.open_escape.Waiting.{Waiting}
+use Rattle.roff_escape.specs.declared.open_escape.Waiting.TheVariants.{Takes, Decides, Waits}
+use Rattle.roff_run.specs.Reading.Waiting.{waiting_in}
 use Rattle.roff_ahead.specs.Input.{Ahead, ByteAhead, FreeAhead, EndAhead, ReturnAhead, DoAhead, cost, item_taken, counting}
 use Rattle.roff_source.specs.Tape.{Answer, Gives, Ends, OneByte, OneNote, Ended, Failed, Stopped, front}
 use Rattle.roff_ahead.specs.Shown.{Sighted, SeesByte, SeesNothing, SeesNote, SeesEnding, seen_ahead}
@@ -17,7 +20,7 @@ use Rattle.roff_run.specs.Reading.Ends.{due, line_ends_first}
 use Rattle.roff_run.specs.declared.line_state.Due.{Due}
 use Rattle.roff_run.specs.declared.line_state.Due.TheVariants.{Leaves, Tells as TellsText}
 use Rattle.roff_run.specs.declared.event.PageEvent.{PageEvent}
-use Rattle.roff_run.specs.Run.{waiting, State, performing, unless_refused, grown, made, moved, byte_taken, escape_ends, end_met, ahead_taken, taking_ahead, taking_byte, ending_input, answered, in_front_taken, front_seen, awaited_of_source, awaited, item_read, input_ended, message_told, input_left, reading_by, step_with, step}
+use Rattle.roff_run.specs.Run.{read_waiting, State, performing, unless_refused, grown, made, moved, byte_taken, escape_ends, end_met, ahead_taken, taking_ahead, taking_byte, ending_input, answered, in_front_taken, front_seen, awaited_of_source, awaited, item_read, input_ended, message_told, input_left, reading_by, step_with, step}
 use Rattle.roff_run.specs.Run.Counts.{passes_bytes, refusal, first_passed}
 use Rattle.roff_laws.proofs.Beginnings.{IsBeginning-same, IsBeginning-append, IsBeginning-trans}
 
@@ -154,15 +157,15 @@ OnlyCuts-awaited l (Some (SeesNote message)) s = OnlyCuts-front_seen l None s
 OnlyCuts-awaited l (Some (SeesEnding ending)) s = OnlyCuts-front_seen l None s
 OnlyCuts-awaited l None s = OnlyCuts-awaited_of_source l (front s.tape) s
 
--- what is half read waits
-pub OnlyCuts-waiting : (l : Limits) (s : State) → OnlyCuts s (waiting l s)
-OnlyCuts-waiting l s =
-    OnlyCuts-if (decides_now s.input.escapes) (OnlyCuts-made l s _ (OnlyCuts-escape_ends s)) (OnlyCuts-awaited l (seen_ahead s.input.ahead) s)
+-- by what is read does at the next item
+pub OnlyCuts-read_waiting : (l : Limits) (w : Waiting) (s : State) → OnlyCuts s (read_waiting l w s)
+OnlyCuts-read_waiting l Takes s = OnlyCuts-in_front_taken l s.input.ahead s
+OnlyCuts-read_waiting l Decides s = OnlyCuts-made l s _ (OnlyCuts-escape_ends s)
+OnlyCuts-read_waiting l Waits s = OnlyCuts-awaited l (seen_ahead s.input.ahead) s
 
 -- one item of the input
 pub OnlyCuts-item_read : (l : Limits) (s : State) → OnlyCuts s (item_read l s)
-OnlyCuts-item_read l s =
-    OnlyCuts-if (newline_stays s.input.escapes) (OnlyCuts-waiting l s) (OnlyCuts-in_front_taken l s.input.ahead s)
+OnlyCuts-item_read l s = OnlyCuts-read_waiting l (waiting_in s.reading s.input) s
 
 -- what is due
 pub OnlyCuts-reading_by : (l : Limits) (what : Option Due) (s : State) → OnlyCuts s (reading_by l what s)

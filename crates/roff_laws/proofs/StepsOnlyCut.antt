@@ -12,7 +12,10 @@ use Rattle.roff_num.specs.LimitValues.{value_of}
 use Rattle.roff_num.specs.declared.limit.Limit.{Limit}
 use Rattle.roff_num.specs.declared.limit.Limit.TheVariants.{Bytes}
 use Rattle.roff_num.specs.declared.limits.Limits.{Limits}
-use Rattle.roff_escape.specs.OpenEscapes.{decides_now, is_ended_by, newline_stays}
+use Rattle.roff_escape.specs.Waiting.{is_ended_by}
+use Rattle.roff_escape.specs.declared.open_escape.Waiting.{Waiting}
+use Rattle.roff_escape.specs.declared.open_escape.Waiting.TheVariants.{Takes as TakesAny, Decides, Waits}
+use Rattle.roff_run.specs.Reading.Waiting.{waiting_in}
 use Rattle.roff_ahead.specs.Input.{Ahead, ByteAhead, FreeAhead, EndAhead, ReturnAhead, DoAhead, cost}
 use Rattle.roff_source.specs.Tape.{Tape, Answer, Gives, Ends, OneByte, OneNote, Ended, Failed, Stopped, front, behind_front}
 use Rattle.roff_ahead.specs.Shown.{Sighted, SeesByte, SeesNothing, SeesNote, SeesEnding, seen_ahead}
@@ -23,7 +26,7 @@ use Rattle.roff_run.specs.Reading.Ends.{due, line_ends_first}
 use Rattle.roff_run.specs.declared.line_state.Due.{Due}
 use Rattle.roff_run.specs.declared.line_state.Due.TheVariants.{Leaves, Tells as TellsText}
 use Rattle.roff_run.specs.declared.event.PageEvent.{PageEvent}
-use Rattle.roff_run.specs.Run.{waiting, State, ending_with, unless_refused, stopped_by, performing, grown, made, escape_ends, taking_ahead, taking_byte, ending_input, answered, in_front_taken, front_seen, awaited_of_source, awaited, item_read, input_ended, reading_by, step_with, step, after}
+use Rattle.roff_run.specs.Run.{read_waiting, State, ending_with, unless_refused, stopped_by, performing, grown, made, escape_ends, taking_ahead, taking_byte, ending_input, answered, in_front_taken, front_seen, awaited_of_source, awaited, item_read, input_ended, reading_by, step_with, step, after}
 use Rattle.roff_run.specs.Run.Counts.{counts, first_passed, passes_bytes}
 use Rattle.roff_run.specs.declared.message.Message.TheVariants.{ReadFailed}
 use Rattle.roff_run.specs.declared.status.Status.{Status}
@@ -214,15 +217,15 @@ module _ (Beside : Tape → Tape → Type 0) (IsCause : Status → Type 0) where
     Cut-awaited None s tape beside =
         Cut-front awaited_of_source s tape beside refl (λ a. OnlyCuts-awaited_of_source large a (over tape s)) (λ a. Cut-awaited_of_source a s tape beside)
 
-    -- what is half read waits in both
-    pub Cut-waiting : (s : State) (tape : Tape) → Beside s.tape tape → Cut (waiting small s) (waiting large (over tape s))
-    Cut-waiting s tape beside =
-        Cut-if (decides_now s.input.escapes) (Cut-escape_ends s tape beside) (Cut-awaited (seen_ahead s.input.ahead) s tape beside)
+    -- what is read does the same at the next item in both
+    pub Cut-read_waiting : (w : Waiting) (s : State) (tape : Tape) → Beside s.tape tape → Cut (read_waiting small w s) (read_waiting large w (over tape s))
+    Cut-read_waiting TakesAny s tape beside = Cut-in_front_taken s.input.ahead s tape beside
+    Cut-read_waiting Decides s tape beside = Cut-escape_ends s tape beside
+    Cut-read_waiting Waits s tape beside = Cut-awaited (seen_ahead s.input.ahead) s tape beside
 
     -- both go on reading
     pub Cut-item_read : (s : State) (tape : Tape) → Beside s.tape tape → Cut (item_read small s) (item_read large (over tape s))
-    Cut-item_read s tape beside =
-        Cut-if (newline_stays s.input.escapes) (Cut-waiting s tape beside) (Cut-in_front_taken s.input.ahead s tape beside)
+    Cut-item_read s tape beside = Cut-read_waiting (waiting_in s.reading s.input) s tape beside
 
     -- both do what is due first
     pub Cut-reading_by : (what : Option Due) (s : State) (tape : Tape) → Beside s.tape tape → Cut (reading_by small what s) (reading_by large what (over tape s))

@@ -17,7 +17,8 @@ use Rattle.roff_num.specs.declared.limits.Limits.{Limits}
 use Rattle.roff_arguments.specs.Arguments.{Arguments}
 use Rattle.roff_source.specs.Bytes.{newline, backslash, is_dropped}
 use Rattle.roff_escape.specs.OpenEscape.{OpenEscape, Backslash, Width}
-use Rattle.roff_escape.specs.OpenEscapes.{Reads, byte_read, decides_now, newline_stays, reading_ended, reads_widths, is_ended_by}
+use Rattle.roff_escape.specs.OpenEscapes.{Reads, byte_read, reading_ended, reads_widths}
+use Rattle.roff_escape.specs.Waiting.{is_ended_by}
 use Rattle.roff_ahead.specs.Input.{pushing, Ahead}
 use Rattle.roff_escape.specs.Measures.{byte_columns, most_width, wider}
 use Rattle.roff_source.specs.Tape.{Answer}
@@ -37,7 +38,8 @@ use Rattle.roff_run.specs.Reading.Found.{place_in, read_in}
 use Rattle.roff_run.specs.Reading.Items.{PageInput, Taking}
 use Rattle.roff_run.specs.Registers.{Known}
 use Rattle.roff_run.specs.declared.event.PageEvent.{PageEvent}
-use Rattle.roff_run.specs.Run.{State, after, known, step, taken_as, answered, awaited, awaited_of_source, ending_input, escape_ends, in_front_taken, made, item_read}
+use Rattle.roff_run.specs.Run.{State, after, known, step, taken_as, answered, awaited, awaited_of_source, ending_input, escape_ends, in_front_taken, made, read_waiting, item_read}
+use Rattle.roff_run.specs.Reading.Waiting.{waiting_above}
 use Rattle.roff_run.specs.Run.Counts.{first_passed}
 use Rattle.roff_laws.specs.WidthLaws.{MayDelimit, IsPlain, text_units, width_escape, measures_texts, with_width_ahead, WidthsReadAsDigits, WidthsOfTheSourceReadAsDigits, MeasuredTextsReadAsDigits, MeasuredTextsOfTheSourceReadAsDigits, MotionsAreAsLongAsTheirColumns, MotionsCountInTheLine, TabsAreAsLongAsTheirColumns, TabsCountInTheLine, EndsText, NewlineAhead, NewlineOfTheSource, EndOfTheSource, WidthsEndWithTheirLine}
 use Rattle.roff_run.specs.declared.line_state.LineState.{LineState}
@@ -164,16 +166,16 @@ item_read-ends : (l : Limits) (s : State) (delimiter : Option ℕ) (width : ℕ)
     → EndsText s
     → s.input.escapes ≡ Width delimiter width is_deep ∷ half → item_read l s ≡ made l s (escape_ends s)
 item_read-ends l s delimiter width is_deep half (NewlineAhead rest ahead) measures =
-    ap (λ (h : List OpenEscape). if newline_stays h then (if decides_now h then made l s (escape_ends s) else awaited l (seen_ahead s.input.ahead) s) else in_front_taken l s.input.ahead s) measures
+    ap (λ (h : List OpenEscape). read_waiting l (waiting_above s.reading s.input.arguments.place h) s) measures
     ∙ ap (λ (items : List (Ahead PageEvent)). awaited l (seen_ahead items) s) ahead
     ∙ ap (λ (h : List OpenEscape). if is_ended_by h (Some newline) then made l s (escape_ends s) else in_front_taken l s.input.ahead s) measures
 item_read-ends l s delimiter width is_deep half (NewlineOfTheSource ahead gives) measures =
-    ap (λ (h : List OpenEscape). if newline_stays h then (if decides_now h then made l s (escape_ends s) else awaited l (seen_ahead s.input.ahead) s) else in_front_taken l s.input.ahead s) measures
+    ap (λ (h : List OpenEscape). read_waiting l (waiting_above s.reading s.input.arguments.place h) s) measures
     ∙ ap (λ (items : List (Ahead PageEvent)). awaited l (seen_ahead items) s) ahead
     ∙ ap (λ (a : Answer). awaited_of_source l a s) gives
     ∙ ap (λ (h : List OpenEscape). if is_ended_by h (Some newline) then made l s (escape_ends s) else in_front_taken l s.input.ahead s) measures
 item_read-ends l s delimiter width is_deep half (EndOfTheSource ahead ends) measures =
-    ap (λ (h : List OpenEscape). if newline_stays h then (if decides_now h then made l s (escape_ends s) else awaited l (seen_ahead s.input.ahead) s) else in_front_taken l s.input.ahead s) measures
+    ap (λ (h : List OpenEscape). read_waiting l (waiting_above s.reading s.input.arguments.place h) s) measures
     ∙ ap (λ (items : List (Ahead PageEvent)). awaited l (seen_ahead items) s) ahead
     ∙ ap (λ (a : Answer). awaited_of_source l a s) ends
     ∙ ap (λ (h : List OpenEscape). if is_ended_by h None then made l s (escape_ends s) else in_front_taken l s.input.ahead s) measures

@@ -14,3 +14,4 @@ pub mod DefinitionLaws
 pub mod ResultLaws
 pub mod Taken
 pub mod Statuses
+pub mod Refusals

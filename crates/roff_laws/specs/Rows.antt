@@ -36,6 +36,10 @@ abbrev pub formatted_with : ℕ → ℕ → ℕ → List ℕ → Result
 formatted_with stack depth names text =
     result_of (record default_limits { stack = stack; depth = depth; names = names }) text Ended
 
+-- where the text ends so, with this limit on the bytes
+abbrev pub formatted_up_to : ℕ → Ending → List ℕ → Result
+formatted_up_to bytes ending text = result_of (record default_limits { bytes = bytes }) text ending
+
 -- where the source fails after so many bytes
 abbrev pub formatted_failing : ℕ → List ℕ → Result
 formatted_failing count text = result_of default_limits (take count text) Failed

@@ -15,10 +15,12 @@ ghost use Rattle.roff_run.specs.declared.status.Status.TheVariants.{Aborted, Don
 ghost use Rattle.roff_laws.specs.Laws.{LimitsOnlyCut, SameUntilALimit, FailingOnlyCuts, SameUntilTheFault, NoLimitIsPassed, StepsOnlyAppend};
 ghost use Rattle.roff_laws.specs.ResultLaws.{EveryRunEnds, StepsLeadToTheLastState, NoOtherStateIsLast, LimitsCutResults, SameResultWithoutALimit, FailingCutsResults, SameResultBeforeTheFault, EachStateIsABeginning};
 ghost use Rattle.roff_laws.specs.Statuses.{EachStatusTells};
+ghost use Rattle.roff_laws.specs.Refusals.{RefusedStepsDoNothing};
 ghost use Rattle.roff_laws.specs.MessageLaws.{MessagesAreTheirTexts};
 ghost use Rattle.roff_laws.specs.Taken.{EachItemIsTakenOnce, EachRunLeavesItsRest};
 ghost use Rattle.roff_laws.specs.RequestLaws.{EachIsListedOnce, EachIsNamed, EachNameHasTwoBytes, LeftOutOnlySaysSo, WithoutEffectDoesNothing};
-ghost use Rattle.roff_laws.specs.Rows.{gives, formatted, formatted_within, formatted_with, formatted_failing};
+ghost use Rattle.roff_source.specs.Tape.{Ended, Failed};
+ghost use Rattle.roff_laws.specs.Rows.{gives, formatted, formatted_up_to, formatted_within, formatted_with, formatted_failing};
 
 /// What the definitions give on the worked rows of filled text.
 pub fn filled_text_rows()
@@ -55,6 +57,33 @@ pub fn limit_rows()
         ≡ gives (codes "") (codes "nroff: line 2: limit line (5) reached\n") (Limited Line) }
     ensures source_fails { formatted_failing 8 (codes ".nf\nab\ncd\n")
         ≡ gives (codes "ab\n") (codes "nroff: line 3: read failed\n") Device }
+{}
+
+/// What the definitions give where the limit on bytes is met at the end of a text, and something waits
+/// for the byte behind it: of a source that fails there that is told, and where it ends the limit.
+pub fn waiting_rows()
+    ensures behind_a_dot { formatted_up_to 12 Failed (codes ".ds x .\n\\*x")
+        ≡ gives (codes "") (codes "nroff: line 2: read failed\n") Device }
+    ensures behind_a_name { formatted_up_to 14 Failed (codes ".ds x .a\n\\*x")
+        ≡ gives (codes "") (codes "nroff: line 2: read failed\n") Device }
+    ensures behind_a_backslash { formatted_up_to 20 Failed (codes ".ds x \\\\\n.ds y a\\*x")
+        ≡ gives (codes "") (codes "nroff: line 2: read failed\n") Device }
+    ensures behind_a_quote { formatted_up_to 21 Failed (codes ".ds x \"\"a\"\n.nr \\*x")
+        ≡ gives (codes "") (codes "nroff: line 2: read failed\n") Device }
+    ensures source_ends { formatted_up_to 12 Ended (codes ".ds x .\n\\*x")
+        ≡ gives (codes "") (codes "nroff: line 2: limit bytes (12) reached\n") (Limited Bytes) }
+    ensures text_waits_for_nothing { formatted_up_to 12 Failed (codes ".ds x a\n\\*x")
+        ≡ gives (codes "") (codes "nroff: line 2: limit bytes (12) reached\n") (Limited Bytes) }
+{}
+
+/// What the definitions give behind a backslash and a newline, with which a line or a branch begins.
+pub fn joined_line_rows()
+    ensures branch { formatted (codes ".if 1 \\\n.ds a x\n\\*a\n")
+        ≡ gives (codes "x\n") (codes "") Done }
+    ensures line { formatted (codes "\\\n.ds a x\n\\*a\n")
+        ≡ gives (codes "x\n") (codes "") Done }
+    ensures text { formatted (codes ".nf\na\\\n.ds a x\n")
+        ≡ gives (codes "a.ds a x\n") (codes "") Done }
 {}
 
 /// What the definitions give on the worked rows of number registers.
@@ -111,6 +140,11 @@ pub fn appends()
 /// Each status tells how the run ended, and what its last message says.
 pub fn statuses()
     ensures { EachStatusTells }
+{}
+
+/// A step that a limit refuses does nothing, and tells no message of what it would have done.
+pub fn refusals()
+    ensures { RefusedStepsDoNothing }
 {}
 
 /// Limits only cut: a run with smaller ones writes and reports a beginning, and comes to the same

@@ -9,7 +9,7 @@ use Rattle.roff_scan.proofs.AddedFronts.{adding-texts, length-texts_added, newes
 use Rattle.roff_arguments.specs.Arguments.{Arguments}
 use Rattle.roff_source.specs.Bytes.{is_text_byte}
 use Rattle.roff_escape.specs.OpenEscape.{OpenEscape}
-use Rattle.roff_escape.specs.OpenEscapes.{is_ended_by}
+use Rattle.roff_escape.specs.Waiting.{is_ended_by}
 use Rattle.roff_source.specs.Tape.{Tape}
 use Rattle.roff_scan.specs.Unread.{IsWithin}
 use Rattle.roff_scan.specs.Unread.Calls.{AddsFront, NoNewline, PassesFront, front_bytes}

@@ -11,7 +11,7 @@ use Rattle.roff_source.proofs.PlainBytes.{take_while-plain}
 use Rattle.roff_arguments.specs.Arguments.{Arguments}
 use Rattle.roff_source.specs.Bytes.{blank, newline}
 use Rattle.roff_escape.specs.OpenEscape.{OpenEscape}
-use Rattle.roff_escape.specs.OpenEscapes.{is_ended_by}
+use Rattle.roff_escape.specs.Waiting.{is_ended_by}
 use Rattle.roff_source.specs.Tape.{Tape}
 use Rattle.roff_scan.specs.Unread.{IsWithin}
 use Rattle.roff_scan.specs.Unread.Calls.{NoNewline, PassesFront, front_bytes}

@@ -98,7 +98,8 @@ Keeps-first_escape : (so : Bool) (k : Known) (b : ℕ) → Keeps so (λ i. first
 Keeps-first_escape so k b =
     let line : TextLine = line_begun_as k.interrupted in
     Keeps-if so (b == 123) _ _ (λ i. refl)
-    (Keeps-behind so (going_on_told k.interrupted) (λ i. escape_taking i line b) (Keeps-escape_meant so line b (escape_of b)))
+    (Keeps-if so (b == newline) _ _ (λ i. refl)
+    (Keeps-behind so (going_on_told k.interrupted) (λ i. escape_taking i line b) (Keeps-escape_meant so line b (escape_of b))))
 
 Keeps-character_printed : (so : Bool) (line : TextLine) (name text : Option (List ℕ)) → Keeps so (λ i. character_printed i line name text)
 Keeps-character_printed so line name (Some text) i = refl
@@ -155,9 +156,9 @@ first_passed-with_result : (l : Limits) (rs : AllRegisters) (so : Bool) (i : Pag
     → first_passed l (counts_in rs i) ≡ Some limit → first_passed l (counts_in rs (with_result so i)) ≡ Some limit
 first_passed-with_result l rs so i limit passed =
     unless_first limit Names _ _ (nat_lt l.names (length rs.named))
-    (unless_first limit Diversions _ _ (nat_lt l.diversions (length i.open_texts - 1))
     (unless_first limit Store _ _ (nat_lt l.store (stored i))
     (unless_first limit Names _ _ (nat_lt l.names (names_added i))
+    (unless_first limit Diversions _ _ (nat_lt l.diversions (length i.open_texts - 1))
     (unless_first limit Stack _ _ (nat_lt l.stack (pushed i))
     (unless_first limit Depth _ _ (nat_lt l.depth (depth i))
     (results_more limit l.conditions (result_count i) (result_count (with_result so i)) (nat_lt l.conditions (result_count i)) refl (omega arith))))))) passed

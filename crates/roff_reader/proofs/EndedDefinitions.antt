@@ -71,25 +71,25 @@ ahead_refusal l i =
 
 -- the first one that names and texts are above, and else that one
 abbrev refusal_of : Bool → Bool → Bool → Option Limit → Option Limit
-refusal_of diversions store names rest =
-    if diversions then Some Diversions else if store then Some Store else if names then Some Names else rest
+refusal_of store names diversions rest =
+    if store then Some Store else if names then Some Names else if diversions then Some Diversions else rest
 
 abbrev texts_refusal : Limits → NamesAndTexts → Option Limit → Option Limit
 texts_refusal l texts rest =
-    refusal_of (nat_lt l.diversions (length texts.open_texts - 1)) (nat_lt l.store (bytes_in texts.names + sum_by length texts.open_texts))
-    (nat_lt l.names (length texts.names - texts.first_names)) rest
+    refusal_of (nat_lt l.store (bytes_in texts.names + sum_by length texts.open_texts)) (nat_lt l.names (length texts.names - texts.first_names))
+    (nat_lt l.diversions (length texts.open_texts - 1)) rest
 
 -- a refusal by names and texts alone is one whatever stands in front
-refused_by_texts : (diversions store names : Bool) (rest other : Option Limit) (limit : Limit) → rest ≡ None
-    → refusal_of diversions store names rest ≡ Some limit → refusal_of diversions store names other ≡ Some limit
-refused_by_texts true store names rest other limit none refused = refused
-refused_by_texts false true names rest other limit none refused = refused
+refused_by_texts : (store names diversions : Bool) (rest other : Option Limit) (limit : Limit) → rest ≡ None
+    → refusal_of store names diversions rest ≡ Some limit → refusal_of store names diversions other ≡ Some limit
+refused_by_texts true names diversions rest other limit none refused = refused
+refused_by_texts false true diversions rest other limit none refused = refused
 refused_by_texts false false true rest other limit none refused = refused
 refused_by_texts false false false rest other limit none refused = cc
 
-none_refused : (diversions store names : Bool) (rest : Option Limit) → refusal_of diversions store names rest ≡ None → rest ≡ None
-none_refused true store names rest none = cc
-none_refused false true names rest none = cc
+none_refused : (store names diversions : Bool) (rest : Option Limit) → refusal_of store names diversions rest ≡ None → rest ≡ None
+none_refused true names diversions rest none = cc
+none_refused false true diversions rest none = cc
 none_refused false false true rest none = cc
 none_refused false false false rest none = none
 

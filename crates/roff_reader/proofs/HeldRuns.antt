@@ -8,7 +8,7 @@ use Rattle.roff_arguments.specs.Arguments.{Arguments, HeldFewer, bytes_held, onl
 use Rattle.roff_source.specs.Bytes.{is_argument_byte}
 use Rattle.roff_source.specs.Bytes.{backslash, is_dropped, newline}
 use Rattle.roff_escape.specs.OpenEscape.{OpenEscape}
-use Rattle.roff_escape.specs.OpenEscapes.{is_ended_by}
+use Rattle.roff_escape.specs.Waiting.{is_ended_by}
 use Rattle.roff_source.specs.Tape.{Tape}
 use Rattle.roff_scan.specs.Unread.{IsWithin}
 use Rattle.roff_scan.specs.Unread.Calls.{HoldsFewer, HoldsFront}

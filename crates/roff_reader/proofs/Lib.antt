@@ -24,3 +24,4 @@ pub mod NameFronts
 pub mod ConditionRuns
 pub mod ControlFronts
 pub mod LineEnds
+pub mod WaitingAlone

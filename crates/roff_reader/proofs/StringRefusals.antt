@@ -1,9 +1,9 @@
 -- What a limit refuses where a string's name is whole, or its text begins.
-use Rattle.std.proofs.Common.{◌≡◌, ◌⊎◌, inl, inr, ℕ, ◌+◌, ◌-◌, Bool, true, false, List, [], ◌∷◌, length, reverse, Option, Some, None, Err, refl, sym, ap, ◌∙◌, ◌==◌, arith}
-use Rattle.std.specs.Prelude.{nat_lt, if◌then◌else◌}
-use Rattle.std.proofs.lemmas.Bool.{cases_Bool}
-use Rattle.std.proofs.lemmas.List.{length-reverse, length-set}
-use Rattle.std.proofs.lemmas.List.Sums.{sum_by-append}
+use Rattle.std.proofs.Common.{◌≡◌, ◌⊎◌, inl, inr, ℕ, ◌+◌, ◌-◌, ◌<◌, ◌≤◌, ◌++◌, subst, Bool, true, false, List, [], ◌∷◌, length, reverse, Option, Some, None, Err, refl, sym, ap, ◌∙◌, ◌==◌, arith}
+use Rattle.std.specs.Prelude.{nat_lt, get_or, sum_by, if◌then◌else◌}
+use Rattle.std.proofs.lemmas.Bool.{cases_Bool, le-ltb, lt-ltb}
+use Rattle.std.proofs.lemmas.List.{length-append, length-reverse, length-set}
+use Rattle.std.proofs.lemmas.List.Sums.{sum_by-append, sum_by-set}
 use Rattle.roff_requests.specs.declared.environments.Environments.{Environments as EnvironmentsOf}
 use Rattle.roff_num.specs.declared.limit.Limit.{Limit}
 use Rattle.roff_num.specs.declared.limit.Limit.TheVariants.{Stack, Depth, Diversions, Store, Names, Conditions}
@@ -21,6 +21,7 @@ use Rattle.roff_escape.specs.declared.open_escape.CopyUnit.TheVariants.{Byte, Ke
 use Rattle.roff_arguments.proofs.KeptArguments.{held-only_kept}
 use Rattle.roff_store.specs.TextCalls.{Open, PushOpen}
 use Rattle.roff_store.specs.Texts.{newest}
+use Rattle.roff_reader.specs.FirstUnits.{first_text}
 use Rattle.roff_reader.specs.Reader.State.{ReaderState}
 use Rattle.roff_reader.specs.Reader.Taken.{InputCameTo, TakesAs}
 use Rattle.roff_run.specs.Reading.Items.{PageUnread}
@@ -32,14 +33,18 @@ use Rattle.roff_run.specs.declared.line_state.LineState.TheVariants.{StringName,
 use Rattle.roff_num.specs.declared.short_name.ShortName.{ShortName}
 use Rattle.roff_run.proofs.InputCounts.{NoMore, NoMore-released, input_refusal-no_more, not_above, one_of}
 use Rattle.roff_reader.proofs.Strings.{TakesAs-not_became, other, refused_none}
-use Rattle.roff_reader.proofs.TakesAs.{TakesAs-as}
+use Rattle.roff_run.specs.Registers.{AllRegisters}
+use Rattle.roff_run.specs.Run.Counts.{counts_in, first_passed}
+use Rattle.roff_run.specs.declared.line_state.LineState.{LineState}
+use Rattle.roff_scan.proofs.AddedFronts.{adding-texts, texts_added}
+use Rattle.roff_reader.proofs.TakesAs.{TakesAs-as, few_names}
 
 -- the first of the limits that is passed
 abbrev first_of : Bool → Bool → Bool → Bool → Bool → Bool → Option Limit
-first_of diversions store names stack depth conditions =
-    if diversions then Some Diversions
-    else if store then Some Store
+first_of store names diversions stack depth conditions =
+    if store then Some Store
     else if names then Some Names
+    else if diversions then Some Diversions
     else if stack then Some Stack
     else if depth then Some Depth
     else if conditions then Some Conditions
@@ -53,7 +58,7 @@ record NonePassed (store names stack depth conditions : Bool) : Type 0 where
   depth_not : depth ≡ false
   conditions_not : conditions ≡ false
 
-none_passed : (diversions store names stack depth conditions : Bool) → first_of diversions store names stack depth conditions ≡ None
+none_passed : (store names diversions stack depth conditions : Bool) → first_of store names diversions stack depth conditions ≡ None
     → NonePassed store names stack depth conditions
 none_passed true b c d e f none = cc
 none_passed false true c d e f none = cc
@@ -65,17 +70,17 @@ none_passed false false false false false false none =
     record { store_not = refl; names_not = refl; stack_not = refl; depth_not = refl; conditions_not = refl }
 
 -- one of them is, and it isn't another than that on diversions
-diversions_passed : (diversions store names stack depth conditions : Bool) (limit : Limit) → NonePassed store names stack depth conditions
-    → first_of diversions store names stack depth conditions ≡ Some limit → diversions ≡ true
-diversions_passed true b c d e f limit others is = refl
-diversions_passed false b c d e f limit others is =
-    let none : first_of false b c d e f ≡ None =
+diversions_passed : (store names diversions stack depth conditions : Bool) (limit : Limit) → NonePassed store names stack depth conditions
+    → first_of store names diversions stack depth conditions ≡ Some limit → diversions ≡ true
+diversions_passed a b true d e f limit others is = refl
+diversions_passed a b false d e f limit others is =
+    let none : first_of a b false d e f ≡ None =
     rw (others.store_not, others.names_not, others.stack_not, others.depth_not, others.conditions_not) refl in cc
 
 -- so it is whatever the limits behind it say
-first_of-diversions : (diversions store names stack depth conditions : Bool) → diversions ≡ true
-    → first_of diversions store names stack depth conditions ≡ Some Diversions
-first_of-diversions a b c d e f passed = rw passed refl
+first_of-diversions : (store names diversions stack depth conditions : Bool) → store ≡ false → names ≡ false → diversions ≡ true
+    → first_of store names diversions stack depth conditions ≡ Some Diversions
+first_of-diversions a b c d e f room few passed = rw (room, few, passed) refl
 
 -- the input once the argument is released and a text more is in the making
 abbrev begun : PageInput → PageInput
@@ -105,42 +110,130 @@ making-adding : (bytes : List ℕ) (id : Option ℕ) (i : PageInput) → length 
 making-adding bytes None i = refl
 making-adding bytes (Some id) i = length-set i.open_texts id _
 
--- where no text more may be begun, none is that grows
-refused-grown : (l : Limits) (i : PageInput) (bytes : List ℕ) (limit : Limit) → input_refusal l i ≡ None → input_refusal l (begun i) ≡ Some limit
-    → input_refusal l (adding bytes (begun i)) ≡ Some limit
-refused-grown l i bytes limit none is =
-    let passed = diversions_passed _ _ _ _ _ _ limit (others_not l i none) is in
+-- what a byte adds, by whether it is dropped in front
+abbrev first_by : Option ShortName → Bool → Bool → ℕ → List ℕ
+first_by None is_blank is_quote b = []
+first_by (Some name) is_blank is_quote b = if is_blank then [] else if is_quote then [] else b ∷ []
+
+first_by-text : (name : Option ShortName) (b : ℕ) → length (first_text name (Byte b)) ≡ length (first_by name (b == 32) (b == 34) b)
+first_by-text None b = refl
+first_by-text (Some name) b = refl
+
+-- names stay as they are
+names-adding : (bytes : List ℕ) (id : Option ℕ) (i : PageInput) → names_added (calling_on (λ id. PushOpen id bytes) id i) ≡ names_added i
+names-adding bytes None i = refl
+names-adding bytes (Some id) i = refl
+
+-- bytes put behind the newest of some texts are more bytes of them
+bytes-added : (bytes : List ℕ) (texts : List (List ℕ)) → 1 ≤ length texts
+    → sum_by length (texts_added bytes (newest texts) texts) ≡ sum_by length texts + length bytes
+bytes-added bytes [] some = absurd (omega (arith, some))
+bytes-added bytes (text ∷ texts) some =
+    let size : List ℕ → ℕ = length in
+    let old : List ℕ = get_or (text ∷ texts) (length texts) [] in
+    omega (arith, sum_by-set size (text ∷ texts) (length texts) (old ++ bytes) [] (omega arith), length-append old bytes)
+
+-- so much is stored once a text is begun with these bytes
+stored-grown : (bytes : List ℕ) (i : PageInput) → stored (adding bytes (begun i)) ≡ stored i + length bytes
+stored-grown bytes i =
+    let texts : List (List ℕ) = (begun i).open_texts in
+    let some : 1 ≤ length texts = omega (arith, length-append i.open_texts ([] ∷ [])) in
+    let grown : stored (adding bytes (begun i)) ≡ stored (record (begun i) { open_texts = texts_added bytes (newest texts) texts }) =
+    ap (λ (j : PageInput). stored j) (adding-texts bytes (begun i)) in
+    omega (arith, grown, bytes-added bytes texts some, stored-begun i)
+
+-- where no text more may be begun, none is that grows, if the store has room for it
+refused-grown : (l : Limits) (i : PageInput) (bytes : List ℕ) (limit : Limit) → stored i + length bytes ≤ l.store → input_refusal l i ≡ None
+    → input_refusal l (begun i) ≡ Some limit → input_refusal l (adding bytes (begun i)) ≡ Some limit
+refused-grown l i bytes limit room none is =
+    let others = others_not l i none in
+    let passed = diversions_passed _ _ _ _ _ _ limit others is in
     let same = making-adding bytes (newest (begun i).open_texts) (begun i) in
-    let was = first_of-diversions _ (nat_lt l.store (stored (begun i))) (nat_lt l.names (names_added (begun i))) (nat_lt l.stack (pushed (begun i)))
-    (nat_lt l.depth (depth (begun i))) (nat_lt l.conditions (result_count (begun i))) passed in
+    let was = first_of-diversions _ _ _ (nat_lt l.stack (pushed (begun i))) (nat_lt l.depth (depth (begun i))) (nat_lt l.conditions (result_count (begun i)))
+    others.store_not others.names_not passed in
     let grown : PageInput = adding bytes (begun i) in
-    first_of-diversions _ (nat_lt l.store (stored grown)) (nat_lt l.names (names_added grown)) (nat_lt l.stack (pushed grown)) (nat_lt l.depth (depth grown)) (nat_lt l.conditions (result_count grown))
+    first_of-diversions _ _ _ (nat_lt l.stack (pushed grown)) (nat_lt l.depth (depth grown)) (nat_lt l.conditions (result_count grown))
+    (le-ltb l.store (stored grown) (omega (arith, room, stored-grown bytes i)))
+    (ap (λ (n : ℕ). nat_lt l.names n) (names-adding bytes (newest (begun i).open_texts) (begun i)) ∙ others.names_not)
     (ap (λ (n : ℕ). nat_lt l.diversions (n - 1)) same ∙ passed)
     ∙ sym was ∙ is
 
-InputCameTo-refused_grown : (name : Option ShortName) (unit : CopyUnit) (before behind : PageUnread) (limit : Limit)
-    → InputCameTo (string_begun name before.input) before behind (Err limit)
-    → InputCameTo (string_grown name unit (string_begun name before.input)) before behind (Err limit)
-InputCameTo-refused_grown None unit before behind limit refused = refused
-InputCameTo-refused_grown (Some name) unit before behind limit refused = record {
-  becomes = λ within. refused-grown before.limits before.input (unit_bytes unit) limit within (refused.becomes within);
+InputCameTo-refused_grown : (name : ShortName) (unit : CopyUnit) (before behind : PageUnread) (limit : Limit)
+    → stored before.input + length (unit_bytes unit) ≤ before.limits.store → InputCameTo (string_begun (Some name) before.input) before behind (Err limit)
+    → InputCameTo (string_grown (Some name) unit (string_begun (Some name) before.input)) before behind (Err limit)
+InputCameTo-refused_grown name unit before behind limit room refused = record {
+  becomes = λ within. refused-grown before.limits before.input (unit_bytes unit) limit room within (refused.becomes within);
 }
+
+-- the same of a byte, by whether it is dropped in front
+byte-not_begun : (is_blank is_quote : Bool) (name : Option ShortName) (appends : Bool) (b : ℕ) (es : EnvironmentsOf) (old new : ReaderState) (before behind : PageUnread)
+    (limit : Limit) → stored before.input + length (first_by name is_blank is_quote b) ≤ before.limits.store
+    → InputCameTo (string_begun name before.input) before behind (Err limit)
+    → let i : PageInput = string_begun name before.input in
+    TakesAs
+    (λ k. if is_blank then going_on i (StringText name appends true) else if is_quote then going_on i (StringText name appends false) else going_on (string_grown name (Byte b) i) (StringText name appends false))
+    es old new before behind (Err limit)
+byte-not_begun true is_quote name appends b es old new before behind limit room refused =
+    TakesAs-not_became _ (StringText name appends true) es old new before behind limit refused
+byte-not_begun false true name appends b es old new before behind limit room refused =
+    TakesAs-not_became _ (StringText name appends false) es old new before behind limit refused
+byte-not_begun false false None appends b es old new before behind limit room refused =
+    TakesAs-not_became _ (StringText None appends false) es old new before behind limit refused
+byte-not_begun false false (Some name) appends b es old new before behind limit room refused =
+    TakesAs-not_became _ (StringText (Some name) appends false) es old new before behind limit
+    (InputCameTo-refused_grown name (Byte b) before behind limit room refused)
 
 -- where a text can't be begun, its first unit isn't read
 pub TakesAs-not_begun : (name : Option ShortName) (appends : Bool) (unit : CopyUnit) (es : EnvironmentsOf) (old new : ReaderState) (before behind : PageUnread)
-    (limit : Limit) → (unit ≡ Byte 10 → ⊥) → InputCameTo (string_begun name before.input) before behind (Err limit)
+    (limit : Limit) → (unit ≡ Byte 10 → ⊥) → stored before.input + length (first_text name unit) ≤ before.limits.store
+    → InputCameTo (string_begun name before.input) before behind (Err limit)
     → TakesAs (λ k. string_unit (string_begun name before.input) name appends true unit) es old new before behind (Err limit)
-TakesAs-not_begun name appends (Kept b) es old new before behind limit no_newline refused =
-    TakesAs-not_became _ (StringText name appends false) es old new before behind limit
-    (InputCameTo-refused_grown name (Kept b) before behind limit refused)
-TakesAs-not_begun name appends (Byte b) es old new before behind limit no_newline refused =
+TakesAs-not_begun None appends (Kept b) es old new before behind limit no_newline room refused =
+    TakesAs-not_became _ (StringText None appends false) es old new before behind limit refused
+TakesAs-not_begun (Some name) appends (Kept b) es old new before behind limit no_newline room refused =
+    TakesAs-not_became _ (StringText (Some name) appends false) es old new before behind limit
+    (InputCameTo-refused_grown name (Kept b) before behind limit room refused)
+TakesAs-not_begun name appends (Byte b) es old new before behind limit no_newline room refused =
     let newline : (b == 10) ≡ false = other b 10 (λ is. no_newline (ap (λ (c : ℕ). Byte c) is)) in
-    let Refuses : Taking → Type 0 = λ t. TakesAs (λ k. t) es old new before behind (Err limit) in
-    rw newline
-    (one_of Refuses (b == 32) _ _ (TakesAs-not_became _ (StringText name appends true) es old new before behind limit refused)
-    (one_of Refuses (b == 34) _ _ (TakesAs-not_became _ (StringText name appends false) es old new before behind limit refused)
-    (TakesAs-not_became _ (StringText name appends false) es old new before behind limit
-    (InputCameTo-refused_grown name (Byte b) before behind limit refused))))
+    let fits : stored before.input + length (first_by name (b == 32) (b == 34) b) ≤ before.limits.store = subst (λ (n : ℕ). stored before.input + n ≤ before.limits.store) (first_by-text name b) room in
+    rw newline (byte-not_begun (b == 32) (b == 34) name appends b es old new before behind limit fits refused)
+
+-- where the store has no room for what it adds, that is refused first
+refused-first : (l : Limits) (rs : AllRegisters) (i : PageInput) → nat_lt l.names (length rs.named) ≡ false → l.store < stored i
+    → first_passed l (counts_in rs i) ≡ Some Store
+refused-first l rs i few full = rw (few, lt-ltb l.store (stored i) full) refl
+
+TakesAs-full : (i : PageInput) (place : LineState) (es : EnvironmentsOf) (old new : ReaderState) (before behind : PageUnread)
+    → before.limits.store < stored i → TakesAs (λ k. going_on i place) es old new before behind (Err Store)
+TakesAs-full i place es old new before behind full = record {
+  takes = λ l h stands ready. refused-first before.limits old.registers.all i (few_names old.registers before ready) full;
+}
+
+byte-full : (is_blank is_quote : Bool) (name : Option ShortName) (appends : Bool) (b : ℕ) (es : EnvironmentsOf) (old new : ReaderState) (before behind : PageUnread)
+    → stored before.input ≤ before.limits.store → before.limits.store < stored before.input + length (first_by name is_blank is_quote b)
+    → let i : PageInput = string_begun name before.input in
+    TakesAs
+    (λ k. if is_blank then going_on i (StringText name appends true) else if is_quote then going_on i (StringText name appends false) else going_on (string_grown name (Byte b) i) (StringText name appends false))
+    es old new before behind (Err Store)
+byte-full true is_quote None appends b es old new before behind within full = absurd (omega (arith, within, full))
+byte-full true is_quote (Some name) appends b es old new before behind within full = absurd (omega (arith, within, full))
+byte-full false true None appends b es old new before behind within full = absurd (omega (arith, within, full))
+byte-full false true (Some name) appends b es old new before behind within full = absurd (omega (arith, within, full))
+byte-full false false None appends b es old new before behind within full = absurd (omega (arith, within, full))
+byte-full false false (Some name) appends b es old new before behind within full =
+    TakesAs-full _ (StringText (Some name) appends false) es old new before behind (omega (arith, full, stored-grown (b ∷ []) before.input))
+
+-- so the first unit isn't read
+pub TakesAs-no_room : (name : Option ShortName) (appends : Bool) (unit : CopyUnit) (es : EnvironmentsOf) (old new : ReaderState) (before behind : PageUnread)
+    → (unit ≡ Byte 10 → ⊥) → stored before.input ≤ before.limits.store → before.limits.store < stored before.input + length (first_text name unit)
+    → TakesAs (λ k. string_unit (string_begun name before.input) name appends true unit) es old new before behind (Err Store)
+TakesAs-no_room None appends (Kept b) es old new before behind no_newline within full = absurd (omega (arith, within, full))
+TakesAs-no_room (Some name) appends (Kept b) es old new before behind no_newline within full =
+    TakesAs-full _ (StringText (Some name) appends false) es old new before behind (omega (arith, full, stored-grown (unit_bytes (Kept b)) before.input))
+TakesAs-no_room name appends (Byte b) es old new before behind no_newline within full =
+    let newline : (b == 10) ≡ false = other b 10 (λ is. no_newline (ap (λ (c : ℕ). Byte c) is)) in
+    let above : before.limits.store < stored before.input + length (first_by name (b == 32) (b == 34) b) = subst (λ (n : ℕ). before.limits.store < stored before.input + n) (first_by-text name b) full in
+    rw newline (byte-full (b == 32) (b == 34) name appends b es old new before behind within above)
 
 -- the arguments behind a unit have none that is whole, or hold as many bytes as before
 abbrev NoneOrAsMany : Arguments → Arguments → Type 0

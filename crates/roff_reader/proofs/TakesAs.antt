@@ -489,28 +489,48 @@ first_taking-any k i (Told aborts) b in_branch in_brace = refl
 first_taking-any k i Exiting b in_branch in_brace = refl
 first_taking-any k i Dropped b in_branch in_brace = refl
 
+-- behind a backslash and a newline a line begins, but in a branch
+pub first_escape-newline : (k : Known) (i : PageInput) (at : LineState) → (at ≡ Branch → ⊥) → going_on i LineStart ≡ first_escape k i at newline
+first_escape-newline k i Branch none = absurd (none refl)
+first_escape-newline k i LineStart none = refl
+first_escape-newline k i Braced none = refl
+first_escape-newline k i (InText line) none = refl
+first_escape-newline k i (Control breaks) none = refl
+first_escape-newline k i (Name breaks first) none = refl
+first_escape-newline k i (InArguments breaks request) none = refl
+first_escape-newline k i (Deciding keeps) none = refl
+first_escape-newline k i (Skipping opened closed behind) none = refl
+first_escape-newline k i (StringName appends) none = refl
+first_escape-newline k i (StringText name appends is_front) none = refl
+first_escape-newline k i (Calling name) none = refl
+first_escape-newline k i (Defining name appends end matched) none = refl
+first_escape-newline k i (Telling aborts is_front) none = refl
+first_escape-newline k i (Told aborts) none = refl
+first_escape-newline k i Exiting none = refl
+first_escape-newline k i Dropped none = refl
+
 -- and so it is with an escape
-pub first_escape-any : (k : Known) (i : PageInput) (at : LineState) (b : ℕ) → (at ≡ Branch → (b == 123) ≡ false) → (at ≡ Braced → (b == newline) ≡ false)
+pub first_escape-any : (k : Known) (i : PageInput) (at : LineState) (b : ℕ) → (at ≡ Branch → (b == 123) ≡ false) → (b == newline) ≡ false
     → escape_begun k i b ≡ first_escape k i at b
-first_escape-any k i LineStart b in_branch in_brace = refl
-first_escape-any k i Branch b in_branch in_brace =
-    ap (λ (c : Bool). if c then going_on i Braced else escape_begun k i b) (sym (in_branch refl))
-first_escape-any k i Braced b in_branch in_brace =
-    ap (λ (c : Bool). if c then going_on i LineStart else escape_begun k i b) (sym (in_brace refl))
-first_escape-any k i (InText line) b in_branch in_brace = refl
-first_escape-any k i (Control breaks) b in_branch in_brace = refl
-first_escape-any k i (Name breaks first) b in_branch in_brace = refl
-first_escape-any k i (InArguments breaks request) b in_branch in_brace = refl
-first_escape-any k i (Deciding keeps) b in_branch in_brace = refl
-first_escape-any k i (Skipping opened closed behind) b in_branch in_brace = refl
-first_escape-any k i (StringName appends) b in_branch in_brace = refl
-first_escape-any k i (StringText name appends is_front) b in_branch in_brace = refl
-first_escape-any k i (Calling name) b in_branch in_brace = refl
-first_escape-any k i (Defining name appends end matched) b in_branch in_brace = refl
-first_escape-any k i (Telling aborts is_front) b in_branch in_brace = refl
-first_escape-any k i (Told aborts) b in_branch in_brace = refl
-first_escape-any k i Exiting b in_branch in_brace = refl
-first_escape-any k i Dropped b in_branch in_brace = refl
+first_escape-any k i LineStart b in_branch no_newline = ap (λ (c : Bool). if c then going_on i LineStart else escape_begun k i b) (sym no_newline)
+first_escape-any k i Branch b in_branch no_newline =
+    ap (λ (c : Bool). if c then going_on i Branch else escape_begun k i b) (sym no_newline)
+    ∙ ap (λ (c : Bool). if c then going_on i Braced else if b == newline then going_on i Branch else escape_begun k i b) (sym (in_branch refl))
+first_escape-any k i Braced b in_branch no_newline = ap (λ (c : Bool). if c then going_on i LineStart else escape_begun k i b) (sym no_newline)
+first_escape-any k i (InText line) b in_branch no_newline = ap (λ (c : Bool). if c then going_on i LineStart else escape_begun k i b) (sym no_newline)
+first_escape-any k i (Control breaks) b in_branch no_newline = ap (λ (c : Bool). if c then going_on i LineStart else escape_begun k i b) (sym no_newline)
+first_escape-any k i (Name breaks first) b in_branch no_newline = ap (λ (c : Bool). if c then going_on i LineStart else escape_begun k i b) (sym no_newline)
+first_escape-any k i (InArguments breaks request) b in_branch no_newline = ap (λ (c : Bool). if c then going_on i LineStart else escape_begun k i b) (sym no_newline)
+first_escape-any k i (Deciding keeps) b in_branch no_newline = ap (λ (c : Bool). if c then going_on i LineStart else escape_begun k i b) (sym no_newline)
+first_escape-any k i (Skipping opened closed behind) b in_branch no_newline = ap (λ (c : Bool). if c then going_on i LineStart else escape_begun k i b) (sym no_newline)
+first_escape-any k i (StringName appends) b in_branch no_newline = ap (λ (c : Bool). if c then going_on i LineStart else escape_begun k i b) (sym no_newline)
+first_escape-any k i (StringText name appends is_front) b in_branch no_newline = ap (λ (c : Bool). if c then going_on i LineStart else escape_begun k i b) (sym no_newline)
+first_escape-any k i (Calling name) b in_branch no_newline = ap (λ (c : Bool). if c then going_on i LineStart else escape_begun k i b) (sym no_newline)
+first_escape-any k i (Defining name appends end matched) b in_branch no_newline = ap (λ (c : Bool). if c then going_on i LineStart else escape_begun k i b) (sym no_newline)
+first_escape-any k i (Telling aborts is_front) b in_branch no_newline = ap (λ (c : Bool). if c then going_on i LineStart else escape_begun k i b) (sym no_newline)
+first_escape-any k i (Told aborts) b in_branch no_newline = ap (λ (c : Bool). if c then going_on i LineStart else escape_begun k i b) (sym no_newline)
+first_escape-any k i Exiting b in_branch no_newline = ap (λ (c : Bool). if c then going_on i LineStart else escape_begun k i b) (sym no_newline)
+first_escape-any k i Dropped b in_branch no_newline = ap (λ (c : Bool). if c then going_on i LineStart else escape_begun k i b) (sym no_newline)
 
 -- by whether a byte is dropped
 pub taking-of : (k : Known) (r : LineState) (i : PageInput) (b : ℕ) (c : Bool) → c ≡ is_dropped b

@@ -21,6 +21,7 @@ pub use Rattle.roff_run.specs.Reading.Messages.{message_found, message_unit}
 pub use Rattle.roff_run.specs.Reading.Strings.{name_read, string_begun, string_emptied, string_entered, string_grown, string_line_ended, string_name_behind, string_name_found, string_name_or_text, string_name_unit, string_text_found, string_unit}
 pub use Rattle.roff_run.specs.Reading.TextLines.{name_taking, text_found, on_line}
 pub use Rattle.roff_run.specs.Reading.Units.{holding, no_unit_found}
+pub use Rattle.roff_run.specs.Reading.Waiting.{line_waits, waiting_in}
 pub use Rattle.roff_num.specs.ShortNames.{name_at}
 pub use Rattle.roff_ahead.specs.Input.{holding_plain, holding_text}
 pub use Rattle.roff_ahead.specs.Input.Calls.{arguments_given}

@@ -9,6 +9,9 @@ use Rattle.roff_run.specs.Reading.Items.{PageUnread}
 use Rattle.roff_run.specs.Reading.{taking}
 use Rattle.roff_run.specs.Reading.Branches.{branch_of, reads_else}
 use Rattle.roff_run.specs.Reading.Items.{PageInput, Taking, going_on}
+use Rattle.roff_arguments.specs.declared.arguments.Place.{Place}
+use Rattle.roff_escape.specs.declared.open_escape.Waiting.TheVariants.{Takes}
+use Rattle.roff_run.specs.Reading.Waiting.{line_waits}
 use Rattle.roff_run.specs.Registers.{Known}
 use Rattle.roff_reader.specs.declared.reader.ahead.ControlFront.{ControlFront}
 use Rattle.roff_run.specs.declared.line_state.LineState.{LineState}
@@ -23,6 +26,10 @@ abbrev pub BeginsControl : LineState → Type 0
 BeginsControl reading =
     (k : Known) (i : PageInput) (breaks : Bool) → i.escapes ≡ []
     → taking k reading i (control_byte breaks) ≡ going_on i (Control breaks)
+
+-- where this is read and nothing is half read, the item in front is taken
+abbrev pub TakesAtBeginning : LineState → Type 0
+TakesAtBeginning reading = (place : Place) → line_waits reading place ≡ Takes
 
 -- whether a condition is read
 abbrev pub is_deciding : LineState → Bool

@@ -1,3 +1,4 @@
 pub mod Reader
 pub mod Clauses
 pub mod ControlFronts
+pub mod FirstUnits

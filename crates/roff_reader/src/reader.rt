@@ -27,6 +27,7 @@ mod runs;
 mod string_names;
 mod strings;
 mod text_lines;
+mod waiting;
 
 use crate::meaning::Meaning;
 use roff_num::{Limit, Limits, Name};

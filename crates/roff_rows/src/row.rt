@@ -12,6 +12,8 @@ use std::{fs, io};
 #[derive(Drop)]
 pub struct Row {
     document: Vec<u8>,
+    /// Whether the source fails behind the document.
+    fails: bool,
     words: Vec<String>,
     output: Vec<u8>,
     messages: Vec<u8>,
@@ -23,6 +25,7 @@ impl Row {
     pub fn read<R: Files + AllocGlobal>(rt: &R, path: &str) -> Result<Row> {
         let alloc = rt.alloc();
         let document = fs::read(rt, format!(in alloc; "{path}.roff")?)?;
+        let source = read_or(rt, format!(in alloc; "{path}.source")?, "")?;
         let args = read_or(rt, format!(in alloc; "{path}.args")?, "nroff")?;
         let mut words = vec![in alloc; String::from_str(alloc, "roff")?]?;
         for word in str::from_utf8(&args)?.lines() {
@@ -33,6 +36,7 @@ impl Row {
         let status = read_or(rt, format!(in alloc; "{path}.status")?, "0")?;
         Ok(Row {
             document,
+            fails: str::from_utf8(&source)?.trim() == "fails",
             words,
             output,
             messages,
@@ -46,7 +50,10 @@ impl Row {
             alloc,
             words: self.words.as_slice(),
             files: &[],
-            standard_input: Given::new(self.document.as_slice()),
+            standard_input: Given {
+                fails: self.fails,
+                ..Given::new(self.document.as_slice())
+            },
             most: usize::MAX,
         };
         let mut stdout = Paper::new(alloc);

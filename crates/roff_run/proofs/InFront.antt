@@ -3,7 +3,7 @@
 use Rattle.std.proofs.Common.{◌≡◌, ℕ, ◌+◌, Bool, true, false, List, [], ◌∷◌, ◌++◌, Option, Some, None, refl, sym, subst, ap, append_assoc}
 use Rattle.std.specs.Prelude.{nat_lt, ◌&&◌, is_none, if◌then◌else◌}
 use Rattle.roff_num.specs.declared.limits.Limits.{Limits}
-use Rattle.roff_escape.specs.OpenEscapes.{is_ended_by}
+use Rattle.roff_escape.specs.Waiting.{is_ended_by}
 use Rattle.roff_ahead.specs.Input.{Ahead, ByteAhead, FreeAhead, EndAhead, ReturnAhead, DoAhead, cost, item_taken}
 use Rattle.roff_source.specs.Tape.{Tape, Item, Answer, Gives, Ends, OneByte, OneNote, Ending, Ended, Failed, Stopped, front, behind_front, items_then, only, Took}
 use Rattle.roff_scan.specs.Unread.{Unread, taking, taking_ahead, taking_answer, looked_then, answer_behind, asks_to_take, looking, looking_at, looking_past, asks_to_look, Asked}

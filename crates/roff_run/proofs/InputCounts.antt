@@ -184,18 +184,18 @@ input_refusal-no_more l now before less none =
     let behind_depth : Option Limit = if nat_lt l.conditions (result_count before) then Some Conditions else None in
     let behind_bytes : Option Limit = if nat_lt l.depth (depth before) then Some Depth else behind_depth in
     let behind_names : Option Limit = if nat_lt l.stack (pushed before) then Some Stack else behind_bytes in
-    let behind_stored : Option Limit = if nat_lt l.names (names_added before) then Some Names else behind_names in
-    let behind_making : Option Limit = if nat_lt l.store (stored before) then Some Store else behind_stored in
-    let making = neither Diversions behind_making (nat_lt l.diversions (length before.open_texts - 1)) none in
-    let store = neither Store behind_stored (nat_lt l.store (stored before)) making.1 in
-    let names = neither Names behind_names (nat_lt l.names (names_added before)) store.1 in
-    let bytes = neither Stack behind_bytes (nat_lt l.stack (pushed before)) names.1 in
+    let behind_texts : Option Limit = if nat_lt l.diversions (length before.open_texts - 1) then Some Diversions else behind_names in
+    let behind_stored : Option Limit = if nat_lt l.names (names_added before) then Some Names else behind_texts in
+    let store = neither Store behind_stored (nat_lt l.store (stored before)) none in
+    let names = neither Names behind_texts (nat_lt l.names (names_added before)) store.1 in
+    let making = neither Diversions behind_names (nat_lt l.diversions (length before.open_texts - 1)) names.1 in
+    let bytes = neither Stack behind_bytes (nat_lt l.stack (pushed before)) making.1 in
     let texts = neither Depth behind_depth (nat_lt l.depth (depth before)) bytes.1 in
     let kept = neither Conditions None (nat_lt l.conditions (result_count before)) texts.1 in
     let fewer : length now.open_texts - 1 ≤ length before.open_texts - 1 = omega (arith, less.open_texts) in
-    first_not Diversions _ _ (not_above l.diversions (length before.open_texts - 1) (length now.open_texts - 1) fewer making.0)
-    (first_not Store _ _ (not_above l.store (stored before) (stored now) less.stored store.0)
+    first_not Store _ _ (not_above l.store (stored before) (stored now) less.stored store.0)
     (first_not Names _ _ (not_above l.names (names_added before) (names_added now) less.names names.0)
+    (first_not Diversions _ _ (not_above l.diversions (length before.open_texts - 1) (length now.open_texts - 1) fewer making.0)
     (first_not Stack _ _ (not_above l.stack (pushed before) (pushed now) less.bytes bytes.0)
     (first_not Depth _ _ (not_above l.depth (depth before) (depth now) less.texts texts.0)
     (first_not Conditions None _ (not_above l.conditions (result_count before) (result_count now) less.results kept.0) refl)))))
@@ -203,9 +203,9 @@ input_refusal-no_more l now before less none =
 -- where no count is above its limit, no limit refuses the input
 pub IsWithin-allowed : (u : Unread PageEvent) → IsWithin u → input_refusal u.limits u.input ≡ None
 IsWithin-allowed u within =
-    first_not Diversions _ _ (le-ltb u.limits.diversions (length u.input.open_texts - 1) (omega (arith, within.making)))
-    (first_not Store _ _ (le-ltb u.limits.store (stored u.input) within.stored)
+    first_not Store _ _ (le-ltb u.limits.store (stored u.input) within.stored)
     (first_not Names _ _ (le-ltb u.limits.names (names_added u.input) within.names)
+    (first_not Diversions _ _ (le-ltb u.limits.diversions (length u.input.open_texts - 1) (omega (arith, within.making)))
     (first_not Stack _ _ (le-ltb u.limits.stack (pushed u.input) within.pushed)
     (first_not Depth _ _ (le-ltb u.limits.depth (depth u.input) within.depth)
     (first_not Conditions None _ (le-ltb u.limits.conditions (result_count u.input) within.results) refl)))))
@@ -221,23 +221,23 @@ first_passed-no_more l rs now before less none =
     let names = neither Names (input_refusal l before) (nat_lt l.names (length rs.named)) none in
     first_not Names (input_refusal l now) _ names.0 (input_refusal-no_more l now before less names.1)
 
--- the limits behind that on the store, and behind that on the texts in the making
-abbrev behind_store : Limits → PageInput → Option Limit
-behind_store l i =
-    if nat_lt l.names (names_added i) then Some Names
-    else if nat_lt l.stack (pushed i) then Some Stack
+-- the limits behind that on the texts in the making, and behind that on names, and on the store
+abbrev behind_making : Limits → PageInput → Option Limit
+behind_making l i =
+    if nat_lt l.stack (pushed i) then Some Stack
     else if nat_lt l.depth (depth i) then Some Depth
     else if nat_lt l.conditions (result_count i) then Some Conditions
     else None
 
-abbrev behind_making : Limits → PageInput → Option Limit
-behind_making l i = if nat_lt l.store (stored i) then Some Store else behind_store l i
+abbrev behind_names : Limits → PageInput → Option Limit
+behind_names l i = if nat_lt l.diversions (length i.open_texts - 1) then Some Diversions else behind_making l i
+
+abbrev behind_store : Limits → PageInput → Option Limit
+behind_store l i = if nat_lt l.names (names_added i) then Some Names else behind_names l i
 
 -- where no limit refuses an input, that on the store doesn't
 stored_few : (l : Limits) (i : PageInput) → input_refusal l i ≡ None → nat_lt l.store (stored i) ≡ false
-stored_few l i none =
-    let making = neither Diversions (behind_making l i) (nat_lt l.diversions (length i.open_texts - 1)) none in
-    (neither Store (behind_store l i) (nat_lt l.store (stored i)) making.1).0
+stored_few l i none = (neither Store (behind_store l i) (nat_lt l.store (stored i)) none).0
 
 -- where as many texts are in the making, and they have no more bytes than where no limit is passed, none is passed
 pub first_passed-texts : (l : Limits) (rs : AllRegisters) (i there : PageInput) (texts : List (List ℕ)) → length texts ≡ length i.open_texts
@@ -247,11 +247,13 @@ first_passed-texts l rs i there texts same few none none_there =
     let now : PageInput = record i { open_texts = texts } in
     let names = neither Names (input_refusal l i) (nat_lt l.names (length rs.named)) none in
     let names_there = neither Names (input_refusal l there) (nat_lt l.names (length rs.named)) none_there in
-    let making = neither Diversions (behind_making l i) (nat_lt l.diversions (length i.open_texts - 1)) names.1 in
-    let store = neither Store (behind_store l i) (nat_lt l.store (stored i)) making.1 in
+    let store = neither Store (behind_store l i) (nat_lt l.store (stored i)) names.1 in
+    let added = neither Names (behind_names l i) (nat_lt l.names (names_added i)) store.1 in
+    let making = neither Diversions (behind_making l i) (nat_lt l.diversions (length i.open_texts - 1)) added.1 in
     first_not Names (input_refusal l now) _ names.0
-    (first_not Diversions (behind_making l now) _ (ap (λ (n : ℕ). nat_lt l.diversions (n - 1)) same ∙ making.0)
-    (first_not Store (behind_store l now) _ (not_above l.store (stored there) (stored now) few (stored_few l there names_there.1)) store.1))
+    (first_not Store (behind_store l now) _ (not_above l.store (stored there) (stored now) few (stored_few l there names_there.1))
+    (first_not Names (behind_names l now) _ added.0
+    (first_not Diversions (behind_making l now) _ (ap (λ (n : ℕ). nat_lt l.diversions (n - 1)) same ∙ making.0) making.1)))
 
 pub first_passed-taking : (l : Limits) (rs : AllRegisters) (a : Answer) (u : Unread PageEvent)
     → first_passed l (counts_in rs u.input) ≡ None → first_passed l (counts_in rs (taking a u).1.input) ≡ None

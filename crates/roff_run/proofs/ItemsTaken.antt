@@ -7,23 +7,24 @@ use Rattle.roff_num.specs.declared.limit.Limit.{Limit}
 use Rattle.roff_num.specs.declared.limit.Limit.TheVariants.{Bytes}
 use Rattle.roff_num.specs.declared.limits.Limits.{Limits}
 use Rattle.roff_arguments.specs.Arguments.{Arguments}
-use Rattle.roff_escape.specs.Conditions.{ends_condition, is_decided}
-use Rattle.roff_escape.specs.OpenEscapes.{decides_now, newline_stays, is_ended_by}
+use Rattle.roff_escape.specs.Waiting.{decides, is_ended_by}
+use Rattle.roff_escape.specs.declared.open_escape.Waiting.{Waiting}
+use Rattle.roff_escape.specs.declared.open_escape.Waiting.TheVariants.{Takes, Decides, Waits}
 use Rattle.roff_ahead.specs.Input.{Ahead, ByteAhead, counting, item_taken, pushed, depth, result_count}
 use Rattle.roff_ahead.specs.Input.Names.{names_added, stored}
 use Rattle.roff_source.specs.Tape.{Tape, Answer, Gives, OneByte, front, items_then}
 use Rattle.roff_ahead.specs.Shown.{seen_ahead}
-use Rattle.roff_escape.specs.OpenEscape.{OpenEscape, Backslash, Comment, Name, Size, Delimited, Width, Condition}
-use Rattle.roff_escape.specs.declared.open_escape.ConditionPart.{ConditionPart}
-use Rattle.roff_escape.specs.declared.open_escape.ConditionPart.TheVariants.{Choice, Expression, Compared, Decided}
+use Rattle.roff_escape.specs.OpenEscape.{OpenEscape}
 use Rattle.roff_run.specs.declared.line_state.LineState.{LineState}
 use Rattle.roff_run.specs.ItemsTaken.{TakesItems, BytesAheadAreTaken, BytesOfTheSourceAreTaken}
 use Rattle.roff_run.specs.Within.{IsWithin}
 use Rattle.roff_run.specs.Reading.Items.{PageInput, going_on}
 use Rattle.roff_run.specs.Registers.{AllRegisters}
 use Rattle.roff_run.specs.Requests.{PageEvent}
-use Rattle.roff_run.specs.Run.{State, made, byte_taken, front_seen, escape_ends, awaited, awaited_of_source, answered, moved, in_front_taken, taking_ahead, taking_byte, taken_as, grown, unless_refused, stopped_by, item_read, step}
+use Rattle.roff_run.specs.Reading.Waiting.{waiting_in}
+use Rattle.roff_run.specs.Run.{State, made, byte_taken, escape_ends, awaited, awaited_of_source, answered, moved, in_front_taken, taking_ahead, taking_byte, taken_as, grown, unless_refused, stopped_by, read_waiting, item_read, step}
 use Rattle.roff_run.specs.Run.Counts.{first_passed}
+use Rattle.roff_run.proofs.Waiting.{undecided}
 
 -- where bytes come from: they stand ahead of these items, or in the source in front of this tape
 pub data Origin : Type 0 where
@@ -56,46 +57,21 @@ going s reading from bytes arguments half charge line = record s {
   ended = None;
 }
 
--- a byte that doesn't end what is half read is taken, whether it is waited for or not
-taken-awaited : (l : Limits) (stays : Bool) (b : ℕ) (behind : List (Ahead PageEvent)) (s : State) → s.input.ahead ≡ ByteAhead b ∷ behind
-    → is_ended_by s.input.escapes (Some b) ≡ false
-    → (if stays then front_seen l (Some b) s else in_front_taken l s.input.ahead s) ≡ taking_ahead l (ByteAhead b) behind s
-taken-awaited l true b behind s ahead is =
-    ap (λ (c : Bool). if c then made l s (escape_ends s) else in_front_taken l s.input.ahead s) is
+-- a byte ahead that doesn't end what is half read is taken, whether it is waited for or not
+read-ahead : (l : Limits) (w : Waiting) (b : ℕ) (behind : List (Ahead PageEvent)) (s : State) → s.input.ahead ≡ ByteAhead b ∷ behind
+    → is_ended_by s.input.escapes (Some b) ≡ false → decides w ≡ false → read_waiting l w s ≡ taking_ahead l (ByteAhead b) behind s
+read-ahead l Takes b behind s ahead is undecided = ap (λ (items : List (Ahead PageEvent)). in_front_taken l items s) ahead
+read-ahead l Decides b behind s ahead is undecided = absurd (cc)
+read-ahead l Waits b behind s ahead is undecided =
+    ap (λ (items : List (Ahead PageEvent)). awaited l (seen_ahead items) s) ahead
+    ∙ ap (λ (c : Bool). if c then made l s (escape_ends s) else in_front_taken l s.input.ahead s) is
     ∙ ap (λ (items : List (Ahead PageEvent)). in_front_taken l items s) ahead
-taken-awaited l false b behind s ahead is = ap (λ (items : List (Ahead PageEvent)). in_front_taken l items s) ahead
-
--- a condition that is read ends, whatever is seen
-undecided-part : (part : ConditionPart) (seen : Option ℕ) → ends_condition part seen ≡ false → is_decided part ≡ false
-undecided-part (Choice negated) seen goes_on = refl
-undecided-part (Expression negated) seen goes_on = refl
-undecided-part (Compared negated d first) seen goes_on = refl
-undecided-part (Decided decision freed) seen goes_on = absurd (cc)
-
-undecided : (half : List OpenEscape) (seen : Option ℕ) → is_ended_by half seen ≡ false → decides_now half ≡ false
-undecided [] seen goes_on = refl
-undecided (Backslash ∷ rest) seen goes_on = refl
-undecided (Comment ∷ rest) seen goes_on = refl
-undecided (Name purpose part ∷ rest) seen goes_on = refl
-undecided (Size part ∷ rest) seen goes_on = refl
-undecided (Delimited purpose d text ∷ rest) seen goes_on = refl
-undecided (Width d width is_deep ∷ rest) seen goes_on = refl
-undecided (Condition part text ∷ rest) seen goes_on = undecided-part part seen goes_on
-
--- so where a byte doesn't end what is half read, nothing decides first
-looks : (l : Limits) (b : ℕ) (s : State) → is_ended_by s.input.escapes (Some b) ≡ false
-    → item_read l s ≡ (if newline_stays s.input.escapes then awaited l (seen_ahead s.input.ahead) s else in_front_taken l s.input.ahead s)
-looks l b s is =
-    ap (λ (c : Bool). if newline_stays s.input.escapes then (if c then made l s (escape_ends s) else awaited l (seen_ahead s.input.ahead) s) else in_front_taken l s.input.ahead s)
-    (undecided s.input.escapes (Some b) is)
 
 -- the input is read where a byte is ahead
 item_read-byte : (l : Limits) (b : ℕ) (behind : List (Ahead PageEvent)) (s : State) → s.input.ahead ≡ ByteAhead b ∷ behind
     → is_ended_by s.input.escapes (Some b) ≡ false → item_read l s ≡ taking_ahead l (ByteAhead b) behind s
 item_read-byte l b behind s ahead is =
-    looks l b s is
-    ∙ ap (λ (items : List (Ahead PageEvent)). if newline_stays s.input.escapes then awaited l (seen_ahead items) s else in_front_taken l s.input.ahead s) ahead
-    ∙ taken-awaited l (newline_stays s.input.escapes) b behind s ahead is
+    read-ahead l (waiting_in s.reading s.input) b behind s ahead is (undecided s.reading s.input.arguments.place s.input.escapes (Some b) is)
 
 -- it is taken within the limit on bytes
 taking_ahead-within : (l : Limits) (b : ℕ) (behind : List (Ahead PageEvent)) (s : State) → s.input.charge < l.bytes
@@ -113,23 +89,23 @@ bytes_ahead_are_taken l s b behind on ahead is within =
     step-TakesItems l s on ∙ item_read-byte l b behind s ahead is ∙ taking_ahead-within l b behind s within
 
 -- a byte of the source is taken, whether it is waited for or not
-answered-awaited : (l : Limits) (stays : Bool) (b : ℕ) (s : State) → is_ended_by s.input.escapes (Some b) ≡ false
-    → s.input.ahead ≡ []
-    → (if stays then awaited_of_source l (Gives (OneByte b)) s else in_front_taken l s.input.ahead s) ≡ answered l (front s.tape) s
-answered-awaited l true b s is none =
-    ap (λ (c : Bool). if c then made l s (escape_ends s) else in_front_taken l s.input.ahead s) is
+read-source : (l : Limits) (w : Waiting) (b : ℕ) (s : State) → s.input.ahead ≡ [] → front s.tape ≡ Gives (OneByte b)
+    → is_ended_by s.input.escapes (Some b) ≡ false → decides w ≡ false → read_waiting l w s ≡ taking_byte l b s
+read-source l Takes b s none gives is undecided =
+    ap (λ (items : List (Ahead PageEvent)). in_front_taken l items s) none ∙ ap (λ (a : Answer). answered l a s) gives
+read-source l Decides b s none gives is undecided = absurd (cc)
+read-source l Waits b s none gives is undecided =
+    ap (λ (items : List (Ahead PageEvent)). awaited l (seen_ahead items) s) none
+    ∙ ap (λ (a : Answer). awaited_of_source l a s) gives
+    ∙ ap (λ (c : Bool). if c then made l s (escape_ends s) else in_front_taken l s.input.ahead s) is
     ∙ ap (λ (items : List (Ahead PageEvent)). in_front_taken l items s) none
-answered-awaited l false b s is none = ap (λ (items : List (Ahead PageEvent)). in_front_taken l items s) none
+    ∙ ap (λ (a : Answer). answered l a s) gives
 
 -- the input is read where a byte of the source comes first
 item_read-source : (l : Limits) (b : ℕ) (s : State) → s.input.ahead ≡ [] → front s.tape ≡ Gives (OneByte b) → is_ended_by s.input.escapes (Some b) ≡ false
     → item_read l s ≡ taking_byte l b s
 item_read-source l b s none gives is =
-    looks l b s is
-    ∙ ap (λ (items : List (Ahead PageEvent)). if newline_stays s.input.escapes then awaited l (seen_ahead items) s else in_front_taken l s.input.ahead s) none
-    ∙ ap (λ (a : Answer). if newline_stays s.input.escapes then awaited_of_source l a s else in_front_taken l s.input.ahead s) gives
-    ∙ answered-awaited l (newline_stays s.input.escapes) b s is none
-    ∙ ap (λ (a : Answer). answered l a s) gives
+    read-source l (waiting_in s.reading s.input) b s none gives is (undecided s.reading s.input.arguments.place s.input.escapes (Some b) is)
 
 -- it is taken within the limit on bytes
 taking_byte-within : (l : Limits) (b : ℕ) (s : State) → s.input.charge < l.bytes

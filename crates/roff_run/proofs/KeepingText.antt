@@ -162,23 +162,25 @@ Stays-escape_begun : (k : Known) (i : PageInput) (b : ℕ) → Stays i (escape_b
 Stays-escape_begun k i b = Stays-beginning_text k i (λ line. escape_taking i line b) (λ line. Stays-escape_taking i line b)
 
 Stays-first_escape : (k : Known) (i : PageInput) (reading : LineState) (b : ℕ) → Stays i (first_escape k i reading b)
-Stays-first_escape k i Branch b = Stays-if i (b == 123) _ _ (record { input = refl; unnamed = refl }) (Stays-escape_begun k i b)
+Stays-first_escape k i Branch b =
+    Stays-if i (b == 123) _ _ (record { input = refl; unnamed = refl })
+    (Stays-if i (b == newline) _ _ (record { input = refl; unnamed = refl }) (Stays-escape_begun k i b))
 Stays-first_escape k i Braced b = Stays-if i (b == newline) _ _ (record { input = refl; unnamed = refl }) (Stays-escape_begun k i b)
-Stays-first_escape k i LineStart b = Stays-escape_begun k i b
-Stays-first_escape k i (InText line) b = Stays-escape_begun k i b
-Stays-first_escape k i (Control breaks) b = Stays-escape_begun k i b
-Stays-first_escape k i (Name breaks first) b = Stays-escape_begun k i b
-Stays-first_escape k i (InArguments breaks request) b = Stays-escape_begun k i b
-Stays-first_escape k i (Deciding keeps) b = Stays-escape_begun k i b
-Stays-first_escape k i (Skipping opened closed behind) b = Stays-escape_begun k i b
-Stays-first_escape k i (StringName appends) b = Stays-escape_begun k i b
-Stays-first_escape k i (StringText name appends is_front) b = Stays-escape_begun k i b
-Stays-first_escape k i Dropped b = Stays-escape_begun k i b
-Stays-first_escape k i (Telling aborts is_front) b = Stays-escape_begun k i b
-Stays-first_escape k i (Told aborts) b = Stays-escape_begun k i b
-Stays-first_escape k i Exiting b = Stays-escape_begun k i b
-Stays-first_escape k i (Calling name) b = Stays-escape_begun k i b
-Stays-first_escape k i (Defining name appends end matched) b = Stays-escape_begun k i b
+Stays-first_escape k i LineStart b = Stays-if i (b == newline) _ _ (record { input = refl; unnamed = refl }) (Stays-escape_begun k i b)
+Stays-first_escape k i (InText line) b = Stays-if i (b == newline) _ _ (record { input = refl; unnamed = refl }) (Stays-escape_begun k i b)
+Stays-first_escape k i (Control breaks) b = Stays-if i (b == newline) _ _ (record { input = refl; unnamed = refl }) (Stays-escape_begun k i b)
+Stays-first_escape k i (Name breaks first) b = Stays-if i (b == newline) _ _ (record { input = refl; unnamed = refl }) (Stays-escape_begun k i b)
+Stays-first_escape k i (InArguments breaks request) b = Stays-if i (b == newline) _ _ (record { input = refl; unnamed = refl }) (Stays-escape_begun k i b)
+Stays-first_escape k i (Deciding keeps) b = Stays-if i (b == newline) _ _ (record { input = refl; unnamed = refl }) (Stays-escape_begun k i b)
+Stays-first_escape k i (Skipping opened closed behind) b = Stays-if i (b == newline) _ _ (record { input = refl; unnamed = refl }) (Stays-escape_begun k i b)
+Stays-first_escape k i (StringName appends) b = Stays-if i (b == newline) _ _ (record { input = refl; unnamed = refl }) (Stays-escape_begun k i b)
+Stays-first_escape k i (StringText name appends is_front) b = Stays-if i (b == newline) _ _ (record { input = refl; unnamed = refl }) (Stays-escape_begun k i b)
+Stays-first_escape k i Dropped b = Stays-if i (b == newline) _ _ (record { input = refl; unnamed = refl }) (Stays-escape_begun k i b)
+Stays-first_escape k i (Telling aborts is_front) b = Stays-if i (b == newline) _ _ (record { input = refl; unnamed = refl }) (Stays-escape_begun k i b)
+Stays-first_escape k i (Told aborts) b = Stays-if i (b == newline) _ _ (record { input = refl; unnamed = refl }) (Stays-escape_begun k i b)
+Stays-first_escape k i Exiting b = Stays-if i (b == newline) _ _ (record { input = refl; unnamed = refl }) (Stays-escape_begun k i b)
+Stays-first_escape k i (Calling name) b = Stays-if i (b == newline) _ _ (record { input = refl; unnamed = refl }) (Stays-escape_begun k i b)
+Stays-first_escape k i (Defining name appends end matched) b = Stays-if i (b == newline) _ _ (record { input = refl; unnamed = refl }) (Stays-escape_begun k i b)
 
 -- a byte of a branch that is skipped
 pub Stays-skipping_taking : (i : PageInput) (opened closed : ℕ) (behind : Bool) (b : ℕ) → Stays i (skipping_taking i opened closed behind b)

@@ -7,6 +7,7 @@ pub mod Keeping
 pub mod NumberedRequests
 pub mod InputCounts
 pub mod TurnsToCome
+pub mod Waiting
 pub mod InFront
 pub mod Printing
 pub mod EscapeCounts

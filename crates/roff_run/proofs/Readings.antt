@@ -1,13 +1,15 @@
 -- The step with nothing to do has few outcomes, where a run isn't closing. What is proved of each holds of it.
 --
 -- Each function f of the run has its lemma ReadsOn-f here, with a line for each of its cases.
-use Rattle.std.proofs.Common.{◌≡◌, ℕ, ◌+◌, ◌*◌, ◌≤◌, Bool, true, false, List, [], ◌∷◌, ◌++◌, ◌-◌, Option, Some, None, refl, arith}
+use Rattle.std.proofs.Common.{◌≡◌, ℕ, ◌+◌, ◌*◌, ◌≤◌, Bool, true, false, List, [], ◌∷◌, ◌++◌, ◌-◌, Option, Some, None, refl, ap, arith}
 use Rattle.std.specs.Prelude.{nat_lt, if◌then◌else◌}
 use Rattle.std.proofs.lemmas.Bool.Decides.{nat_tests}
 use Rattle.roff_num.specs.declared.limit.Limit.{Limit}
 use Rattle.roff_num.specs.declared.limit.Limit.TheVariants.{Bytes}
 use Rattle.roff_num.specs.declared.limits.Limits.{Limits}
-use Rattle.roff_escape.specs.OpenEscapes.{decides_now, is_ended_by, newline_stays}
+use Rattle.roff_escape.specs.Waiting.{decides, is_ended_by}
+use Rattle.roff_escape.specs.declared.open_escape.Waiting.{Waiting}
+use Rattle.roff_escape.specs.declared.open_escape.Waiting.TheVariants.{Takes, Decides, Waits}
 use Rattle.roff_ahead.specs.Input.{Ahead, ByteAhead, FreeAhead, EndAhead, ReturnAhead, DoAhead, cost, item_taken, counting}
 use Rattle.roff_source.specs.Tape.{Answer, OneByte, OneNote, Ended, Failed, Stopped, Gives, Ends, front}
 use Rattle.roff_ahead.specs.Shown.{Sighted, SeesByte, SeesNothing, SeesNote, SeesEnding, seen_ahead}
@@ -19,12 +21,14 @@ use Rattle.roff_run.specs.declared.line_state.Due.{Due}
 use Rattle.roff_run.specs.declared.line_state.Due.TheVariants.{Leaves, Tells as TellsText}
 use Rattle.roff_run.specs.declared.line_state.LineState.{LineState}
 use Rattle.roff_run.specs.declared.line_state.LineState.TheVariants.{LineStart, Branch, Braced, Text as InText, Control, Name, Arguments as InArguments, Deciding, StringName, StringText, Skipping, Dropped, Telling, Told, Exiting, Calling, Defining}
-use Rattle.roff_run.specs.Run.{waiting, State, known, ending_as, ending_with, stopped_by, unless_refused, grown, made, moved, byte_taken, escape_ends, end_met, ahead_taken, taking_ahead, taking_byte, ending_input, answered, in_front_taken, front_seen, awaited_of_source, awaited, item_read, input_ended, message_told, aborted, input_left, reading_by, reading_on}
+use Rattle.roff_run.specs.Reading.Waiting.{waiting_in}
+use Rattle.roff_run.specs.Run.{read_waiting, State, known, ending_as, ending_with, stopped_by, unless_refused, grown, made, moved, byte_taken, escape_ends, end_met, ahead_taken, taking_ahead, taking_byte, ending_input, answered, in_front_taken, front_seen, awaited_of_source, awaited, item_read, input_ended, message_told, aborted, input_left, reading_by, reading_on}
 use Rattle.roff_run.specs.Run.Counts.{passes_bytes, first_passed}
 use Rattle.roff_run.specs.declared.message.Message.TheVariants.{ReadFailed}
 use Rattle.roff_run.specs.declared.status.Status.TheVariants.{Device, Limit as Limited}
 use Rattle.roff_run.specs.TurnsToCome.{begun, endings_of}
 use Rattle.roff_run.proofs.KeepingText.{Keeps}
+use Rattle.roff_run.proofs.Waiting.{ended-deciding}
 use Rattle.roff_run.proofs.Keeping.{KeepsTwoMore-same, Keeps-taking, Keeps-interrupted, Keeps-escape_ended, Keeps-line_ends}
 
 -- no count passes its limit in a state
@@ -134,47 +138,45 @@ ReadsOn-in_front_taken : (l : Limits) (ahead : List (Ahead PageEvent)) (s : Stat
 ReadsOn-in_front_taken l [] s is = ReadsOn-answered l (front s.tape) s is refl
 ReadsOn-in_front_taken l (item ∷ behind) s is = ReadsOn-taking_ahead l item behind s is
 
+-- what stays ends something that is half read
+half_ends : (l : Limits) (s : State) (half : List OpenEscape) (seen : Option ℕ) → s.input.escapes ≡ half → is_ended_by half seen ≡ true
+    → IsMade l (escape_ends s) → ReadsOn l s (escape_ends s)
+half_ends l s [] seen is stays = absurd (cc)
+half_ends l s (first ∷ others) seen is stays = HalfEnds first others is
+
 -- something was seen in front, or nothing
-ReadsOn-front_seen : (l : Limits) (seen : Option ℕ) (s : State) (first : OpenEscape) (others : List OpenEscape) → s.input.escapes ≡ first ∷ others → ReadsOn l s (front_seen l seen s)
-ReadsOn-front_seen l seen s first others is =
+ReadsOn-front_seen : (l : Limits) (seen : Option ℕ) (s : State) → ReadsOn l s (front_seen l seen s)
+ReadsOn-front_seen l seen s =
     ReadsOn-if l s (is_ended_by s.input.escapes seen) _ _
-    (λ stays. ReadsOn-made l s (escape_ends s) (HalfEnds first others is)) (λ taken. ReadsOn-in_front_taken l s.input.ahead s refl)
+    (λ stays. ReadsOn-made l s (escape_ends s) (half_ends l s s.input.escapes seen refl stays)) (λ taken. ReadsOn-in_front_taken l s.input.ahead s refl)
 
 -- the source was seen there
-ReadsOn-awaited_of_source : (l : Limits) (a : Answer) (s : State) (first : OpenEscape) (others : List OpenEscape) → s.input.escapes ≡ first ∷ others → front s.tape ≡ a
-    → ReadsOn l s (awaited_of_source l a s)
-ReadsOn-awaited_of_source l (Gives (OneByte b)) s first others is gives = ReadsOn-front_seen l (Some b) s first others is
-ReadsOn-awaited_of_source l (Gives (OneNote message)) s first others is gives = NoteTaken message gives
-ReadsOn-awaited_of_source l (Ends Ended) s first others is ends = ReadsOn-front_seen l None s first others is
-ReadsOn-awaited_of_source l (Ends Failed) s first others is ends = SourceFails ends
-ReadsOn-awaited_of_source l (Ends (Stopped limit)) s first others is ends = SourceStops limit ends
+ReadsOn-awaited_of_source : (l : Limits) (a : Answer) (s : State) → front s.tape ≡ a → ReadsOn l s (awaited_of_source l a s)
+ReadsOn-awaited_of_source l (Gives (OneByte b)) s gives = ReadsOn-front_seen l (Some b) s
+ReadsOn-awaited_of_source l (Gives (OneNote message)) s gives = NoteTaken message gives
+ReadsOn-awaited_of_source l (Ends Ended) s ends = ReadsOn-front_seen l None s
+ReadsOn-awaited_of_source l (Ends Failed) s ends = SourceFails ends
+ReadsOn-awaited_of_source l (Ends (Stopped limit)) s ends = SourceStops limit ends
 
 -- anything was
-ReadsOn-awaited : (l : Limits) (sight : Option Sighted) (s : State) (first : OpenEscape) (others : List OpenEscape) → s.input.escapes ≡ first ∷ others
-    → ReadsOn l s (awaited l sight s)
-ReadsOn-awaited l (Some (SeesByte b)) s first others is = ReadsOn-front_seen l (Some b) s first others is
-ReadsOn-awaited l (Some SeesNothing) s first others is = ReadsOn-front_seen l None s first others is
-ReadsOn-awaited l (Some (SeesNote message)) s first others is = ReadsOn-front_seen l None s first others is
-ReadsOn-awaited l (Some (SeesEnding ending)) s first others is = ReadsOn-front_seen l None s first others is
-ReadsOn-awaited l None s first others is = ReadsOn-awaited_of_source l (front s.tape) s first others is refl
+ReadsOn-awaited : (l : Limits) (sight : Option Sighted) (s : State) → ReadsOn l s (awaited l sight s)
+ReadsOn-awaited l (Some (SeesByte b)) s = ReadsOn-front_seen l (Some b) s
+ReadsOn-awaited l (Some SeesNothing) s = ReadsOn-front_seen l None s
+ReadsOn-awaited l (Some (SeesNote message)) s = ReadsOn-front_seen l None s
+ReadsOn-awaited l (Some (SeesEnding ending)) s = ReadsOn-front_seen l None s
+ReadsOn-awaited l None s = ReadsOn-awaited_of_source l (front s.tape) s refl
 
--- what is half read waits
-ReadsOn-waiting : (l : Limits) (s : State) (first : OpenEscape) (others : List OpenEscape) → s.input.escapes ≡ first ∷ others → ReadsOn l s (waiting l s)
-ReadsOn-waiting l s first others is =
-    ReadsOn-if l s (decides_now s.input.escapes) _ _
-    (λ decides. ReadsOn-made l s (escape_ends s) (HalfEnds first others is)) (λ looks. ReadsOn-awaited l (seen_ahead s.input.ahead) s first others is)
-
--- by what is half read
-by_half : (l : Limits) (s : State) (half : List OpenEscape) → s.input.escapes ≡ half
-    → ReadsOn l s (if newline_stays half then waiting l s else in_front_taken l s.input.ahead s)
-by_half l s [] is = ReadsOn-in_front_taken l s.input.ahead s refl
-by_half l s (first ∷ others) is =
-    ReadsOn-if l s (newline_stays (first ∷ others)) _ _
-    (λ stays. ReadsOn-waiting l s first others is) (λ taken. ReadsOn-in_front_taken l s.input.ahead s refl)
+-- by what is read does at the next item
+ReadsOn-read_waiting : (l : Limits) (s : State) (w : Waiting) → waiting_in s.reading s.input ≡ w → ReadsOn l s (read_waiting l w s)
+ReadsOn-read_waiting l s Takes is = ReadsOn-in_front_taken l s.input.ahead s refl
+ReadsOn-read_waiting l s Decides is =
+    ReadsOn-made l s (escape_ends s)
+    (half_ends l s s.input.escapes None refl (ended-deciding s.reading s.input.arguments.place s.input.escapes None (ap decides is)))
+ReadsOn-read_waiting l s Waits is = ReadsOn-awaited l (seen_ahead s.input.ahead) s
 
 -- one item of the input, or how it ends
 ReadsOn-item_read : (l : Limits) (s : State) → ReadsOn l s (item_read l s)
-ReadsOn-item_read l s = by_half l s s.input.escapes refl
+ReadsOn-item_read l s = ReadsOn-read_waiting l s (waiting_in s.reading s.input) refl
 
 -- a message is due where its line has ended
 told_where_due : (reading : LineState) (aborts : Bool) → due reading ≡ Some (TellsText aborts) → reading ≡ Told aborts

@@ -3,7 +3,6 @@ use Rattle.std.proofs.Common.{◌≡◌, ℕ, ◌+◌, ◌≤◌, Bool, true, fa
 use Rattle.std.specs.Prelude.{nat_lt, if◌then◌else◌}
 use Rattle.std.proofs.lemmas.Bool.{ltb-false}
 use Rattle.roff_num.specs.declared.limit.Limit.TheVariants.{Bytes}
-use Rattle.roff_escape.specs.OpenEscapes.{newline_stays}
 use Rattle.roff_ahead.specs.Input.{Ahead, ByteAhead, FreeAhead, EndAhead, ReturnAhead, DoAhead, cost, item_taken}
 use Rattle.roff_source.specs.Tape.{Answer, Gives, Ends, OneByte, OneNote}
 use Rattle.roff_scan.specs.Unread.{Unread, taking, taking_answer, answer_behind}
@@ -73,11 +72,6 @@ turns-two_more bytes i j old reading keeps = omega (arith, keeps.charge, keeps.f
 pub turns_within-byte : (bytes : ℕ) (k : Known) (reading : LineState) (i : PageInput) (b : ℕ)
     → turns_within bytes (byte_taking k reading i b).input + begun (byte_taking k reading i b).reading ≤ turns_within bytes i + begun reading + 4
 turns_within-byte bytes k reading i b = turns-two_more bytes i _ reading _ (Keeps-taking k reading i b)
-
--- what is half read where a newline stays
-pub length-newline_stays : (half : List OpenEscape) → newline_stays half ≡ true → 1 ≤ length half
-length-newline_stays [] stays = cc
-length-newline_stays (first ∷ rest) stays = omega arith
 
 -- where what is half read ends, a turn fewer is to come
 ended : (bytes : ℕ) (k : Known) (reading : LineState) (i : PageInput) (half : List OpenEscape) → i.escapes ≡ half

@@ -1,7 +1,7 @@
 -- A run that takes items, and the bytes that it takes in one step each.
 use Rattle.std.specs.Prelude.{◌≡◌, ℕ, ◌<◌, false, List, [], ◌∷◌, Some, None}
 use Rattle.roff_num.specs.declared.limits.Limits.{Limits}
-use Rattle.roff_escape.specs.OpenEscapes.{is_ended_by}
+use Rattle.roff_escape.specs.Waiting.{is_ended_by}
 use Rattle.roff_ahead.specs.Input.{Ahead, ByteAhead, item_taken, counting}
 use Rattle.roff_source.specs.Tape.{Gives, OneByte, front}
 use Rattle.roff_run.specs.Reading.Ends.{due}

@@ -14,6 +14,7 @@ pub mod Messages
 pub mod ControlLines
 pub mod Found
 pub mod Ends
+pub mod Waiting
 use Rattle.std.specs.Prelude.{◌≡◌, ℕ, ◌||◌, Some, None, if◌then◌else◌, ◌==◌}
 use Rattle.roff_source.specs.Bytes.{tab, blank, is_dropped}
 use Rattle.roff_escape.specs.OpenEscapes.{byte_read, reading_ended}

@@ -9,7 +9,9 @@ use Rattle.roff_num.specs.LimitValues.{value_of}
 use Rattle.roff_num.specs.declared.limit.Limit.{Limit}
 use Rattle.roff_num.specs.declared.limit.Limit.TheVariants.{Bytes}
 use Rattle.roff_num.specs.declared.limits.Limits.{Limits}
-use Rattle.roff_escape.specs.OpenEscapes.{decides_now, newline_stays, is_ended_by}
+use Rattle.roff_escape.specs.Waiting.{is_ended_by}
+use Rattle.roff_escape.specs.declared.open_escape.Waiting.{Waiting}
+use Rattle.roff_escape.specs.declared.open_escape.Waiting.TheVariants.{Takes, Decides, Waits}
 use Rattle.roff_ahead.specs.Input.{Ahead, ByteAhead, FreeAhead, EndAhead, DoAhead, initial_input, cost, item_taken, counting, leaving, ReturnAhead}
 use Rattle.roff_ahead.specs.Input.Calls.{arguments_live}
 use Rattle.roff_source.specs.Tape.{Tape, Answer, OneByte, OneNote, Ended, Failed, Stopped, Gives, Ends, front, behind_front}
@@ -25,6 +27,7 @@ use Rattle.roff_run.specs.Reading.Calls.{behind_return}
 use Rattle.roff_run.specs.Reading.Ends.{end_taking, due, line_ends_first}
 use Rattle.roff_run.specs.Reading.Items.{PageInput, Taking}
 use Rattle.roff_run.specs.Reading.Messages.{message_text_read}
+use Rattle.roff_run.specs.Reading.Waiting.{waiting_in}
 use Rattle.roff_run.specs.Registers.{AllRegisters, Known, no_registers, changed_by_all}
 use Rattle.roff_run.specs.Requests.{PageEvent, Text, Effect, first_entries, requests}
 use Rattle.roff_run.specs.declared.message.Message.{Message}
@@ -217,8 +220,8 @@ abbrev pub in_front_taken : Limits → List (Ahead PageEvent) → State → Stat
 in_front_taken l [] s = answered l (front s.tape) s
 in_front_taken l (item ∷ behind) s = taking_ahead l item behind s
 
--- what is half read waits, and this is seen, a byte or nothing that can be read: it stays, and ends what is half read,
--- or the item in front is taken
+-- what is read waits for a byte, and this is seen, a byte or nothing that can be read: it stays, and ends what is half read, or
+-- the item in front is taken
 abbrev pub front_seen : Limits → Option ℕ → State → State
 front_seen l seen s = if is_ended_by s.input.escapes seen then made l s (escape_ends s) else in_front_taken l s.input.ahead s
 
@@ -238,13 +241,16 @@ awaited l (Some (SeesNote message)) s = front_seen l None s
 awaited l (Some (SeesEnding ending)) s = front_seen l None s
 awaited l None s = awaited_of_source l (front s.tape) s
 
--- what is half read waits: a condition that is read decides, and else something is seen
-abbrev pub waiting : Limits → State → State
-waiting l s = if decides_now s.input.escapes then made l s (escape_ends s) else awaited l (seen_ahead s.input.ahead) s
+-- What is read does this at the next item. What waits for a byte sees the first one behind any ends of texts before it takes
+-- one of these; a condition that is read decides before anything is taken or seen.
+abbrev pub read_waiting : Limits → Waiting → State → State
+read_waiting l Takes s = in_front_taken l s.input.ahead s
+read_waiting l Decides s = made l s (escape_ends s)
+read_waiting l Waits s = awaited l (seen_ahead s.input.ahead) s
 
 -- one item of the input, or how it ends
 abbrev pub item_read : Limits → State → State
-item_read l s = if newline_stays s.input.escapes then waiting l s else in_front_taken l s.input.ahead s
+item_read l s = read_waiting l (waiting_in s.reading s.input) s
 
 -- what is due comes first: a message is told, or ends the run; or the input is left, and its end is met
 abbrev pub reading_by : Limits → Option Due → State → State

@@ -2,6 +2,7 @@
 
 ghost use Rattle.std.specs.Prelude.{◌≡◌, length, ◌==◌, take_while};
 ghost use Rattle.roff_run.specs.Reading.Ends.{due, line_ends_first};
+ghost use Rattle.roff_run.specs.Reading.Waiting.{copies_in};
 ghost use Rattle.roff_num.specs.ShortNames.{name_bytes};
 ghost use Rattle.roff_num.specs.ShortNames.{short_name};
 ghost use Rattle.roff_run.specs.Reading.ControlLines.{ends_name};
@@ -14,6 +15,7 @@ mod text_steps;
 use crate::event::LineEvents;
 use crate::message::Message;
 use crate::request::Request;
+use roff_escape::Surroundings;
 use roff_lines::Glyph;
 use roff_num::{Name, ShortName};
 
@@ -135,6 +137,21 @@ impl LineState {
             LineState::Told { aborts } => Some(Due::Tells { aborts }),
             LineState::Exiting => Some(Due::Leaves),
             _ => None,
+        }
+    }
+
+    /// How the byte behind a backslash of this is read: as in text, whatever the place on the line,
+    /// or in copy mode.
+    #[inline(always)]
+    pub fn copies_in(self) -> Surroundings
+        ensures { result ≡ copies_in self }
+    {
+        match self {
+            LineState::LineStart => Surroundings::Text(0),
+            LineState::Branch => Surroundings::Text(0),
+            LineState::Braced => Surroundings::Text(0),
+            LineState::Text(_) => Surroundings::Text(0),
+            _ => Surroundings::Copy,
         }
     }
 

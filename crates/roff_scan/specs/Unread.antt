@@ -127,13 +127,13 @@ looking a u = looking_past (seen_ahead u.input.ahead) a u
 abbrev pub asks_to_look : {E : Type 0} → Unread E → Bool
 asks_to_look u = is_none (seen_ahead u.input.ahead) && is_none u.looked
 
--- The first limit that a count of this input is above, those of the texts before those of what stands in front; a text that is
--- made beside the diversions counts as none of them.
+-- The first limit that a count of this input is above, those of the texts before those of what stands in front; that on
+-- diversions stands behind those on the store and on names, and a text that is made beside the diversions counts as none of them.
 abbrev pub input_refusal : {E : Type 0} → Limits → Input E → Option Limit
 input_refusal l i =
-    if nat_lt l.diversions (length i.open_texts - 1) then Some Diversions
-    else if nat_lt l.store (stored i) then Some Store
+    if nat_lt l.store (stored i) then Some Store
     else if nat_lt l.names (names_added i) then Some Names
+    else if nat_lt l.diversions (length i.open_texts - 1) then Some Diversions
     else if nat_lt l.stack (pushed i) then Some Stack
     else if nat_lt l.depth (depth i) then Some Depth
     else if nat_lt l.conditions (result_count i) then Some Conditions

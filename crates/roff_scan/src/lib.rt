@@ -8,7 +8,7 @@ pub use roff_ahead::{Item, Sight};
 pub use roff_arguments::{ArgumentList, Place};
 pub use roff_escape::{
     ConditionPart, CopyUnit, Decision, Escape, Found, NamePart, NameUse, Remark, SizePart,
-    Surroundings, TextUse, character, escape_of,
+    Surroundings, TextUse, Waiting, character, escape_of,
 };
 pub use roff_source::{ByteSource, Note, ReadSource, Taken, is_dropped, is_silent, text_in_front};
 pub use unread::Unread;

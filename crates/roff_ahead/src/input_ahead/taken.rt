@@ -1,8 +1,8 @@
 //! Items that are taken from the front one at a time, and what is seen there.
 
-ghost use Rattle.std.specs.Prelude.{false, ◌≡◌, [], ◌∷◌, option_map, IfSome, None};
+ghost use Rattle.std.specs.Prelude.{false, ◌≡◌, [], ◌∷◌, option_map, IfSome, None, Some};
 ghost use Rattle.roff_ahead.specs.Input.{is_none_ahead, front_cost, ByteAhead};
-ghost use Rattle.roff_escape.specs.Waiting.{WaitsFor};
+ghost use Rattle.roff_escape.specs.Waiting.{is_ended_by};
 
 use super::{EventOrBody, InputAhead};
 use crate::item::{Item, Sight};
@@ -125,7 +125,7 @@ impl<E: Copy> InputAhead<E> {
     pub fn take_waiting(&mut self, escapes: &OpenEscapes) -> Option<u8>
         ensures taken { IfSome result (λ b.
             self.old ≡ record self.new { ahead = ByteAhead b ∷ self.new.ahead }) }
-        ensures waits { IfSome result (λ b. WaitsFor escapes.now.escapes b) }
+        ensures waits { IfSome result (λ b. is_ended_by escapes.now.escapes (Some b) ≡ false) }
         ensures unchanged { result ≡ None → self.new ≡ self.old }
     {
         match self.pushed_texts.front() {

@@ -1,15 +1,15 @@
 //! Bytes that are taken at once: those that change nothing, and fronts of control lines.
 
 ghost use Rattle.std.specs.Prelude.{◌≡◌, ℕ, [], true, false, None};
-ghost use Rattle.roff_reader.specs.ControlFronts.{BeginsControl};
+ghost use Rattle.roff_reader.specs.ControlFronts.{BeginsControl, TakesAtBeginning};
 ghost use Rattle.roff_reader.specs.Reader.Runs.{IsRun};
 ghost use Rattle.roff_reader.specs.declared.run_kind.RunKind.TheVariants.{Dropped as DroppedRun};
 ghost use Rattle.roff_run.specs.Reading.Calls.{behind_return};
 ghost use Rattle.roff_run.specs.Stages.{EndsLine};
-ghost use Rattle.roff_escape.specs.OpenEscapes.{newline_stays};
+ghost use Rattle.roff_escape.specs.declared.open_escape.Waiting.TheVariants.{Takes};
 ghost use Rattle.roff_scan.specs.Unread.{IsWithin};
 ghost use Rattle.roff_scan.specs.Unread.Calls.{PassesEnd, PassesReturn};
-ghost use Rattle.roff_engine.specs.Clauses.{due};
+ghost use Rattle.roff_engine.specs.Clauses.{due, waiting_in};
 
 use super::Running;
 use roff_reader::RunKind;
@@ -37,6 +37,7 @@ impl Running {
     fn pass_control_line<S: ByteSource>(&mut self, source: &mut S) -> bool
         requires begins { BeginsControl self.old.formatter.reader.reading }
         requires none_due { due self.old.formatter.reader.reading ≡ None }
+        requires takes { TakesAtBeginning self.old.formatter.reader.reading }
         requires none_half { self.old.unread.input.escapes ≡ [] }
         ensures { GoesFurtherOver result S.ByteSource source.old source.new self.old self.new }
     {
@@ -110,13 +111,14 @@ impl Running {
     #[inline(always)]
     fn pass_end(&mut self) -> bool
         ensures none_due { result ≡ true → due self.old.formatter.reader.reading ≡ None }
-        ensures stays { result ≡ true → newline_stays self.old.unread.input.escapes ≡ false }
+        ensures takes { result ≡ true → waiting_in self.old.formatter.reader.reading
+            self.old.unread.input ≡ Takes }
         ensures passes { result ≡ true → PassesEnd self.old.unread self.new.unread }
         ensures within { result ≡ true → IsWithin self.new.unread }
         ensures unchanged { result ≡ false → self.new ≡ self.old }
         ensures others { self.new ≡ record self.old { unread = self.new.unread } }
     {
-        if self.unread.newline_stays() || self.formatter.reader.due().is_some() {
+        if self.unread.is_none_ahead() || !self.formatter.reader.takes_any(&self.unread) {
             return false;
         }
         let is_passed = self.unread.pass_end();

@@ -1,21 +1,20 @@
 //! What a byte in front is waited for: whether it stays, and ends what is half read.
 
-ghost use Rattle.std.specs.Prelude.{◌≡◌, true, drop};
-ghost use Rattle.roff_escape.specs.OpenEscapes.{decides_now, ends_backslash, is_of_size};
-ghost use Rattle.roff_escape.specs.OpenEscapes.{newline_stays};
-ghost use Rattle.roff_escape.specs.OpenEscapes.{is_ended_by, takes_backslash_alone};
-ghost use Rattle.roff_escape.specs.Waiting.{WaitsFor};
+ghost use Rattle.std.specs.Prelude.{◌≡◌, true, false, drop, not, Some};
+ghost use Rattle.roff_escape.specs.OpenEscapes.{reads_text, surroundings};
+ghost use Rattle.roff_escape.specs.Waiting.{decides, ends_backslash, is_ended_by, is_of_size};
+ghost use Rattle.roff_escape.specs.Waiting.{takes_backslash_alone, waiting_of};
 
 use super::OpenEscapes;
 use crate::conditions::{ends_at_backslash, ends_condition, is_read_in_arguments};
-use crate::open_escape::{ConditionPart, HeldEscape, SizePart};
+use crate::open_escape::{ConditionPart, HeldEscape, SizePart, Surroundings, Waiting};
 use roff_source::is_dropped;
 
 impl OpenEscapes {
     /// Whether a condition decides, before anything is taken or seen.
     #[inline(always)]
     pub fn decides_now(&self) -> bool
-        ensures { result ≡ decides_now self.now.escapes }
+        ensures { result ≡ decides (waiting_of Surroundings.Copy self.now.escapes) }
     {
         match self.top() {
             Some(HeldEscape::Condition(ConditionPart::Decided { .. }, _)) => true,
@@ -23,16 +22,23 @@ impl OpenEscapes {
         }
     }
 
-    /// Whether the reading on top looks at what stands in front before it is taken: a newline stays
-    /// then, and ends most.
+    /// What the reading on top does at the next item; above a text line, above arguments, or in copy
+    /// mode.
     #[inline(always)]
-    pub fn newline_stays(&self) -> bool
-        ensures { result ≡ newline_stays self.now.escapes }
+    pub fn waiting(&self, base: Surroundings) -> Waiting
+        ensures { result ≡ waiting_of base self.now.escapes }
     {
         match self.top() {
-            None => false,
-            Some(HeldEscape::Backslash) => self.takes_backslash_alone(),
-            Some(_) => true,
+            None => Waiting::Takes,
+            Some(HeldEscape::Backslash) => {
+                if self.is_read_as_text(base) {
+                    Waiting::Takes
+                } else {
+                    Waiting::Waits
+                }
+            }
+            Some(HeldEscape::Condition(ConditionPart::Decided { .. }, _)) => Waiting::Decides,
+            Some(_) => Waiting::Waits,
         }
     }
 
@@ -53,17 +59,29 @@ impl OpenEscapes {
     }
 
     /// Whether what is half read waits for a byte, and goes on or is whole behind it: it doesn't
-    /// decide first, and the byte doesn't stay. It isn't said of a backslash.
+    /// decide first, and the byte doesn't stay. Of a backslash that is taken alone it says no.
     #[inline(always)]
     pub fn waits_for(&self, byte: u8) -> bool
-        ensures { result ≡ true → WaitsFor self.now.escapes byte }
+        ensures { result ≡ true → is_ended_by self.now.escapes (Some byte) ≡ false }
     {
         match self.top() {
             None => false,
-            Some(HeldEscape::Backslash) => false,
+            Some(HeldEscape::Backslash) => !self.takes_backslash_alone(),
             Some(HeldEscape::Size(part)) => is_of_size(part, byte),
             Some(HeldEscape::Condition(part, _)) => !ends_condition(part, Some(byte)),
             Some(_) => byte != b'\n',
+        }
+    }
+
+    /// Whether the byte behind the backslash on top is read as in text.
+    #[inline(always)]
+    fn is_read_as_text(&self, base: Surroundings) -> bool
+        ensures { result ≡ reads_text (surroundings base (drop 1 self.now.escapes)) }
+    {
+        match self.below() {
+            None => base.reads_text(),
+            Some(HeldEscape::Width(_, _, is_deep)) => !is_deep,
+            Some(_) => false,
         }
     }
 

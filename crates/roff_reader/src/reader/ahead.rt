@@ -4,6 +4,7 @@ ghost use Rattle.std.specs.Prelude.{◌≡◌, ◌≤◌, ◌∷◌, [], None, S
 ghost use Rattle.roff_run.specs.Reading.ControlLines.{BelongsToName};
 ghost use Rattle.roff_reader.specs.Clauses.{due};
 ghost use Rattle.roff_reader.specs.ControlFronts.{BeginsControl, Fronts, StandsReady, control_byte};
+ghost use Rattle.roff_reader.specs.ControlFronts.{TakesAtBeginning};
 ghost use Rattle.roff_reader.specs.Reader.Stages.{ReadsPast};
 
 use super::Reader;
@@ -28,6 +29,7 @@ impl Reader {
     pub fn begins_control_line(&self) -> bool
         ensures begins { result ≡ true → BeginsControl self.now.reading }
         ensures none_due { result ≡ true → due self.now.reading ≡ None }
+        ensures takes { result ≡ true → TakesAtBeginning self.now.reading }
     {
         match self.reading {
             LineState::LineStart => true,

@@ -1,6 +1,7 @@
 //! The names of strings that are defined.
 
-ghost use Rattle.std.specs.Prelude.{◌≢◌, Some};
+ghost use Rattle.std.specs.Prelude.{◌≡◌, ◌≢◌, length, Some};
+ghost use Rattle.roff_reader.specs.FirstUnits.{first_text};
 ghost use Rattle.roff_arguments.specs.declared.arguments.Place.TheVariants.{BehindQuote};
 ghost use Rattle.roff_escape.specs.declared.open_escape.CopyUnit.TheVariants.{Byte};
 ghost use Rattle.roff_reader.specs.Clauses.{EnvironmentsOf, TakesAs, InputCameTo, arguments_given, name_read};
@@ -83,6 +84,10 @@ impl Reader {
     {
         match first_name(unread.arguments()) {
             Some(name) => {
+                unread.stays_within();
+                if unread.is_store_full(first_bytes(name, unit)) {
+                    return Err(Limit::Store);
+                }
                 begin_string(name, unread)?;
                 self.read_unit_of_string(name, appends, true, unit, unread)
             }
@@ -136,6 +141,20 @@ impl Reader {
             empty_string(name, appends, unread)?;
         }
         Ok(self.read_on(LineState::LineStart))
+    }
+}
+
+/// How many bytes the first unit adds to the text of a string, if it has a name: in front of the text a
+/// blank and a quote are dropped.
+fn first_bytes(name: Option<ShortName>, unit: CopyUnit) -> usize
+    ensures { result ≡ length (first_text name unit) }
+{
+    match (name, unit) {
+        (None, _) => 0,
+        (Some(_), CopyUnit::Byte(b' ')) => 0,
+        (Some(_), CopyUnit::Byte(b'"')) => 0,
+        (Some(_), CopyUnit::Byte(_)) => 1,
+        (Some(_), CopyUnit::Kept(_)) => 2,
     }
 }
 

@@ -6,8 +6,11 @@ ghost use Rattle.std.specs.Option.{option_to_list};
 ghost use Rattle.roff_run.specs.Events.Steps.{events_of, messages_of};
 ghost use Rattle.roff_run.specs.Reading.Items.{behind_events};
 ghost use Rattle.roff_run.specs.Reading.TextLines.{text_taking};
+ghost use Rattle.roff_run.specs.Registers.{Known};
+ghost use Rattle.roff_source.specs.Bytes.{newline};
 ghost use Rattle.roff_reader.specs.Clauses.{EnvironmentsOf, PageUnread, TakesAs, beginning_found, first_escape, first_name};
-ghost use Rattle.roff_reader.specs.Clauses.{first_taking, going_on_told, line_begun, name_taking, text_found};
+ghost use Rattle.roff_reader.specs.Clauses.{PageInput, first_taking, going_on, going_on_told, line_begun};
+ghost use Rattle.roff_reader.specs.Clauses.{name_taking, text_found};
 
 use super::Reader;
 use roff_num::{Limit, Name};
@@ -90,9 +93,11 @@ impl Reader {
         ensures { (u : PageUnread) → TakesAs (λ k. first_escape k u.input at byte)
             environments.now self.old self.new u u (Ok result) }
     {
+        if byte == b'\n' {
+            return self.read_on(behind_newline(at));
+        }
         match (at, byte) {
             (LineState::Branch, b'{') => self.read_on(LineState::Braced),
-            (LineState::Braced, b'\n') => self.read_on(LineState::LineStart),
             (_, _) => {
                 let interrupted = environments.interrupted_line();
                 let step = TextLine::begun_as(interrupted).escape(byte);
@@ -221,5 +226,15 @@ impl Reader {
         self.meaning
             .keep_line(step.message, interrupted.is_some(), step.events);
         Step::Meaning
+    }
+}
+
+/// What is read behind a backslash and a newline where a line begins, or a branch: that begins still.
+fn behind_newline(at: LineState) -> LineState
+    ensures { (k : Known) (i : PageInput) → first_escape k i at newline ≡ going_on i result }
+{
+    match at {
+        LineState::Branch => LineState::Branch,
+        _ => LineState::LineStart,
     }
 }

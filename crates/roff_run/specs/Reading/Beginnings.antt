@@ -64,11 +64,14 @@ first_taking k i (_) b = line_begun k i b
 abbrev pub escape_begun : Known → PageInput → ℕ → Taking
 escape_begun k i b = beginning_text k (λ line. escape_taking i line b)
 
--- an escape there: the brace of a branch, and a newline behind it
+-- an escape there: the brace of a branch; a backslash and a newline, behind which a line or a branch begins still; and a newline
+-- behind the brace
 abbrev pub first_escape : Known → PageInput → LineState → ℕ → Taking
-first_escape k i Branch b = if b == 123 then going_on i Braced else escape_begun k i b
-first_escape k i Braced b = if b == newline then going_on i LineStart else escape_begun k i b
-first_escape k i (_) b = escape_begun k i b
+first_escape k i Branch b =
+    if b == 123 then going_on i Braced
+    else if b == newline then going_on i Branch
+    else escape_begun k i b
+first_escape k i (_) b = if b == newline then going_on i LineStart else escape_begun k i b
 
 -- What was found where a line begins, or a branch: an interpolation leaves it at its beginning. Text gives no kept unit,
 -- and decides nothing.

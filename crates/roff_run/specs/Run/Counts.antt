@@ -34,9 +34,9 @@ first_passed l (c ∷ cs) = if nat_lt (value_of l c.0) c.1 then Some c.0 else fi
 abbrev pub refusal : Limits → PageHistory → PageEvent → Option Limit
 refusal l h e = first_passed l (counts h e)
 
--- What a step may make grow, as it is behind the step, in the order in which it is looked at: what is of texts and their names
--- comes before what stands in front. One text may be made beside the diversions: that of a string or a macro.
+-- What a step may make grow, as it is behind the step, in the order in which it is looked at: names, the store's bytes and the texts
+-- in the making come before what stands in front. One text may be made beside the diversions: that of a string or a macro.
 abbrev pub counts_in : AllRegisters → PageInput → List (Limit × ℕ)
 counts_in rs i =
-    (Names, length rs.named) ∷ (Diversions, length i.open_texts - 1) ∷ (Store, stored i) ∷ (Names, names_added i)
+    (Names, length rs.named) ∷ (Store, stored i) ∷ (Names, names_added i) ∷ (Diversions, length i.open_texts - 1)
     ∷ (Stack, pushed i) ∷ (Depth, depth i) ∷ (Conditions, result_count i) ∷ []

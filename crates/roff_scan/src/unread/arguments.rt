@@ -1,6 +1,6 @@
 //! The arguments of the line that is being read.
 
-ghost use Rattle.roff_arguments.specs.Arguments.{with_unit, settled, finished};
+ghost use Rattle.roff_arguments.specs.Arguments.{is_behind_quote, with_unit, settled, finished};
 ghost use Rattle.roff_arguments.specs.ArgumentList.{listed};
 ghost use Rattle.std.specs.Prelude.{reverse, ◌≡◌, ◌≤◌};
 ghost use Rattle.roff_ahead.specs.Input.{holding_plain, with_arguments, without_arguments};
@@ -70,6 +70,15 @@ impl<E: Copy> Unread<E> {
         ensures { result.now ≡ reverse self.now.input.arguments.begun }
     {
         self.arguments.begun()
+    }
+
+    /// Whether the quote that was read last on the line closes its argument unless another one
+    /// follows.
+    #[inline(always)]
+    pub fn is_behind_quote(&self) -> bool
+        ensures { result ≡ is_behind_quote self.now.input.arguments.place }
+    {
+        self.arguments.is_behind_quote()
     }
 
     /// What follows on the line is no quote: behind one within quotes the argument is whole.

@@ -2,11 +2,11 @@
 
 ghost use Rattle.roff_store.specs.Named.{entry_of};
 ghost use Rattle.roff_store.specs.Texts.{entry_given, kind_given, kind_of};
-ghost use Rattle.std.specs.Prelude.{true, ◌≡◌, ◌≤◌, length, None, option_map, take};
+ghost use Rattle.std.specs.Prelude.{true, false, ◌+◌, ◌<◌, ◌≡◌, ◌≤◌, length, None, option_map, take};
 ghost use Rattle.std.specs.List.{AllByRecursion};
 ghost use Rattle.roff_source.specs.Bytes.{is_text_byte};
 ghost use Rattle.roff_ahead.specs.Input.{is_none_ahead};
-ghost use Rattle.roff_ahead.specs.Input.Names.{adding, calling, dropping, entering};
+ghost use Rattle.roff_ahead.specs.Input.Names.{adding, calling, dropping, entering, stored};
 
 use super::Unread;
 use roff_num::{Limit, Name};
@@ -70,6 +70,16 @@ impl<E: Copy> Unread<E> {
         }
         self.input_ahead.open();
         Ok(())
+    }
+
+    /// Whether the limit on the store has no room for so many bytes more.
+    pub fn is_store_full(&self, more: usize) -> bool
+        ensures full { result ≡ true
+            → self.now.limits.store < stored self.now.input + more }
+        ensures room { result ≡ false
+            → stored self.now.input + more ≤ self.now.limits.store }
+    {
+        more > self.limits.store as usize - self.input_ahead.stored()
     }
 
     /// Puts bytes behind the newest text in the making, if there is one.

@@ -1,14 +1,13 @@
 //! What is half read.
 
-ghost use Rattle.roff_escape.specs.OpenEscapes.{byte_read, decides_now, reading_ended};
-ghost use Rattle.roff_escape.specs.OpenEscapes.{newline_stays};
-ghost use Rattle.roff_escape.specs.OpenEscapes.{is_ended_by};
+ghost use Rattle.roff_escape.specs.OpenEscapes.{byte_read, reading_ended};
+ghost use Rattle.roff_escape.specs.Waiting.{decides, is_ended_by, waiting_of};
 ghost use Rattle.std.specs.Prelude.{false, not, ◌≡◌, ◌≤◌, ◌==◌, length};
 ghost use Rattle.roff_ahead.specs.Input.{choosing, holding_text};
 
 use super::Unread;
 use super::fronts::front_of;
-use roff_escape::{CopyUnit, Found, Surroundings};
+use roff_escape::{CopyUnit, Found, Surroundings, Waiting};
 use roff_num::Limit;
 use roff_source::ByteSource;
 
@@ -26,17 +25,18 @@ impl<E: Copy> Unread<E> {
 
     /// Whether a condition decides, before anything is taken or seen.
     pub fn decides_now(&self) -> bool
-        ensures { result ≡ decides_now self.now.input.escapes }
+        ensures { result ≡ decides (waiting_of Surroundings.Copy self.now.input.escapes) }
     {
         self.escapes.decides_now()
     }
 
-    /// Whether the reading on top looks at what stands in front before it is taken: a newline stays
-    /// then, and ends most.
-    pub fn newline_stays(&self) -> bool
-        ensures { result ≡ newline_stays self.now.input.escapes }
+    /// What the reading on top does at the next item; above a text line, above arguments, or in copy
+    /// mode.
+    #[inline(always)]
+    pub fn waiting(&self, base: Surroundings) -> Waiting
+        ensures { result ≡ waiting_of base self.now.input.escapes }
     {
-        self.escapes.newline_stays()
+        self.escapes.waiting(base)
     }
 
     /// Whether what it sees there stays, and ends it: a byte, or nothing that can be read.

@@ -1,7 +1,7 @@
 //! Items that are taken from the front one at a time, and bytes that are looked at.
 
-ghost use Rattle.std.specs.Prelude.{true, false, ◌≡◌, ◌<◌, ◌≤◌, None, IfSome};
-ghost use Rattle.roff_escape.specs.Waiting.{WaitsFor};
+ghost use Rattle.std.specs.Prelude.{true, false, ◌≡◌, ◌<◌, ◌≤◌, None, Some, IfSome};
+ghost use Rattle.roff_escape.specs.Waiting.{is_ended_by};
 ghost use Rattle.roff_source.specs.Tape.{Answer, OneByte, Gives, Failed};
 ghost use Rattle.roff_num.specs.Faults.{Rises};
 ghost use Rattle.roff_ahead.specs.Input.{is_none_ahead, counting};
@@ -103,7 +103,7 @@ impl<E: Copy> Unread<E> {
     pub fn take_waiting<S: ByteSource>(&mut self, source: &mut S) -> Option<u8>
         ensures takes { IfSome result (λ b.
             Takes (S.gives source.old) (S.gives source.new) self.old self.new (ShowsByte b)) }
-        ensures waits { IfSome result (λ b. WaitsFor self.old.input.escapes b) }
+        ensures waits { IfSome result (λ b. is_ended_by self.old.input.escapes (Some b) ≡ false) }
         ensures unchanged { result ≡ None → (self.new ≡ self.old) × (source.new ≡ source.old) }
         ensures notes { S.notes source.new ≤ S.notes source.old }
         ensures failures { S.failures source.old ≤ S.failures source.new }
@@ -124,7 +124,7 @@ impl<E: Copy> Unread<E> {
         requires some { is_none_ahead self.old.input.ahead ≡ false }
         ensures takes { IfSome result (λ b.
             (a : Answer) → (ShowsByte b, self.new) ≡ taking a self.old) }
-        ensures waits { IfSome result (λ b. WaitsFor self.old.input.escapes b) }
+        ensures waits { IfSome result (λ b. is_ended_by self.old.input.escapes (Some b) ≡ false) }
         ensures unchanged { result ≡ None → self.new ≡ self.old }
     {
         match self.input_ahead.take_waiting(&self.escapes) {
@@ -143,7 +143,7 @@ impl<E: Copy> Unread<E> {
         requires none_ahead { is_none_ahead self.old.input.ahead ≡ true }
         ensures takes { IfSome result (λ b.
             Takes (S.gives source.old) (S.gives source.new) self.old self.new (ShowsByte b)) }
-        ensures waits { IfSome result (λ b. WaitsFor self.old.input.escapes b) }
+        ensures waits { IfSome result (λ b. is_ended_by self.old.input.escapes (Some b) ≡ false) }
         ensures unchanged { result ≡ None → (self.new ≡ self.old) × (source.new ≡ source.old) }
         ensures notes { S.notes source.new ≤ S.notes source.old }
         ensures failures { S.failures source.new ≡ S.failures source.old }

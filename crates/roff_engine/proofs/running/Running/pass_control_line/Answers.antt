@@ -2,6 +2,7 @@ use Rattle.std.proofs.Common.{ap, ◌∙◌}
 use Rattle.roff_reader.specs.Reader.State.{ReaderState}
 use Rattle.roff_run.specs.Reading.Items.{PageUnread}
 use Rattle.roff_run.specs.Reading.Ends.{due}
+use Rattle.roff_run.specs.Reading.Waiting.{line_waits}
 use Rattle.roff_engine.proofs.PassingEnds.{goes_further_returned}
 use Rattle.roff_engine.proofs.PassingOn.{goes_further_both, goes_past_kept}
 use Rattle.roff_engine.proofs.Turned.{goes_past_turned}
@@ -23,5 +24,6 @@ returns-else-read_control_front g c = λ out err.
     (ap (λ (r : ReaderState). record old { formatter = record old.formatter { reader = r }; unread = c.read_control_front.new.unread }) kept.0
     ∙ ap (λ (u : PageUnread). record old { unread = u }) kept.1))
     (let ends = c.pass_return.ensures in
-    goes_further_returned _ _ _ (ap (λ (r : ReaderState). due r.reading) kept.0 ∙ c.requires.none_due) (ap (λ (u : PageUnread). u.input.escapes) kept.1 ∙ c.requires.none_half)
+    goes_further_returned _ _ _ (ap (λ (r : ReaderState). due r.reading) kept.0 ∙ c.requires.none_due)
+    (λ place. ap (λ (r : ReaderState). line_waits r.reading place) kept.0 ∙ c.requires.takes place) (ap (λ (u : PageUnread). u.input.escapes) kept.1 ∙ c.requires.none_half)
     ends.passes ends.within ends.reads ends.unchanged _ _ _)

@@ -6,10 +6,10 @@ pub returns-in-Text : goal.returns-in-Text
 returns-in-Text g c = λ out err.
     let ends = c.pass_end.ensures in
     goes_further_both _ _ _ _ _ _ _ _ _ _ _ _ _ (c.tell_line.ensures out err)
-    (goes_further_passed _ _ _ ends.none_due ends.stays ends.passes ends.within ends.unchanged ends.others _ _ _)
+    (goes_further_passed _ _ _ ends.none_due ends.takes ends.passes ends.within ends.unchanged ends.others _ _ _)
 
 pub returns-in_default : goal.returns-in_default
 returns-in_default g c = λ out err.
     let ends = c.pass_end-in_default.ensures in
     goes_further_both _ _ _ _ _ _ _ _ _ _ _ _ _ (c.take_run.ensures out err)
-    (goes_further_passed _ _ _ ends.none_due ends.stays ends.passes ends.within ends.unchanged ends.others _ _ _)
+    (goes_further_passed _ _ _ ends.none_due ends.takes ends.passes ends.within ends.unchanged ends.others _ _ _)

@@ -29,7 +29,7 @@ returns-then-is_ended_by g c =
     ] in
     let look = c.look.ensures in
     waiting_ends c.args.self.now _ _ _ _ _ _ look.failures look.notes c.match-look.seen (sighted c.look.result) c.end_escape.new.self _ _ is_front look.looks
-    (sym c.is_ended_by.ensures ∙ c.if-is_ended_by.true) c.requires (c.end_escape.ensures _)
+    (sym c.is_ended_by.ensures ∙ c.if-is_ended_by.true) (c.end_escape.ensures _)
 
 pub returns : goal.returns
 returns g c =

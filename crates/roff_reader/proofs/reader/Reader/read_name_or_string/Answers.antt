@@ -1,8 +1,10 @@
-use Rattle.std.proofs.Common.{◌≡◌, true, Some, None, Ok, Err, rules, sym, ap}
+use Rattle.std.proofs.Common.{◌≡◌, ℕ, ◌+◌, ◌<◌, ◌≤◌, true, Some, None, Ok, Err, rules, sym, subst, ap}
+use Rattle.roff_ahead.specs.Input.Names.{stored}
+use Rattle.roff_num.specs.declared.limit.Limit.TheVariants.{Store}
 use Rattle.roff_run.specs.Reading.Strings.{name_read, string_begun, string_name_behind, string_name_or_text, string_unit}
 use Rattle.roff_run.specs.Reading.Units.{holding}
 use Rattle.roff_reader.proofs.Strings.{InputCameTo-changing, TakesAs-elsewhere}
-use Rattle.roff_reader.proofs.StringRefusals.{TakesAs-not_begun, TakesAs-not_held}
+use Rattle.roff_reader.proofs.StringRefusals.{TakesAs-no_room, TakesAs-not_begun, TakesAs-not_held}
 use Rattle.roff_reader.proofs.TakesAs.{TakesAs-as}
 use Rattle.roff_reader.proofs.reader.Reader.read_name_or_string.Goals as goal
 
@@ -18,7 +20,19 @@ returns-in_err-begin_string-in-Some c = λ es.
     c.begin_string.new.unread (Err c.in_err-begin_string-in-Some.field-0.0)
     (λ k. ap (string_name_or_text u.input c.args.appends c.args.unit) (sym found))
     (TakesAs-not_begun name c.args.appends c.args.unit es c.args.self.now c.args.self.now u c.begin_string.new.unread
-    c.in_err-begin_string-in-Some.field-0.0 c.requires.line_goes_on c.in_err-begin_string-in-Some.ensures))
+    c.in_err-begin_string-in-Some.field-0.0 c.requires.line_goes_on
+    (subst (λ (n : ℕ). stored u.input + n ≤ u.limits.store) c.first_bytes.ensures (c.is_store_full.ensures.room c.if-is_store_full.false)) c.in_err-begin_string-in-Some.ensures))
+
+pub returns-then-is_store_full : goal.returns-then-is_store_full
+returns-then-is_store_full c = λ es.
+    let u = c.args.unread.now in
+    let name = c.in-Some.name in
+    let found : name_read u.input ≡ Some name = search rules in
+    TakesAs-as (λ k. string_unit (string_begun name u.input) name c.args.appends true c.args.unit)
+    (λ k. string_name_or_text u.input c.args.appends c.args.unit (name_read u.input)) es c.args.self.now c.args.self.now u u (Err Store)
+    (λ k. ap (string_name_or_text u.input c.args.appends c.args.unit) (sym found))
+    (TakesAs-no_room name c.args.appends c.args.unit es c.args.self.now c.args.self.now u u c.requires.line_goes_on c.stays_within.ensures.stored
+    (subst (λ (n : ℕ). u.limits.store < stored u.input + n) c.first_bytes.ensures (c.is_store_full.ensures.full c.if-is_store_full.true)))
 
 pub returns-in_err-hold-in-None : goal.returns-in_err-hold-in-None
 returns-in_err-hold-in-None c = λ es.

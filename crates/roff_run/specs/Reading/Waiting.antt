@@ -1,0 +1,43 @@
+-- What is read waits for a byte where that decides what becomes of it (manual, sections 1.1, 7.2, 7.3 and 10.1).
+use Rattle.std.specs.Prelude.{pos, List, [], ◌∷◌, if◌then◌else◌}
+use Rattle.roff_arguments.specs.Arguments.{is_behind_quote}
+use Rattle.roff_arguments.specs.declared.arguments.Place.{Place}
+use Rattle.roff_escape.specs.OpenEscape.{OpenEscape}
+use Rattle.roff_escape.specs.Waiting.{waiting_of}
+use Rattle.roff_escape.specs.declared.open_escape.Surroundings.{Surroundings}
+use Rattle.roff_escape.specs.declared.open_escape.Surroundings.TheVariants.{Text as AboveText, Copy as AboveCopy}
+use Rattle.roff_escape.specs.declared.open_escape.Waiting.{Waiting}
+use Rattle.roff_escape.specs.declared.open_escape.Waiting.TheVariants.{Takes, Waits}
+use Rattle.roff_run.specs.Reading.Items.{PageInput}
+use Rattle.roff_run.specs.declared.line_state.LineState.{LineState}
+use Rattle.roff_run.specs.declared.line_state.LineState.TheVariants.{LineStart, Branch, Braced, Text as InText, Control, Name, Arguments as InArguments, StringName, Calling}
+
+-- how a backslash is read of what is read: as in a text line, whatever the place on it, or in copy mode
+abbrev pub copies_in : LineState → Surroundings
+copies_in LineStart = AboveText (pos 0)
+copies_in Branch = AboveText (pos 0)
+copies_in Braced = AboveText (pos 0)
+copies_in (InText line) = AboveText (pos 0)
+copies_in (_) = AboveCopy
+
+-- what arguments do: behind a quote another one is waited for
+abbrev pub arguments_wait : Place → Waiting
+arguments_wait place = if is_behind_quote place then Waits else Takes
+
+-- what a line does of which nothing is half read: behind the dot the name is waited for, and behind its first byte the second
+abbrev pub line_waits : LineState → Place → Waiting
+line_waits (Control breaks) place = Waits
+line_waits (Name breaks first) place = Waits
+line_waits (InArguments breaks request) place = arguments_wait place
+line_waits (StringName appends) place = arguments_wait place
+line_waits (Calling name) place = arguments_wait place
+line_waits (_) place = Takes
+
+-- what is read does at the next item, with these half read
+abbrev pub waiting_above : LineState → Place → List OpenEscape → Waiting
+waiting_above reading place [] = line_waits reading place
+waiting_above reading place (half ∷ rest) = waiting_of (copies_in reading) (half ∷ rest)
+
+-- what is read does at the next item: it takes that, or waits for a byte, or is whole and decides
+abbrev pub waiting_in : LineState → PageInput → Waiting
+waiting_in reading i = waiting_above reading i.arguments.place i.escapes
