@@ -16,7 +16,8 @@ use Rattle.roff_run.specs.Registers.Capped.{Capped}
 use Rattle.roff_run.specs.declared.event.PageEvent.{PageEvent}
 use Rattle.roff_run.specs.Run.{State, Leads, after, known_at}
 use Rattle.roff_run.specs.Run.Counts.{counts_in, first_passed}
-use Rattle.roff_run.specs.Stages.{Stage, Turned, stage_of, with_stage_of}
+use Rattle.roff_run.specs.Stages.{Stage, Turned, stage_of}
+use Rattle.roff_scan.specs.Unread.Runs.{with_stage_of}
 use Rattle.roff_reader.specs.Reader.Stages.{ReadsPast}
 use Rattle.roff_run.specs.TurnsToCome.{begun, turns_within}
 use Rattle.roff_run.specs.declared.line_state.LineState.{LineState}

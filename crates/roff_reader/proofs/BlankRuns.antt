@@ -1,23 +1,20 @@
 -- Leading blanks of a text line behind the first of them only count, and bytes that change only what is read are read past.
-use Rattle.std.proofs.Common.{◌≡◌, ℕ, ◌+◌, ◌≤◌, ◌==◌, Bool, true, false, if◌then◌else◌, List, [], ◌∷◌, length, min, not, take, take_while, Some, inl, inr, refl, sym, ap, subst, ◌∙◌, arith}
+use Rattle.std.proofs.Common.{◌≡◌, ℕ, ◌+◌, ◌≤◌, ◌==◌, Bool, true, false, if◌then◌else◌, List, [], ◌∷◌, length, min, not, Some, inl, inr, refl, sym, ap, subst, ◌∙◌, arith}
 use Rattle.std.specs.List.{AllByRecursion}
 use Rattle.std.specs.Prelude.{◌&&◌, nat_lt}
 use Rattle.std.proofs.lemmas.Bool.{cases_Bool, eqb-true, ltb-true, ne_eqb}
-use Rattle.std.proofs.lemmas.List.Folds.{length-prefix_len}
-use Rattle.std.proofs.lemmas.List.Sums.{prefix_len-le-length}
-use Rattle.std.proofs.lemmas.List.{length-take-le}
 use Rattle.roff_lines.specs.declared.event.Event.TheVariants.{Break, Gap, WordEnd}
-use Rattle.roff_source.proofs.PlainBytes.{take_while-plain}
 use Rattle.roff_arguments.specs.Arguments.{Arguments}
-use Rattle.roff_source.specs.Bytes.{blank, newline}
+use Rattle.roff_source.specs.Bytes.{blank}
 use Rattle.roff_escape.specs.OpenEscape.{OpenEscape}
 use Rattle.roff_escape.specs.Waiting.{is_ended_by}
 use Rattle.roff_source.specs.Tape.{Tape}
 use Rattle.roff_scan.specs.Unread.{IsWithin}
-use Rattle.roff_scan.specs.Unread.Calls.{NoNewline, PassesFront, front_bytes}
+use Rattle.roff_scan.specs.Unread.Runs.{TakesRun}
+use Rattle.roff_scan.specs.declared.run_kind.RunKind.TheVariants.{Blanks}
 use Rattle.roff_store.specs.Named.{Named}
 use Rattle.roff_store.specs.Texts.{Entry}
-use Rattle.roff_reader.proofs.Runs.{first_of_front, reads-bytes}
+use Rattle.roff_reader.proofs.Runs.{reads-taken, turned-behind}
 use Rattle.roff_reader.proofs.TextTaken.{plain-found}
 use Rattle.roff_reader.specs.Reader.State.{ReaderState}
 use Rattle.roff_run.specs.Reading.Items.{PageUnread}
@@ -83,49 +80,30 @@ turned-blanks names line half a texts n last (b ∷ bytes) none_half no_glyph so
     (λ k i. counts-blank k (input_at names p i) line n b none_half no_glyph some blanks.0) refl (omega arith) (omega arith)
     (turned-blanks names line half a texts next last bytes none_half no_glyph (omega (arith, some)) there blanks.1)
 
--- the blanks that come first are bytes in front, and none is a newline
-blanks_first : (front : List ℕ) (count : ℕ) → count ≡ length (take_while (λ b. b == blank) front) → AllByRecursion (λ b. (b == blank) ≡ true) (take count front)
-blanks_first front count counted =
-    subst (λ (n : ℕ). AllByRecursion (λ b. (b == blank) ≡ true) (take n front)) (sym (counted ∙ length-prefix_len (λ b. b == blank) front)) (take_while-plain (λ b. b == blank) front)
-
-few_blanks : (front : List ℕ) (count : ℕ) → count ≡ length (take_while (λ b. b == blank) front) → count ≤ length front
-few_blanks front count counted = omega (arith, counted, length-prefix_len (λ b. b == blank) front, prefix_len-le-length (λ b. b == blank) front)
-
-no_newline : (bytes : List ℕ) → AllByRecursion (λ b. (b == blank) ≡ true) bytes → NoNewline bytes
-no_newline [] blanks = tt
-no_newline (b ∷ bytes) blanks =
-    (subst (λ (c : ℕ). (c == newline) ≡ false) (sym (eqb-true b blank blanks.0)) refl, no_newline bytes blanks.1)
-
-pub blanks-no_newline : (front ready : List ℕ) (count : ℕ) (u : PageUnread) → count ≡ length (take_while (λ b. b == blank) front)
-    → front ≡ front_bytes (length front) ready u → NoNewline (front_bytes count ready u)
-blanks-no_newline front ready count u counted stood =
-    subst NoNewline (first_of_front front count ready u stood (few_blanks front count counted)) (no_newline (take count front) (blanks_first front count counted))
-
 -- what only counts blanks has one, and no glyph
 counts_none : (has_glyph more : Bool) → not has_glyph && more ≡ true → (has_glyph ≡ false) × (more ≡ true)
 counts_none true more so = cc
 counts_none false more so = (refl, so)
 
--- the blanks that come first were counted, and read past
-pub reads-blanks : (gave gives : Tape → Type 0) (front ready : List ℕ) (line behind : TextLine) (count : ℕ) (old new : ReaderState) (before after : PageUnread)
-    → before.input.escapes ≡ [] → old.reading ≡ InText line → counts_blanks old.reading ≡ true → count ≡ length (take_while (λ b. b == blank) front)
+-- blanks were counted, and read past
+pub reads-blanks : (gave gives : Tape → Type 0) (ready : List ℕ) (line behind : TextLine) (count : ℕ) (old new : ReaderState) (before after : PageUnread)
+    → before.input.escapes ≡ [] → old.reading ≡ InText line → counts_blanks old.reading ≡ true
     → behind ≡ record line { leading = blanks_counted count line.leading } → new ≡ record old { reading = InText behind }
-    → front ≡ front_bytes (length front) ready before → PassesFront gave gives (front_bytes count ready before) before after → IsWithin after
-    → ReadsPast gave gives old new before after
-reads-blanks gave gives front ready line behind count old new before after none_half is so counted led_on came stood passes within =
+    → TakesRun Blanks gave gives ready count before after → IsWithin after → ReadsPast gave gives old new before after
+reads-blanks gave gives ready line behind count old new before after none_half is so led_on came took within =
     let i : PageInput = before.input in
+    let bytes : List ℕ = took.bytes in
     let here : not line.has_glyph && nat_lt 0 line.leading ≡ true = subst (λ (r : LineState). counts_blanks r ≡ true) is so in
     let bare : (line.has_glyph ≡ false) × (nat_lt 0 line.leading ≡ true) = counts_none line.has_glyph (nat_lt 0 line.leading) here in
     let some : 1 ≤ line.leading = omega (arith, ltb-true 0 line.leading bare.1) in
-    let few : count ≤ length front = few_blanks front count counted in
-    let bytes : List ℕ = take count front in
-    let are : bytes ≡ front_bytes count ready before = first_of_front front count ready before stood few in
     let last : ℕ = blanks_counted count line.leading in
-    let taken : last ≡ blanks_counted (length bytes) line.leading = ap (λ (n : ℕ). blanks_counted n line.leading) (sym (length-take-le count front few)) in
+    let taken : last ≡ blanks_counted (length bytes) line.leading = ap (λ (n : ℕ). blanks_counted n line.leading) (sym took.length_is) in
     let reading : InText (led line last) ≡ new.reading = sym (ap (λ (r : ReaderState). r.reading) came ∙ ap (λ (l : TextLine). InText l) led_on) in
     let turned : Turned i.names (stage_with line i.escapes i.arguments i.open_texts line.leading) bytes (stage_with line i.escapes i.arguments i.open_texts last) =
-    turned-blanks i.names line i.escapes i.arguments i.open_texts line.leading last bytes none_half bare.0 some taken (blanks_first front count counted) in
-    reads-bytes gave gives bytes old new before after (subst (λ (all : List ℕ). PassesFront gave gives all before after) (sym are) passes)
-    (subst (λ (r : LineState). Turned i.names (stage_of r i) bytes (stage_of new.reading i)) (sym is)
-    (subst (λ (r : LineState). Turned i.names (stage_of (InText line) i) bytes (stage_of r i)) reading turned))
+    turned-blanks i.names line i.escapes i.arguments i.open_texts line.leading last bytes none_half bare.0 some taken took.are_of in
+    let there : Turned i.names (stage_of old.reading i) bytes (stage_of new.reading i) =
+    subst (λ (r : LineState). Turned i.names (stage_of r i) bytes (stage_of new.reading i)) (sym is)
+    (subst (λ (r : LineState). Turned i.names (stage_of (InText line) i) bytes (stage_of r i)) reading turned) in
+    reads-taken Blanks gave gives ready count old new before after took
+    (turned-behind i.names (stage_of old.reading i) bytes new.reading after.input i.escapes i.arguments i.open_texts took.half_read took.arguments took.texts there)
     (ap (λ (r : ReaderState). r.registers) came) (ap (λ (r : ReaderState). r.meaning) came) within

@@ -4,18 +4,11 @@ use Rattle.roff_arguments.specs.Arguments.{Arguments}
 use Rattle.roff_escape.specs.ConditionFronts.{ByteTaken, HalvesTaken, IsHeld, IsRead, NothingTaken, TakesOn}
 use Rattle.roff_escape.specs.OpenEscape.{OpenEscape, texts_held}
 use Rattle.roff_escape.specs.Waiting.{is_ended_by}
-use Rattle.roff_source.specs.Tape.{Tape}
-use Rattle.roff_scan.specs.Unread.{IsWithin}
-use Rattle.roff_scan.specs.Unread.Calls.{TakesHalves}
 use Rattle.roff_store.specs.Named.{Named}
 use Rattle.roff_store.specs.Texts.{Entry}
-use Rattle.roff_reader.proofs.Runs.{reads-run}
-use Rattle.roff_reader.specs.Reader.State.{ReaderState}
-use Rattle.roff_run.specs.Reading.Items.{PageUnread}
 use Rattle.roff_run.specs.Reading.Ends.{due}
 use Rattle.roff_run.specs.Reading.Items.{PageInput}
 use Rattle.roff_run.specs.Stages.{Here, Onward, Stage, TakesHalf, Turned, input_at}
-use Rattle.roff_reader.specs.Reader.Stages.{ReadsPast}
 use Rattle.roff_run.specs.declared.line_state.LineState.{LineState}
 
 -- where this is half read
@@ -37,7 +30,7 @@ taken-most half next b (IsRead reads) = omega (arith, reads.held)
 taken-most half next b (IsHeld top holds is) = omega (arith, ap texts_held is, holds.held)
 
 -- bytes that change only what is half read lead from stage to stage
-turned-taken : (names : Named Entry) (reading : LineState) (a : Arguments) (texts : List (List ℕ)) (half last : List OpenEscape) (bytes : List ℕ) → due reading ≡ None
+pub turned-taken : (names : Named Entry) (reading : LineState) (a : Arguments) (texts : List (List ℕ)) (half last : List OpenEscape) (bytes : List ℕ) → due reading ≡ None
     → TakesHalf reading → HalvesTaken half bytes last → Turned names (stage_with reading a texts half) bytes (stage_with reading a texts last)
 turned-taken names reading a texts _ last _ none_due does (NothingTaken half) = Here (stage_with reading a texts half)
 turned-taken names reading a texts half _ _ none_due does (ByteTaken _ next last b bytes takes others) =
@@ -45,12 +38,3 @@ turned-taken names reading a texts half _ _ none_due does (ByteTaken _ next last
     Onward p (stage_with reading a texts next) (stage_with reading a texts last) b bytes none_due (taken-stays half next b takes)
     (λ k i. does k (input_at names p i) b next takes) refl (omega (arith, taken-least half next b takes)) (omega (arith, taken-most half next b takes))
     (turned-taken names reading a texts next last bytes none_due does others)
-
--- bytes of a condition were read past
-pub reads-condition : (gave gives : Tape → Type 0) (r : ReaderState) (before after : PageUnread) → due r.reading ≡ None → TakesHalf r.reading
-    → TakesHalves gave gives before after → IsWithin after → ReadsPast gave gives r r before after
-reads-condition gave gives r before after none_due does took within =
-    let i : PageInput = before.input in
-    let last : List OpenEscape = after.input.escapes in
-    reads-run gave gives took.bytes r r before after (record after.input { escapes = i.escapes }) (λ j. record j { escapes = last }) refl (λ j. refl) took.passes (λ j. refl)
-    (turned-taken i.names r.reading i.arguments i.open_texts i.escapes last took.bytes none_due does took.taken) refl refl within

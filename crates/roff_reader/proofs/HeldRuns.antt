@@ -1,32 +1,36 @@
 -- Bytes behind a request's name, or that of a body, are held in the arguments of the line, one after another.
-use Rattle.std.proofs.Common.{◌≡◌, ℕ, ◌==◌, Bool, true, List, [], ◌∷◌, Option, None, Some, refl, sym, ap, subst, ◌∙◌, arith}
+use Rattle.std.proofs.Common.{◌≡◌, ℕ, ◌==◌, ◌≤◌, Bool, true, false, not, ◌||◌, List, [], ◌∷◌, Option, None, Some, refl, sym, ap, subst, ◌∙◌, arith}
 use Rattle.std.specs.Prelude.{if◌then◌else◌}
 use Rattle.std.specs.List.{AllByRecursion}
-use Rattle.roff_scan.proofs.HeldFronts.{held-byte_least, none_of_three}
+use Rattle.roff_arguments.proofs.KeptArguments.{held-only_kept, held-with_argument_byte}
 use Rattle.roff_arguments.proofs.HeldBytes.{held-byte}
-use Rattle.roff_arguments.specs.Arguments.{Arguments, HeldFewer, bytes_held, only_kept, with_argument_byte}
+use Rattle.roff_arguments.specs.Arguments.{Arguments, HeldFewer, bytes_held, held, only_kept, with_argument_byte}
 use Rattle.roff_source.specs.Bytes.{is_argument_byte}
 use Rattle.roff_source.specs.Bytes.{backslash, is_dropped, newline}
 use Rattle.roff_escape.specs.OpenEscape.{OpenEscape}
 use Rattle.roff_escape.specs.Waiting.{is_ended_by}
-use Rattle.roff_source.specs.Tape.{Tape}
-use Rattle.roff_scan.specs.Unread.{IsWithin}
-use Rattle.roff_scan.specs.Unread.Calls.{HoldsFewer, HoldsFront}
 use Rattle.roff_store.specs.Named.{Named}
 use Rattle.roff_store.specs.Texts.{Entry}
 use Rattle.roff_reader.proofs.CalledArguments.{call-byte}
-use Rattle.roff_reader.proofs.Runs.{reads-run}
-use Rattle.roff_reader.specs.Reader.State.{ReaderState}
-use Rattle.roff_run.specs.Reading.Items.{PageUnread}
 use Rattle.roff_run.specs.Reading.{undropped_taking}
 use Rattle.roff_run.specs.Reading.Ends.{due}
 use Rattle.roff_run.specs.Reading.Items.{PageInput, going_on}
 use Rattle.roff_run.specs.Reading.Units.{settling}
-use Rattle.roff_run.specs.Stages.{Here, Holds, HoldsIfFewer, Onward, Stage, Turned, input_at}
-use Rattle.roff_reader.specs.Reader.Stages.{ReadsPast}
+use Rattle.roff_run.specs.Stages.{Here, HoldsIfFewer, Onward, Stage, Turned, input_at}
 use Rattle.roff_run.specs.declared.line_state.LineState.{LineState}
 use Rattle.roff_run.specs.declared.line_state.LineState.TheVariants.{Calling}
 use Rattle.roff_num.specs.declared.short_name.ShortName.{ShortName}
+
+-- a byte that is held as it is read is none of three kinds
+none_of_three : (first second third : Bool) → not (first || (second || third)) ≡ true → (first ≡ false) × ((second ≡ false) × (third ≡ false))
+none_of_three true second third none = absurd (cc)
+none_of_three false true third none = absurd (cc)
+none_of_three false false true none = absurd (cc)
+none_of_three false false false none = (refl, (refl, refl))
+
+-- what was held stays
+held-byte_least : (a : Arguments) (b : ℕ) → held a ≤ held (only_kept (with_argument_byte a b))
+held-byte_least a b = omega (arith, held-only_kept (with_argument_byte a b), held-with_argument_byte a b)
 
 -- a byte that is held as it is read, behind the name of a body, where fewer than eight arguments are whole
 holds_call : (name : ShortName) (b : ℕ) → is_argument_byte b ≡ true → HoldsIfFewer (Some 8) (Calling name) b
@@ -43,7 +47,7 @@ abbrev stage_with : LineState → List OpenEscape → List (List ℕ) → Argume
 stage_with reading half texts a = record { reading = reading; escapes = half; arguments = a; texts = texts }
 
 -- bytes that are held lead from stage to stage
-turned-held : (most : Option ℕ) (names : Named Entry) (reading : LineState) (half : List OpenEscape) (texts : List (List ℕ)) (a : Arguments) (bytes : List ℕ)
+pub turned-held : (most : Option ℕ) (names : Named Entry) (reading : LineState) (half : List OpenEscape) (texts : List (List ℕ)) (a : Arguments) (bytes : List ℕ)
     → half ≡ [] → due reading ≡ None → ((b : ℕ) → is_argument_byte b ≡ true → HoldsIfFewer most reading b)
     → AllByRecursion (λ b. is_argument_byte b ≡ true) bytes → HeldFewer most bytes a
     → Turned names (stage_with reading half texts a) bytes (stage_with reading half texts (bytes_held bytes a))
@@ -55,27 +59,3 @@ turned-held most names reading half texts a (b ∷ bytes) none_half none_due hol
     (ap (λ (h : List OpenEscape). is_ended_by h (Some b)) none_half)
     (λ k i. holds b plain.0 k (input_at names p i) none_half fewer.0) refl (omega (arith, held-byte_least a b)) (omega (arith, held-byte a b))
     (turned-held most names reading half texts there bytes none_half none_due holds plain.1 fewer.1)
-
--- bytes that were held in the arguments where few enough were whole were read past
-pub reads-fewer : (most : Option ℕ) (gave gives : Tape → Type 0) (r : ReaderState) (before after : PageUnread) → before.input.escapes ≡ [] → due r.reading ≡ None
-    → ((b : ℕ) → is_argument_byte b ≡ true → HoldsIfFewer most r.reading b) → HoldsFewer most gave gives before after → IsWithin after
-    → ReadsPast gave gives r r before after
-reads-fewer most gave gives r before after none_half none_due holds fewer within =
-    let held : HoldsFront gave gives before after = fewer.held in
-    let i : PageInput = before.input in
-    let last : Arguments = bytes_held held.bytes i.arguments in
-    reads-run gave gives held.bytes r r before after (record after.input { arguments = i.arguments }) (λ j. record j { arguments = last })
-    (ap (λ (a : Arguments). record after.input { arguments = a }) held.arguments) (λ j. refl) held.passes (λ j. refl)
-    (turned-held most i.names r.reading i.escapes i.open_texts i.arguments held.bytes none_half none_due holds held.plain fewer.fewer) refl refl within
-
--- where there is no bound any number of arguments may be whole
-no_bound : (bytes : List ℕ) (a : Arguments) → HeldFewer None bytes a
-no_bound [] a = tt
-no_bound (b ∷ bytes) a = (tt, no_bound bytes (only_kept (with_argument_byte a b)))
-
--- so were bytes that are held however many are whole
-pub reads-held : (gave gives : Tape → Type 0) (r : ReaderState) (before after : PageUnread) → before.input.escapes ≡ [] → due r.reading ≡ None
-    → ((b : ℕ) → is_argument_byte b ≡ true → Holds r.reading b) → HoldsFront gave gives before after → IsWithin after → ReadsPast gave gives r r before after
-reads-held gave gives r before after none_half none_due holds held within =
-    reads-fewer None gave gives r before after none_half none_due (λ b plain k i bare few. holds b plain k i bare)
-    (record { held = held; fewer = no_bound held.bytes before.input.arguments }) within

@@ -22,6 +22,7 @@ pub mod AddedRuns
 pub mod BlankRuns
 pub mod NameFronts
 pub mod ConditionRuns
+pub mod TakenRuns
 pub mod ControlFronts
 pub mod LineEnds
 pub mod WaitingAlone

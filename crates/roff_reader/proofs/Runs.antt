@@ -1,16 +1,21 @@
 -- Bytes that were taken together and changed only what is read were read past, wherever they stood.
-use Rattle.std.proofs.Common.{◌≡◌, ◌≤◌, ℕ, Bool, List, [], length, take, ◌++◌, inl, inr, refl, sym, ap, subst, ◌∙◌, arith}
-use Rattle.std.specs.Prelude.{map}
+use Rattle.std.proofs.Common.{◌≡◌, ◌≤◌, ℕ, List, [], length, take, refl, sym, ap, subst, ◌∙◌, arith}
 use Rattle.std.proofs.lemmas.List.{take-take}
-use Rattle.roff_ahead.specs.Input.{ByteAhead, bytes_taken, lines_taken}
+use Rattle.roff_arguments.specs.Arguments.{Arguments}
+use Rattle.roff_escape.specs.OpenEscape.{OpenEscape}
 use Rattle.roff_source.specs.Tape.{Tape}
+use Rattle.roff_store.specs.Named.{Named}
+use Rattle.roff_store.specs.Texts.{Entry}
 use Rattle.roff_scan.specs.Unread.{IsWithin}
-use Rattle.roff_scan.specs.Unread.Calls.{OfSource, OfTexts, PassesAhead, PassesFront, PassesOver, front_bytes, next_bytes}
+use Rattle.roff_scan.specs.Unread.Calls.{OfSource, OfTexts, PassesFront, front_bytes, next_bytes}
 use Rattle.roff_run.proofs.ItemsTaken.{FromAhead, FromSource, Origin}
 use Rattle.roff_run.proofs.PlainRuns.{counted, counted-source}
 use Rattle.roff_reader.proofs.TurnedRuns.{counted-bytes_taken}
 use Rattle.roff_run.specs.Reading.Items.{PageInput, PageUnread}
-use Rattle.roff_run.specs.Stages.{Here, Stage, Turned, stage_of, with_stage_of}
+use Rattle.roff_run.specs.Stages.{Here, Stage, Turned, stage_of}
+use Rattle.roff_scan.specs.Unread.Runs.{TakesRun, with_stage_of}
+use Rattle.roff_scan.specs.declared.run_kind.RunKind.{RunKind}
+use Rattle.roff_run.specs.declared.line_state.LineState.{LineState}
 use Rattle.roff_reader.specs.Reader.State.{ReaderState}
 use Rattle.roff_reader.specs.Reader.Stages.{ReadsPast}
 
@@ -53,6 +58,29 @@ pub reads-bytes : (gave gives : Tape → Type 0) (bytes : List ℕ) (r new : Rea
 reads-bytes gave gives bytes r new before after passes turned registers meaning within =
     reads-run gave gives bytes r new before after after.input (λ i. i) refl (λ i. refl) passes (λ i. refl) turned registers meaning within
 
+-- A run was read past, where its bytes lead to the stage behind it.
+pub reads-taken : (kind : RunKind) (gave gives : Tape → Type 0) (ready : List ℕ) (count : ℕ) (r new : ReaderState) (before after : PageUnread)
+    → (took : TakesRun kind gave gives ready count before after)
+    → Turned before.input.names (stage_of r.reading before.input) took.bytes (stage_of new.reading after.input)
+    → new.registers ≡ r.registers → new.meaning ≡ r.meaning → IsWithin after → ReadsPast gave gives r new before after
+reads-taken kind gave gives ready count r new before after took turned registers meaning within = record {
+  bytes = took.bytes;
+  turned = turned;
+  passes = took.passes;
+  registers = registers;
+  meaning = meaning;
+  within = within;
+}
+
+-- bytes lead to a stage, by what the input has of it
+pub turned-behind : (names : Named Entry) (p : Stage) (bytes : List ℕ) (reading : LineState) (i : PageInput) (half : List OpenEscape) (a : Arguments) (texts : List (List ℕ))
+    → i.escapes ≡ half → i.arguments ≡ a → i.open_texts ≡ texts
+    → Turned names p bytes (record { reading = reading; escapes = half; arguments = a; texts = texts }) → Turned names p bytes (stage_of reading i)
+turned-behind names p bytes reading i half a texts is_half is_a is_texts turned =
+    subst (λ (h : List OpenEscape). Turned names p bytes (record { reading = reading; escapes = h; arguments = i.arguments; texts = i.open_texts })) (sym is_half)
+    (subst (λ (b : Arguments). Turned names p bytes (record { reading = reading; escapes = half; arguments = b; texts = i.open_texts })) (sym is_a)
+    (subst (λ (t : List (List ℕ)). Turned names p bytes (record { reading = reading; escapes = half; arguments = a; texts = t })) (sym is_texts) turned))
+
 -- no bytes
 pub passes-none : (gave : Tape → Type 0) (u : PageUnread) → IsWithin u → PassesFront gave gave [] u u
 passes-none gave u within = OfTexts (record {
@@ -65,37 +93,6 @@ passes-none gave u within = OfTexts (record {
 
 pub reads-none : (gave : Tape → Type 0) (r : ReaderState) (u : PageUnread) → IsWithin u → ReadsPast gave gave r r u u
 reads-none gave r u within = reads-bytes gave gave [] r r u u (passes-none gave u within) (Here (stage_of r.reading u.input)) refl refl within
-
--- bytes that were passed over are bytes in front that were taken
-pub passes-over : (gave gives : Tape → Type 0) (ready : List ℕ) (within_block : Bool) (before after : PageUnread)
-    → (passes : PassesOver gave gives ready before after within_block) → PassesFront gave gives passes.bytes before after
-passes-over gave gives ready within_block before after passes =
-    let ahead = before.input.ahead in
-    let nothing : passes.bytes ≡ [] → PassesFront gave gives passes.bytes before after = λ none. OfTexts (record {
-      behind = ahead;
-      in_front = ap (λ (bytes : List ℕ). map ByteAhead bytes ++ ahead) (sym none);
-      stays = passes.stays none;
-      input = passes.input ∙ ap (λ (bytes : List ℕ). record before { input = lines_taken bytes before.input }) none
-          ∙ ap (λ (bytes : List ℕ). record before { input = bytes_taken bytes ahead before.input }) (sym none);
-      within = passes.within;
-    }) in
-    elim passes.bare [
-      | inl none ↦ nothing none
-      | inr bare ↦ elim passes.some [
-        | inl none ↦ nothing none
-        | inr some ↦ OfSource (record { ahead = bare.ahead; looked = bare.looked; in_front = passes.in_front; some = some; input = passes.input; within = passes.within })
-      ]
-    ]
-
-pub passes-over_ahead : (gave : Tape → Type 0) (within_block : Bool) (before after : PageUnread)
-    → (passes : PassesAhead before after within_block) → PassesFront gave gave passes.bytes before after
-passes-over_ahead gave within_block before after passes = OfTexts (record {
-  behind = passes.behind;
-  in_front = passes.in_front;
-  stays = record { before = λ t may. may; after = λ t may. may };
-  input = passes.input;
-  within = passes.within;
-})
 
 -- of the bytes in front fewer are the first of them
 pub first_of_front : (front : List ℕ) (count : ℕ) (ready : List ℕ) (u : PageUnread) → front ≡ front_bytes (length front) ready u → count ≤ length front

@@ -21,7 +21,8 @@ use Rattle.roff_run.specs.Registers.{AllRegisters, Known}
 use Rattle.roff_run.specs.declared.event.PageEvent.{PageEvent}
 use Rattle.roff_run.specs.Run.{State, after, known, made, step, taken_as, unless_refused}
 use Rattle.roff_run.specs.Run.Counts.{counts_in, first_passed}
-use Rattle.roff_run.specs.Stages.{Growing, Here, Onward, Stage, TextsGrow, Turned, Turns, held_at, input_at, stage_of, with_stage_of}
+use Rattle.roff_run.specs.Stages.{Growing, Here, Onward, Stage, TextsGrow, Turned, Turns, held_at, input_at, stage_of}
+use Rattle.roff_scan.specs.Unread.Runs.{with_stage_of}
 use Rattle.roff_run.specs.TurnsToCome.{begun, free_ahead, turns_within}
 use Rattle.roff_run.specs.declared.line_state.LineState.{LineState}
 

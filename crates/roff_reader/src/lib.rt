@@ -3,7 +3,6 @@
 
 mod meaning;
 mod reader;
-mod run_kind;
 
 pub use reader::{Reader, first_unread};
-pub use run_kind::RunKind;
+pub use roff_scan::RunKind;

@@ -96,10 +96,6 @@ pub data Turned (names : Named Entry) : Stage → List ℕ → Stage → Type 0 
       → Turns names p b q → TextsGrow p.texts q.texts → held_at p ≤ held_at q → held_at q ≤ held_at p + 1
       → Turned names q bytes r → Turned names p (b ∷ bytes) r
 
--- an input with the stage of another one
-abbrev pub with_stage_of : PageInput → PageInput → PageInput
-with_stage_of before i = record i { escapes = before.escapes; arguments = before.arguments; open_texts = before.open_texts }
-
 -- blanks only count where this is read and nothing is half read: in front of the first glyph of a text line, behind another blank
 abbrev pub counts_blanks : LineState → Bool
 counts_blanks (InText line) = not line.has_glyph && nat_lt 0 line.leading

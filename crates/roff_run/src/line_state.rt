@@ -1,12 +1,11 @@
 //! What is being read of a line, and what stands on it.
 
-ghost use Rattle.std.specs.Prelude.{◌≡◌, length, ◌==◌, take_while};
+ghost use Rattle.std.specs.Prelude.{◌≡◌};
 ghost use Rattle.roff_run.specs.Reading.Ends.{due, line_ends_first};
 ghost use Rattle.roff_run.specs.Reading.Waiting.{copies_in};
 ghost use Rattle.roff_num.specs.ShortNames.{name_bytes};
 ghost use Rattle.roff_num.specs.ShortNames.{short_name};
 ghost use Rattle.roff_run.specs.Reading.ControlLines.{ends_name};
-ghost use Rattle.roff_source.specs.Bytes.{blank};
 
 mod behind;
 mod text_line;
@@ -169,14 +168,6 @@ impl LineState {
             _ => false,
         }
     }
-}
-
-/// How many blanks these bytes begin with.
-#[inline(always)]
-pub fn blanks_in_front(bytes: &[u8]) -> usize
-    ensures { result ≡ length (take_while (λ b. b == blank) bytes.now) }
-{
-    bytes.iter().take_while(|byte| **byte == b' ').count()
 }
 
 /// Whether a byte ends a name, and doesn't belong to it.

@@ -1,18 +1,22 @@
 -- Bytes of plain text of the source that are put behind the newest text in the making at once.
-use Rattle.std.proofs.Common.{◌≡◌, ℕ, ◌+◌, ◌==◌, ◌≤◌, ◌<◌, Bool, true, false, List, [], ◌∷◌, ◌++◌, length, take, take_while, get_or, Option, Some, None, Ok, Err, refl, sym, ap, subst, ◌∙◌, append_assoc, arith}
+use Rattle.std.proofs.Common.{◌≡◌, ℕ, ◌+◌, ◌≤◌, ◌<◌, true, List, [], ◌∷◌, ◌++◌, length, take, take_while, get_or, Option, Some, None, Ok, refl, sym, ap, subst, ◌∙◌, append_assoc, arith}
 use Rattle.std.specs.Prelude.{Result, set, sum_by}
 use Rattle.std.specs.List.{AllByRecursion, prefix_len}
-use Rattle.std.proofs.lemmas.Bool.{eqb-true}
 use Rattle.std.proofs.lemmas.List.Folds.{length-prefix_len}
 use Rattle.std.proofs.lemmas.List.{append-nil, get_or-set_same, length-append, length-set, set-get_or, set-set}
 use Rattle.std.proofs.lemmas.List.Sums.{sum_by-set}
 use Rattle.roff_num.specs.declared.limit.Limit.{Limit}
-use Rattle.roff_source.specs.Bytes.{is_text_byte, newline}
-use Rattle.roff_ahead.specs.Input.{Input, counting, is_none_ahead, lines_taken}
-use Rattle.roff_ahead.specs.Input.Names.{adding, calling_on}
+use Rattle.roff_source.specs.Bytes.{is_text_byte}
+use Rattle.roff_ahead.specs.Input.{Input, is_none_ahead}
+use Rattle.roff_ahead.specs.Input.Names.{adding, calling_on, stored}
 use Rattle.roff_source.specs.Tape.{Tape}
-use Rattle.roff_scan.specs.Unread.{Unread, changing, input_refusal, unless_passed}
-use Rattle.roff_scan.specs.Unread.Calls.{AddsFront, IsFront, NoNewline, OfSource, OfTexts, PassesSource, front_bytes}
+use Rattle.roff_scan.specs.Unread.{Unread, IsWithin, changing, input_refusal, unless_passed}
+use Rattle.roff_scan.specs.Unread.Calls.{IsFront, NoNewline, OfSource, PassesFront, PassesSource, front_bytes}
+use Rattle.roff_scan.specs.Unread.Runs.{TakesRun, room_for}
+use Rattle.roff_scan.specs.declared.run_kind.RunKind.TheVariants.{Definition}
+use Rattle.roff_scan.proofs.Changing.{OthersWithin, changing_within}
+use Rattle.roff_scan.proofs.RunKinds.{no_bound, no_newline_of}
+use Rattle.roff_scan.proofs.Staged.{passes-staged, stage-behind}
 use Rattle.roff_scan.proofs.Fronts.{next-ready}
 use Rattle.roff_source.proofs.PlainBytes.{take_while-plain}
 use Rattle.roff_store.specs.TextCalls.{PushOpen}
@@ -59,6 +63,18 @@ pub stored-texts_added : (bytes : List ℕ) (texts : List (List ℕ)) → sum_by
 stored-texts_added bytes [] = omega arith
 stored-texts_added bytes (text ∷ texts) = stored-added bytes (length texts) (text ∷ texts) (omega arith)
 
+-- and all together are longer by no more than these bytes
+longer-added : (bytes : List ℕ) (id : ℕ) (texts : List (List ℕ)) → id < length texts
+    → sum_by length (texts_added bytes (Some id) texts) ≤ sum_by length texts + length bytes
+longer-added bytes id texts inside =
+    let text : List ℕ = get_or texts id [] in
+    let size : List ℕ → ℕ = length in
+    omega (arith, sum_by-set size texts id (text ++ bytes) [] inside, length-append text bytes)
+
+added-most : (bytes : List ℕ) (texts : List (List ℕ)) → sum_by length (texts_added bytes (newest texts) texts) ≤ sum_by length texts + length bytes
+added-most bytes [] = omega arith
+added-most bytes (text ∷ texts) = longer-added bytes (length texts) (text ∷ texts) (omega arith)
+
 -- so the newest stays the newest
 newest-same : (texts others : List (List ℕ)) → length texts ≡ length others → newest texts ≡ newest others
 newest-same [] [] same = refl
@@ -68,19 +84,6 @@ newest-same (text ∷ texts) (other ∷ others) same = let fewer : length texts 
 
 pub newest-added : (bytes : List ℕ) (id : Option ℕ) (texts : List (List ℕ)) → newest (texts_added bytes id texts) ≡ newest texts
 newest-added bytes id texts = newest-same (texts_added bytes id texts) texts (length-texts_added bytes id texts)
-
--- a byte that isn't one of text
-not_text : (b c : ℕ) → is_text_byte b ≡ true → is_text_byte c ≡ false → (b == c) ≡ true → ⊥
-not_text b c text other same = let is : is_text_byte c ≡ true = subst (λ (d : ℕ). is_text_byte d ≡ true) (eqb-true b c same) text in cc
-
--- so no newline is among bytes of text
-no_newline_at : (b : ℕ) (is : Bool) → (b == newline) ≡ is → is_text_byte b ≡ true → is ≡ false
-no_newline_at b true is text = absurd (not_text b newline text refl is)
-no_newline_at b false is text = refl
-
-pub text_no_newline : (bytes : List ℕ) → AllByRecursion (λ b. is_text_byte b ≡ true) bytes → NoNewline bytes
-text_no_newline [] plain = tt
-text_no_newline (b ∷ bytes) plain = (no_newline_at b (b == newline) refl plain.0, text_no_newline bytes plain.1)
 
 -- bytes of text in front
 pub plain_in_front : (front text : List ℕ) (count : ℕ) → text ≡ take count front → count ≡ length (take_while is_text_byte front)
@@ -104,16 +107,11 @@ module _ {E : Type 0} where
   abbrev pub with_open : List (List ℕ) → Unread E → Unread E
   with_open texts u = record u { input = record u.input { open_texts = texts } }
 
-  -- a change that isn't refused is made, and one that is refused changes nothing
+  -- a change that isn't refused is made
   made-allowed : (refusal : Option Limit) (i : Input E) (u new : Unread E) (r : Result (Unit {0}) Limit) → (r, new) ≡ unless_passed refusal i u → r ≡ Ok tt
       → new ≡ record u { input = i }
   made-allowed None i u new r made allowed = ap (λ (p : Result (Unit {0}) Limit × Unread E). p.1) made
   made-allowed (Some limit) i u new r made allowed = let refused = ap (λ (p : Result (Unit {0}) Limit × Unread E). p.0) made in cc
-
-  made-refused : (refusal : Option Limit) (i : Input E) (u new : Unread E) (r : Result (Unit {0}) Limit) (limit : Limit) → (r, new) ≡ unless_passed refusal i u → r ≡ Err limit
-      → new ≡ u
-  made-refused None i u new r limit made refused = let allowed = ap (λ (p : Result (Unit {0}) Limit × Unread E). p.0) made in cc
-  made-refused (Some other) i u new r limit made refused = ap (λ (p : Result (Unit {0}) Limit × Unread E). p.1) made
 
   module _ (u new : Unread E) (bytes : List ℕ) (r : Result (Unit {0}) Limit) (made : (r, new) ≡ changing (adding bytes u.input) u) where
     -- the texts behind bytes that were added
@@ -125,51 +123,27 @@ module _ {E : Type 0} where
         made-allowed (input_refusal u.limits (adding bytes u.input)) (adding bytes u.input) u new r made allowed
         ∙ ap (λ (i : Input E). record u { input = i }) (adding-texts bytes u.input)
 
-    pub added-refused : (limit : Limit) → r ≡ Err limit → new ≡ u
-    added-refused limit refused = made-refused (input_refusal u.limits (adding bytes u.input)) (adding bytes u.input) u new r limit made refused
+  -- a text that there is room for is put there, so none is refused
+  pub added-ok : (u new : Unread E) (bytes : List ℕ) (r : Result (Unit {0}) Limit) → (r, new) ≡ changing (adding bytes u.input) u → IsWithin u
+      → stored u.input + length bytes ≤ u.limits.store → r ≡ Ok tt
+  added-ok u new bytes r made within room =
+      let grown : List (List ℕ) = texts_added bytes (newest u.input.open_texts) u.input.open_texts in
+      let i : Input E = record u.input { open_texts = grown } in
+      let few = added-most bytes u.input.open_texts in
+      let others : OthersWithin u i = record {
+        charge = within.charge;
+        newlines = within.newlines;
+        results = within.results;
+        stored = omega (arith, room, few);
+        names = within.names;
+        making = omega (arith, within.making, length-texts_added bytes (newest u.input.open_texts) u.input.open_texts);
+      } in
+      ap (λ (p : Result (Unit {0}) Limit × Unread E). p.0)
+      (made ∙ ap (λ (j : Input E). changing j u) (adding-texts bytes u.input) ∙ changing_within u i others within.pushed within.depth)
 
-  -- what is counted of bytes doesn't depend on texts
-  lines_taken-texts : (bytes : List ℕ) (texts : List (List ℕ)) (i : Input E) → lines_taken bytes (record i { open_texts = texts }) ≡ record (lines_taken bytes i) { open_texts = texts }
-  lines_taken-texts [] texts i = refl
-  lines_taken-texts (b ∷ bytes) texts i = lines_taken-texts bytes texts (counting b i)
-
-  -- bytes that were taken behind a change of texts in the making alone were taken without it
-  passes-texts : (old new : Tape → Type 0) (bytes : List ℕ) (texts : List (List ℕ)) (before after : Unread E) → PassesSource old new bytes (with_open texts before) after
-      → PassesSource old new bytes before (with_open before.input.open_texts after)
-  passes-texts old new bytes texts before after passes =
-      let i : Input E = before.input in
-      record {
-        ahead = passes.ahead;
-        looked = passes.looked;
-        in_front = passes.in_front;
-        some = passes.some;
-        input =
-            ap (with_open i.open_texts) passes.input
-            ∙ ap (λ (j : Input E). record before { input = record j { open_texts = i.open_texts } }) (lines_taken-texts bytes texts i)
-            ∙ ap (λ (j : Input E). record before { input = j }) (sym (lines_taken-texts bytes i.open_texts i));
-        within = passes.within;
-      }
-
-  -- and the texts stay
-  texts-behind : (old new : Tape → Type 0) (bytes : List ℕ) (texts : List (List ℕ)) (before after : Unread E) → PassesSource old new bytes (with_open texts before) after
-      → after.input.open_texts ≡ texts
-  texts-behind old new bytes texts before after passes =
-      ap (λ (u : Unread E). u.input.open_texts) passes.input ∙ ap (λ (j : Input E). j.open_texts) (lines_taken-texts bytes texts before.input)
-
-  -- nothing was added
-  pub adds_nothing : (gives : Tape → Type 0) (u : Unread E) → u.input.charge ≤ u.limits.bytes → AddsFront gives gives u u
-  adds_nothing gives u within = record {
-    bytes = [];
-    plain = tt;
-    passes = OfTexts (record {
-      behind = u.input.ahead;
-      in_front = refl;
-      stays = record { before = λ t may. may; after = λ t may. may };
-      input = refl;
-      within = omega (arith, within);
-    });
-    texts = sym (ap (λ (i : Input E). i.open_texts) (adding-texts [] u.input) ∙ texts_added-none (newest u.input.open_texts) u.input.open_texts);
-  }
+  -- no bytes change nothing
+  pub adding-none : (i : Input E) → (adding [] i).open_texts ≡ i.open_texts
+  adding-none i = ap (λ (j : Input E). j.open_texts) (adding-texts [] i) ∙ texts_added-none (newest i.open_texts) i.open_texts
 
   module _ (u new : Unread E) (ready text : List ℕ) (r : Result (Unit {0}) Limit) (made : (r, new) ≡ changing (adding text u.input) u) (allowed : r ≡ Ok tt)
       (ahead : is_none_ahead u.input.ahead ≡ true) (looked : u.looked ≡ None) (same : text ≡ take (length text) ready) where
@@ -193,18 +167,27 @@ module _ {E : Type 0} where
 
     -- none of them is a newline
     pub added_no_newline : AllByRecursion (λ b. is_text_byte b ≡ true) text → NoNewline (front_bytes (length text) ready new)
-    added_no_newline plain = subst NoNewline first_added (text_no_newline text plain)
+    added_no_newline plain = subst NoNewline first_added (no_newline_of is_text_byte refl text plain)
 
     -- and they were added, and taken
-    pub adds_front : (old gives : Tape → Type 0) (after : Unread E) → AllByRecursion (λ b. is_text_byte b ≡ true) text
-        → PassesSource old gives (front_bytes (length text) ready new) new after → AddsFront old gives u after
-    adds_front old gives after plain passed =
-        let passes : PassesSource old gives text (with_open texts u) after =
+    pub adds_run : (old gives : Tape → Type 0) (after : Unread E) → AllByRecursion (λ b. is_text_byte b ≡ true) text
+        → text ≡ take_while is_text_byte (take (room_for Definition u) ready)
+        → PassesSource old gives (front_bytes (length text) ready new) new after → TakesRun Definition old gives ready (length text) u after
+    adds_run old gives after plain whole passed =
+        let i : Input E = u.input in
+        let source : PassesSource old gives text (with_open texts u) after =
         subst (λ (v : Unread E). PassesSource old gives text v after) is_grown
         (subst (λ (xs : List ℕ). PassesSource old gives xs new after) (sym first_added) passed) in
+        let passes : PassesFront old gives text (with_open texts u) after = OfSource source in
+        let stage = stage-behind old gives text i.escapes i.arguments texts u after passes in
         record {
           bytes = text;
-          plain = plain;
-          passes = OfSource (passes-texts old gives text texts u after passes);
-          texts = texts-behind old gives text texts u after passes ∙ sym (ap (λ (i : Input E). i.open_texts) (adding-texts text u.input));
+          length_is = refl;
+          are_of = plain;
+          fewer = no_bound text i.arguments;
+          passes = passes-staged old gives text i.escapes i.arguments texts u after passes;
+          arguments = ap (λ (j : Input E). j.arguments) stage;
+          half_read = ap (λ (j : Input E). j.escapes) stage;
+          texts = ap (λ (j : Input E). j.open_texts) stage ∙ sym (ap (λ (j : Input E). j.open_texts) (adding-texts text i));
+          whole = λ goes asks. whole;
         }

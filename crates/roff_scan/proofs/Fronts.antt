@@ -1,5 +1,5 @@
 -- Bytes that stand in front: those of a slice, and what is left of the input behind so many of them.
-use Rattle.std.proofs.Common.{◌≡◌, ℕ, ◌+◌, ◌-◌, ◌==◌, ◌≤◌, Bool, true, false, if◌then◌else◌, List, [], ◌∷◌, ◌++◌, length, map, take, drop, Option, Some, None, refl, sym, ap, subst, ◌∙◌, arith}
+use Rattle.std.proofs.Common.{◌≡◌, count_by, ℕ, ◌+◌, ◌-◌, ◌==◌, ◌≤◌, Bool, true, false, if◌then◌else◌, List, [], ◌∷◌, ◌++◌, length, map, take, drop, Option, Some, None, refl, sym, ap, subst, ◌∙◌, arith}
 use Rattle.std.specs.Prelude.{is_some}
 use Rattle.std.proofs.lemmas.List.{length-take-le, take-take}
 use Rattle.roff_source.specs.Bytes.{newline}
@@ -10,6 +10,7 @@ use Rattle.roff_scan.specs.Unread.Calls.{IsFront, NoNewline, PassesFront, OfText
 use Rattle.roff_ahead.proofs.Counts.{returns_ahead-bytes}
 use Rattle.roff_scan.proofs.PassingAhead.{IsWithin-behind, behind_bytes, bytes_taken-is}
 use Rattle.roff_ahead.proofs.Leading.{Begins, begins, leading-parted}
+use Rattle.roff_scan.proofs.Passing.{counted, lines_taken-last}
 
 -- no byte was looked at
 pub nothing_looked : (looked : Option ℕ) → is_some looked ≡ false → looked ≡ None
@@ -160,5 +161,25 @@ module _ {E : Type 0} (ready : List ℕ) (u : Unread E) where
             in_front = ours.before;
             some = (ours.some, ours.some_given);
             input = ap (λ (i : Input E). record u { input = i }) (sym (lines_taken-is (front_bytes count ready u) count u.input length-front_bytes some plain));
+            within = allowed;
+          }
+
+      -- so were they where newlines may be among them: those in front of the last were counted, and then the last
+      pub passes_lines : (old new : Tape → Type 0) (front passed : List ℕ) (last : ℕ) → passed ≡ take count ready → passed ≡ front ++ last ∷ []
+          → Took old new (map OneByte (take count ready))
+          → PassesSource old new (front_bytes count ready u) u
+          (record u { input = counting last (counted (length front) (count_by (λ b. b == newline) front) u.input); looked = None })
+      passes_lines old new front passed last cut split took =
+          let ours : Took old new (map OneByte (front_bytes count ready u)) =
+          subst (λ (bytes : List ℕ). Took old new (map OneByte (take count bytes))) (sym source.1.1) took in
+          let are : front_bytes count ready u ≡ front ++ last ∷ [] = ap (take count) source.1.1 ∙ sym cut ∙ split in
+          record {
+            ahead = source.0;
+            looked = source.1.0;
+            in_front = ours.before;
+            some = (ours.some, ours.some_given);
+            input =
+                ap (λ (i : Input E). record u { input = i; looked = None }) (sym (ap (λ (bytes : List ℕ). lines_taken bytes u.input) are ∙ lines_taken-last front last u.input))
+                ∙ ap (λ (o : Option ℕ). record u { input = lines_taken (front_bytes count ready u) u.input; looked = o }) (sym source.1.0);
             within = allowed;
           }

@@ -1,4 +1,8 @@
+pub mod Staged
+pub mod RunKinds
+pub mod PartsTaken
 pub mod AddedFronts
+pub mod Runs
 pub mod Asking
 pub mod Changing
 pub mod Calling
@@ -7,9 +11,6 @@ pub mod CallsOver
 pub mod Passing
 pub mod PassingAhead
 pub mod Fronts
-pub mod HeldFronts
-pub mod NamesInFront
-pub mod ConditionsInFront
 pub mod PushedFronts
 pub mod Newlines
 pub mod TextEnds

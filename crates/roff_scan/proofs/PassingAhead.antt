@@ -1,10 +1,7 @@
--- Bytes of a body that are passed over: what is left of the input behind them.
-use Rattle.std.proofs.Common.{◌≡◌, inr, ℕ, ◌+◌, ◌≤◌, Bool, true, List, [], ◌∷◌, ◌++◌, length, map, refl, sym, ap, subst, ◌∙◌, arith}
-use Rattle.std.specs.List.{AllByRecursion}
-use Rattle.roff_source.specs.Bytes.{is_passed}
+-- Bytes ahead that are taken at once: what is left of the input behind them.
+use Rattle.std.proofs.Common.{◌≡◌, ℕ, ◌+◌, ◌≤◌, List, [], ◌∷◌, ◌++◌, length, map, refl, ap, ◌∙◌, arith}
 use Rattle.roff_ahead.specs.Input.{Ahead, ByteAhead, Input, bytes_ahead, bytes_taken, ends_ahead, item_taken}
 use Rattle.roff_scan.specs.Unread.{Unread, IsWithin}
-use Rattle.roff_scan.specs.Unread.Calls.{PassesAhead}
 use Rattle.roff_ahead.proofs.Counts.{bytes_ahead-bytes, ends_ahead-bytes}
 
 module _ {E : Type 0} where
@@ -40,18 +37,3 @@ module _ {E : Type 0} where
           names = within.names;
           making = within.making;
         }
-
-    -- and they were passed over
-    pub passes_ahead : (before : Unread E) → u ≡ before → u.input.escapes ≡ [] → (within_block : Bool)
-        → AllByRecursion (λ b. is_passed within_block b ≡ true) bytes
-        → PassesAhead before (record u { input = behind_bytes (length bytes) behind u.input }) within_block
-    passes_ahead before is none_half within_block plain =
-        subst (λ (v : Unread E). PassesAhead v (record u { input = behind_bytes (length bytes) behind u.input }) within_block) is (record {
-          bytes = bytes;
-          behind = behind;
-          in_front = front;
-          plain = plain;
-          none_half = inr none_half;
-          input = ap (λ (i : Input E). record u { input = i }) (sym (bytes_taken-is bytes behind u.input front));
-          within = allowed;
-        })

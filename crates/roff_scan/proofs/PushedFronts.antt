@@ -5,7 +5,10 @@ use Rattle.roff_escape.specs.OpenEscape.{OpenEscape}
 use Rattle.roff_ahead.specs.Input.{Ahead, ByteAhead, Input, bytes_ahead, ends_ahead}
 use Rattle.roff_source.specs.Tape.{Tape}
 use Rattle.roff_scan.specs.Unread.{Unread, IsWithin}
-use Rattle.roff_scan.specs.Unread.Calls.{OfTexts, TakesHalves, TakesPushed}
+use Rattle.roff_scan.specs.Unread.Calls.{OfTexts, TakesPushed}
+use Rattle.roff_scan.specs.Unread.Runs.{TakesRun, with_stage_of}
+use Rattle.roff_scan.specs.declared.run_kind.RunKind.TheVariants.{Condition}
+use Rattle.roff_scan.proofs.RunKinds.{any_byte, no_bound}
 use Rattle.roff_ahead.proofs.Counts.{bytes_ahead-bytes, ends_ahead-bytes}
 use Rattle.roff_scan.proofs.PassingAhead.{behind_bytes, bytes_taken-is}
 use Rattle.roff_ahead.proofs.GivenFronts.{HalvesTaken-held}
@@ -38,17 +41,26 @@ module _ {E : Type 0} where
         subst (λ (n : ℕ). IsWithin (behind_given n behind half u)) is (given-within (omega (arith, is, allowed)) within)
 
   -- whatever the source may give, it wasn't asked
-  pub pushed_halves : (gives : Tape → Type 0) (before after : Unread E) → TakesPushed before after → TakesHalves gives gives before after
-  pushed_halves gives before after took = record {
-    bytes = took.bytes;
-    taken = took.taken;
-    passes = OfTexts (record {
-      behind = took.behind;
-      in_front = took.in_front;
-      stays = record { before = λ t may. may; after = λ t may. may };
-      input =
-          ap (λ (u : Unread E). record u { input = record u.input { escapes = before.input.escapes } }) took.input
-          ∙ ap (λ (i : Input E). record before { input = i }) (sym (bytes_taken-is took.bytes took.behind before.input took.in_front));
-      within = took.within;
-    });
-  }
+  pub pushed_run : (gives : Tape → Type 0) (ready : List ℕ) (count : ℕ) (before after : Unread E) → TakesPushed count before after
+      → TakesRun Condition gives gives ready count before after
+  pushed_run gives ready count before after took =
+      let i : Input E = before.input in
+      record {
+        bytes = took.bytes;
+        length_is = took.length_is;
+        are_of = any_byte took.bytes;
+        fewer = no_bound took.bytes i.arguments;
+        passes = OfTexts (record {
+          behind = took.behind;
+          in_front = took.in_front;
+          stays = record { before = λ t may. may; after = λ t may. may };
+          input =
+              ap (λ (u : Unread E). record u { input = with_stage_of i u.input }) took.input
+              ∙ ap (λ (j : Input E). record before { input = j }) (sym (bytes_taken-is took.bytes took.behind i took.in_front));
+          within = took.within;
+        });
+        arguments = ap (λ (u : Unread E). u.input.arguments) took.input;
+        half_read = took.taken;
+        texts = ap (λ (u : Unread E). u.input.open_texts) took.input;
+        whole = λ goes. absurd (cc);
+      }

@@ -1,1 +1,2 @@
+pub mod RunKinds
 pub mod Unread

@@ -4,11 +4,11 @@
 -- stands behind what is ahead, and before what the source still gives.
 pub mod Calls
 pub mod Kept
-use Rattle.std.specs.Prelude.{◌≡◌, ℕ, ◌+◌, ◌-◌, ◌≤◌, ◌&&◌, is_none, Bool, true, false, List, [], ◌∷◌, length, take, take_while, ◌==◌, nat_lt, Option, Some, None, if◌then◌else◌, Result, Ok, Err}
+pub mod Runs
+use Rattle.std.specs.Prelude.{◌≡◌, ℕ, ◌+◌, ◌-◌, ◌≤◌, ◌&&◌, is_none, Bool, true, false, List, [], ◌∷◌, length, nat_lt, Option, Some, None, if◌then◌else◌, Result, Ok, Err}
 use Rattle.roff_num.specs.declared.limit.Limit.{Limit}
 use Rattle.roff_num.specs.declared.limit.Limit.TheVariants.{Bytes, Stack, Depth, Diversions, Conditions, Store, Names}
 use Rattle.roff_num.specs.declared.limits.Limits.{Limits}
-use Rattle.roff_source.specs.Bytes.{is_passed}
 use Rattle.roff_escape.specs.OpenEscapes.{Reads, reading_ended}
 use Rattle.roff_ahead.specs.Input.{with_escapes, Input, initial_input, is_none_ahead, Ahead, cost, counting, item_taken, pushed, depth, result_count}
 use Rattle.roff_ahead.specs.Input.Names.{stored, names_added}
@@ -48,16 +48,6 @@ texts_within l i = record (no_texts l i.first_names) {
 -- before anything is read
 abbrev pub initial_unread : {E : Type 0} → Limits → ℕ → Unread E
 initial_unread limits first_names = record { input = initial_input first_names; looked = None; limits = limits }
-
--- whether the source's next byte is the next one: nothing is ahead, nothing half read, and nothing looked at
-abbrev pub is_bare : {E : Type 0} → Unread E → Bool
-is_bare u = is_none_ahead u.input.ahead && is_none u.looked && (length u.input.escapes == 0)
-
--- The bytes that are passed over at once where these stand ready: those in front that are passed, and no more than the
--- limit on bytes allows.
-abbrev pub passed_over : {E : Type 0} → Bool → List ℕ → Unread E → List ℕ
-passed_over within_block ready u =
-    if is_bare u then take_while (is_passed within_block) (take (u.limits.bytes - u.input.charge) ready) else []
 
 -- the source's items, with the byte that was looked at in front
 abbrev pub looked_then : Option ℕ → Tape → Tape

@@ -2,6 +2,7 @@
 //! of a line. It passes on the public names of the crates below it.
 #![tactic(auto)]
 
+mod run_kind;
 mod unread;
 
 pub use roff_ahead::{Item, Sight};
@@ -11,4 +12,5 @@ pub use roff_escape::{
     Surroundings, TextUse, Waiting, character, escape_of,
 };
 pub use roff_source::{ByteSource, Note, ReadSource, Taken, is_dropped, is_silent, text_in_front};
+pub use run_kind::RunKind;
 pub use unread::Unread;

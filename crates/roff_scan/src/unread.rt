@@ -10,6 +10,7 @@ mod names;
 mod open_escapes;
 mod pushed;
 mod results;
+mod runs;
 mod skipped;
 mod taken;
 

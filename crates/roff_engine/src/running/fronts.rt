@@ -2,7 +2,7 @@
 
 ghost use Rattle.std.specs.Prelude.{◌≡◌, [], true, slice_index_or};
 ghost use Rattle.roff_reader.specs.Reader.Runs.{IsRun};
-ghost use Rattle.roff_reader.specs.declared.run_kind.RunKind.TheVariants.{Text as TextRun};
+ghost use Rattle.roff_scan.specs.declared.run_kind.RunKind.TheVariants.{Text as TextRun};
 
 use super::Running;
 use roff_reader::RunKind;

@@ -3,7 +3,7 @@
 ghost use Rattle.std.specs.Prelude.{◌≡◌, ℕ, [], true, false, None};
 ghost use Rattle.roff_reader.specs.ControlFronts.{BeginsControl, TakesAtBeginning};
 ghost use Rattle.roff_reader.specs.Reader.Runs.{IsRun};
-ghost use Rattle.roff_reader.specs.declared.run_kind.RunKind.TheVariants.{Dropped as DroppedRun};
+ghost use Rattle.roff_scan.specs.declared.run_kind.RunKind.TheVariants.{Dropped as DroppedRun};
 ghost use Rattle.roff_run.specs.Reading.Calls.{behind_return};
 ghost use Rattle.roff_run.specs.Stages.{EndsLine};
 ghost use Rattle.roff_escape.specs.declared.open_escape.Waiting.TheVariants.{Takes};

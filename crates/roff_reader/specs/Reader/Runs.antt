@@ -8,8 +8,8 @@ use Rattle.roff_run.specs.Stages.{Adds, EndsLine, Holds, HoldsIfFewer, Ignores, 
 use Rattle.roff_run.specs.Telling.{Prints}
 use Rattle.roff_run.specs.declared.line_state.LineState.{LineState}
 use Rattle.roff_reader.specs.Reader.State.{ReaderState}
-use Rattle.roff_reader.specs.declared.run_kind.RunKind.{RunKind}
-use Rattle.roff_reader.specs.declared.run_kind.RunKind.TheVariants.{Text, Blanks, Arguments, CallArguments, Name, Condition, Definition, Ignored, Dropped}
+use Rattle.roff_scan.specs.declared.run_kind.RunKind.{RunKind}
+use Rattle.roff_scan.specs.declared.run_kind.RunKind.TheVariants.{Text, Blanks, Arguments, CallArguments, Name, Condition, Definition, Ignored, Dropped}
 
 -- bytes of a run of this kind do this where this is read
 abbrev pub Does : RunKind → LineState → Type 0

@@ -5,7 +5,8 @@ use Rattle.roff_scan.specs.Unread.{IsWithin}
 use Rattle.roff_scan.specs.Unread.Calls.{PassesFront}
 use Rattle.roff_reader.specs.Reader.State.{ReaderState}
 use Rattle.roff_run.specs.Reading.Items.{PageUnread}
-use Rattle.roff_run.specs.Stages.{stage_of, Turned, with_stage_of}
+use Rattle.roff_run.specs.Stages.{stage_of, Turned}
+use Rattle.roff_scan.specs.Unread.Runs.{with_stage_of}
 
 -- Bytes that came next were read at once, and changed only what is read: they lead from the stage before to the one behind
 -- them, and are taken as bytes are that change nothing. No count is above its limit behind them.

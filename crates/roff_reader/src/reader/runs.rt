@@ -5,14 +5,12 @@ ghost use Rattle.roff_escape.specs.OpenEscape.{OpenEscape};
 ghost use Rattle.roff_run.specs.declared.line_state.LineState.TheVariants.{Text as InText};
 ghost use Rattle.roff_reader.specs.Reader.Runs.{IsRun, KeepsReader};
 ghost use Rattle.roff_reader.specs.Reader.Stages.{ReadsPast};
-ghost use Rattle.roff_reader.specs.declared.run_kind.RunKind.TheVariants.{Blanks, Condition};
-ghost use Rattle.roff_reader.specs.declared.run_kind.RunKind.TheVariants.{Dropped, Ignored};
+ghost use Rattle.roff_scan.specs.declared.run_kind.RunKind.TheVariants.{Blanks, Condition};
 
 use super::Reader;
 use super::calls::CALL_ARGUMENTS;
-use crate::run_kind::RunKind;
-use roff_run::{LineState, PageEvent, TextLine, blanks_in_front};
-use roff_scan::{ByteSource, Unread, text_in_front};
+use roff_run::{LineState, PageEvent, TextLine};
+use roff_scan::{ByteSource, RunKind, Unread};
 
 impl Reader {
     /// What the bytes in front do, as far as some can be taken together: by what is being read, and
@@ -94,26 +92,33 @@ impl Reader {
         match kind {
             RunKind::Text => unread.stays_within(),
             RunKind::Blanks => self.take_blanks(unread, source),
-            RunKind::Arguments => {
-                unread.hold_front(source);
-                unread.stays_within();
-            }
-            RunKind::CallArguments(most) => {
-                unread.hold_fewer(source, most);
-                unread.stays_within();
-            }
-            RunKind::Name => {
-                unread.read_front(source);
-                unread.stays_within();
-            }
+            RunKind::Arguments => self.take_staying(kind, unread, source),
+            RunKind::CallArguments(_) => self.take_staying(kind, unread, source),
+            RunKind::Name => self.take_staying(kind, unread, source),
             RunKind::Condition => self.take_condition(unread, source),
-            RunKind::Definition => {
-                unread.add_front(source);
-                unread.stays_within();
-            }
-            RunKind::Ignored => self.take_ignored(unread, source),
-            RunKind::Dropped { within_block } => { self.take_dropped(within_block, unread, source) }
+            RunKind::Definition => self.take_staying(kind, unread, source),
+            RunKind::Ignored => self.take_staying(kind, unread, source),
+            RunKind::Dropped { .. } => self.take_staying(kind, unread, source),
         }
+    }
+
+    /// Takes bytes in front that leave the reader as it was: all but blanks.
+    #[inline(always)]
+    fn take_staying<S: ByteSource>(
+        &self,
+        kind: RunKind,
+        unread: &mut Unread<PageEvent>,
+        source: &mut S,
+    )
+        requires run { IsRun kind self.now.reading unread.old.input.escapes }
+        requires stays { kind ≡ Blanks → ⊥ }
+        ensures past { ReadsPast (S.gives source.old) (S.gives source.new)
+            self.now self.now unread.old unread.new }
+        ensures notes { S.notes source.new ≤ S.notes source.old }
+        ensures failures { S.failures source.new ≡ S.failures source.old }
+    {
+        let _ = unread.take_run(kind, source);
+        unread.stays_within();
     }
 
     /// Counts leading blanks that stand in front.
@@ -127,9 +132,7 @@ impl Reader {
     {
         match self.reading {
             LineState::Text(line) => {
-                let front = unread.front(source);
-                let count = blanks_in_front(front);
-                unread.pass(source, count);
+                let count = unread.take_run(RunKind::Blanks, source);
                 unread.stays_within();
                 self.go_on(LineState::Text(line.behind_blanks(count)));
             }
@@ -149,46 +152,7 @@ impl Reader {
         if unread.decides_now() {
             return unread.stays_within();
         }
-        unread.take_front(source);
-        unread.stays_within();
-    }
-
-    /// Takes plain text in front that changes nothing.
-    #[inline(never)]
-    fn take_ignored<S: ByteSource>(&self, unread: &mut Unread<PageEvent>, source: &mut S)
-        requires { IsRun Ignored self.now.reading unread.old.input.escapes }
-        ensures past { ReadsPast (S.gives source.old) (S.gives source.new)
-            self.now self.now unread.old unread.new }
-        ensures notes { S.notes source.new ≤ S.notes source.old }
-        ensures failures { S.failures source.new ≡ S.failures source.old }
-    {
-        let front = unread.front(source);
-        let count = text_in_front(front);
-        unread.pass(source, count);
-        unread.stays_within();
-    }
-
-    /// Takes bytes in front that change nothing in a line that is dropped or a branch that is skipped.
-    #[inline(always)]
-    fn take_dropped<S: ByteSource>(
-        &self,
-        within_block: bool,
-        unread: &mut Unread<PageEvent>,
-        source: &mut S,
-    )
-        requires { IsRun (Dropped within_block) self.now.reading unread.old.input.escapes }
-        ensures past { ReadsPast (S.gives source.old) (S.gives source.new)
-            self.now self.now unread.old unread.new }
-        ensures notes { S.notes source.new ≤ S.notes source.old }
-        ensures failures { S.failures source.new ≡ S.failures source.old }
-    {
-        if unread.is_none_ahead() {
-            unread.pass_over(source, within_block);
-            unread.stays_within();
-        } else {
-            unread.pass_over_ahead(within_block);
-            unread.stays_within();
-        }
+        self.take_staying(RunKind::Condition, unread, source);
     }
 }
 

@@ -1,15 +1,11 @@
 -- What calls tell that take, see or pass over what is unread.
-use Rattle.std.specs.Prelude.{◌≡◌, ◌⊎◌, ℕ, ◌+◌, ◌≤◌, ◌==◌, Bool, true, false, List, [], ◌∷◌, ◌++◌, length, map, take, Option, Some, None}
+use Rattle.std.specs.Prelude.{◌≡◌, ℕ, ◌+◌, ◌≤◌, ◌==◌, false, List, [], ◌∷◌, ◌++◌, length, map, take, Option, Some, None}
 use Rattle.std.specs.List.{AllByRecursion}
-use Rattle.roff_arguments.specs.Arguments.{HeldFewer, bytes_held}
-use Rattle.roff_source.specs.Bytes.{is_argument_byte}
-use Rattle.roff_source.specs.Bytes.{is_passed, is_text_byte, newline}
+use Rattle.roff_source.specs.Bytes.{newline}
 use Rattle.roff_escape.specs.ConditionFronts.{HalvesTaken}
-use Rattle.roff_escape.specs.EscapeFronts.{HalvesRead}
 use Rattle.roff_ahead.specs.Input.{Ahead, ByteAhead, EndAhead, ReturnAhead, bytes_taken, item_taken, leading, lines_taken}
-use Rattle.roff_ahead.specs.Input.Names.{adding}
 use Rattle.roff_source.specs.Tape.{Tape, Answer, OneByte, items_then}
-use Rattle.roff_scan.specs.Unread.{Unread, Asked, Stays, asks_to_take, asks_to_look, passed_over, taking, looking}
+use Rattle.roff_scan.specs.Unread.{Unread, Asked, Stays, asks_to_take, asks_to_look, taking, looking}
 use Rattle.roff_ahead.specs.Shown.{Shown, Sighted}
 
 -- the front item was taken and shown, by the source's answer if it was asked
@@ -23,36 +19,6 @@ pub record Looks {E : Type 0} (old new : Tape → Type 0) (before after : Unread
   pub answer : Answer
   pub asked : Asked old new (asks_to_look before) answer
   pub seen : (sight, after) ≡ looking answer before
-
--- the source's next byte is the next one
-pub record IsBare {E : Type 0} (u : Unread E) : Type 0 where
-  pub ahead : u.input.ahead ≡ []
-  pub escapes : u.input.escapes ≡ []
-  pub looked : u.looked ≡ None
-
--- These bytes of the source were passed over at once, of those that stood ready. What it may give behind them, it might
--- have given with them in front, and there is such a tape; for no bytes it wasn't asked, and nothing changed.
-pub record PassesOver {E : Type 0} (old new : Tape → Type 0) (ready : List ℕ) (before after : Unread E) (within_block : Bool) : Type 0 where
-  pub bytes : List ℕ
-  pub are_all : bytes ≡ passed_over within_block ready before
-  pub plain : AllByRecursion (λ b. is_passed within_block b ≡ true) bytes
-  pub bare : (bytes ≡ []) ⊎ IsBare before
-  pub in_front : (t : Tape) → new t → old (items_then (map OneByte bytes) t)
-  pub some : (bytes ≡ []) ⊎ ((t : Tape) × new t)
-  pub stays : bytes ≡ [] → Stays old new
-  pub input : after ≡ record before { input = lines_taken bytes before.input }
-  pub within : before.input.charge + length bytes ≤ before.limits.bytes
-
--- These bytes that stand ahead were passed over at once, each at its cost, where nothing is half read; or there are none, and
--- nothing changed.
-pub record PassesAhead {E : Type 0} (before after : Unread E) (within_block : Bool) : Type 0 where
-  pub bytes : List ℕ
-  pub behind : List (Ahead E)
-  pub in_front : before.input.ahead ≡ map ByteAhead bytes ++ behind
-  pub plain : AllByRecursion (λ b. is_passed within_block b ≡ true) bytes
-  pub none_half : (bytes ≡ []) ⊎ (before.input.escapes ≡ [])
-  pub input : after ≡ record before { input = bytes_taken bytes behind before.input }
-  pub within : before.input.charge + length bytes ≤ before.limits.bytes
 
 -- the bytes of the source that come next: those that stand ready, where none was looked at
 abbrev pub ready_behind : Option ℕ → List ℕ → List ℕ
@@ -121,44 +87,11 @@ pub record PassesReturn {E : Type 0} (before after : Unread E) : Type 0 where
   pub input : after ≡ record before { input = item_taken ReturnAhead behind before.input }
   pub within : before.input.charge + 1 ≤ before.limits.bytes
 
--- Bytes that came next were taken at once and held in the arguments of the line, each as it is read; nothing else changed but
--- what is counted.
-pub record HoldsFront {E : Type 0} (old new : Tape → Type 0) (before after : Unread E) : Type 0 where
-  pub bytes : List ℕ
-  pub plain : AllByRecursion (λ b. is_argument_byte b ≡ true) bytes
-  pub passes : PassesFront old new bytes before (record after { input = record after.input { arguments = before.input.arguments } })
-  pub arguments : after.input.arguments ≡ bytes_held bytes before.input.arguments
-
--- the same where fewer than so many arguments were whole before each of the bytes
-pub record HoldsFewer {E : Type 0} (most : Option ℕ) (old new : Tape → Type 0) (before after : Unread E) : Type 0 where
-  pub held : HoldsFront old new before after
-  pub fewer : HeldFewer most held.bytes before.input.arguments
-
--- Bytes of plain text that came next were taken at once and put behind the newest text in the making, if there is one; nothing
--- else changed but what is counted.
-pub record AddsFront {E : Type 0} (old new : Tape → Type 0) (before after : Unread E) : Type 0 where
-  pub bytes : List ℕ
-  pub plain : AllByRecursion (λ b. is_text_byte b ≡ true) bytes
-  pub passes : PassesFront old new bytes before (record after { input = record after.input { open_texts = before.input.open_texts } })
-  pub texts : after.input.open_texts ≡ (adding bytes before.input).open_texts
-
--- Bytes that came next were taken at once, and changed only what is half read; nothing else changed but what is counted.
-pub record ReadsNames {E : Type 0} (old new : Tape → Type 0) (before after : Unread E) : Type 0 where
-  pub bytes : List ℕ
-  pub read : HalvesRead before.input.escapes bytes after.input.escapes
-  pub passes : PassesFront old new bytes before (record after { input = record after.input { escapes = before.input.escapes } })
-
--- Bytes that came next were taken at once where a condition is half read, and changed only what is half read, in which some
--- are held; nothing else changed but what is counted.
-pub record TakesHalves {E : Type 0} (old new : Tape → Type 0) (before after : Unread E) : Type 0 where
-  pub bytes : List ℕ
-  pub taken : HalvesTaken before.input.escapes bytes after.input.escapes
-  pub passes : PassesFront old new bytes before (record after { input = record after.input { escapes = before.input.escapes } })
-
--- Bytes of a pushed text were taken at once where a condition is half read, each at its cost, and changed only what is half
+-- So many bytes of a pushed text were taken at once where a condition is half read, each at its cost, and changed only what is half
 -- read, in which some are held; the source wasn't asked.
-pub record TakesPushed {E : Type 0} (before after : Unread E) : Type 0 where
+pub record TakesPushed {E : Type 0} (count : ℕ) (before after : Unread E) : Type 0 where
   pub bytes : List ℕ
+  pub length_is : length bytes ≡ count
   pub behind : List (Ahead E)
   pub in_front : before.input.ahead ≡ map ByteAhead bytes ++ behind
   pub taken : HalvesTaken before.input.escapes bytes after.input.escapes

@@ -2,20 +2,17 @@
 
 ghost use Rattle.roff_arguments.specs.Arguments.{is_behind_quote, with_unit, settled, finished};
 ghost use Rattle.roff_arguments.specs.ArgumentList.{listed};
-ghost use Rattle.std.specs.Prelude.{reverse, ◌≡◌, ◌≤◌};
+ghost use Rattle.std.specs.Prelude.{reverse, ◌≡◌};
 ghost use Rattle.roff_ahead.specs.Input.{holding_plain, with_arguments, without_arguments};
 ghost use Rattle.roff_ahead.specs.Input.{beginning_line};
 
 use super::Unread;
-use super::fronts::front_of;
 use roff_arguments::{ArgumentList, bytes_of};
 use roff_escape::CopyUnit;
 use roff_num::Limit;
-use roff_source::ByteSource;
 
 impl<E: Copy> Unread<E> {
     ghost use Rattle.roff_scan.specs.Unread.{changing};
-    ghost use Rattle.roff_scan.specs.Unread.Calls.{HoldsFewer, HoldsFront};
 
     /// A line is read of which nothing was read.
     pub fn begin_line(&mut self)
@@ -104,47 +101,5 @@ impl<E: Copy> Unread<E> {
         ensures { listed result ≡ reverse self.now.input.arguments.whole }
     {
         self.arguments.list()
-    }
-
-    /// Takes at once bytes that stand in front, as they lie together, and holds them in the line's
-    /// arguments: up to the first that isn't held as it is read, and no more than the limits have
-    /// room for. Whether anything is half read isn't looked at.
-    #[inline(never)]
-    pub fn hold_front<S: ByteSource>(&mut self, source: &mut S)
-        ensures holds { HoldsFront (S.gives source.old) (S.gives source.new) self.old self.new }
-        ensures notes { S.notes source.new ≤ S.notes source.old }
-        ensures failures { S.failures source.new ≡ S.failures source.old }
-    {
-        self.hold_bounded(source, None);
-    }
-
-    /// The same as [`hold_front`](Unread::hold_front), but as long as fewer than so many arguments
-    /// are whole.
-    #[inline(never)]
-    pub fn hold_fewer<S: ByteSource>(&mut self, source: &mut S, most: usize)
-        ensures holds { HoldsFewer (Some most)
-            (S.gives source.old) (S.gives source.new) self.old self.new }
-        ensures notes { S.notes source.new ≤ S.notes source.old }
-        ensures failures { S.failures source.new ≡ S.failures source.old }
-    {
-        self.hold_bounded(source, Some(most));
-    }
-
-    /// The same, where there is a bound.
-    #[inline(always)]
-    fn hold_bounded<S: ByteSource>(&mut self, source: &mut S, most: Option<usize>)
-        ensures holds { HoldsFewer most
-            (S.gives source.old) (S.gives source.new) self.old self.new }
-        ensures notes { S.notes source.new ≤ S.notes source.old }
-        ensures failures { S.failures source.new ≡ S.failures source.old }
-    {
-        let room = self.limits.stack as usize - self.pushed();
-        let allowed = room.min((self.limits.bytes - self.charge) as usize);
-        let front = front_of(&self.input_ahead, self.looked, source, allowed);
-        if front.is_empty() {
-            return;
-        }
-        let count = self.arguments.take_front(front, most);
-        self.pass(source, count);
     }
 }

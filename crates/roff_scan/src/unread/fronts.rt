@@ -1,12 +1,12 @@
 //! Bytes that stand in front, as they lie together.
 
-ghost use Rattle.std.specs.Prelude.{true, ◌≡◌, ◌≤◌, length, take};
+ghost use Rattle.std.specs.Prelude.{true, false, ◌≡◌, ◌≤◌, length, None, take};
 ghost use Rattle.roff_scan.specs.Unread.Calls.{next_bytes};
 ghost use Rattle.roff_ahead.specs.Input.{is_none_ahead};
 
 use super::Unread;
 use roff_ahead::InputAhead;
-use roff_source::{ByteSource, at_most};
+use roff_source::{ByteSource, at_most, newlines_among};
 
 impl<E: Copy> Unread<E> {
     ghost use Rattle.roff_scan.specs.Unread.Calls.{front_bytes, IsFront, NoNewline, PassesFront};
@@ -35,6 +35,20 @@ impl<E: Copy> Unread<E> {
         ensures notes { S.notes source.new ≤ S.notes source.old }
         ensures failures { S.failures source.new ≡ S.failures source.old }
     {
+        self.pass_front(source, count, false);
+    }
+
+    /// The same, where newlines may be among them.
+    #[inline(always)]
+    pub(super) fn pass_front<S: ByteSource>(&mut self, source: &mut S, count: usize, newlines: bool)
+        requires front { IsFront count (S.ready source.old) self.old }
+        requires plain { newlines ≡ false
+            → NoNewline (front_bytes count (S.ready source.old) self.old) }
+        ensures passes { PassesFront (S.gives source.old) (S.gives source.new)
+            (front_bytes count (S.ready source.old) self.old) self.old self.new }
+        ensures notes { S.notes source.new ≤ S.notes source.old }
+        ensures failures { S.failures source.new ≡ S.failures source.old }
+    {
         // the invariant is known where a field is named
         let _ = &self.limits;
         if count == 0 {
@@ -45,10 +59,35 @@ impl<E: Copy> Unread<E> {
             self.charge += count as u32;
             return;
         }
-        self.pass_source(source, count);
+        if newlines {
+            self.pass_lines(source, count);
+        } else {
+            self.pass_source(source, count);
+        }
     }
 
     /// The same where nothing is ahead, of one byte at least.
+    #[inline]
+    fn pass_lines<S: ByteSource>(&mut self, source: &mut S, count: usize)
+        requires some { 1 ≤ count }
+        requires none_ahead { is_none_ahead self.old.input.ahead ≡ true }
+        requires front { IsFront count (S.ready source.old) self.old }
+        ensures passes { PassesSource (S.gives source.old) (S.gives source.new)
+            (front_bytes count (S.ready source.old) self.old) self.old self.new }
+        ensures notes { S.notes source.new ≤ S.notes source.old }
+        ensures failures { S.failures source.new ≡ S.failures source.old }
+    {
+        // the invariant is known where a field is named
+        let _ = &self.limits;
+        if let Some((last, front)) = source.buffered().split_at(count).0.split_last() {
+            self.charge += front.len() as u32;
+            self.newlines += newlines_among(front);
+            self.count(*last);
+            source.pass(count);
+        }
+    }
+
+    /// The same where none of them is a newline.
     #[inline]
     pub(super) fn pass_source<S: ByteSource>(&mut self, source: &mut S, count: usize)
         requires some { 1 ≤ count }
@@ -81,6 +120,8 @@ pub(super) fn front_of<'a, E: Copy, S: ByteSource>(
     ensures among { length result.now
         ≤ length (next_bytes input_ahead.now.ahead looked (S.ready source.now)) }
     ensures few { length result.now ≤ most }
+    ensures whole { is_none_ahead input_ahead.now.ahead ≡ true → looked ≡ None
+        → result.now ≡ take most (S.ready source.now) }
 {
     if !input_ahead.is_empty() {
         return at_most(input_ahead.front(), most);

@@ -2,20 +2,15 @@
 
 ghost use Rattle.roff_store.specs.Named.{entry_of};
 ghost use Rattle.roff_store.specs.Texts.{entry_given, kind_given, kind_of};
-ghost use Rattle.std.specs.Prelude.{true, false, ◌+◌, ◌<◌, ◌≡◌, ◌≤◌, length, None, option_map, take};
-ghost use Rattle.std.specs.List.{AllByRecursion};
-ghost use Rattle.roff_source.specs.Bytes.{is_text_byte};
-ghost use Rattle.roff_ahead.specs.Input.{is_none_ahead};
+ghost use Rattle.std.specs.Prelude.{true, false, ◌+◌, ◌<◌, ◌≡◌, ◌≤◌, option_map};
 ghost use Rattle.roff_ahead.specs.Input.Names.{adding, calling, dropping, entering, stored};
 
 use super::Unread;
 use roff_num::{Limit, Name};
-use roff_source::{ByteSource, at_most, text_in_front};
 use roff_store::{Entry, Kind};
 
 impl<E: Copy> Unread<E> {
     ghost use Rattle.roff_scan.specs.Unread.{changing};
-    ghost use Rattle.roff_scan.specs.Unread.Calls.{AddsFront};
     ghost use Rattle.roff_store.specs.TextCalls.{Open, Remove, Rename, Set};
 
     /// What a name stands for: a request, or a body with so many bytes.
@@ -96,43 +91,6 @@ impl<E: Copy> Unread<E> {
         }
     }
 
-    /// Takes at once bytes of plain text of the source that stand ready, and puts them behind the
-    /// newest text in the making, if there is one: no more than the limits on bytes and on the
-    /// store have room for. Nothing happens where anything is ahead or looked at; whether anything
-    /// is half read isn't looked at.
-    #[inline(always)]
-    pub fn add_front<S: ByteSource>(&mut self, source: &mut S)
-        ensures adds { AddsFront (S.gives source.old) (S.gives source.new) self.old self.new }
-        ensures notes { S.notes source.new ≤ S.notes source.old }
-        ensures failures { S.failures source.new ≡ S.failures source.old }
-    {
-        if self.input_ahead.is_empty() && self.looked.is_none() {
-            self.add_ready(source);
-        }
-    }
-
-    /// The same where the source's next byte is the next one.
-    #[inline(never)]
-    fn add_ready<S: ByteSource>(&mut self, source: &mut S)
-        requires none_ahead { is_none_ahead self.old.input.ahead ≡ true }
-        requires none_looked { self.old.looked ≡ None }
-        ensures adds { AddsFront (S.gives source.old) (S.gives source.new) self.old self.new }
-        ensures notes { S.notes source.new ≤ S.notes source.old }
-        ensures failures { S.failures source.new ≡ S.failures source.old }
-    {
-        let room = self.limits.store as usize - self.input_ahead.stored();
-        let allowed = self.limits.bytes - self.charge;
-        let text = text_ready(source, room.min(allowed as usize));
-        let count = text.len();
-        if count == 0 {
-            return;
-        }
-        match self.add(text) {
-            Ok(()) => self.pass_source(source, count),
-            Err(_) => self.stays_within(),
-        }
-    }
-
     /// Ends the newest text in the making, if there is one: it is put behind the body of a name, or
     /// is its body from now on.
     ///
@@ -157,16 +115,4 @@ impl<E: Copy> Unread<E> {
             self.input_ahead.drop_open(id);
         }
     }
-}
-
-/// Bytes of plain text of the source that stand ready, so many at the most.
-#[inline(always)]
-fn text_ready<S: ByteSource>(source: &S, most: usize) -> &[u8]
-    ensures bytes { result.now ≡ take (length result.now) (S.ready source.now) }
-    ensures among { length result.now ≤ length (S.ready source.now) }
-    ensures few { length result.now ≤ most }
-    ensures plain { AllByRecursion (λ b. is_text_byte b ≡ true) result.now }
-{
-    let front = at_most(source.buffered(), most);
-    at_most(front, text_in_front(front))
 }

@@ -2,18 +2,16 @@
 
 ghost use Rattle.roff_escape.specs.OpenEscapes.{byte_read, reading_ended};
 ghost use Rattle.roff_escape.specs.Waiting.{decides, is_ended_by, waiting_of};
-ghost use Rattle.std.specs.Prelude.{false, not, ◌≡◌, ◌≤◌, ◌==◌, length};
+ghost use Rattle.std.specs.Prelude.{not, ◌≡◌, ◌==◌, length};
 ghost use Rattle.roff_ahead.specs.Input.{choosing, holding_text};
 
 use super::Unread;
-use super::fronts::front_of;
 use roff_escape::{CopyUnit, Found, Surroundings, Waiting};
 use roff_num::Limit;
-use roff_source::ByteSource;
 
 impl<E: Copy> Unread<E> {
     ghost use Rattle.roff_scan.specs.Unread.{changing, reading, EndsDecided};
-    ghost use Rattle.roff_scan.specs.Unread.Calls.{ReadsNames, TakesHalves, TakesPushed};
+    ghost use Rattle.roff_scan.specs.Unread.Calls.{TakesPushed};
 
     /// Whether something is half read.
     #[inline(always)]
@@ -88,64 +86,18 @@ impl<E: Copy> Unread<E> {
         Ok(())
     }
 
-    /// Takes at once bytes that stand in front, as they lie together, as long as they are in the
-    /// front of an escape that reads a name, and no more than the limit on bytes allows.
-    #[inline(never)]
-    pub fn read_front<S: ByteSource>(&mut self, source: &mut S)
-        ensures reads { ReadsNames (S.gives source.old) (S.gives source.new) self.old self.new }
-        ensures notes { S.notes source.new ≤ S.notes source.old }
-        ensures failures { S.failures source.new ≡ S.failures source.old }
-    {
-        let most = (self.limits.bytes - self.charge) as usize;
-        let front = front_of(&self.input_ahead, self.looked, source, most);
-        if front.is_empty() {
-            return;
-        }
-        let count = self.escapes.read_front(front);
-        self.pass(source, count);
-    }
-
-    /// Takes at once bytes that stand in front where a condition is half read: those that its
-    /// expression holds, and the fronts of names in it, and no more than the limits have room for.
-    /// They are of a pushed text, or lie together.
-    #[inline(never)]
-    pub fn take_front<S: ByteSource>(&mut self, source: &mut S)
-        ensures takes { TakesHalves (S.gives source.old) (S.gives source.new) self.old self.new }
-        ensures notes { S.notes source.new ≤ S.notes source.old }
-        ensures failures { S.failures source.new ≡ S.failures source.old }
-    {
-        if !self.take_pushed() {
-            self.take_lying(source);
-        }
-    }
-
-    /// The same of bytes of a pushed text. Returns whether any were taken.
+    /// Takes at once bytes of a pushed text that stand in front where a condition is half read:
+    /// those that its expression holds, and the fronts of names in it, and no more than the limit
+    /// on bytes allows. Returns how many.
     #[inline(always)]
-    fn take_pushed(&mut self) -> bool
-        ensures takes { TakesPushed self.old self.new }
-        ensures unchanged { result ≡ false → self.new ≡ self.old }
+    pub(super) fn take_pushed(&mut self) -> usize
+        ensures takes { TakesPushed result self.old self.new }
+        ensures unchanged { result ≡ 0 → self.new ≡ self.old }
     {
         let allowed = (self.limits.bytes - self.charge) as usize;
         let given = self.input_ahead.give_front(&mut self.escapes, allowed);
         self.charge += given as u32;
-        given > 0
-    }
-
-    /// The same of bytes of a body or of the source, as they lie together.
-    #[inline(always)]
-    fn take_lying<S: ByteSource>(&mut self, source: &mut S)
-        ensures takes { TakesHalves (S.gives source.old) (S.gives source.new) self.old self.new }
-        ensures notes { S.notes source.new ≤ S.notes source.old }
-        ensures failures { S.failures source.new ≡ S.failures source.old }
-    {
-        let allowed = (self.limits.bytes - self.charge) as usize;
-        let most = allowed.min(self.limits.stack as usize - self.pushed());
-        let front = front_of(&self.input_ahead, self.looked, source, most);
-        if front.is_empty() {
-            return;
-        }
-        let count = self.escapes.take_front(front);
-        self.pass(source, count);
+        given
     }
 
     /// Begins to read a condition; nothing else is half read then.

@@ -1,10 +1,5 @@
-use Rattle.roff_reader.proofs.ConditionRuns.{reads-condition}
 use Rattle.roff_reader.proofs.Runs.{reads-none}
 use Rattle.roff_reader.proofs.reader.Reader.take_condition.Goals as goal
 
 pub returns-then-decides_now-clause-past : goal.returns-then-decides_now-clause-past
 returns-then-decides_now-clause-past g c = reads-none _ c.args.self.now c.args.unread.now c.stays_within.ensures
-
-pub returns-clause-past : goal.returns-clause-past
-returns-clause-past g c =
-    reads-condition _ _ c.args.self.now c.args.unread.now _ c.requires.none_due c.requires.does c.take_front.ensures.takes c.stays_within-2.ensures

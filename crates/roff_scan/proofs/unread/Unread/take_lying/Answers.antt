@@ -1,58 +1,76 @@
-use Rattle.std.proofs.Common.{◌+◌, ◌≤◌, arith}
-use Rattle.roff_ahead.specs.Input.{pushed}
+use Rattle.std.proofs.Common.{◌≡◌, ◌≤◌, [], length, take, ap, rules, sym, ◌∙◌, arith}
+use Rattle.std.proofs.lemmas.List.{length-take-le}
+use Rattle.roff_arguments.specs.ArgumentTexts.Kept.{KeptArguments}
 use Rattle.roff_scan.specs.Unread.Kept.{kept_by}
-use Rattle.roff_scan.proofs.ConditionsInFront.{IsWithin-taken, taken_in_front, taken_no_newline, takes_halves, takes_none}
+use Rattle.roff_scan.proofs.RunKinds.{count_held, run-begun, run-held, run-room}
+use Rattle.roff_scan.proofs.Runs.{IsWithin-staged, none-whole, run-fits, run_in_front, run_no_newline, takes_none, takes_run}
 use Rattle.roff_scan.proofs.unread.Unread.take_lying.Goals as goal
 
 pub returns-then-is_empty-clause-takes : goal.returns-then-is_empty-clause-takes
 returns-then-is_empty-clause-takes g c =
-    rw (← c.self.view_is) (takes_none (g.S.ByteSource.gives c.args.source.now) (kept_by c.self.inside) c.self.invariant.within.charge)
-
-pub take_front-count-requires : goal.take_front-count-requires
-take_front-count-requires g c =
-    let counted = rw (← c.self.view_is) at c.pushed.ensures in
-    omega (arith, counted, c.min-most.ensures, c.front_of-front.ensures.few, c.self.invariant.held, c.self.invariant.within.pushed)
+    let kept = kept_by c.self.inside in
+    let ready = g.S.ByteSource.ready c.args.source.now in
+    let empty : c.front_of-front.result.now ≡ [] = search rules in
+    let room = rw (← c.self.view_is) at c.room_for-most.ensures.all in
+    rw (← c.self.view_is)
+    (takes_none c.args.kind (g.S.ByteSource.gives c.args.source.now) ready kept c.self.invariant.within.charge
+    (none-whole c.args.kind ready kept c.front_of-front.result.now c.room_for-most.result empty c.front_of-front.ensures.whole
+    (λ goes. run-room c.args.kind kept c.room_for-most.result c.requires goes c.self.invariant.within.charge room)))
 
 pub invariant_of-self : goal.invariant_of-self
 invariant_of-self g c =
     let kept = kept_by c.self.inside in
-    let counted = rw (← c.self.view_is) at c.pushed.ensures in
-    let count = c.take_front-count.result in
-    let room : pushed kept.input + count ≤ kept.limits.stack =
-    omega (arith, counted, c.min-most.ensures, c.front_of-front.ensures.few, c.take_front-count.ensures.few, c.self.invariant.within.pushed) in
+    let part = c.take_part-count.ensures in
+    let bytes = take c.take_part-count.result c.front_of-front.result.now in
+    let few : length bytes ≤ c.room_for-most.result =
+    omega (arith, length-take-le c.take_part-count.result c.front_of-front.result.now part.few, part.few, c.front_of-front.ensures.few) in
+    let stack = rw (← c.self.view_is) at c.room_for-most.ensures.stack in
     record {
       bytes = c.self.invariant.bytes;
       texts = c.self.invariant.texts;
-      arguments = c.self.invariant.arguments;
-      begun = c.self.invariant.begun;
+      arguments = rw part.held c.self.invariant.arguments;
+      begun = rw part.held (run-begun c.args.kind bytes kept.input.arguments c.self.invariant.begun);
       call_bytes = c.self.invariant.call_bytes;
       most_calls = c.self.invariant.most_calls;
       calls = c.self.invariant.calls;
-      held = rw c.take_front-count.ensures.room c.self.invariant.held;
+      held = part.room ∙ c.self.invariant.held;
       small = c.self.invariant.small;
       store = c.self.invariant.store;
       once = c.self.invariant.once;
       results = c.self.invariant.results;
-      within = IsWithin-taken kept _ count c.self.invariant.within c.take_front-count.ensures.held room;
+      within =
+          rw part.held
+          (IsWithin-staged kept c.take_part-count.new.escapes.escapes _ (count_held c.args.kind bytes) c.self.invariant.within
+          (run-held c.args.kind bytes kept.input.arguments kept.input.escapes c.take_part-count.new.escapes.escapes part.half_read)
+          (run-fits c.args.kind kept bytes c.room_for-most.result few c.self.invariant.within stack));
     }
 
-pub pass-requires-clause-front : goal.pass-requires-clause-front
-pass-requires-clause-front g c =
+pub pass_front-requires-clause-front : goal.pass_front-requires-clause-front
+pass_front-requires-clause-front g c =
     let kept = kept_by c.self.inside in
-    let stands = taken_in_front (g.S.ByteSource.ready c.args.source.now) kept c.front_of-front.result.now c.take_front-count.result c.front_of-front.ensures.among c.front_of-front.ensures.bytes
-    c.take_front-count.ensures.few (omega (arith, c.min-most.ensures, c.front_of-front.ensures.few, c.self.invariant.within.charge)) in
+    let bytes = rw (← c.self.view_is) at c.room_for-most.ensures.bytes in
+    let stands = run_in_front c.args.kind (g.S.ByteSource.ready c.args.source.now) kept c.front_of-front.result.now c.take_part-count.result c.room_for-most.result
+    c.front_of-front.ensures.among c.front_of-front.ensures.bytes c.take_part-count.ensures.few (omega (arith, bytes, c.front_of-front.ensures.few)) in
     record { among = stands.among; within = stands.within }
 
-pub pass-requires-clause-plain : goal.pass-requires-clause-plain
-pass-requires-clause-plain g c =
-    taken_no_newline (g.S.ByteSource.ready c.args.source.now) (kept_by c.self.inside) c.front_of-front.result.now c.take_front-count.result c.front_of-front.ensures.among
-    c.front_of-front.ensures.bytes c.take_front-count.ensures.few _ c.take_front-count.ensures.taken
+pub pass_front-requires-clause-plain : goal.pass_front-requires-clause-plain
+pass_front-requires-clause-plain g c = λ none.
+    run_no_newline c.args.kind (g.S.ByteSource.ready c.args.source.now) (kept_by c.self.inside) c.front_of-front.result.now c.take_part-count.result c.room_for-most.result
+    c.front_of-front.ensures.among c.front_of-front.ensures.bytes c.take_part-count.ensures.few _ c.take_part-count.ensures.are_of c.take_part-count.ensures.half_read
+    (sym c.has_newlines.ensures ∙ none)
 
 pub returns-clause-takes : goal.returns-clause-takes
 returns-clause-takes g c =
+    let kept = kept_by c.self.inside in
     let ready = g.S.ByteSource.ready c.args.source.now in
     let gave = g.S.ByteSource.gives c.args.source.now in
-    let gives = g.S.ByteSource.gives c.pass.new.source in
+    let gives = g.S.ByteSource.gives c.pass_front.new.source in
+    let front = c.front_of-front.result.now in
+    let part = c.take_part-count.ensures in
+    let most = c.room_for-most.result in
+    let room = rw (← c.self.view_is) at c.room_for-most.ensures.all in
     rw (← c.self.view_is)
-    (takes_halves ready (kept_by c.self.inside) c.front_of-front.result.now c.take_front-count.result c.front_of-front.ensures.among c.front_of-front.ensures.bytes c.take_front-count.ensures.few
-    _ c.take_front-count.ensures.taken gave gives c.pass.new.self c.pass.ensures.passes)
+    (takes_run c.args.kind ready kept front c.take_part-count.result most c.front_of-front.ensures.among c.front_of-front.ensures.bytes part.few gave gives
+    c.take_part-count.new.escapes.escapes c.take_part-count.new.arguments.arguments c.pass_front.new.self c.requires part.are_of part.fewer
+    (ap (λ (k : KeptArguments). k.arguments) part.held) part.half_read part.whole c.front_of-front.ensures.whole
+    (λ goes. run-room c.args.kind kept most c.requires goes c.self.invariant.within.charge room) c.pass_front.ensures.passes)

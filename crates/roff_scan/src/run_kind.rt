@@ -1,10 +1,13 @@
 //! Kinds of runs: bytes in front that do alike where something is read, and are taken together.
 
+ghost use Rattle.std.specs.Prelude.{◌≡◌};
+ghost use Rattle.roff_scan.specs.RunKinds.{has_newlines, is_held};
+
 /// What the bytes of a run do.
 #[derive(Clone, Copy, Debug, PartialEq, Eq)]
 pub enum RunKind {
     /// Plain text of a text line is told, each byte as a glyph or a gap, by whoever has the lines:
-    /// the reader takes none.
+    /// the unread input takes none by itself.
     Text,
     /// Leading blanks of a text line only count.
     Blanks,
@@ -23,4 +26,30 @@ pub enum RunKind {
     /// All bytes but backslashes change nothing in a line that is dropped or a branch that is
     /// skipped, and within a block newlines neither; elsewhere a newline ends the line.
     Dropped { within_block: bool },
+}
+
+impl RunKind {
+    /// Whether its bytes are held as they are read, and count in the limit on the stack.
+    #[inline(always)]
+    pub(crate) fn is_held(self) -> bool
+        ensures { result ≡ is_held self }
+    {
+        match self {
+            RunKind::Arguments => true,
+            RunKind::CallArguments(_) => true,
+            RunKind::Condition => true,
+            _ => false,
+        }
+    }
+
+    /// Whether newlines may be among its bytes.
+    #[inline(always)]
+    pub(crate) fn has_newlines(self) -> bool
+        ensures { result ≡ has_newlines self }
+    {
+        match self {
+            RunKind::Dropped { within_block } => within_block,
+            _ => false,
+        }
+    }
 }

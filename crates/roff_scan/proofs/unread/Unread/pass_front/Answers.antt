@@ -3,7 +3,7 @@ use Rattle.roff_ahead.specs.Input.{is_none_ahead}
 use Rattle.roff_scan.specs.Unread.Calls.{IsFront, OfSource}
 use Rattle.roff_scan.specs.Unread.Kept.{kept_by}
 use Rattle.roff_scan.proofs.Fronts.{IsWithin-texts, among-ahead, passes_none, passes_texts, returns-behind}
-use Rattle.roff_scan.proofs.unread.Unread.pass.Goals as goal
+use Rattle.roff_scan.proofs.unread.Unread.pass_front.Goals as goal
 
 pub returns-then-count-eq0-clause-passes : goal.returns-then-count-eq0-clause-passes
 returns-then-count-eq0-clause-passes g c =
@@ -48,5 +48,8 @@ returns-then-not-is_empty-clause-passes g c =
     let some : is_none_ahead kept.input.ahead ≡ false = sym c.is_empty.ensures ∙ c.if-not-is_empty.true in
     rw (← c.self.view_is, c.pass.ensures) (passes_texts ready kept c.args.count front some (g.S.ByteSource.gives c.args.source.now))
 
-pub returns-clause-passes : goal.returns-clause-passes
-returns-clause-passes g c = OfSource c.pass_source.ensures.passes
+pub returns-else-newlines-clause-passes : goal.returns-else-newlines-clause-passes
+returns-else-newlines-clause-passes g c = OfSource c.pass_source.ensures.passes
+
+pub returns-then-newlines-clause-passes : goal.returns-then-newlines-clause-passes
+returns-then-newlines-clause-passes g c = OfSource c.pass_lines.ensures.passes

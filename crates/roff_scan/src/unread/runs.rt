@@ -1,0 +1,240 @@
+//! Runs: bytes in front that do alike, and are taken together.
+
+ghost use Rattle.std.specs.Prelude.{false, ◌≡◌, ◌≤◌, ◌+◌, length, true};
+ghost use Rattle.std.specs.Prelude.{take, take_while, ◌==◌};
+ghost use Rattle.std.specs.List.{AllByRecursion};
+ghost use Rattle.roff_arguments.specs.Arguments.{held};
+ghost use Rattle.roff_escape.specs.OpenEscape.{texts_held};
+ghost use Rattle.roff_source.specs.Bytes.{blank, is_text_byte};
+ghost use Rattle.roff_ahead.specs.Input.{pushed};
+ghost use Rattle.roff_scan.specs.RunKinds.{is_held};
+ghost use Rattle.roff_scan.specs.Unread.Runs.{TakesPart};
+ghost use Rattle.roff_scan.specs.declared.run_kind.RunKind.TheVariants.{Arguments, Blanks};
+ghost use Rattle.roff_scan.specs.declared.run_kind.RunKind.TheVariants.{CallArguments, Condition};
+ghost use Rattle.roff_scan.specs.declared.run_kind.RunKind.TheVariants.{Definition, Name};
+
+use super::Unread;
+use super::fronts::front_of;
+use crate::run_kind::RunKind;
+use roff_arguments::ArgumentTexts;
+use roff_escape::OpenEscapes;
+use roff_source::{ByteSource, at_most, passed_len, text_in_front};
+
+impl<E: Copy> Unread<E> {
+    ghost use Rattle.roff_scan.specs.Unread.Runs.{TakesRun};
+    ghost use Rattle.roff_scan.specs.Unread.Calls.{TakesPushed};
+
+    /// Takes bytes together that stand in front, as they lie together, and do this: up to the first
+    /// that does otherwise, and no more than the limits have room for. Whether anything is half read
+    /// isn't looked at. Returns how many.
+    #[inline(always)]
+    pub fn take_run<S: ByteSource>(&mut self, kind: RunKind, source: &mut S) -> usize
+        ensures takes { TakesRun kind (S.gives source.old) (S.gives source.new)
+            (S.ready source.old) result self.old self.new }
+        ensures notes { S.notes source.new ≤ S.notes source.old }
+        ensures failures { S.failures source.new ≡ S.failures source.old }
+    {
+        match kind {
+            RunKind::Arguments => self.take_arguments(source),
+            RunKind::CallArguments(most) => self.take_call_arguments(most, source),
+            RunKind::Name => self.take_name(source),
+            RunKind::Condition => self.take_condition(source),
+            RunKind::Definition => self.add_run(source),
+            RunKind::Text => self.take_others(kind, source),
+            RunKind::Blanks => self.take_blanks(source),
+            RunKind::Ignored => self.take_others(kind, source),
+            RunKind::Dropped { .. } => self.take_others(kind, source),
+        }
+    }
+
+    // Each kind that comes often has a copy of its own, for which the compiler knows the kind.
+
+    /// The same of bytes that are held in arguments.
+    #[inline(never)]
+    fn take_arguments<S: ByteSource>(&mut self, source: &mut S) -> usize
+        ensures takes { TakesRun Arguments (S.gives source.old) (S.gives source.new)
+            (S.ready source.old) result self.old self.new }
+        ensures notes { S.notes source.new ≤ S.notes source.old }
+        ensures failures { S.failures source.new ≡ S.failures source.old }
+    {
+        self.take_lying(RunKind::Arguments, source)
+    }
+
+    /// The same where fewer than so many are whole.
+    #[inline(never)]
+    fn take_call_arguments<S: ByteSource>(&mut self, most: usize, source: &mut S) -> usize
+        ensures takes { TakesRun (CallArguments most) (S.gives source.old) (S.gives source.new)
+            (S.ready source.old) result self.old self.new }
+        ensures notes { S.notes source.new ≤ S.notes source.old }
+        ensures failures { S.failures source.new ≡ S.failures source.old }
+    {
+        self.take_lying(RunKind::CallArguments(most), source)
+    }
+
+    /// The same of blanks.
+    #[inline(never)]
+    fn take_blanks<S: ByteSource>(&mut self, source: &mut S) -> usize
+        ensures takes { TakesRun Blanks (S.gives source.old) (S.gives source.new)
+            (S.ready source.old) result self.old self.new }
+        ensures notes { S.notes source.new ≤ S.notes source.old }
+        ensures failures { S.failures source.new ≡ S.failures source.old }
+    {
+        self.take_lying(RunKind::Blanks, source)
+    }
+
+    /// The same in the front of an escape that reads a name.
+    #[inline(never)]
+    fn take_name<S: ByteSource>(&mut self, source: &mut S) -> usize
+        ensures takes { TakesRun Name (S.gives source.old) (S.gives source.new)
+            (S.ready source.old) result self.old self.new }
+        ensures notes { S.notes source.new ≤ S.notes source.old }
+        ensures failures { S.failures source.new ≡ S.failures source.old }
+    {
+        self.take_lying(RunKind::Name, source)
+    }
+
+    /// The same of a condition: of a pushed text, or as they lie together.
+    #[inline(never)]
+    fn take_condition<S: ByteSource>(&mut self, source: &mut S) -> usize
+        ensures takes { TakesRun Condition (S.gives source.old) (S.gives source.new)
+            (S.ready source.old) result self.old self.new }
+        ensures notes { S.notes source.new ≤ S.notes source.old }
+        ensures failures { S.failures source.new ≡ S.failures source.old }
+    {
+        let pushed = self.take_pushed();
+        if pushed > 0 {
+            return pushed;
+        }
+        self.take_lying(RunKind::Condition, source)
+    }
+
+    /// The same of the other kinds that only pass bytes.
+    #[inline(never)]
+    fn take_others<S: ByteSource>(&mut self, kind: RunKind, source: &mut S) -> usize
+        requires { kind ≡ Definition → ⊥ }
+        ensures takes { TakesRun kind (S.gives source.old) (S.gives source.new)
+            (S.ready source.old) result self.old self.new }
+        ensures notes { S.notes source.new ≤ S.notes source.old }
+        ensures failures { S.failures source.new ≡ S.failures source.old }
+    {
+        self.take_lying(kind, source)
+    }
+
+    /// The same of bytes of the source or of a body, as they lie together, but for those that are
+    /// put behind a text.
+    #[inline(always)]
+    fn take_lying<S: ByteSource>(&mut self, kind: RunKind, source: &mut S) -> usize
+        requires { kind ≡ Definition → ⊥ }
+        ensures takes { TakesRun kind (S.gives source.old) (S.gives source.new)
+            (S.ready source.old) result self.old self.new }
+        ensures notes { S.notes source.new ≤ S.notes source.old }
+        ensures failures { S.failures source.new ≡ S.failures source.old }
+    {
+        let most = self.room_for(kind);
+        let front = front_of(&self.input_ahead, self.looked, source, most);
+        if front.is_empty() {
+            return 0;
+        }
+        let count = take_part(kind, front, &mut self.arguments, &mut self.escapes);
+        self.pass_front(source, count, kind.has_newlines());
+        count
+    }
+
+    /// How many bytes of a run the limits have room for: each counts once, and each that is held.
+    #[inline(always)]
+    fn room_for(&self, kind: RunKind) -> usize
+        ensures bytes { self.now.input.charge + result ≤ self.now.limits.bytes }
+        ensures stack { is_held kind ≡ true
+            → pushed self.now.input + result ≤ self.now.limits.stack }
+        ensures all { is_held kind ≡ false
+            → self.now.input.charge + result ≡ self.now.limits.bytes }
+    {
+        let allowed = (self.limits.bytes - self.charge) as usize;
+        if kind.is_held() {
+            return allowed.min(self.limits.stack as usize - self.pushed());
+        }
+        allowed
+    }
+
+    /// Takes bytes of plain text of the source together that stand ready, and puts them behind the
+    /// newest text in the making, if there is one: no more than the limits on bytes and on the
+    /// store have room for. Returns how many; none where anything is ahead or looked at.
+    #[inline(never)]
+    fn add_run<S: ByteSource>(&mut self, source: &mut S) -> usize
+        ensures takes { TakesRun Definition (S.gives source.old) (S.gives source.new)
+            (S.ready source.old) result self.old self.new }
+        ensures notes { S.notes source.new ≤ S.notes source.old }
+        ensures failures { S.failures source.new ≡ S.failures source.old }
+    {
+        if !self.input_ahead.is_empty() {
+            return 0;
+        }
+        if self.looked.is_some() {
+            return 0;
+        }
+        let room = self.limits.store as usize - self.input_ahead.stored();
+        let allowed = self.limits.bytes - self.charge;
+        let text = text_ready(source, room.min(allowed as usize));
+        let count = text.len();
+        if count == 0 {
+            return 0;
+        }
+        match self.add(text) {
+            Ok(()) => {
+                self.pass_source(source, count);
+                count
+            }
+            Err(_) => 0,
+        }
+    }
+}
+
+/// How many of these bytes are taken of such a run: they are held in arguments, change what is half
+/// read, or change nothing here.
+#[inline(always)]
+fn take_part(
+    kind: RunKind,
+    front: &[u8],
+    arguments: &mut ArgumentTexts,
+    escapes: &mut OpenEscapes,
+) -> usize
+    requires arguments { is_held kind ≡ true
+        → held arguments.old.arguments + length front.now ≤ arguments.old.room }
+    requires escapes { is_held kind ≡ true
+        → texts_held escapes.old.escapes + length front.now ≤ escapes.old.room }
+    ensures { TakesPart kind front.now result
+        arguments.old arguments.new escapes.old escapes.new }
+{
+    match kind {
+        RunKind::Text => 0,
+        RunKind::Blanks => blanks_in_front(front),
+        RunKind::Arguments => arguments.take_front(front, None),
+        RunKind::CallArguments(most) => arguments.take_front(front, Some(most)),
+        RunKind::Name => escapes.read_front(front),
+        RunKind::Condition => escapes.take_front(front),
+        RunKind::Definition => text_in_front(front),
+        RunKind::Ignored => text_in_front(front),
+        RunKind::Dropped { within_block } => passed_len(front, within_block),
+    }
+}
+
+/// How many blanks these bytes begin with.
+#[inline(always)]
+fn blanks_in_front(bytes: &[u8]) -> usize
+    ensures { result ≡ length (take_while (λ b. b == blank) bytes.now) }
+{
+    bytes.iter().take_while(|byte| **byte == b' ').count()
+}
+
+/// Bytes of plain text of the source that stand ready, so many at the most.
+#[inline(always)]
+fn text_ready<S: ByteSource>(source: &S, most: usize) -> &[u8]
+    ensures bytes { result.now ≡ take (length result.now) (S.ready source.now) }
+    ensures among { length result.now ≤ length (S.ready source.now) }
+    ensures few { length result.now ≤ most }
+    ensures plain { AllByRecursion (λ b. is_text_byte b ≡ true) result.now }
+    ensures whole { result.now ≡ take_while is_text_byte (take most (S.ready source.now)) }
+{
+    let front = at_most(source.buffered(), most);
+    at_most(front, text_in_front(front))
+}
