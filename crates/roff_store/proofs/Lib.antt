@@ -13,6 +13,7 @@ pub mod Leaving
 pub mod Sharing
 pub mod Filling
 pub mod Extending
+pub mod ExtendingOn
 pub mod Appending
 pub mod LyingSums
 pub mod LyingEach
@@ -22,8 +23,10 @@ pub mod HandSums
 pub mod Hands
 pub mod Opening
 pub mod Leasing
+pub mod Lending
 pub mod Entering
 pub mod Naming
 pub mod Setting
+pub mod PuttingBehind
 pub mod Renaming
 pub mod LastBytes

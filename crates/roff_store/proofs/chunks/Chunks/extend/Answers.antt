@@ -1,6 +1,6 @@
 use Rattle.std.proofs.Common.{◌≡◌, ◌<◌, length, sym, ◌∙◌, arith}
 use Rattle.std.proofs.lemmas.Bool.Decides.{nat_tests}
-use Rattle.roff_store.proofs.Extending.{extended-shared, extending-first, extending-last, extending-next, extending-room, extending-short}
+use Rattle.roff_store.proofs.ExtendingOn.{extended-shared, extending-first, extending-last, extending-next, extending-room, extending-short}
 use Rattle.roff_store.specs.Chains.{others}
 use Rattle.roff_store.proofs.chunks.Chunks.extend.Goals as goal
 

@@ -1,5 +1,5 @@
 use Rattle.std.proofs.Common.{length}
-use Rattle.roff_store.proofs.Extending.{Extending}
+use Rattle.roff_store.proofs.ExtendingOn.{Extending}
 use Rattle.roff_store.proofs.chunks.Chunks.extend.Given as goal
 
 abbrev pub invariant-loop-behind : goal.invariant-loop-behind

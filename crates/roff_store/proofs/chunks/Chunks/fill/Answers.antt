@@ -3,7 +3,8 @@ use Rattle.std.proofs.lemmas.Bool.Decides.{nat_tests}
 use Rattle.std.proofs.lemmas.List.{get_or_read, nil_from_length}
 use Rattle.roff_store.specs.Chains.{IsShared, IsText, content}
 use Rattle.roff_store.specs.Chunks.Kept.{kept_by}
-use Rattle.roff_store.proofs.Extending.{extended-none, fill-extended, grown-set, text-last}
+use Rattle.roff_store.proofs.Extending.{fill-extended, text-last}
+use Rattle.roff_store.proofs.ExtendingOn.{extended-none, grown-set}
 use Rattle.roff_store.proofs.chunks.Chunks.fill.Goals as goal
 
 pub returns-then-is_empty-clause-extended : goal.returns-then-is_empty-clause-extended

@@ -2,7 +2,8 @@ use Rattle.std.proofs.Common.{◌≡◌, [], ◌++◌, set, get_or, refl, sym, a
 use Rattle.std.proofs.lemmas.List.{get_or_read, get_or-set_other, get_or-set_same}
 use Rattle.roff_store.specs.Chains.{content}
 use Rattle.roff_store.specs.Chunks.Kept.{kept_by}
-use Rattle.roff_store.proofs.Extending.{claimed-chunk, last-claimed, link-extended, link-first, put-set}
+use Rattle.roff_store.proofs.Extending.{last-claimed, link-extended, link-first}
+use Rattle.roff_store.proofs.ExtendingOn.{claimed-chunk, put-set}
 use Rattle.roff_store.proofs.chunks.Chunks.link_behind.Goals as goal
 
 pub returns-then-strand-eq0-clause-extended : goal.returns-then-strand-eq0-clause-extended

@@ -3,7 +3,8 @@ use Rattle.roff_num.specs.declared.limit.Limit.TheVariants.{Store}
 use Rattle.roff_store.specs.Texts.{Body, body_of}
 use Rattle.roff_store.specs.TextCalls.{Append, Set, after, answered}
 use Rattle.roff_store.specs.TextStore.Strands.{strands_of}
-use Rattle.roff_store.proofs.Setting.{IsSet, after-refused, append-refused, append-room, append-short, appended, behind-none, body-text, body-shared}
+use Rattle.roff_store.proofs.Setting.{IsSet, after-refused, behind-none}
+use Rattle.roff_store.proofs.PuttingBehind.{append-refused, append-room, append-short, appended, body-text, body-shared}
 use Rattle.roff_store.proofs.text_store.TextStore.append.Goals as goal
 use Rattle.roff_store.proofs.text_store.TextStore.append.Goals.{in_default-via-in-Some+in_default, in_default-via-in_default}
 

@@ -1,5 +1,6 @@
 use Rattle.std.proofs.Common.{arith}
-use Rattle.roff_store.proofs.Leasing.{rest-by, first-given}
+use Rattle.roff_store.proofs.Leasing.{rest-by}
+use Rattle.roff_store.proofs.Lending.{first-given}
 use Rattle.roff_store.proofs.text_store.TextStore.lease_take.Goals as goal
 
 pub bounds-lease_front-0 : goal.bounds-lease_front-0

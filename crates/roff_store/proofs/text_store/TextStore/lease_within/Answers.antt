@@ -4,7 +4,7 @@ use Rattle.roff_store.specs.TextStore.Kept.{strands_in}
 use Rattle.roff_store.specs.declared.text_store.Meaning.TheVariants.{Body as BodyIn}
 use Rattle.roff_store.proofs.Hands.{name-is-body}
 use Rattle.roff_store.proofs.LastBytes.{body-read}
-use Rattle.roff_store.proofs.Leasing.{after-again, after-behind, body-rest, free-again, free-behind, inside-again, sound-again, sound-behind, no-body-none, no-body-request, has-body, body-strand, body-shared, room-to-share, room-within, kept-fits}
+use Rattle.roff_store.proofs.Lending.{after-again, after-behind, body-rest, free-again, free-behind, inside-again, sound-again, sound-behind, no-body-none, no-body-request, has-body, body-strand, body-shared, room-to-share, room-within, kept-fits}
 use Rattle.roff_store.proofs.text_store.TextStore.lease_within.Goals as goal
 
 pub returns-in-Some-Request : goal.returns-in-Some-Request
