@@ -9,7 +9,7 @@ use Rattle.roff_lines.specs.Glyphs.{glyph_width}
 use Rattle.roff_lines.specs.Settings.{settings_with, counted, fills}
 use Rattle.roff_lines.specs.Events.{Event, Print, Tab, WordEnd, Gap, LineEnd, Count, Break, Interrupt, Resume, Set, History, settings_after, stops_after}
 use Rattle.roff_lines.specs.Stops.{stops_with}
-use Rattle.roff_lines.specs.Places.{moved, input_place}
+use Rattle.roff_lines.specs.Places.{has_line_glyph, moved, input_place}
 use Rattle.roff_lines.specs.Fitting.{Word, fits, last_line}
 use Rattle.roff_lines.specs.Words.{is_empty, has_open_word, open_glyphs, line_glyphs, blanks, paragraph, words, temporary_indent, open_word}
 use Rattle.roff_lines.specs.Lines.{Finished, empty_line, line_laid_out, finished}
@@ -37,6 +37,7 @@ finished_by_break ws s = if is_empty ws then None else Some (line_laid_out s fal
 record Alike (h i : History) : Type 0 where
   pub settings : settings_after h ≡ settings_after i
   pub stops : stops_after h ≡ stops_after i
+  pub has_glyph : has_line_glyph h ≡ has_line_glyph i
   pub place : input_place h ≡ input_place i
   pub word : open_glyphs h ≡ open_glyphs i
   pub on_line : line_glyphs h ≡ line_glyphs i
@@ -71,12 +72,25 @@ module _ (h i : History) (s : Alike h i) where
   stops-with Resume = s.stops
   stops-with (Set p) = ap (stops_with p) s.stops
 
+  -- whether a glyph stands on the line
+  has_glyph-with : (e : Event) → has_line_glyph (e ∷ h) ≡ has_line_glyph (e ∷ i)
+  has_glyph-with (Print g) = refl
+  has_glyph-with Tab = refl
+  has_glyph-with WordEnd = s.has_glyph
+  has_glyph-with (Gap n) = s.has_glyph
+  has_glyph-with LineEnd = refl
+  has_glyph-with Count = s.has_glyph
+  has_glyph-with Break = s.has_glyph
+  has_glyph-with Interrupt = s.has_glyph
+  has_glyph-with Resume = s.has_glyph
+  has_glyph-with (Set p) = s.has_glyph
+
   -- the place
   place-with : (e : Event) → input_place (e ∷ h) ≡ input_place (e ∷ i)
   place-with (Print g) = ap (moved (glyph_width g)) s.place
   place-with Tab = rw (s.stops, s.place) refl
   place-with WordEnd = s.place
-  place-with (Gap n) = ap (moved n) s.place
+  place-with (Gap n) = rw (s.has_glyph, s.place) refl
   place-with LineEnd = refl
   place-with Count = s.place
   place-with Break = s.place
@@ -112,11 +126,11 @@ module _ (h i : History) (s : Alike h i) where
 
   -- the blanks before the word
   blanks-with : (e : Event) → blanks (e ∷ h) ≡ blanks (e ∷ i)
-  blanks-with (Print g) = s.blanks
-  blanks-with Tab = s.blanks
+  blanks-with (Print g) = rw (s.word, s.blanks, s.on_line) refl
+  blanks-with Tab = rw (s.word, s.blanks, s.on_line) refl
   blanks-with WordEnd = rw (s.word, s.blanks) refl
-  blanks-with (Gap n) = rw (s.word, s.blanks) refl
-  blanks-with LineEnd = rw (s.word, s.settings, s.on_line, s.blanks) refl
+  blanks-with (Gap n) = rw (s.word, s.has_glyph, s.blanks) refl
+  blanks-with LineEnd = rw (s.word, s.settings, s.has_glyph, s.on_line, s.blanks) refl
   blanks-with Count = s.blanks
   blanks-with Break = rw (s.word, s.blanks) refl
   blanks-with Interrupt = s.blanks
@@ -176,6 +190,7 @@ module _ (h i : History) (s : Alike h i) where
   Alike-with e = record {
     settings = settings-with e;
     stops = stops-with e;
+    has_glyph = has_glyph-with e;
     place = place-with e;
     word = open-with e;
     on_line = on_line-with e;
@@ -189,6 +204,7 @@ module _ (h i : History) (s : Alike h i) where
   Alike-interrupt = record {
     settings = s.settings;
     stops = s.stops;
+    has_glyph = s.has_glyph;
     place = s.place;
     word = s.word;
     on_line = s.on_line;
@@ -202,6 +218,7 @@ module _ (h i : History) (s : Alike h i) where
   Alike-resume = record {
     settings = s.settings;
     stops = s.stops;
+    has_glyph = s.has_glyph;
     place = s.place;
     word = s.word;
     on_line = s.on_line;
@@ -226,6 +243,7 @@ Alike-itself : (h : History) → Alike h h
 Alike-itself h = record {
   settings = refl;
   stops = refl;
+  has_glyph = refl;
   place = refl;
   word = refl;
   on_line = refl;

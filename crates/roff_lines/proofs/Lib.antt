@@ -9,6 +9,8 @@ pub mod Sentences
 pub mod PendingLine
 pub mod LastLine
 pub mod Stands
+pub mod Gaps
+pub mod Printed
 pub mod WordEnd
 pub mod LineEnd
 pub mod Tabs

@@ -4,7 +4,8 @@ use Rattle.std.specs.Prelude.{if◌then◌else◌}
 use Rattle.std.proofs.lemmas.Bool.{cond_both, cases_Bool, true≢false}
 use Rattle.roff_lines.specs.Events.{LineEnd, History, settings_after}
 use Rattle.roff_lines.specs.Settings.{fills}
-use Rattle.roff_lines.specs.Words.{is_empty, line_glyphs, blanks, words}
+use Rattle.roff_lines.specs.Places.{has_line_glyph}
+use Rattle.roff_lines.specs.Words.{is_empty, blanks, words}
 use Rattle.roff_lines.specs.Lines.{Finished, empty_line, finished, laid_out, line_laid_out, pending_line}
 use Rattle.roff_lines.specs.LastLine.{line_width, last_width}
 use Rattle.roff_lines.specs.Env.Kept.{Kept, pending_width, with_input_line_ended, finished_by_line_end}
@@ -21,9 +22,9 @@ module _ (line_cap : ℕ) (h : History) (k : Kept) (s : Stands line_cap h k) whe
   blanks-filled f =
       elim (cases_Bool k.is_open) [
         | inl o ↦ rw (← s.is_open, o) s.blanks
-        | inr o ↦ elim (cases_Bool (is_empty (line_glyphs h))) [
-          | inl e ↦ rw (← s.settings, ← s.is_open, f, o, s.has_glyph, e) s.blanks
-          | inr e ↦ rw (← s.settings, ← s.is_open, f, o, s.has_glyph, e, ← s.ends_sentence)
+        | inr o ↦ elim (cases_Bool (has_line_glyph h)) [
+          | inr e ↦ rw (← s.settings, ← s.is_open, f, o, s.has_glyph, e) s.blanks
+          | inl e ↦ rw (← s.settings, ← s.is_open, f, o, s.has_glyph, e, ← s.ends_sentence)
               (cond_both k.ends_sentence 2 1 (λ n. n ≡ min n (2 ^ 33)) (λ _. refl) (λ _. refl))
         ]
       ]

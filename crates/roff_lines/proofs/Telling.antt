@@ -5,7 +5,7 @@ use Rattle.std.proofs.lemmas.List.{append-nil, reverse-reverse}
 use Rattle.roff_lines.specs.declared.glyph.Glyph.{Glyph}
 use Rattle.roff_lines.specs.Events.{Print, WordEnd, History, settings_after}
 use Rattle.roff_lines.specs.Fitting.{Word}
-use Rattle.roff_lines.specs.Words.{is_empty, open_glyphs, has_open_word, blanks, open_word, words, temporary_indent, indent_by}
+use Rattle.roff_lines.specs.Words.{is_empty, open_glyphs, has_open_word, line_glyphs, begun_gap, blanks, open_word, words, temporary_indent, indent_by}
 use Rattle.roff_lines.specs.Telling.{glyphs_told}
 use Rattle.roff_lines.proofs.PendingLine.{is_empty-true}
 
@@ -19,12 +19,14 @@ pub settings_after-told : (gs : List Glyph) (h : History) → settings_after (ma
 settings_after-told [] h = refl
 settings_after-told (g ∷ gs) h = settings_after-told gs h
 
--- so do the blanks before the word
-pub blanks-told : (gs : List Glyph) (h : History) → blanks (map Print gs ++ h) ≡ blanks h
-blanks-told [] h = refl
-blanks-told (g ∷ gs) h = blanks-told gs h
+-- the word has the gap that it begins with
+pub blanks-told : (gs : List Glyph) (h : History) → is_empty gs ≡ false → has_open_word h ≡ false
+    → blanks (map Print gs ++ h) ≡ begun_gap (blanks h) (line_glyphs h)
+blanks-told [] h some closed = absurd (true≢false some)
+blanks-told (g ∷ []) h some closed = rw closed refl
+blanks-told (g ∷ f ∷ gs) h some closed = blanks-told (f ∷ gs) h refl closed
 
--- and the words before it
+-- the words before it stay
 pub words-told : (gs : List Glyph) (h : History) → words (map Print gs ++ h) ≡ words h
 words-told [] h = refl
 words-told (g ∷ gs) h = words-told gs h
@@ -38,7 +40,7 @@ temporary_indent-told (g ∷ gs) h = temporary_indent-told gs h
 abbrev pub told_word : List Glyph → History → Word
 told_word glyphs h = record {
   glyphs = glyphs;
-  gap = blanks h;
+  gap = begun_gap (blanks h) (line_glyphs h);
   under = settings_after h;
   indent = indent_by (temporary_indent h) (settings_after h);
 }
@@ -66,7 +68,8 @@ module _ (glyphs : List Glyph) (h : History) (some : is_empty glyphs ≡ false) 
   pub open_word-word : open_word (glyphs_told glyphs h) ≡ told_word glyphs h
   open_word-word =
       let back = reverse glyphs in
-      rw (open_glyphs-word, reverse-reverse glyphs, blanks-told back h, settings_after-told back h, temporary_indent-told back h) refl
+      let gap = blanks-told back h (is_empty-reverse glyphs some) (ap (λ gs. not (is_empty gs)) closed) in
+      rw (open_glyphs-word, reverse-reverse glyphs, gap, settings_after-told back h, temporary_indent-told back h) refl
 
   -- so it is one word more, as it ends
   pub words-word : words (WordEnd ∷ glyphs_told glyphs h) ≡ told_word glyphs h ∷ words h

@@ -1,6 +1,6 @@
 -- What a history says behind words that were told one after another.
-use Rattle.std.proofs.Common.{◌≡◌, ℕ, ◌-◌, ◌&&◌, Bool, true, false, None, List, [], ◌∷◌, ◌++◌, map, reverse, refl, sym, ap, ◌∙◌, inl, inr, zero-add, arith}
-use Rattle.std.specs.Prelude.{All, ◌==◌}
+use Rattle.std.proofs.Common.{◌≡◌, ℕ, ◌+◌, ◌-◌, ◌&&◌, not, Bool, true, false, None, List, [], ◌∷◌, ◌++◌, map, reverse, refl, sym, ap, ◌∙◌, inl, inr, zero-add, arith}
+use Rattle.std.specs.Prelude.{All, ◌==◌, if◌then◌else◌}
 use Rattle.std.proofs.lemmas.Bool.{cases_Bool, cond_both, eqb-true, not-false}
 use Rattle.std.proofs.lemmas.List.Elements.{All-nil, All-cons, All-head, All-tail}
 use Rattle.roff_lines.specs.declared.glyph.Glyph.{Glyph}
@@ -8,10 +8,12 @@ use Rattle.roff_lines.specs.declared.settings.Settings.{Settings}
 use Rattle.roff_lines.specs.Events.{Event, Print, WordEnd, Gap, LineEnd, Count, Break, Set, History, settings_after}
 use Rattle.roff_lines.specs.Settings.{fills, counted}
 use Rattle.roff_lines.specs.Fitting.{Word, begins_line}
-use Rattle.roff_lines.specs.Words.{is_empty, open_glyphs, has_open_word, blanks, open_word, words, temporary_indent, indent_by}
+use Rattle.roff_lines.specs.Words.{is_empty, open_glyphs, has_open_word, line_glyphs, begun_gap, blanks, open_word, words, temporary_indent, indent_by}
+use Rattle.roff_lines.specs.Places.{has_line_glyph}
 use Rattle.roff_lines.specs.Lines.{pending_line}
 use Rattle.roff_lines.specs.Telling.{glyphs_told, words_told, IsOfText, IsWordUnder, IsClear}
 use Rattle.roff_lines.specs.Paragraphs.{until_break}
+use Rattle.roff_lines.proofs.Gaps.{begun_gap-same}
 use Rattle.roff_lines.proofs.PendingLine.{is_empty-true}
 use Rattle.roff_lines.proofs.Telling.{settings_after-told, temporary_indent-told, has_open_word-word, words-word}
 
@@ -20,9 +22,14 @@ until_break-glyphs : (gs : List Glyph) (h : History) → until_break (map Print 
 until_break-glyphs [] h = refl
 until_break-glyphs (g ∷ gs) h = until_break-glyphs gs h
 
+-- where no blanks are counted, those of a gap are
+counted-none : (bare : Bool) (n : ℕ) → (if bare && false then 0 else 0 + n) ≡ n
+counted-none true n = zero-add n
+counted-none false n = zero-add n
+
 -- what stands before the first word of a gap, where no word is open
 blanks-gap : (n : ℕ) (h : History) → open_glyphs h ≡ [] → blanks h ≡ 0 → blanks (Gap n ∷ h) ≡ n
-blanks-gap n h closed none = rw (closed, none) (zero-add n)
+blanks-gap n h closed none = rw (closed, none) (counted-none (not (has_line_glyph h)) n)
 
 module _ (h : History) (clear : IsClear h) where
   -- no word is open behind words
@@ -66,14 +73,16 @@ module _ (h : History) (clear : IsClear h) where
       let here = All-head (IsWordUnder (settings_after h)) w ws each in
       let others = All-tail (IsWordUnder (settings_after h)) w ws each in
       let before = Gap w.gap ∷ words_told ws h in
-      let gap : blanks before ≡ w.gap = blanks-gap w.gap (words_told ws h) (open_glyphs-words ws) (blanks-words ws others) in
+      let blanks_before : blanks before ≡ w.gap = blanks-gap w.gap (words_told ws h) (open_glyphs-words ws) (blanks-words ws others) in
+      let gap : begun_gap (blanks before) (line_glyphs before) ≡ w.gap =
+      ap (λ n. begun_gap n (line_glyphs before)) blanks_before ∙ begun_gap-same w.gap (line_glyphs before) here.gap in
       let under : settings_after before ≡ w.under = settings_after-words ws ∙ sym here.under in
       let word : ℕ → Settings → ℕ → Word = λ n s i. record { glyphs = w.glyphs; gap = n; under = s; indent = i } in
       let by_none : indent_by (temporary_indent before) (settings_after before) ≡ w.indent =
       ap (λ t. indent_by t (settings_after before)) (temporary_indent-words none ws)
       ∙ ap (λ s. s.indent) (settings_after-words ws) ∙ sym here.indent in
       words-word w.glyphs before here.some (open_glyphs-words ws)
-      ∙ ap (λ i. word (blanks before) (settings_after before) i ∷ words before) by_none
+      ∙ ap (λ i. word (begun_gap (blanks before) (line_glyphs before)) (settings_after before) i ∷ words before) by_none
       ∙ ap (λ n. word n (settings_after before) w.indent ∷ words before) gap
       ∙ ap (λ s. word w.gap s w.indent ∷ words before) under
       ∙ ap (λ vs. w ∷ vs) (words-words none ws others)

@@ -9,13 +9,14 @@ use Rattle.std.proofs.lemmas.List.Sums.{sum_by-cons, sum_by-append}
 use Rattle.roff_lines.specs.declared.glyph.Glyph.TheVariants.{Printed}
 use Rattle.roff_lines.specs.Glyphs.{byte_width, gap_blank, text_width, gaps_in}
 use Rattle.roff_lines.specs.Events.{Gap}
-use Rattle.roff_lines.specs.Places.{moved}
+use Rattle.roff_lines.specs.Places.{has_line_glyph, moved}
 use Rattle.roff_lines.specs.Fitting.{gap_text, may_be_wide}
 use Rattle.roff_lines.specs.Words.{has_open_word, is_closer, is_sentence_mark, ends_sentence_behind, ends_sentence_behind_words}
-use Rattle.roff_lines.specs.Env.Kept.{Kept, glyph_room, with_glyphs, with_words, with_word_ended, word_fits, word_finishes}
+use Rattle.roff_lines.specs.Env.Kept.{Kept, begun_blanks, glyph_room, with_glyphs, with_words, with_word_ended, word_fits, word_finishes}
 use Rattle.roff_lines.specs.Env.Stands.{StandsBehind}
 use Rattle.roff_lines.specs.Env.Tells.{HasRoom, IsOneCharacter, NoWord, OneMore, Tells, TellsFront, WholeWords}
 use Rattle.roff_lines.proofs.FirstLineOf.{text_width-gap_text}
+use Rattle.roff_lines.proofs.Gaps.{begun-same}
 use Rattle.roff_lines.proofs.GlyphsInFront.{eqb-above}
 use Rattle.roff_lines.proofs.LastLine.{last_width-none}
 use Rattle.roff_lines.proofs.PendingLine.{length-gap_text}
@@ -109,6 +110,7 @@ or_less false wide less most may small = grind (arith, nat_tests)
 
 pub HasRoom-less : (room less : ℕ) (k : Kept) → HasRoom room k → less ≤ room → HasRoom less k
 HasRoom-less room less k has small = record {
+  gap = has.gap;
   limit = omega (arith, has.limit, small);
   fits = or_less _ (k.indent + (text_width k.line + k.blanks + room)) (k.indent + (text_width k.line + k.blanks + less)) k.settings.line_length has.fits (omega (arith, small));
 }
@@ -125,10 +127,11 @@ with_gap n k = record k { blanks = min (k.blanks + n) (2 ^ 33); place = moved n 
 counted-more : (blanks n : ℕ) → min (min blanks (2 ^ 33) + n) (2 ^ 33) ≡ min (blanks + n) (2 ^ 33)
 counted-more blanks n = omega arith
 
--- what is kept behind the gap stands for the history with it
-Stands-gap : (n : ℕ) (k : Kept) → k.is_open ≡ false → StandsBehind k (Gap n) (with_gap n k)
-Stands-gap n k o line_cap h s =
+-- what is kept behind the gap stands for the history with it, where a glyph stands on the line
+Stands-gap : (n : ℕ) (k : Kept) → k.is_open ≡ false → k.has_glyph ≡ true → StandsBehind k (Gap n) (with_gap n k)
+Stands-gap n k o some line_cap h s =
     let closed : has_open_word h ≡ false = sym s.is_open ∙ o in
+    let glyph : has_line_glyph h ≡ true = sym s.has_glyph ∙ some in
     record {
       small = s.small;
       within = rw closed (rw closed at s.within);
@@ -141,10 +144,10 @@ Stands-gap n k o line_cap h s =
       indent = s.indent;
       word = s.word;
       is_open = s.is_open;
-      blanks = rw closed (ap (λ b. min (b + n) (2 ^ 33)) s.blanks ∙ counted-more _ n);
+      blanks = rw (closed, glyph) (ap (λ b. min (b + n) (2 ^ 33)) s.blanks ∙ counted-more _ n);
       has_glyph = s.has_glyph;
       ends_sentence = s.ends_sentence;
-      place = ap (moved n) s.place;
+      place = rw glyph (ap (moved n) s.place);
       is_interrupted = s.is_interrupted;
       last_width = s.last_width ∙ sym (last_width-none h (Gap n) refl);
     }
@@ -152,21 +155,25 @@ Stands-gap n k o line_cap h s =
 -- a word with a blank behind it goes into the pending line, where that has room
 module _ (k : Kept) (word : List ℕ) (line : k.has_line ≡ true) (closed : k.is_open ≡ false) (none : k.word ≡ [])
     (has : HasRoom (length word) k) (some : 0 < length word) (all : AllByRecursion IsOneCharacter word) where
+  gap-word : begun_blanks k ≡ k.blanks
+  gap-word = begun-same k.blanks k.ends_sentence has.gap
+
   room-word : length word ≤ glyph_room k
   room-word =
-      let gap : (if k.has_line then k.blanks else 0) ≡ k.blanks = rw line refl in
+      let gap : (if k.has_line then begun_blanks k else 0) ≡ k.blanks = rw line gap-word in
       omega (arith, gap, ap length none, has.limit)
 
   -- the word fits
   fits-word : word_fits (with_glyphs word k) ≡ true
   fits-word =
       let wide : text_width (k.word ++ word) ≡ length word = rw none (text_width-word word all) in
-      ap (λ n. may_be_wide k.settings k.indent (text_width k.line + k.blanks + n)) wide ∙ has.fits
+      ap (λ m. may_be_wide k.settings k.indent (text_width k.line + m + text_width (k.word ++ word))) gap-word
+      ∙ ap (λ n. may_be_wide k.settings k.indent (text_width k.line + k.blanks + n)) wide ∙ has.fits
 
   ended-word : with_gap 1 (with_word_ended (with_glyphs word k)) ≡ with_words word k
   ended-word =
       let place : moved 1 (moved (text_width word) k.place) ≡ moved (text_width word + 1) k.place = moved-moved (text_width word) 1 k.place in
-      rw (line, fits-word, none, place, ← ends-word word k.ends_sentence all) refl
+      rw (line, fits-word, gap-word, none, place, ← ends-word word k.ends_sentence all) refl
 
   Tells-word : Tells (word ++ 32 ∷ []) k (with_words word k)
   Tells-word =
@@ -174,7 +181,8 @@ module _ (k : Kept) (word : List ℕ) (line : k.has_line ≡ true) (closed : k.i
       let mid = with_word_ended first in
       let stays : word_finishes first ≡ false = rw (line, fits-word) refl in
       let shut : mid.is_open ≡ false = rw (line, fits-word) refl in
-      let gap : StandsBehind mid (Gap 1) (with_words word k) = subst (StandsBehind mid (Gap 1)) ended-word (Stands-gap 1 mid shut) in
+      let glyph : mid.has_glyph ≡ true = rw (line, fits-word) refl in
+      let gap : StandsBehind mid (Gap 1) (with_words word k) = subst (StandsBehind mid (Gap 1)) ended-word (Stands-gap 1 mid shut glyph) in
       Tells-append word (32 ∷ []) k first (with_words word k) (Tells-glyphs word some (above-word word all) k room-word)
       (Tells-blank first mid (with_words word k) stays refl gap)
 
@@ -234,6 +242,7 @@ module _ (k : Kept) (room : ℕ) (line : k.has_line ≡ true) (closed : k.is_ope
       let whole : HasRoom (length text) k = HasRoom-less room (length text) k has (omega (arith, long, within)) in
       let width : text_width k.line + k.blanks + length text ≡ text_width mid.line + 1 + length word = omega (arith, line_wide, sum) in
       let fits : HasRoom (length word) mid = record {
+        gap = omega arith;
         limit = omega (arith, line_long, sum, whole.limit);
         fits = ap (may_be_wide k.settings k.indent) (sym width) ∙ whole.fits;
       } in

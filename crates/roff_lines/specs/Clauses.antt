@@ -10,7 +10,7 @@ pub use Rattle.roff_lines.specs.Events.{Event, Print, Tab, WordEnd, Gap, LineEnd
 pub use Rattle.roff_lines.specs.Events.{settings_after, stops_after, is_interrupted}
 pub use Rattle.roff_lines.specs.Stops.{TabStops, stops_with, way_to_stop, way_to_nearest, shorter_way}
 pub use Rattle.roff_lines.specs.NearestStop.{IsStop, LeadsToNearest}
-pub use Rattle.roff_lines.specs.Places.{most_place, moved, input_place, tab_width}
+pub use Rattle.roff_lines.specs.Places.{most_place, moved, has_line_glyph, input_place, tab_width}
 pub use Rattle.roff_lines.specs.Fitting.{Word, gap_text, may_be_wide}
 pub use Rattle.roff_lines.specs.Words.{is_empty, has_open_word, is_closer, is_sentence_mark, ends_sentence_behind, ends_sentence_behind_words, line_glyphs, words, temporary_indent, indent_by}
 pub use Rattle.roff_lines.specs.Telling.{glyphs_told, words_told, bytes_told, text_line, finished_by_byte, QuietlyTold, IsOfText, IsWordUnder, IsClear}

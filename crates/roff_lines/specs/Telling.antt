@@ -1,5 +1,5 @@
 -- Text as it is told to an environment (manual, section 4.1).
-use Rattle.std.specs.Prelude.{◌≡◌, ℕ, ◌≤◌, false, List, [], ◌∷◌, ◌++◌, map, reverse, Option, None, if◌then◌else◌, ◌==◌}
+use Rattle.std.specs.Prelude.{◌≡◌, ℕ, ◌<◌, ◌≤◌, false, List, [], ◌∷◌, ◌++◌, map, reverse, Option, None, if◌then◌else◌, ◌==◌}
 use Rattle.roff_lines.specs.declared.glyph.Glyph.{Glyph}
 use Rattle.roff_lines.specs.declared.glyph.Glyph.TheVariants.{Printed}
 use Rattle.roff_lines.specs.declared.settings.Settings.{Settings}
@@ -23,9 +23,11 @@ IsOfText Break = ⊥
 IsOfText (Set p) = ⊥
 IsOfText (_) = Unit {0}
 
--- a word that can be told while this is in force: it has a glyph, and ends under these settings, their indent among them
+-- a word that can be told while this is in force: it has a glyph and a gap, and ends under these settings, their indent among
+-- them
 pub record IsWordUnder (s : Settings) (w : Word) : Type 0 where
   pub some : is_empty w.glyphs ≡ false
+  pub gap : 0 < w.gap
   pub under : w.under ≡ s
   pub indent : w.indent ≡ s.indent
 

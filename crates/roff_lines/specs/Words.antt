@@ -6,7 +6,7 @@ use Rattle.roff_lines.specs.declared.glyph.Glyph.TheVariants.{Printed, Blanks}
 use Rattle.roff_lines.specs.declared.settings.Settings.{Settings}
 use Rattle.roff_lines.specs.Settings.{fills, temporary_with}
 use Rattle.roff_lines.specs.Events.{Print, Tab, WordEnd, Gap, LineEnd, Break, Set, History, settings_after}
-use Rattle.roff_lines.specs.Places.{tab_width}
+use Rattle.roff_lines.specs.Places.{has_line_glyph, tab_width}
 use Rattle.roff_lines.specs.Fitting.{Word, begins_line, last_line}
 
 -- whether a list is empty
@@ -66,15 +66,24 @@ ends_sentence_behind_words (b ∷ text) before =
 abbrev pub line_end_gap : List Glyph → ℕ
 line_end_gap glyphs = if ends_sentence glyphs then 2 else 1
 
+-- the gap of a word that begins behind so many blanks, and these glyphs on the line: directly behind the end of another word,
+-- as text stands that was put between two words of a line, the gap of a line's end
+abbrev pub begun_gap : ℕ → List Glyph → ℕ
+begun_gap n glyphs = if n == 0 then line_end_gap glyphs else n
+
 -- The blanks before the next word, or before the open one: those of the gaps since the last word.
 -- A line's end, where words are measured, takes the place of the gaps before it, so trailing blanks are dropped; it
--- leaves them as they are if no glyph stood on the line. An open word keeps the gap it began with.
+-- leaves them as they are if no glyph stood on the line. A gap adds nothing to it before a glyph stands on the next line.
+-- An open word keeps the gap it began with.
 abbrev pub blanks : History → ℕ
 blanks [] = 0
+blanks (Print g ∷ h) = if has_open_word h then blanks h else begun_gap (blanks h) (line_glyphs h)
+blanks (Tab ∷ h) = if has_open_word h then blanks h else begun_gap (blanks h) (line_glyphs h)
 blanks (WordEnd ∷ h) = if has_open_word h then 0 else blanks h
-blanks (Gap n ∷ h) = if has_open_word h then blanks h else blanks h + n
+blanks (Gap n ∷ h) =
+    if has_open_word h || (not (has_line_glyph h) && not (blanks h == 0)) then blanks h else blanks h + n
 blanks (LineEnd ∷ h) =
-    if has_open_word h || (fills (settings_after h) && is_empty (line_glyphs h)) then blanks h
+    if has_open_word h || (fills (settings_after h) && not (has_line_glyph h)) then blanks h
     else if fills (settings_after h) then line_end_gap (line_glyphs h) else 0
 blanks (Break ∷ h) = if has_open_word h then blanks h else 0
 blanks (_ ∷ h) = blanks h

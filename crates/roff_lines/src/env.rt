@@ -1,9 +1,9 @@
 //! The environment: the pending line, the open word, and what is in force.
 
-ghost use Rattle.std.specs.Prelude.{◌≡◌, ℕ, not, [], IfOk};
+ghost use Rattle.std.specs.Prelude.{◌≡◌, ℕ, [], IfOk};
 ghost use Rattle.roff_lines.specs.Clauses.{Count, Interrupt, Resume, Set, History, settings_after};
-ghost use Rattle.roff_lines.specs.Clauses.{last_width, input_place, is_interrupted, line_glyphs};
-ghost use Rattle.roff_lines.specs.Clauses.{is_empty};
+ghost use Rattle.roff_lines.specs.Clauses.{last_width, input_place, is_interrupted};
+ghost use Rattle.roff_lines.specs.Clauses.{has_line_glyph};
 
 mod finishing;
 mod text;
@@ -116,7 +116,7 @@ impl Env {
     pub fn has_glyph(&self) -> bool
         ensures kept { result ≡ self.now.has_glyph }
         ensures glyphs { (line_cap : ℕ) (h : History)
-            → Stands line_cap h self.now → result ≡ not (is_empty (line_glyphs h)) }
+            → Stands line_cap h self.now → result ≡ has_line_glyph h }
     {
         self.has_glyph
     }

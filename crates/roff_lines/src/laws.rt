@@ -17,7 +17,7 @@ ghost use Rattle.roff_lines.specs.Clauses.{finished, bytes_told, History, settin
 ghost use Rattle.roff_lines.specs.Clauses.{temporary_indent, glyphs_told, words_told, IsOfText};
 ghost use Rattle.roff_lines.specs.Clauses.{IsWordUnder, IsClear, finished_lines, until_break};
 ghost use Rattle.roff_lines.specs.Clauses.{full_lines, broken_lines, paragraph_lines, printed};
-ghost use Rattle.roff_lines.specs.Clauses.{device_line, diverted, title_columns};
+ghost use Rattle.roff_lines.specs.Clauses.{device_line, diverted, title_columns, pending_length};
 
 /// Filling takes the longest fronts: the lines of a paragraph have its words in order; each word of
 /// a line but the first fits behind those before it; and the word that begins the next line didn't.
@@ -111,6 +111,45 @@ pub fn line_rows()
     ensures spaced { map line_bytes (finished_lines (text_line (codes "a")
         (LineEnd ∷ Set (Spacing 3) ∷ Set (Filling false) ∷ [])))
         ≡ (97 ∷ 10 ∷ 10 ∷ 10 ∷ []) ∷ (10 ∷ 10 ∷ 10 ∷ []) ∷ [] }
+{}
+
+/// The gap of a word that begins directly behind the end of another one, as text does that is put
+/// between two words of a line, on worked rows.
+pub fn begun_gap_rows()
+    ensures word { lines_written (Break ∷ WordEnd ∷ bytes_told (codes "foot")
+        (WordEnd ∷ bytes_told (codes "five") [])) ≡ codes "five foot" ∷ [] }
+    ensures sentence { lines_written (Break ∷ WordEnd ∷ bytes_told (codes "foot")
+        (WordEnd ∷ bytes_told (codes "five.)") [])) ≡ codes "five.)  foot" ∷ [] }
+    ensures tab { lines_written (Break ∷ WordEnd ∷ Print (Printed 98) ∷ Tab
+        ∷ WordEnd ∷ bytes_told (codes "a") []) ≡ codes "a        b" ∷ [] }
+    // the first word of a line and of a paragraph has none
+    ensures first { lines_written (Break ∷ WordEnd ∷ bytes_told (codes "foot")
+        (Break ∷ WordEnd ∷ bytes_told (codes "five") [])) ≡ codes "foot" ∷ codes "five" ∷ [] }
+    // `.ll 9n`, `.ll 8n`: the gap counts where a word is to fit
+    ensures fits { lines_written (Break ∷ WordEnd ∷ bytes_told (codes "foot")
+        (WordEnd ∷ bytes_told (codes "five") (Set (LineLength 9) ∷ []))) ≡ codes "five foot" ∷ [] }
+    ensures too_wide { lines_written (Break ∷ WordEnd ∷ bytes_told (codes "foot")
+        (WordEnd ∷ bytes_told (codes "five") (Set (LineLength 8) ∷ [])))
+        ≡ codes "foot" ∷ codes "five" ∷ [] }
+    // and where a line is adjusted
+    ensures adjusted { lines_written (WordEnd ∷ bytes_told (codes " long") (WordEnd
+        ∷ bytes_told (codes "foot") (WordEnd ∷ bytes_told (codes "five") (Set (LineLength 12)
+        ∷ [])))) ≡ codes "five    foot" ∷ [] }
+    // the limit on a line counts it with the word's first glyph
+    ensures limit { pending_length (bytes_told (codes "f") (WordEnd ∷ bytes_told (codes "five") []))
+        ≡ 6 }
+    ensures limit_behind_sentence { pending_length (bytes_told (codes "f")
+        (WordEnd ∷ bytes_told (codes "five.") [])) ≡ 8 }
+    // text lines between the words: the line's own gap behind them adds nothing
+    ensures between { lines_written (Break ∷ WordEnd ∷ bytes_told (codes " long")
+        (text_line (codes "foot") (WordEnd ∷ bytes_told (codes "five") [])))
+        ≡ codes "five foot long" ∷ [] }
+    ensures sentence_between { lines_written (Break ∷ WordEnd ∷ bytes_told (codes " long")
+        (text_line (codes "foot.") (WordEnd ∷ bytes_told (codes "five") [])))
+        ≡ codes "five foot.  long" ∷ [] }
+    // and doesn't move the place on the line of the input
+    ensures place_between { input_place (bytes_told (codes " long")
+        (text_line (codes "foot") (WordEnd ∷ bytes_told (codes "five") []))) ≡ 4 }
 {}
 
 /// Where the parts of worked titles stand, told the title's length and how wide they are.

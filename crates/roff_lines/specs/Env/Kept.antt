@@ -1,13 +1,14 @@
 -- What an environment keeps of its history.
-use Rattle.std.specs.Prelude.{◌≡◌, ℕ, ◌+◌, ◌-◌, ◌<◌, ◌≤◌, ◌^◌, Bool, true, false, ◌&&◌, ◌||◌, not, List, [], ◌++◌, length, Option, Some, None, if◌then◌else◌}
+use Rattle.std.specs.Prelude.{◌≡◌, ℕ, ◌+◌, ◌-◌, ◌<◌, ◌≤◌, ◌^◌, Bool, true, false, ◌&&◌, ◌||◌, not, List, [], ◌++◌, length, Option, Some, None, if◌then◌else◌, ◌==◌}
 use Rattle.roff_lines.specs.declared.env.Env.TheInside.{Inside}
 use Rattle.roff_lines.specs.declared.settings.Settings.{Settings}
-use Rattle.roff_lines.specs.Glyphs.{text_width}
+use Rattle.roff_lines.specs.declared.glyph.Glyph.{Glyph}
+use Rattle.roff_lines.specs.Glyphs.{glyph_text, glyph_width, text_width}
 use Rattle.roff_lines.specs.Settings.{fills}
 use Rattle.roff_lines.specs.Stops.{TabStops}
 use Rattle.roff_lines.specs.Places.{most_place, moved}
 use Rattle.roff_lines.specs.Fitting.{gap_text, may_be_wide}
-use Rattle.roff_lines.specs.Words.{ends_sentence_behind, ends_sentence_behind_words, indent_by}
+use Rattle.roff_lines.specs.Words.{is_closer, is_sentence_mark, ends_sentence_behind, ends_sentence_behind_words, indent_by}
 use Rattle.roff_lines.specs.Lines.{Finished, laid_out, empty_line}
 use Rattle.roff_lines.specs.LastLine.{line_width}
 
@@ -58,27 +59,49 @@ kept_by a = record {
   last_width = a.last_width;
 }
 
--- each buffer has the limit's room, and the pending line is within the limit
+-- each buffer has the limit's room, an open word has a gap, and the pending line is within the limit
 pub record IsSound (a : Inside) : Type 0 where
   pub cap : a.cap < 2 ^ 32
   pub line_room : a.line.room ≡ a.cap
   pub word_room : a.word.room ≡ a.cap
   pub finished_room : a.finished.room ≡ a.cap
   pub blanks : a.blanks ≤ 2 ^ 33
+  pub gap : a.is_open ≡ true → 0 < a.blanks
   pub place : a.place ≤ most_place
   pub no_line : a.has_line ≡ false → a.line.text ≡ []
   pub no_word : a.is_open ≡ false → a.word.text ≡ []
   pub within : kept_length (kept_by a) ≤ a.cap
 
+-- the blanks before the open word, or before one that begins now; an open word has some
+abbrev pub begun_blanks : Kept → ℕ
+begun_blanks k = if k.blanks == 0 then (if k.ends_sentence then 2 else 1) else k.blanks
+
 -- how many bytes of glyphs the limit on the pending line lets through
 abbrev pub glyph_room : Kept → ℕ
-glyph_room k = k.cap - (length k.line + length k.word + (if k.has_line then k.blanks else 0))
+glyph_room k = k.cap - (length k.line + length k.word + (if k.has_line then begun_blanks k else 0))
+
+-- the pending line's length in bytes with a glyph more in the open word, or in one that begins with it
+abbrev pub length_with : Glyph → Kept → ℕ
+length_with g k =
+    length k.line + (if k.has_line then begun_blanks k else 0) + length k.word + length (glyph_text g)
+
+-- behind a glyph
+abbrev pub with_glyph : Glyph → Kept → Kept
+with_glyph g k = record k {
+  word = k.word ++ glyph_text g;
+  is_open = true;
+  blanks = begun_blanks k;
+  has_glyph = true;
+  ends_sentence = if is_closer g then k.ends_sentence else is_sentence_mark g;
+  place = moved (glyph_width g) k.place;
+}
 
 -- behind the glyphs of these bytes
 abbrev pub with_glyphs : List ℕ → Kept → Kept
 with_glyphs bytes k = record k {
   word = k.word ++ bytes;
   is_open = true;
+  blanks = begun_blanks k;
   has_glyph = true;
   ends_sentence = ends_sentence_behind bytes k.ends_sentence;
   place = moved (text_width bytes) k.place;

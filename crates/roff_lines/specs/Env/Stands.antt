@@ -1,7 +1,7 @@
 -- When an environment stands for its history.
 use Rattle.std.specs.Prelude.{◌≡◌, ℕ, ◌<◌, ◌≤◌, ◌^◌, min, true, not, ◌∷◌, Option}
 use Rattle.roff_lines.specs.Events.{Event, History, settings_after, stops_after, is_interrupted}
-use Rattle.roff_lines.specs.Places.{input_place}
+use Rattle.roff_lines.specs.Places.{has_line_glyph, input_place}
 use Rattle.roff_lines.specs.Fitting.{word_text, line_text, line_indent}
 use Rattle.roff_lines.specs.Words.{is_empty, has_open_word, line_glyphs, ends_sentence, blanks, open_word, words, temporary_indent}
 use Rattle.roff_lines.specs.Lines.{Finished, pending_line, pending_length, finished}
@@ -28,7 +28,7 @@ pub record Stands (line_cap : ℕ) (h : History) (k : Kept) : Type 0 where
   -- the blanks before it, counted up to more than any line has room for
   pub blanks : k.blanks ≡ min (blanks h) (2 ^ 33)
   -- what the line of the input has so far
-  pub has_glyph : k.has_glyph ≡ not (is_empty (line_glyphs h))
+  pub has_glyph : k.has_glyph ≡ has_line_glyph h
   pub ends_sentence : k.ends_sentence ≡ ends_sentence (line_glyphs h)
   pub place : k.place ≡ input_place h
   pub is_interrupted : k.is_interrupted ≡ is_interrupted h

@@ -42,8 +42,9 @@ pub data IsRun (bytes : List ℕ) : ℕ → Type 0 where
   Begins : GoesOn 32 (slice_index_or bytes 0 0) → IsRun bytes 1
   Further : (k : ℕ) → 0 < k → IsRun bytes k → GoesOn (slice_index_or bytes (k - 1) 0) (slice_index_or bytes k 0) → IsRun bytes (k + 1)
 
--- behind a gap the pending line has room for text of so many columns and bytes
+-- behind a gap, of which there are blanks, the pending line has room for text of so many columns and bytes
 pub record HasRoom (room : ℕ) (k : Kept) : Type 0 where
+  pub gap : 0 < k.blanks
   pub limit : length k.line + k.blanks + room ≤ k.cap
   pub fits : may_be_wide k.settings k.indent (text_width k.line + k.blanks + room) ≡ true
 

@@ -61,7 +61,7 @@ impl Env {
     fn words_in_front<'a>(&mut self, bytes: &'a [u8]) -> &'a [u8]
         ensures { TellsFront bytes.now result.now self.old self.new }
     {
-        if self.is_open || !self.has_line {
+        if self.is_open || !self.has_line || self.blanks == 0 {
             return bytes;
         }
         let (told, words) = whole_words(bytes, self.word_room());
@@ -77,6 +77,7 @@ impl Env {
     /// How many bytes of words, which are a column wide each, the pending line has room for behind
     /// its gap, with a blank behind them: 0 where it has none.
     fn word_room(&self) -> usize
+        requires { 0 < self.now.blanks }
         ensures { 0 < result → HasRoom (result - 1) self.now }
     {
         room_for_words(
@@ -126,7 +127,11 @@ impl Env {
     fn glyph_room(&self) -> usize
         ensures { result ≡ glyph_room self.now }
     {
-        let blanks = if self.has_line { self.blanks } else { 0 };
+        let blanks = if self.has_line {
+            self.begun_blanks()
+        } else {
+            0
+        };
         let bytes = (self.line.len() + self.word.len()) as u64 + blanks;
         (self.cap as u64).saturating_sub(bytes) as usize
     }
@@ -138,6 +143,7 @@ impl Env {
         requires above { AllByRecursion (λ b. 32 < b) bytes.now }
         ensures { self.new ≡ with_glyphs bytes.now self.old }
     {
+        self.begin_gap();
         let width = self.word.extend(bytes);
         self.is_open = true;
         self.has_glyph = true;

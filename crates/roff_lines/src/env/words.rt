@@ -1,7 +1,7 @@
 //! Glyphs, tabs and gaps, and the open word on its way into the pending line.
 
 ghost use Rattle.std.specs.Prelude.{◌≡◌, ℕ, ◌+◌, ◌<◌, ◌≤◌, ◌^◌, ◌↔◌, not, ◌∷◌, ◌++◌, length};
-ghost use Rattle.std.specs.Prelude.{if◌then◌else◌, OnOk, OnErr, IsErr, IsOkUnless, option_map};
+ghost use Rattle.std.specs.Prelude.{false, if◌then◌else◌, OnOk, OnErr, IsErr, IsOkUnless, option_map};
 ghost use Rattle.roff_lines.specs.Clauses.{Print, Tab, Gap, History, indent_by, moved};
 ghost use Rattle.roff_lines.specs.Clauses.{pending_length, shaped, text_width, gap_text};
 ghost use Rattle.roff_lines.specs.Clauses.{may_be_wide};
@@ -23,6 +23,7 @@ const MOST_PLACE: u64 = 2147483647;
 
 impl Env {
     ghost use Rattle.roff_lines.specs.Env.Kept.{with_word_ended, finished_by_word, word_finishes};
+    ghost use Rattle.roff_lines.specs.Env.Kept.{begun_blanks, length_with, with_glyph};
     ghost use Rattle.roff_lines.specs.Env.Stands.{Stands, StandsBehind};
 
     /// Adds a glyph to the open word, or opens one with it.
@@ -38,11 +39,26 @@ impl Env {
         ensures error { IsOkUnless result Limit.Line }
         ensures unchanged { OnErr result (self.new ≡ self.old) }
     {
-        let gap = if self.has_line { self.blanks } else { 0 };
+        let gap = if self.has_line {
+            self.begun_blanks()
+        } else {
+            0
+        };
         let bytes = self.line.len() + self.word.len() + glyph.length();
         if bytes as u64 + gap > self.cap as u64 {
             return Err(Limit::Line);
         }
+        self.print(glyph);
+        Ok(())
+    }
+
+    /// Adds a glyph for which there is room.
+    #[inline(always)]
+    fn print(&mut self, glyph: Glyph)
+        requires { length_with glyph self.old ≤ self.old.cap }
+        ensures { self.new ≡ with_glyph glyph self.old }
+    {
+        self.begin_gap();
         match glyph {
             Glyph::Printed(byte) => self.word.push(kept_byte(byte)),
             Glyph::Blanks(columns) => self.word.push_times(UNPADDABLE, columns as usize),
@@ -51,7 +67,6 @@ impl Env {
         self.has_glyph = true;
         self.ends_sentence = glyph.ends_sentence_behind(self.ends_sentence);
         self.place = moved(self.place, glyph.width());
-        Ok(())
     }
 
     /// Adds a tab, a glyph of as many blanks as there are to the next tab stop.
@@ -70,14 +85,55 @@ impl Env {
         self.glyph(Glyph::Blanks(columns))
     }
 
-    /// Adds so many blanks to the gap between words.
+    /// Adds so many blanks to the gap between words. Where no glyph stands on the line of the input,
+    /// it adds none to a gap that is there, and leaves the place on the line.
     pub fn gap(&mut self, blanks: u32)
         ensures { StandsBehind self.old (Gap blanks) self.new }
     {
+        if !self.has_glyph {
+            self.gap_before_glyphs(blanks);
+            return;
+        }
         if !self.is_open {
             self.blanks = (self.blanks + u64::from(blanks)).min(MOST_BLANKS);
         }
         self.place = moved(self.place, u64::from(blanks));
+    }
+
+    /// The same where no glyph stands on the line of the input.
+    #[cold]
+    fn gap_before_glyphs(&mut self, blanks: u32)
+        requires { self.old.has_glyph ≡ false }
+        ensures { StandsBehind self.old (Gap blanks) self.new }
+    {
+        if self.blanks == 0 {
+            self.blanks = u64::from(blanks);
+        }
+    }
+
+    /// Sets the gap of a word that begins directly behind the end of another one.
+    #[inline(always)]
+    pub(super) fn begin_gap(&mut self)
+        ensures { self.new ≡ record self.old { blanks = begun_blanks self.old } }
+    {
+        if self.blanks == 0 {
+            self.blanks = self.begun_blanks();
+        }
+    }
+
+    /// The blanks before the open word, or before one that begins now: directly behind the end of
+    /// another word those of a line's end.
+    #[inline(always)]
+    pub(super) fn begun_blanks(&self) -> u64
+        ensures { result ≡ begun_blanks self.now }
+    {
+        if self.blanks > 0 {
+            self.blanks
+        } else if self.ends_sentence {
+            2
+        } else {
+            1
+        }
     }
 
     /// Puts the open word into the pending line, or into a line of its own behind it.
