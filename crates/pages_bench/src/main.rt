@@ -17,7 +17,7 @@
 use anyhow::Result;
 use roff_lines::Line;
 use roff_num::{Limits, Num, ShortName};
-use roff_pages::{Block, PAGE_NUMBER, Pages, TitleLine, Trap, WriteSink};
+use roff_pages::{Block, PAGE_NUMBER, Pages, StdWrite, TitleLine, Trap, WriteSink};
 use std::alloc::{AllocError, Global};
 use std::env;
 use std::io::{self, Write};
@@ -78,7 +78,7 @@ fn main(rt: HostRuntime) -> Result<ExitCode> {
 
 /// Does a work so often. How many calls sprang a macro.
 fn perform(alloc: Global, work: Work, times: u32) -> Result<u64, AllocError> {
-    let mut out = WriteSink::new(Dropped);
+    let mut out = WriteSink::new(StdWrite::new(Dropped));
     Ok(match work {
         Work::Line => lines(&mut Block::new(alloc)?, times, &mut out),
         Work::Place => placed(&mut pages(alloc, true)?, times, &mut out),
@@ -122,7 +122,7 @@ fn line() -> Line<'static> {
 }
 
 /// Writes the line so often.
-fn lines(block: &mut Block, times: u32, out: &mut WriteSink<Dropped>) -> u64 {
+fn lines(block: &mut Block, times: u32, out: &mut WriteSink<StdWrite<Dropped>>) -> u64 {
     let mut failed: u64 = 0;
     for _ in 0..times {
         if block.put_line(line(), out).is_err() {
@@ -133,12 +133,12 @@ fn lines(block: &mut Block, times: u32, out: &mut WriteSink<Dropped>) -> u64 {
 }
 
 /// Places the line so often. How often a macro was sprung.
-fn placed(pages: &mut Pages, times: u32, out: &mut WriteSink<Dropped>) -> u64 {
+fn placed(pages: &mut Pages, times: u32, out: &mut WriteSink<StdWrite<Dropped>>) -> u64 {
+    if pages.is_diverting() {
+        return 0;
+    }
     let mut sprung: u64 = 0;
     for _ in 0..times {
-        if pages.is_diverting() {
-            return sprung;
-        }
         match pages.place(line(), out) {
             Ok(None) => continue,
             Ok(Some(_)) => sprung = sprung.wrapping_add(1),
@@ -149,7 +149,7 @@ fn placed(pages: &mut Pages, times: u32, out: &mut WriteSink<Dropped>) -> u64 {
 }
 
 /// Writes the title so often. How often a macro was sprung.
-fn titles(pages: &mut Pages, times: u32, out: &mut WriteSink<Dropped>) -> u64 {
+fn titles(pages: &mut Pages, times: u32, out: &mut WriteSink<StdWrite<Dropped>>) -> u64 {
     let title = TitleLine {
         left: b"on the left",
         centre: b"centre",
@@ -157,11 +157,11 @@ fn titles(pages: &mut Pages, times: u32, out: &mut WriteSink<Dropped>) -> u64 {
         length: 65,
         number: b"12",
     };
+    if pages.is_diverting() {
+        return 0;
+    }
     let mut sprung: u64 = 0;
     for _ in 0..times {
-        if pages.is_diverting() {
-            return sprung;
-        }
         if let Ok(Some(_)) = pages.title(title, out) {
             sprung = sprung.wrapping_add(1);
         }
@@ -170,7 +170,7 @@ fn titles(pages: &mut Pages, times: u32, out: &mut WriteSink<Dropped>) -> u64 {
 }
 
 /// Writes the title with the page number so often. How often a macro was sprung.
-fn numbered(pages: &mut Pages, times: u32, out: &mut WriteSink<Dropped>) -> u64 {
+fn numbered(pages: &mut Pages, times: u32, out: &mut WriteSink<StdWrite<Dropped>>) -> u64 {
     let title = TitleLine {
         left: b"on the left",
         centre: b"centre",
@@ -178,11 +178,11 @@ fn numbered(pages: &mut Pages, times: u32, out: &mut WriteSink<Dropped>) -> u64 
         length: 65,
         number: b"12",
     };
+    if pages.is_diverting() {
+        return 0;
+    }
     let mut sprung: u64 = 0;
     for _ in 0..times {
-        if pages.is_diverting() {
-            return sprung;
-        }
         if let Ok(Some(_)) = pages.title(title, out) {
             sprung = sprung.wrapping_add(1);
         }

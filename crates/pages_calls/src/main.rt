@@ -38,7 +38,7 @@ use anyhow::Result;
 use calls::{call, name_told};
 use limited::Limited;
 use roff_num::{Limits, Num};
-use roff_pages::{Pages, WriteSink};
+use roff_pages::{Pages, StdWrite, WriteSink};
 use std::alloc::{AllocError, Global};
 use std::io::{self, Write};
 use std::process::ExitCode;
@@ -46,14 +46,14 @@ use words::Words;
 
 fn main(rt: HostRuntime) -> Result<ExitCode> {
     let mut pages = pages_anew(rt.alloc(), &mut Words::of(""))?;
-    let mut out = WriteSink::new(Limited::new(rt.stdout(), 0));
+    let mut out = WriteSink::new(StdWrite::new(Limited::new(rt.stdout(), 0)));
     for line in rt.lines(rt.alloc()) {
         let line = line?;
         let mut words = Words::of(line.as_str());
         let letter = words.letter();
         let answer = if letter == b'a' {
             let room = words.count() as usize;
-            out = WriteSink::new(Limited::new(rt.stdout(), room));
+            out = WriteSink::new(StdWrite::new(Limited::new(rt.stdout(), room)));
             pages = pages_anew(rt.alloc(), &mut words)?;
             0
         } else {

@@ -2,8 +2,8 @@
 
 ghost use Rattle.std.specs.Prelude.{◌≡◌, ◌+◌, ◌<◌, ◌≤◌, ◌*◌, ◌^◌, true, length};
 ghost use Rattle.roff_lines.specs.Glyphs.{text_width};
-ghost use Rattle.roff_pages.specs.TitleParts.{HasNoBlank};
-ghost use Rattle.roff_pages.specs.Titles.{part_text};
+ghost use Rattle.roff_sinks.specs.TitleParts.{HasNoBlank};
+ghost use Rattle.roff_sinks.specs.Titles.{part_text};
 
 use roff_pages::TitleLine;
 

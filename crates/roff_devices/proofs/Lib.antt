@@ -1,1 +1,3 @@
 pub mod Overflows
+mod Joining
+mod Holding

@@ -4,8 +4,8 @@ use Rattle.std.proofs.Math.Seq.{take-append-add, take-append_seam, take-suc}
 use Rattle.std.proofs.lemmas.List.{take_all, take-append-drop}
 use Rattle.std.specs.Option.{is_some, option_to_list}
 use Rattle.std.specs.Result.{IsOk}
-use Rattle.roff_pages.specs.Sinks.{CountsFault, Fails, Sunk}
-use Rattle.roff_pages.specs.declared.sink.SinkFault.{SinkFault}
+use Rattle.roff_sinks.specs.Sinks.{CountsFault, Fails, Sunk}
+use Rattle.roff_sinks.specs.declared.sink.SinkFault.{SinkFault}
 use Rattle.roff_devices.specs.Memory.{KeepsWithin, kept_by, room_of}
 use Rattle.roff_devices.specs.WatchedSink.Telling.{IsSound, given_to}
 use Rattle.roff_devices.specs.declared.memory.MemSink.{MemSink}

@@ -1,4 +1,4 @@
 -- The input in its parts.
 pub mod Name
 pub mod Part
-pub mod Remaining
+pub mod Giving

@@ -1,3 +1,4 @@
 pub mod Memory
 pub mod WatchedSink
 pub mod Inputs
+pub mod Buffered

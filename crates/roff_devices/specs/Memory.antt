@@ -2,8 +2,8 @@
 use Rattle.std.specs.Prelude.{◌≡◌, ℕ, ◌≤◌, ◌++◌, ◌↔◌, IsOk, Result, List, length, map, nat_le, take, Option, Some, None, if◌then◌else◌}
 use Rattle.roff_devices.specs.declared.memory.MemSink.{MemSink}
 use Rattle.roff_devices.specs.declared.memory.MemSource.{MemSource}
-use Rattle.roff_pages.specs.declared.sink.SinkFault.{SinkFault}
-use Rattle.roff_pages.specs.Sinks.{Sunk}
+use Rattle.roff_sinks.specs.declared.sink.SinkFault.{SinkFault}
+use Rattle.roff_sinks.specs.Sinks.{Sunk}
 use Rattle.roff_source.specs.Tape.{Tape, OneByte, Ending, Ended, Failed}
 
 -- how a source in memory ends

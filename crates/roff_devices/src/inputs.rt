@@ -1,34 +1,37 @@
 //! The input: opened files and standard input, read one after another as one.
 
-ghost use Rattle.std.specs.Io.{ReadsAtMost};
-ghost use Rattle.std.specs.Io.KnownBytes.{ReadConsumes};
-ghost use Rattle.std.specs.Prelude.{◌≡◌, ◌<◌, ⊤, ℕ, List, [], IfOk, IfSome, length};
+ghost use Rattle.std.specs.Prelude.{◌≡◌, ◌<◌, ⊤, ℕ, List, [], IfNone, IfSome, length};
 ghost use Rattle.roff_devices.specs.declared.inputs.Part.{Part};
-ghost use Rattle.roff_devices.specs.Inputs.Part.{part_remaining};
+ghost use Rattle.roff_devices.specs.Inputs.Part.{part_gives, some_part};
+ghost use Rattle.roff_source.specs.BlockRead.{Reads};
 
+use roff_source::{BlockRead, Given, StdRead};
 use std::collections::VecDeque;
-use std::io::Read;
+use std::fs;
 use std::marker::Model;
 use std::rt::Files;
-use std::{fs, io};
 
 /// Where the input comes from: files by their names, and standard input.
 pub trait Readers {
     /// A file that was opened.
-    type File: Read + Drop;
+    type File: BlockRead + Drop;
 
     /// Standard input.
-    type Standard: Read + Drop;
+    type Standard: BlockRead + Drop;
 
     /// What may be opened under a name.
     ghost opens: { Self → List ℕ → Self.File → Type 0 };
+
+    /// Which names were refused.
+    ghost refuses: { Self → List ℕ → Type 0 };
 
     /// What may be had as standard input.
     ghost stands: { Self → Self.Standard → Type 0 };
 
     /// The file of this name, if it can be opened.
     fn open(&self, name: &str) -> Option<Self::File>
-        ensures { IfSome result (λ file. opens self.now name.now file) };
+        ensures opened { IfSome result (λ file. opens self.now name.now file) }
+        ensures refused { IfNone result (refuses self.now name.now) };
 
     /// Standard input.
     fn standard(&self) -> Self::Standard
@@ -37,20 +40,27 @@ pub trait Readers {
 
 // Of the system nothing is known: neither what a file of a name has, nor what is typed.
 impl<R: Files + Input> Readers for R {
-    type File = R::File;
+    type File = StdRead<R::File>;
 
-    type Standard = R::Reader;
+    type Standard = StdRead<R::Reader>;
 
     ghost opens = { λ _ _ _. ⊤ };
 
+    ghost refuses = { λ _ _. ⊤ };
+
     ghost stands = { λ _ _. ⊤ };
 
-    fn open(&self, name: &str) -> Option<R::File> {
-        fs::open(self, name).ok()
+    fn open(&self, name: &str) -> Option<StdRead<R::File>> {
+        match fs::open(self, name) {
+            Ok(reader) => Some(StdRead { reader }),
+            Err(_) => None,
+        }
     }
 
-    fn standard(&self) -> R::Reader {
-        self.reader()
+    fn standard(&self) -> StdRead<R::Reader> {
+        StdRead {
+            reader: self.reader(),
+        }
     }
 }
 
@@ -63,15 +73,17 @@ pub enum Part<F, S> {
     Standard(S),
 }
 
-impl<F: Read, S: Read> Read for Part<F, S> {
-    ghost remaining = { part_remaining F.remaining S.remaining };
+impl<F: BlockRead, S: BlockRead> BlockRead for Part<F, S> {
+    ghost gives = { part_gives F.gives S.gives };
 
-    fn read(&mut self, buf: &mut [u8]) -> io::Result<usize> {
+    fn read_block(&mut self, block: &mut [u8]) -> Given {
         match self {
-            Part::File(file) => file.read(buf),
-            Part::Standard(standard) => standard.read(buf),
+            Part::File(file) => file.read_block(block),
+            Part::Standard(standard) => standard.read_block(block),
         }
     }
+
+    ghost some = { some_part F.gives S.gives F.some S.some };
 }
 
 /// The parts of the input that are left, as one reader: at the end of a part the next one goes on.
@@ -98,27 +110,25 @@ impl<F, S> Inputs<F, S> {
     }
 }
 
-impl<F: Read + Drop, S: Read + Drop> Read for Inputs<F, S> {
-    ghost use Rattle.roff_devices.specs.Inputs.Remaining.{inputs_remaining};
+impl<F: BlockRead + Drop, S: BlockRead + Drop> BlockRead for Inputs<F, S> {
+    ghost use Rattle.roff_devices.specs.Inputs.Giving.{inputs_give, some_input};
 
-    ghost remaining = { inputs_remaining F.remaining S.remaining };
+    ghost gives = { inputs_give F.gives S.gives };
 
     /// Reads the first part once, and the next ones only where it is at its end. An error is
-    /// passed on, and the next call reads the same part again.
-    fn read(&mut self, buf: &mut [u8]) -> io::Result<usize>
-        ensures bound { ReadsAtMost result buf.new }
-        ensures bytes { ReadConsumes (inputs_remaining F.remaining S.remaining self.old)
-            (inputs_remaining F.remaining S.remaining self.new) result buf.new }
-        ensures end { IfOk result (λ count. count ≡ 0 → 0 < length buf.new → self.new ≡ []) }
-        ensures stays { self.old ≡ [] → (result ≡ Ok 0) × (self.new ≡ []) }
-    {
+    /// passed on.
+    fn read_block(&mut self, block: &mut [u8]) -> Given {
         while let Some(part) = self.parts.front_mut() {
-            let count = part.read(buf)?;
-            if count > 0 || buf.is_empty() {
-                return Ok(count);
+            match part.read_block(block) {
+                Given::Bytes(count) => return Given::Bytes(count),
+                Given::Error => return Given::Error,
+                Given::Nothing => {
+                    let _ended = self.parts.pop_front();
+                }
             }
-            let _ended = self.parts.pop_front();
         }
-        Ok(0)
+        Given::Nothing
     }
+
+    ghost some = { some_input F.gives S.gives F.some S.some };
 }

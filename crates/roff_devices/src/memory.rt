@@ -2,7 +2,7 @@
 
 ghost use Rattle.std.specs.Prelude.{◌≡◌, ◌+◌, ◌≤◌, [], length, map, vec_len, vec_capacity, IfOk};
 
-use roff_pages::{ByteSink, SinkFault};
+use roff_sinks::{ByteSink, SinkFault};
 use roff_source::{ByteSource, Taken};
 use std::alloc::{AllocError, Global};
 
@@ -147,7 +147,7 @@ impl MemSink {
 }
 
 impl ByteSink for MemSink {
-    ghost use Rattle.roff_pages.specs.Sinks.{Puts};
+    ghost use Rattle.roff_sinks.specs.Sinks.{Puts};
     ghost use Rattle.roff_devices.specs.Memory.{KeepsWithin, sunk_of};
 
     ghost sunk = { sunk_of };

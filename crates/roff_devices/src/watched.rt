@@ -4,7 +4,7 @@ ghost use Rattle.std.specs.Prelude.{◌≡◌, ℕ, length, None, Some, IfOk};
 ghost use Rattle.roff_devices.specs.Memory.{faults_of, kept_by, room_of};
 
 use crate::MemSink;
-use roff_pages::{ByteSink, SinkFault};
+use roff_sinks::{ByteSink, SinkFault};
 use std::alloc::{AllocError, Global};
 
 /// A sink in memory that knows the first byte for which it had no room.

@@ -5,8 +5,8 @@ use Rattle.std.proofs.lemmas.Bool.{cases_lt, eq-eqb, ne_eqb}
 use Rattle.roff_num.specs.declared.num.Num.{Num}
 use Rattle.roff_num.specs.declared.short_name.ShortName.{ShortName}
 use Rattle.roff_lines.specs.Words.{is_empty}
-use Rattle.roff_pages.specs.declared.page_fault.PageFault.{PageFault}
-use Rattle.roff_pages.specs.Sinks.{Sunk}
+use Rattle.roff_sinks.specs.declared.page_fault.PageFault.{PageFault}
+use Rattle.roff_sinks.specs.Sinks.{Sunk}
 use Rattle.roff_pages.specs.Layout.{Box, Empty, Layout, Diversion, page_place}
 use Rattle.roff_pages.specs.Happenings.{Happening, Does, Eject, EjectLast, EjectOn, Need, Space, is_eject}
 use Rattle.roff_pages.specs.Stops.{Target, innermost, is_diverted, next_stop, page_target, target}
@@ -17,7 +17,7 @@ use Rattle.roff_pages.specs.Pages.Kept.{Kept}
 use Rattle.roff_pages.specs.Pages.Stands.{StandsAs, kept_diversion}
 use Rattle.roff_pages.specs.Pages.Advancing.{way_on}
 use Rattle.roff_pages.specs.Pages.Printing.{BoxedTo, DidTo, Printed}
-use Rattle.roff_pages.proofs.Appending.{Writes-nothing}
+use Rattle.roff_sinks.proofs.Appending.{Writes-nothing}
 use Rattle.roff_pages.proofs.NextStop.{next_stop_le}
 use Rattle.roff_pages.proofs.PageBoxes.{PutsBoxes, PutsNothing, did_boxes, either_none, over_standing, sprung_with}
 

@@ -14,7 +14,7 @@ use Rattle.roff_pages.specs.declared.open_diversion.OpenDiversion.{OpenDiversion
 use Rattle.roff_pages.specs.declared.trap.Trap.{Trap}
 use Rattle.roff_pages.specs.Layout.{Box, Empty, Diversion, Layout}
 use Rattle.roff_pages.specs.Happenings.{Happening, Does, Places, Titles, Space, Need, is_eject}
-use Rattle.roff_pages.specs.Titles.{Title, title_text}
+use Rattle.roff_sinks.specs.Titles.{Title, title_text}
 use Rattle.roff_pages.specs.Stops.{Target, innermost, is_diverted, page_target, target}
 use Rattle.roff_pages.specs.Puts.{Put, appended, blank_lines, boxes_put, needed, puts, within_stop}
 use Rattle.roff_pages.specs.Turning.{behind_put, greatest_width, in_diversion, in_innermost, next_behind, no_space_behind, turned_if_full, with_event, with_put}

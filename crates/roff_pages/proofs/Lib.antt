@@ -1,5 +1,3 @@
-pub mod Appending
-pub mod TitleParts
 pub mod NextStop
 pub mod FirstTraps
 pub mod WholePages

@@ -41,6 +41,22 @@ pub next_stop-end : (length place : ℕ) (traps : List Trap) → next_stop lengt
 next_stop-end length place [] h = h
 next_stop-end length place (t ∷ traps) h = next_stop-end length place traps (nearer_end place (place_of length t.place) (next_stop length place traps) h)
 
+-- where a page is full its traps lie no further
+nearer_full_by_test : (b : Bool) (place n stop length : ℕ) → ltb place n ≡ b → n < length → length ≤ place → (if b then min n stop else stop) ≡ stop
+nearer_full_by_test true place n stop length e below full = absurd (omega (arith, ltb-true place n e))
+nearer_full_by_test false place n stop length e below full = refl
+
+nearer_full : (place : ℕ) (o : Option ℕ) (stop length : ℕ) → IsSomeBelow length o → length ≤ place → nearer_stop place o stop ≡ stop
+nearer_full place None stop length below full = refl
+nearer_full place (Some n) stop length below full = nearer_full_by_test (nat_lt place n) place n stop length refl below full
+
+-- and its next stop is its end
+pub next_stop-full : (length place : ℕ) (traps : List Trap) → length ≤ place → next_stop length place traps ≡ length
+next_stop-full length place [] full = refl
+next_stop-full length place (t ∷ traps) full =
+    nearer_full place (place_of length t.place) (next_stop length place traps) length (place_of-below length t.place) full
+    ∙ next_stop-full length place traps full
+
 -- the nearer stop is no later than the second
 nearer_le_by_test : (b : Bool) (n stop : ℕ) → (if b then min n stop else stop) ≤ stop
 nearer_le_by_test true n stop = omega arith

@@ -6,8 +6,8 @@ use Rattle.roff_num.specs.declared.num.Num.{Num}
 use Rattle.roff_num.specs.declared.short_name.ShortName.{ShortName}
 use Rattle.roff_lines.specs.Words.{is_empty}
 use Rattle.roff_pages.specs.declared.trap.Trap.{Trap}
-use Rattle.roff_pages.specs.declared.page_fault.PageFault.{PageFault}
-use Rattle.roff_pages.specs.Sinks.{Sunk}
+use Rattle.roff_sinks.specs.declared.page_fault.PageFault.{PageFault}
+use Rattle.roff_sinks.specs.Sinks.{Sunk}
 use Rattle.roff_pages.specs.Layout.{Box, Empty, Layout, Diversion, page_place}
 use Rattle.roff_pages.specs.Happenings.{Happening, is_eject}
 use Rattle.roff_pages.specs.Stops.{Target, is_diverted, page_target, place_of, target}
@@ -19,7 +19,7 @@ use Rattle.roff_pages.specs.Pages.Kept.{Kept}
 use Rattle.roff_pages.specs.Pages.Stands.{StandsAs, SameLimits}
 use Rattle.roff_pages.specs.Pages.Advancing.{sprung_by, with_lines}
 use Rattle.roff_pages.specs.Pages.Printing.{Boxed, BoxedTo, DidTo, IsUnprinted, Printed, if_listed}
-use Rattle.roff_pages.proofs.Appending.{Writes-nothing}
+use Rattle.roff_sinks.proofs.Appending.{Writes-nothing}
 
 -- blank lines are written as newlines
 newline_behind : (n : ℕ) → replicate n 10 ++ 10 ∷ [] ≡ replicate {A = ℕ} (suc n) 10

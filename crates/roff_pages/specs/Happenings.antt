@@ -3,7 +3,7 @@ pub use Rattle.roff_pages.specs.declared.layout_event.LayoutEvent.{LayoutEvent}
 pub use Rattle.roff_pages.specs.declared.layout_event.LayoutEvent.TheVariants.{ListPages, Begin, Close, Space, Need, Eject, EjectOn, EjectLast, Length, Offset, Next, Number, NoSpace, Plant, Uproot, MoveTrap, RemoveTrap, DiversionTrap, Divert, EndDivert}
 use Rattle.std.specs.Prelude.{Bool, true, false}
 use Rattle.roff_lines.specs.Lines.{Finished}
-use Rattle.roff_pages.specs.Titles.{Title}
+use Rattle.roff_sinks.specs.Titles.{Title}
 
 -- a finished line is placed, or a title, or something else happens
 pub data Happening : Type 0 where

@@ -1,9 +1,3 @@
-pub mod Sinks
-pub mod Devices
-pub mod Within
-pub mod Titles
-pub mod TitleParts
-pub mod TitleLeft
 pub mod Layout
 pub mod Happenings
 pub mod Stops

@@ -1,7 +1,7 @@
 -- What a happening puts: a box, and blank lines behind it (manual, sections 3, 5.3 and 7.5).
 use Rattle.std.specs.Prelude.{ℕ, ◌+◌, ◌-◌, min, Bool, not, ◌&&◌, ◌||◌, List, [], ◌∷◌, ◌++◌, replicate, nat_lt, Option, Some, None, is_some, if◌then◌else◌, ◌==◌}
 use Rattle.roff_lines.specs.Columns.{printed}
-use Rattle.roff_pages.specs.Titles.{title_text}
+use Rattle.roff_sinks.specs.Titles.{title_text}
 use Rattle.roff_pages.specs.Layout.{Box, Lined, Empty, Layout}
 use Rattle.roff_pages.specs.Happenings.{LayoutEvent, Happening, Does, Places, Titles, Space, Need, Eject, EjectOn, EjectLast}
 use Rattle.roff_pages.specs.Stops.{Target, target}

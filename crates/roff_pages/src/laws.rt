@@ -5,7 +5,7 @@ ghost use Rattle.std.specs.Prelude.{is_some, Some, IsTrue, false};
 ghost use Rattle.std.specs.List.{AllByRecursion};
 ghost use Rattle.roff_lines.specs.Lines.{Finished};
 ghost use Rattle.roff_pages.specs.declared.trap.Trap.{Trap};
-ghost use Rattle.roff_pages.specs.Titles.{Title};
+ghost use Rattle.roff_sinks.specs.Titles.{Title};
 ghost use Rattle.roff_pages.specs.Layout.{Layout, Diversion, page_place};
 ghost use Rattle.roff_pages.specs.Happenings.{Happening, Places, Titles};
 ghost use Rattle.roff_pages.specs.Stops.{place_of, stop_at, is_diverted};

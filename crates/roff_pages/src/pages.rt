@@ -11,10 +11,10 @@ mod setting;
 mod spacing;
 mod turning;
 
-use crate::block::Block;
 use crate::open_diversion::OpenDiversion;
 use crate::trap::Trap;
 use roff_num::{Limits, Num};
+use roff_sinks::Block;
 use std::alloc::{AllocError, Global};
 use std::marker::Model;
 

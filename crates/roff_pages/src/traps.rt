@@ -6,11 +6,12 @@ ghost use Rattle.std.specs.Prelude.{ℕ, ◌+◌, Some};
 ghost use Rattle.roff_pages.specs.Stops.{place_of, next_stop, nearer_stop, stop_at, trap_stop};
 ghost use Rattle.roff_pages.specs.Queries.{way_from};
 ghost use Rattle.roff_pages.specs.Pages.Counted.{counted};
-ghost use Rattle.roff_pages.specs.Turning.{is_given, is_named, same_name};
+ghost use Rattle.roff_pages.specs.Turning.{is_named, same_name};
 ghost use Rattle.roff_pages.specs.Turning.{moved_to, with_first, with_trap, without_first};
 ghost use Rattle.roff_pages.specs.Springs.{diversion_trap_passed, first_met, is_on_top, is_passed};
-ghost use Rattle.roff_pages.specs.Pages.FirstTraps.{first_index};
+ghost use Rattle.roff_pages.specs.Pages.FirstTraps.{first_index, is_sought};
 
+use crate::sought::Sought;
 use crate::trap::Trap;
 use roff_num::{Limit, ShortName};
 
@@ -140,7 +141,7 @@ pub(crate) fn plant_among(traps: &mut Vec<Trap>, trap: Trap, most: u32) -> Resul
     ensures full { IfErr result (λ l. most < length (with_trap trap traps.old.items)) }
     ensures capacity { vec_capacity traps.old ≤ vec_capacity traps.new }
 {
-    let index = index_given(traps.as_slice(), trap.place);
+    let index = index_of(traps.as_slice(), Sought::Given(trap.place));
     if index < traps.len() {
         traps[index] = trap;
         return Ok(());
@@ -152,26 +153,13 @@ pub(crate) fn plant_among(traps: &mut Vec<Trap>, trap: Trap, most: u32) -> Resul
     Ok(())
 }
 
-/// Removes the first trap that was given this place.
-pub(crate) fn remove_given(traps: &mut Vec<Trap>, place: i32)
-    ensures traps { traps.new.items ≡ without_first (is_given place) traps.old.items }
+/// Removes the first trap that is sought.
+pub(crate) fn remove_first(traps: &mut Vec<Trap>, sought: Sought)
+    ensures traps { traps.new.items ≡ without_first (is_sought sought) traps.old.items }
     ensures few { length traps.new.items ≤ length traps.old.items }
     ensures capacity { vec_capacity traps.old ≤ vec_capacity traps.new }
 {
-    let index = index_given(traps.as_slice(), place);
-    if index >= traps.len() {
-        return;
-    }
-    traps.remove(index);
-}
-
-/// Removes the first trap of this name.
-pub(crate) fn remove_named(traps: &mut Vec<Trap>, name: ShortName)
-    ensures traps { traps.new.items ≡ without_first (is_named name) traps.old.items }
-    ensures few { length traps.new.items ≤ length traps.old.items }
-    ensures capacity { vec_capacity traps.old ≤ vec_capacity traps.new }
-{
-    let index = index_named(traps.as_slice(), name);
+    let index = index_of(traps.as_slice(), sought);
     if index >= traps.len() {
         return;
     }
@@ -184,7 +172,7 @@ pub(crate) fn move_named(traps: &mut Vec<Trap>, name: ShortName, place: i32)
     ensures few { length traps.new.items ≤ length traps.old.items }
     ensures capacity { vec_capacity traps.old ≤ vec_capacity traps.new }
 {
-    let index = index_named(traps.as_slice(), name);
+    let index = index_of(traps.as_slice(), Sought::Named(name));
     if index >= traps.len() {
         return;
     }
@@ -195,15 +183,15 @@ pub(crate) fn move_named(traps: &mut Vec<Trap>, name: ShortName, place: i32)
     };
 }
 
-/// The place in turn of the first trap that was given this place, or how many there are.
-pub(crate) fn index_given(traps: &[Trap], place: i32) -> usize
-    ensures index { result ≡ first_index (is_given place) traps.now }
+/// The place in turn of the first trap that is sought, or how many there are.
+fn index_of(traps: &[Trap], sought: Sought) -> usize
+    ensures index { result ≡ first_index (is_sought sought) traps.now }
     ensures within { result ≤ length traps.now }
 {
     let mut index = 0;
     let mut rest = traps;
     while let Some((trap, others)) = rest.split_first() {
-        if trap.place == place {
+        if is_sought(*trap, sought) {
             return index;
         }
         index += 1;
@@ -212,21 +200,14 @@ pub(crate) fn index_given(traps: &[Trap], place: i32) -> usize
     index
 }
 
-/// The place in turn of the first trap of this name, or how many there are.
-pub(crate) fn index_named(traps: &[Trap], name: ShortName) -> usize
-    ensures index { result ≡ first_index (is_named name) traps.now }
-    ensures within { result ≤ length traps.now }
+/// Whether a trap is one that is sought.
+fn is_sought(trap: Trap, sought: Sought) -> bool
+    ensures { result ≡ is_sought sought trap }
 {
-    let mut index = 0;
-    let mut rest = traps;
-    while let Some((trap, others)) = rest.split_first() {
-        if is_same(trap.name, name) {
-            return index;
-        }
-        index += 1;
-        rest = others;
+    match sought {
+        Sought::Given(place) => trap.place == place,
+        Sought::Named(name) => is_same(trap.name, name),
     }
-    index
 }
 
 /// Whether two names are the same.

@@ -1,2 +1,3 @@
 pub mod Giving
+pub mod StdReading
 pub mod PlainBytes

@@ -1,3 +1,5 @@
 pub mod Tape
 pub mod Bytes
+pub mod BlockRead
+pub mod StdRead
 pub mod ReadSource

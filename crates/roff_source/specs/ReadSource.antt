@@ -1,3 +1,3 @@
 -- A source over a reader.
+pub mod Endings
 pub mod Reach
-pub mod Given

@@ -1,5 +1,5 @@
 -- What a source gives: its tape, the items to come and how they end.
-use Rattle.std.specs.Prelude.{◌≡◌, ℕ, ◌+◌, List, [], ◌∷◌, ◌++◌}
+use Rattle.std.specs.Prelude.{◌≡◌, ℕ, List, [], ◌∷◌, ◌++◌}
 use Rattle.roff_num.specs.declared.limit.Limit.{Limit}
 use Rattle.roff_source.specs.declared.source.Taken.{Taken}
 use Rattle.roff_source.specs.declared.source.Taken.TheVariants.{Byte, Note, End, Fault, Stop}

@@ -1,17 +1,16 @@
 //! Sources: what a run reads from.
 
-ghost use Rattle.std.specs.Prelude.{◌≡◌, ℕ, ◌<◌, ◌≤◌, List, length, map, take, None, vec_len, IfOk};
-ghost use Rattle.std.specs.Prelude.{IfSome};
-ghost use Rattle.roff_source.specs.ReadSource.Given.{given_by};
+ghost use Rattle.std.specs.Prelude.{◌≡◌, ℕ, ◌<◌, ◌≤◌, List, [], length, map, nat_lt, take, None, vec_len};
+ghost use Rattle.std.specs.Prelude.{IfOk, IfSome};
+ghost use Rattle.roff_source.specs.ReadSource.Endings.{is_fault, reach_ending};
 ghost use Rattle.roff_source.specs.Tape.{Tape, Answers, Took, Failed, Gives, Ends, OneByte, OneNote};
 ghost use Rattle.roff_source.specs.Tape.{answer_of};
 ghost use Rattle.roff_num.specs.Faults.{Rises};
 
+use crate::block_read::{BlockRead, Given};
 use arrayvec::ArrayVec;
 use roff_num::Limit;
 use std::alloc::{AllocError, Global};
-use std::io;
-use std::io::Read;
 
 /// A message of a source's own, with its newline.
 pub type Note = ArrayVec<u8, 96>;
@@ -93,29 +92,9 @@ enum Reach {
     Failed,
 }
 
-/// What one read of a reader gave.
-#[derive(Clone, Copy, Debug, PartialEq, Eq)]
-enum Given {
-    /// So many bytes, one at least.
-    Bytes(usize),
-    /// No byte: the reader is at its end.
-    Nothing,
-    /// An error, of whatever kind.
-    Error,
-}
-
-/// What a read gave, by the reader's answer.
-fn given_by(answer: io::Result<usize>) -> Given
-    ensures { result ≡ given_by answer }
-{
-    match answer {
-        Ok(0) => Given::Nothing,
-        Ok(len) => Given::Bytes(len),
-        Err(_) => Given::Error,
-    }
-}
-
-/// A source over a reader, read a block of 4,096 bytes at a time.
+/// A source over a reader, read a block of 4,096 bytes at a time. What was read is given before
+/// anything else is read or answered. An error of the reader is a fault, for good: nothing is read
+/// behind it.
 #[derive(Drop)]
 pub struct ReadSource<R> {
     reader: R,
@@ -127,15 +106,18 @@ pub struct ReadSource<R> {
     ghost order: { next ≤ len },
     ghost within: { len ≤ vec_len block },
     ghost room: { 0 < vec_len block },
+    ghost counted: { nat_lt 0 failures ≡ is_fault (reach_ending reach) },
 }
 
-impl<R: Read + Drop> ReadSource<R> {
-    ghost use Rattle.roff_source.specs.ReadSource.Reach.{ending_given, faults_of, may_give, unread};
+impl<R: BlockRead + Drop> ReadSource<R> {
+    ghost use Rattle.roff_source.specs.ReadSource.Reach.{CountsFaults, ending_given, faults_of};
+    ghost use Rattle.roff_source.specs.ReadSource.Reach.{left_of_block, may_give, reader_of};
 
     /// A source over a reader, of which nothing is read yet.
     pub fn new(alloc: Global, reader: R) -> Result<Self, AllocError>
         ensures ending { IfOk result (λ s. ending_given s ≡ None) }
-        ensures unread { IfOk result (λ s. unread R.remaining s ≡ R.remaining reader) }
+        ensures left { IfOk result (λ s. left_of_block s ≡ []) }
+        ensures reader { IfOk result (λ s. reader_of s ≡ reader) }
         ensures failures { IfOk result (λ s. faults_of s ≡ 0) }
     {
         Ok(ReadSource {
@@ -148,12 +130,19 @@ impl<R: Read + Drop> ReadSource<R> {
         })
     }
 
+    /// That faults were answered says that the reader answered an error, and nothing else does.
+    pub fn stays_counted(&self)
+        ensures { CountsFaults (ending_given self.now) (faults_of self.now) }
+    {
+        let _ = self.reach;
+    }
+
     /// The next byte of the block, if one is left.
     #[inline(always)]
     fn block_byte(&mut self) -> Option<u8>
         requires open { ending_given self.old ≡ None }
         ensures gives { IfSome result (λ b.
-            Answers (may_give R.remaining self.old) (may_give R.remaining self.new)
+            Answers (may_give R.gives self.old) (may_give R.gives self.new)
             (Gives (OneByte b))) }
         ensures kept { result ≡ None → self.new ≡ self.old }
         ensures taken { result ≡ None → self.old.len ≤ self.old.next }
@@ -167,18 +156,18 @@ impl<R: Read + Drop> ReadSource<R> {
         Some(byte)
     }
 
-    /// Reads the next block, by one read, and answers its first byte. Every error is a fault.
+    /// Reads the next block, by one read, and answers its first byte. An error is a fault.
     #[inline(never)]
     fn next_block(&mut self) -> Taken
         requires open { ending_given self.old ≡ None }
         requires taken { self.old.len ≤ self.old.next }
-        ensures gives { Answers (may_give R.remaining self.old) (may_give R.remaining self.new)
+        ensures gives { Answers (may_give R.gives self.old) (may_give R.gives self.new)
             (answer_of result) }
         ensures failures { self.old.failures ≤ self.new.failures }
         ensures fault { answer_of result ≡ Ends Failed → Rises self.old.failures self.new.failures }
         ensures note { (m : _) → answer_of result ≡ Gives (OneNote m) → ⊥ }
     {
-        match given_by(self.reader.read(&mut self.block)) {
+        match self.reader.read_block(&mut self.block) {
             Given::Nothing => {
                 self.reach = Reach::Ended;
                 Taken::End
@@ -197,10 +186,10 @@ impl<R: Read + Drop> ReadSource<R> {
     }
 }
 
-impl<R: Read + Drop> ByteSource for ReadSource<R> {
+impl<R: BlockRead + Drop> ByteSource for ReadSource<R> {
     ghost use Rattle.roff_source.specs.ReadSource.Reach.{may_give, ready_of};
 
-    ghost gives = { may_give R.remaining };
+    ghost gives = { may_give R.gives };
 
     ghost ready = { ready_of };
 

@@ -1,13 +1,21 @@
 -- The parts of the input.
-use Rattle.std.specs.Prelude.{◌≡◌, ℕ, true, false, List, [], ◌∷◌, Option}
+use Rattle.std.specs.Prelude.{◌≡◌, ℕ, true, false, List, [], ◌∷◌}
 use Rattle.roff_devices.specs.declared.inputs.Part.{Part}
 use Rattle.roff_devices.specs.declared.inputs.Part.TheVariants.{File, Standard}
 use Rattle.roff_devices.specs.Inputs.Name.{names_standard_input}
+use Rattle.roff_source.specs.BlockRead.{SomeTape}
+use Rattle.roff_source.specs.Tape.{Tape}
 
--- the bytes that the part's own reader has left, where they are known
-abbrev pub part_remaining : {F S : Type 0} → (F → Option (List ℕ)) → (S → Option (List ℕ)) → Part F S → Option (List ℕ)
-part_remaining file standard (File f) = file f
-part_remaining file standard (Standard s) = standard s
+-- what the part's own reader may give
+abbrev pub part_gives : {F S : Type 0} → (F → Tape → Type 0) → (S → Tape → Type 0) → Part F S → Tape → Type 0
+part_gives file standard (File f) = file f
+part_gives file standard (Standard s) = standard s
+
+-- something may always come
+pub some_part : {F S : Type 0} (file : F → Tape → Type 0) (standard : S → Tape → Type 0)
+    → ((f : F) → SomeTape (file f)) → ((s : S) → SomeTape (standard s)) → (part : Part F S) → SomeTape (part_gives file standard part)
+some_part file standard some_file some_standard (File f) = some_file f
+some_part file standard some_file some_standard (Standard s) = some_standard s
 
 -- the part is what a name stands for: standard input, or what was opened under the name
 abbrev pub IsNamed : {F S : Type 0} → (List ℕ → F → Type 0) → (S → Type 0) → List ℕ → Part F S → Type 0

@@ -1,7 +1,7 @@
 -- What a run is told of a sink in memory that is watched.
-use Rattle.std.specs.Prelude.{◌≡◌, ℕ, ◌≤◌, List, [], ◌∷◌, ◌++◌, length, Option, Some, None}
+use Rattle.std.specs.Prelude.{◌≡◌, ℕ, ◌≤◌, List, [], ◌∷◌, ◌++◌, length, Some, None}
 use Rattle.std.specs.Option.{option_to_list}
-use Rattle.roff_pages.specs.Sinks.{Sunk}
+use Rattle.roff_sinks.specs.Sinks.{Sunk}
 use Rattle.roff_devices.specs.Memory.{faults_of, kept_by, room_of}
 use Rattle.roff_devices.specs.declared.watched.WatchedSink.{WatchedSink}
 

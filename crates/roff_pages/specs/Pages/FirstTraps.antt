@@ -1,8 +1,16 @@
 -- The first trap that passes a test, by its place in turn.
 use Rattle.std.specs.Prelude.{ℕ, suc, Bool, List, [], ◌∷◌, if◌then◌else◌}
+use Rattle.roff_pages.specs.declared.sought.Sought.{Sought}
+use Rattle.roff_pages.specs.declared.sought.Sought.TheVariants.{Given, Named}
 use Rattle.roff_pages.specs.declared.trap.Trap.{Trap}
+use Rattle.roff_pages.specs.Turning.{is_given, is_named}
 
 -- its place in turn, or how many traps there are
 abbrev pub first_index : (Trap → Bool) → List Trap → ℕ
 first_index is_it [] = 0
 first_index is_it (t ∷ traps) = if is_it t then 0 else suc (first_index is_it traps)
+
+-- whether a trap is one that is sought
+abbrev pub is_sought : Sought → Trap → Bool
+is_sought (Given place) = is_given place
+is_sought (Named name) = is_named name

@@ -1,9 +1,9 @@
 -- What a call that writes makes of pages and of a sink.
 use Rattle.std.specs.Prelude.{◌≡◌, ℕ, ◌+◌, ◌<◌, ◌≤◌, Bool, List, [], length, Option, Result, Ok, Err, if◌then◌else◌}
 use Rattle.roff_num.specs.declared.short_name.ShortName.{ShortName}
-use Rattle.roff_pages.specs.declared.page_fault.PageFault.{PageFault}
-use Rattle.roff_pages.specs.declared.page_fault.PageFault.TheVariants.{Output, Sink}
-use Rattle.roff_pages.specs.Sinks.{Sunk, Writes, Fails}
+use Rattle.roff_sinks.specs.declared.page_fault.PageFault.{PageFault}
+use Rattle.roff_sinks.specs.declared.page_fault.PageFault.TheVariants.{Output, Sink}
+use Rattle.roff_sinks.specs.Sinks.{Sunk, Writes, Fails}
 use Rattle.roff_pages.specs.Layout.{Box, Layout}
 use Rattle.roff_pages.specs.Happenings.{Happening}
 use Rattle.roff_pages.specs.Turning.{turned_if_full, with_event}

@@ -6,8 +6,8 @@
 ghost use Rattle.std.specs.Prelude.{◌≡◌, ℕ, ◌+◌, ◌<◌, ◌^◌, length, List, Option};
 ghost use Rattle.roff_lines.specs.Columns.{finished_of, printed};
 ghost use Rattle.roff_lines.specs.Glyphs.{text_width};
-ghost use Rattle.roff_pages.specs.Titles.{part_text};
-ghost use Rattle.roff_pages.specs.TitleLeft.{title_of};
+ghost use Rattle.roff_sinks.specs.Titles.{part_text};
+ghost use Rattle.roff_sinks.specs.TitleLeft.{title_of};
 ghost use Rattle.roff_pages.specs.Layout.{Box, Diversion, Layout};
 ghost use Rattle.roff_pages.specs.Happenings.{Does, Need, Places, Space, Titles};
 ghost use Rattle.roff_pages.specs.Puts.{needed, within_stop};
@@ -22,10 +22,10 @@ use super::spacing::{mode_behind, needed};
 use super::{MOST_COUNTED, Pages};
 use crate::line_width::width_of_line;
 use crate::open_diversion::OpenDiversion;
-use crate::title::{TitleLine, width_of_title};
 use crate::traps::passed_in_diversion;
 use roff_lines::Line;
 use roff_num::ShortName;
+use roff_sinks::{TitleLine, width_of_title};
 
 impl Pages {
     ghost use Rattle.roff_pages.specs.Pages.Stands.{StandsAs, Happens, SameLimits};

@@ -4,22 +4,19 @@ ghost use Rattle.std.specs.Prelude.{◌≡◌, ◌+◌, ◌<◌, ◌^◌, ◌++�
 ghost use Rattle.roff_lines.specs.Columns.{device_line, finished_of, printed};
 ghost use Rattle.roff_lines.specs.Glyphs.{text_width};
 ghost use Rattle.roff_pages.specs.Happenings.{Places, Titles};
-ghost use Rattle.roff_pages.specs.TitleLeft.{title_of};
-ghost use Rattle.roff_pages.specs.TitleParts.{HasNoBlank};
-ghost use Rattle.roff_pages.specs.Titles.{part_text, title_text};
+ghost use Rattle.roff_sinks.specs.TitleLeft.{title_of};
+ghost use Rattle.roff_sinks.specs.TitleParts.{HasNoBlank};
+ghost use Rattle.roff_sinks.specs.Titles.{part_text, title_text};
 ghost use Rattle.roff_pages.specs.Pages.Printing.{HappensWriting, IsUnprinted, Printed, if_listed};
 
 use super::Pages;
-use crate::block::BLOCK;
-use crate::page_fault::PageFault;
-use crate::sink::ByteSink;
-use crate::title::TitleLine;
 use roff_lines::Line;
 use roff_num::ShortName;
+use roff_sinks::{BLOCK, ByteSink, PageFault, TitleLine};
 
 impl Pages {
     /// Places a line on the page, and behind it its blank lines, up to the next trap or the page's
-    /// end. No diversion is open.
+    /// end. No diversion is open, and none is opened.
     ///
     /// # Errors
     ///
@@ -31,15 +28,15 @@ impl Pages {
         out: &mut O,
     ) -> Result<Option<ShortName>, PageFault>
         requires { self.old.diversions ≡ [] }
-        ensures { HappensWriting (Places (finished_of line.entry)) self.old self.new
+        ensures happens { HappensWriting (Places (finished_of line.entry)) self.old self.new
             (O.sunk out.old) (O.sunk out.new) result }
+        ensures page { self.new.diversions ≡ [] }
     {
         if line.after < self.free {
-            if self
-                .block
-                .put_at_once(line, u64::from(self.offset), line.after, out)
-            {
-                self.written += self.block.len();
+            let columns = u64::from(self.offset);
+            let count = self.block.put_at_once(line, columns, line.after, out);
+            if count > 0 {
+                self.written += count;
                 self.place += line.after + 1;
                 self.free -= line.after + 1;
                 return Ok(None);
@@ -50,7 +47,8 @@ impl Pages {
         } else if !self.is_listed {
             let way = self.way();
             let lines = line.after.min(way.saturating_sub(1)) + 1;
-            return Ok(self.put_text(lines, way));
+            let next = self.next;
+            return Ok(self.put_lines(lines, way, next, false));
         }
         self.place_checked(line, out)
     }
@@ -63,14 +61,16 @@ impl Pages {
         out: &mut O,
     ) -> Result<Option<ShortName>, PageFault>
         requires { self.old.diversions ≡ [] }
-        ensures { HappensWriting (Places (finished_of line.entry)) self.old self.new
+        ensures happens { HappensWriting (Places (finished_of line.entry)) self.old self.new
             (O.sunk out.old) (O.sunk out.new) result }
+        ensures page { self.new.diversions ≡ [] }
     {
         let way = self.way();
         let after = line.after.min(way.saturating_sub(1));
         match self.write_line(line, after, out) {
             Ok(()) => {
-                let sprung = self.put_text(after + 1, way);
+                let next = self.next;
+                let sprung = self.put_lines(after + 1, way, next, false);
                 self.look_ahead();
                 Ok(sprung)
             }
@@ -89,7 +89,7 @@ impl Pages {
         }
     }
 
-    /// Places a title on the page. No diversion is open.
+    /// Places a title on the page. No diversion is open, and none is opened.
     ///
     /// # Errors
     ///
@@ -107,12 +107,16 @@ impl Pages {
             text_width (part_text number title.left.now)
             + text_width (part_text number title.centre.now)
             + text_width (part_text number title.right.now) + title.length < 2 ^ 64 }
-        ensures { HappensWriting (Titles (title_of title.entry)) self.old self.new
+        ensures happens { HappensWriting (Titles (title_of title.entry)) self.old self.new
             (O.sunk out.old) (O.sunk out.new) result }
+        ensures page { self.new.diversions ≡ [] }
     {
         let way = self.way();
         match self.write_title(title, out) {
-            Ok(()) => Ok(self.put_text(1, way)),
+            Ok(()) => {
+                let next = self.next;
+                Ok(self.put_lines(1, way, next, false))
+            }
             Err(fault) => Err(fault),
         }
     }

@@ -7,8 +7,9 @@ ghost use Rattle.roff_pages.specs.Turning.{with_trap};
 ghost use Rattle.roff_num.specs.declared.limit.Limit.TheVariants.{Traps};
 
 use super::Pages;
+use crate::sought::Sought;
 use crate::trap::Trap;
-use crate::traps::{move_named, next_stop, plant_among, remove_given, remove_named};
+use crate::traps::{move_named, next_stop, plant_among, remove_first};
 use roff_num::{Limit, Num, ShortName};
 
 impl Pages {
@@ -87,7 +88,7 @@ impl Pages {
     pub fn uproot(&mut self, place: i32)
         ensures { Happens (Does (Uproot place)) self.old self.new }
     {
-        remove_given(&mut self.traps, place);
+        remove_first(&mut self.traps, Sought::Given(place));
         self.stop = next_stop(self.length, self.place, self.traps.as_slice());
         self.free = 0;
     }
@@ -105,7 +106,7 @@ impl Pages {
     pub fn remove_trap(&mut self, name: ShortName)
         ensures { Happens (Does (RemoveTrap name)) self.old self.new }
     {
-        remove_named(&mut self.traps, name);
+        remove_first(&mut self.traps, Sought::Named(name));
         self.stop = next_stop(self.length, self.place, self.traps.as_slice());
         self.free = 0;
     }

@@ -9,9 +9,8 @@ ghost use Rattle.roff_pages.specs.Pages.Printing.{if_listed};
 ghost use Rattle.roff_pages.specs.Pages.Advancing.{way_on};
 
 use super::Pages;
-use crate::page_fault::PageFault;
-use crate::sink::ByteSink;
 use roff_num::{Num, ShortName};
+use roff_sinks::{ByteSink, PageFault};
 
 impl Pages {
     ghost use Rattle.roff_pages.specs.Pages.Stands.{StandsAs, SameLimits};
@@ -161,7 +160,10 @@ impl Pages {
         ensures limits { SameLimits self.old self.new }
     {
         match self.write_blank_lines(count, out) {
-            Ok(()) => Ok(self.put_lines(count, next, no_space)),
+            Ok(()) => {
+                let way = self.way();
+                Ok(self.put_lines(count, way, next, no_space))
+            }
             Err(fault) => Err(fault),
         }
     }

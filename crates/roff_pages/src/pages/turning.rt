@@ -25,15 +25,18 @@ impl Pages {
         if self.is_over { None } else { sprung }
     }
 
-    /// Behind so many lines that were written: the page has them, the next one gets this number, if
-    /// it gets one, and no-space mode is so. Answers what springs.
+    /// Behind so many lines that were written, told how far the next stop is: the page has them,
+    /// the next one gets this number, if it gets one, and no-space mode is so. Answers what
+    /// springs.
     #[inline(always)]
     pub(super) fn put_lines(
         &mut self,
         lines: u64,
+        way: u64,
         next: Option<Num>,
         no_space: bool,
     ) -> Option<ShortName>
+        requires { way ≡ way_on self.old }
         ensures stands { (L : Layout) (boxes : List Box) → StandsAs L self.old
             → length boxes ≡ lines → StandsAs (turned_if_full
             (with_lines boxes (record L { next = next; no_space = no_space }))) self.new }
@@ -42,29 +45,11 @@ impl Pages {
             → result ≡ sprung_by boxes (record L { next = next; no_space = no_space }) }
         ensures limits { SameLimits self.old self.new }
         ensures written { self.new.written ≡ self.old.written }
+        ensures diverted { self.new.diversions ≡ self.old.diversions }
     {
         self.next = next;
         self.no_space = no_space;
         self.free = 0;
-        let way = self.way();
-        self.advance(lines, way)
-    }
-
-    /// The same behind a text and the lines behind it, told how far the next stop is: the next
-    /// number stays, and no-space mode ends.
-    #[inline(always)]
-    pub(super) fn put_text(&mut self, lines: u64, way: u64) -> Option<ShortName>
-        requires { way ≡ way_on self.old }
-        ensures stands { (L : Layout) (boxes : List Box) → StandsAs L self.old
-            → length boxes ≡ lines → StandsAs (turned_if_full
-            (with_lines boxes (record L { next = self.old.next; no_space = false }))) self.new }
-        ensures springs { (L : Layout) (boxes : List Box) → StandsAs L self.old
-            → length boxes ≡ lines
-            → result ≡ sprung_by boxes (record L { next = self.old.next; no_space = false }) }
-        ensures limits { SameLimits self.old self.new }
-        ensures written { self.new.written ≡ self.old.written }
-    {
-        self.no_space = false;
         self.advance(lines, way)
     }
 
@@ -79,6 +64,7 @@ impl Pages {
             → length boxes ≡ lines → result ≡ sprung_by boxes L }
         ensures limits { SameLimits self.old self.new }
         ensures written { self.new.written ≡ self.old.written }
+        ensures diverted { self.new.diversions ≡ self.old.diversions }
     {
         if lines < way {
             self.place += lines;
@@ -97,14 +83,16 @@ impl Pages {
             → length boxes ≡ lines → result ≡ sprung_by boxes L }
         ensures limits { SameLimits self.old self.new }
         ensures written { self.new.written ≡ self.old.written }
+        ensures diverted { self.new.diversions ≡ self.old.diversions }
     {
         let from = self.place;
         self.place = self.place_behind(lines);
-        self.stop = next_stop(self.length, self.place, self.traps.as_slice());
         self.free = 0;
         if self.place >= u64::from(self.length) {
+            self.stop = u64::from(self.length);
             return self.turn();
         }
+        self.stop = next_stop(self.length, self.place, self.traps.as_slice());
         self.passed_since(from)
     }
 
@@ -134,6 +122,7 @@ impl Pages {
             → result ≡ (if (turned L).is_over then None else first_met is_on_top L.length L.traps) }
         ensures limits { SameLimits self.old self.new }
         ensures written { self.new.written ≡ self.old.written }
+        ensures diverted { self.new.diversions ≡ self.old.diversions }
     {
         if self.is_closing {
             self.is_over = true;
@@ -151,6 +140,7 @@ impl Pages {
         ensures over { self.new.is_over ≡ self.old.is_over }
         ensures limits { SameLimits self.old self.new }
         ensures written { self.new.written ≡ self.old.written }
+        ensures diverted { self.new.diversions ≡ self.old.diversions }
     {
         let number = number_behind(self.next, self.number);
         self.begun = (self.begun + 1).min(MOST_BEGUN);

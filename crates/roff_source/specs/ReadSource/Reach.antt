@@ -1,18 +1,10 @@
 -- How far a source over a reader has come.
-use Rattle.std.specs.Prelude.{◌≡◌, ℕ, List, [], map, take, drop, Option, Some, None}
-use Rattle.std.specs.Io.KnownBytes.{Consumes, IsAtEnd, prepend_known}
-use Rattle.roff_source.specs.declared.source.Reach.{Reach}
+use Rattle.std.specs.Prelude.{◌≡◌, ℕ, nat_lt, List, map, take, drop, Option, Some, None}
 use Rattle.roff_source.specs.declared.source.ReadSource.{ReadSource}
-use Rattle.roff_source.specs.declared.source.Reach.TheVariants.{Open, Ended as AtEnd, Failed as AtFault}
-use Rattle.roff_source.specs.Tape.{Tape, OneByte, Ending, Ended, Failed, Stopped, only}
+pub use Rattle.roff_source.specs.ReadSource.Endings.{is_fault, reach_ending, ready_at}
+use Rattle.roff_source.specs.Tape.{Tape, OneByte, Ending, items_then, only}
 
 -- its final answer, once it was given
-abbrev pub reach_ending : Reach → Option Ending
-reach_ending Open = None
-reach_ending AtEnd = Some Ended
-reach_ending AtFault = Some Failed
-
--- the same of the source
 abbrev pub ending_given : {R : Type 0} → ReadSource R → Option Ending
 ending_given s = reach_ending s.reach
 
@@ -20,43 +12,34 @@ ending_given s = reach_ending s.reach
 abbrev pub left_of_block : {R : Type 0} → ReadSource R → List ℕ
 left_of_block s = drop s.next (take s.len s.block.items)
 
--- the bytes to come, where the reader tells its own: those of the block that weren't taken, and then those
-abbrev pub unread : {R : Type 0} → (R → Option (List ℕ)) → ReadSource R → Option (List ℕ)
-unread remaining s = prepend_known (left_of_block s) (remaining s.reader)
-
 -- they stand ready until the reader's end or a fault was answered: none are left then
-abbrev pub ready_at : Reach → List ℕ → List ℕ
-ready_at Open left = left
-ready_at AtEnd left = []
-ready_at AtFault left = []
-
--- the same of the source
 abbrev pub ready_of : {R : Type 0} → ReadSource R → List ℕ
 ready_of s = ready_at s.reach (left_of_block s)
 
--- how the bytes of a reader may end: by a fault at any time, by the input's end where none is left, by no limit
-abbrev pub MayEnd : Option (List ℕ) → Ending → Type 0
-MayEnd rest Failed = Unit {0}
-MayEnd rest Ended = IsAtEnd rest
-MayEnd rest (Stopped limit) = ⊥
+-- its reader
+abbrev pub reader_of : {R : Type 0} → ReadSource R → R
+reader_of s = s.reader
 
--- bytes of the reader's to come, from the front on, and how they end there
-pub record IsRead (known : Option (List ℕ)) (t : Tape) : Type 0 where
-  pub bytes : List ℕ
-  pub rest : Option (List ℕ)
-  pub items : t.items ≡ map OneByte bytes
-  pub front : Consumes known rest bytes
-  pub ends : MayEnd rest t.ending
+-- these bytes, and then a tape that a reader may give
+pub record GivesBehind (bytes : List ℕ) (reads : Tape → Type 0) (t : Tape) : Type 0 where
+  pub rest : Tape
+  pub given : reads rest
+  pub is : t ≡ items_then (map OneByte bytes) rest
 
--- what the source may give: any number of its bytes before a fault, or all; an ending alone once it was given
-abbrev pub MayGive : Option (List ℕ) → Option Ending → Tape → Type 0
-MayGive known None t = IsRead known t
-MayGive known (Some ending) t = t ≡ only ending
+-- what the source may give: the bytes that were read and not taken yet, all of them, and behind them what its reader
+-- may give; an ending alone once it was given
+abbrev pub MayGive : List ℕ → (Tape → Type 0) → Option Ending → Tape → Type 0
+MayGive left reads None t = GivesBehind left reads t
+MayGive left reads (Some ending) t = t ≡ only ending
+
+-- the same of the source
+abbrev pub may_give : {R : Type 0} → (R → Tape → Type 0) → ReadSource R → Tape → Type 0
+may_give reads s = MayGive (left_of_block s) (reads s.reader) (ending_given s)
 
 -- how many faults the source answered
 abbrev pub faults_of : {R : Type 0} → ReadSource R → ℕ
 faults_of s = s.failures
 
--- the same of the source
-abbrev pub may_give : {R : Type 0} → (R → Option (List ℕ)) → ReadSource R → Tape → Type 0
-may_give remaining s = MayGive (unread remaining s) (ending_given s)
+-- it has answered one, or more, where that is how it ended, and else none
+abbrev pub CountsFaults : Option Ending → ℕ → Type 0
+CountsFaults ending failures = nat_lt 0 failures ≡ is_fault ending

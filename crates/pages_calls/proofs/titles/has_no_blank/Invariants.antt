@@ -1,5 +1,5 @@
 use Rattle.std.proofs.Common.{length}
-use Rattle.roff_pages.specs.TitleParts.{HasNoBlank}
+use Rattle.roff_sinks.specs.TitleParts.{HasNoBlank}
 use Rattle.pages_calls.proofs.titles.has_no_blank.Given as goal
 
 abbrev pub invariant-loop-byte : goal.invariant-loop-byte

@@ -1,9 +1,32 @@
-use Rattle.std.proofs.Common.{◌≡◌, None, ap, sym, ◌∙◌, arith}
+use Rattle.std.proofs.Common.{◌≡◌, ◌≤◌, None, ap, sym, ◌∙◌, arith}
 use Rattle.std.specs.Prelude.{if◌then◌else◌}
 use Rattle.roff_pages.specs.Springs.{first_met, is_passed}
 use Rattle.roff_pages.specs.Pages.Kept.{Kept}
+use Rattle.roff_pages.proofs.NextStop.{next_stop-full}
 use Rattle.roff_pages.proofs.Standing.{turns_standing, turn_sprung, trap_sprung}
 use Rattle.roff_pages.proofs.pages.Pages.advance_past_stop.Goals as goal
+
+pub invariant_of-self : goal.invariant_of-self
+invariant_of-self c =
+    let a = c.self.inside in
+    let inv = c.self.invariant in
+    let place = c.place_behind-self-inside.result in
+    let full : a.length ≤ place = omega (arith, c.if-self-from.true, c.from.ensures) in
+    record {
+      begun = inv.begun;
+      short = inv.short;
+      place = omega (arith, c.place_behind-self-inside.ensures);
+      stop = c.from-self-inside.ensures ∙ sym (next_stop-full a.length place a.traps.items full);
+      traps = inv.traps;
+      traps_room = inv.traps_room;
+      outer = inv.outer;
+      outer_room = inv.outer_room;
+      free = omega arith;
+      room = omega (arith, inv.room);
+      listed = λ some. absurd (omega (arith, some));
+      mode = λ some. absurd (omega (arith, some));
+      none_open = inv.none_open;
+    }
 
 pub returns-then-self-from-clause-stands : goal.returns-then-self-from-clause-stands
 returns-then-self-from-clause-stands c L boxes s count =

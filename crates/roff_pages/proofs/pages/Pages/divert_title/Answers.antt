@@ -1,6 +1,6 @@
 use Rattle.std.proofs.Common.{◌≡◌, List, length, ap, ◌∙◌, subst, sym}
-use Rattle.roff_pages.specs.Titles.{title_text}
-use Rattle.roff_pages.specs.TitleLeft.{title_of}
+use Rattle.roff_sinks.specs.Titles.{title_text}
+use Rattle.roff_sinks.specs.TitleLeft.{title_of}
 use Rattle.roff_pages.specs.Layout.{Box, Layout}
 use Rattle.roff_pages.specs.Happenings.{Happening, Titles}
 use Rattle.roff_pages.specs.Turning.{greatest_width}

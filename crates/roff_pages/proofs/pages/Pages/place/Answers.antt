@@ -2,8 +2,8 @@ use Rattle.std.proofs.Common.{◌≡◌, ◌+◌, ◌<◌, ◌≤◌, ◌++◌, 
 use Rattle.std.specs.Prelude.{◌^◌}
 use Rattle.roff_lines.specs.Columns.{device_line, finished_of, printed}
 use Rattle.roff_lines.specs.Lines.{Finished}
-use Rattle.roff_pages.specs.declared.page_fault.PageFault.TheVariants.{Sink}
-use Rattle.roff_pages.specs.Sinks.{Fails, Writes}
+use Rattle.roff_sinks.specs.declared.page_fault.PageFault.TheVariants.{Sink}
+use Rattle.roff_sinks.specs.Sinks.{Fails, Writes}
 use Rattle.roff_pages.specs.Layout.{Box, Lined}
 use Rattle.roff_pages.specs.Happenings.{Places}
 use Rattle.roff_pages.specs.Stops.{next_stop}
@@ -22,7 +22,7 @@ invariant_of-self g c =
     let lines : ℕ = c.args.line.after + 1 in
     let before : a.place + lines < next_stop a.length a.place a.traps.items = omega (arith, inv.free, inv.stop, c.if-line-self.true) in
     let last = next_stop_le a.length a.place a.traps.items in
-    let few : c.len.result ≤ 8192 = omega (arith, c.len.ensures, c.put_at_once.ensures.few) in
+    let few : c.put_at_once-count.result ≤ 8192 = c.put_at_once-count.ensures.within in
     record {
       begun = inv.begun;
       short = inv.short;
@@ -39,28 +39,28 @@ invariant_of-self g c =
       none_open = inv.none_open;
     }
 
-pub returns-then-put_at_once : goal.returns-then-put_at_once
-returns-then-put_at_once g c =
+pub returns-then-count-gt0-clause-happens : goal.returns-then-count-gt0-clause-happens
+returns-then-count-gt0-clause-happens g c =
     let k : Kept = c.args.self.now in
     let a = c.self.inside in
     let inv = c.self.invariant in
     let line : Finished = finished_of c.args.line in
-    let n : ℕ = c.len.result in
+    let n : ℕ = c.put_at_once-count.result in
     let out = g.O.ByteSink.sunk c.args.out.now in
-    let out_then = g.O.ByteSink.sunk c.put_at_once.new.out in
+    let out_then = g.O.ByteSink.sunk c.put_at_once-count.new.out in
     let some : 0 < a.free = omega (arith, c.if-line-self.true) in
-    let few : n ≤ 8192 = omega (arith, c.len.ensures, c.put_at_once.ensures.few) in
+    let few : n ≤ 8192 = c.put_at_once-count.ensures.within in
     let short : k.length < 2 ^ 32 = subst (λ (k : Kept). k.length < 2 ^ 32) c.self.view_is inv.short in
     let ahead : k.place + (line.after + 1) < next_stop k.length k.place k.traps =
     subst (λ (k : Kept). k.place + (line.after + 1) < next_stop k.length k.place k.traps) c.self.view_is (omega (arith, inv.free, inv.stop, c.if-line-self.true)) in
     let listed : k.is_listed ≡ true = subst (λ (k : Kept). k.is_listed ≡ true) c.self.view_is (inv.listed some) in
     let mode : k.no_space ≡ false = subst (λ (k : Kept). k.no_space ≡ false) c.self.view_is (inv.mode some) in
-    let same : device_line c.from.result (printed line) ++ replicate line.after 10 ≡ line_text k line =
-    ap (λ (columns : ℕ). device_line columns (printed line) ++ replicate line.after 10) (c.from.ensures ∙ ap (λ (k : Kept). k.offset) c.self.view_is) in
-    let whole : n ≡ length (line_text k line) = c.len.ensures ∙ ap length (c.put_at_once.ensures.whole c.if-put_at_once.true ∙ same) in
+    let same : device_line c.from-columns.result (printed line) ++ replicate line.after 10 ≡ line_text k line =
+    ap (λ (columns : ℕ). device_line columns (printed line) ++ replicate line.after 10) (c.from-columns.ensures ∙ ap (λ (k : Kept). k.offset) c.self.view_is) in
+    let whole : n ≡ length (line_text k line) = c.put_at_once-count.ensures.counted c.if-count-gt0.true ∙ ap length same in
     let within : k.written + n ≤ k.output = subst (λ (k : Kept). k.written + n ≤ k.output) c.self.view_is (omega (arith, inv.room, some, few)) in
     let writes : Writes out out_then (line_text k line) =
-    subst (λ (bytes : List ℕ). Writes out out_then bytes) same (c.put_at_once.ensures.writes c.if-put_at_once.true) in
+    subst (λ (bytes : List ℕ). Writes out out_then bytes) same (c.put_at_once-count.ensures.writes c.if-count-gt0.true) in
     record {
       did = λ L s. subst (λ (now : Kept). DidTo L (Places line) (Ok None) k (record now { place = now.place + (line.after + 1); written = now.written + n }) out out_then)
           (sym c.self.view_is) (placed_freely line L k n out out_then s short c.requires ahead listed mode whole within writes);
@@ -71,28 +71,28 @@ returns-then-put_at_once g c =
       };
     }
 
-pub returns-then-not-is_empty : goal.returns-then-not-is_empty
-returns-then-not-is_empty g c =
+pub returns-then-not-is_empty-clause-happens : goal.returns-then-not-is_empty-clause-happens
+returns-then-not-is_empty-clause-happens g c =
     let k : Kept = c.args.self.now in
     let a = c.self.inside in
     let inv = c.self.invariant in
     let line : Finished = finished_of c.args.line in
     let out = g.O.ByteSink.sunk c.args.out.now in
-    let out_then = g.O.ByteSink.sunk c.put_at_once.new.out in
-    let bytes : List ℕ = c.put_at_once.new.self.bytes.items in
+    let out_then = g.O.ByteSink.sunk c.put_at_once-count.new.out in
+    let bytes : List ℕ = c.put_at_once-count.new.self in
     let put : 0 < length bytes = c.is_empty.ensures.some c.if-not-is_empty.true in
     let some : 0 < a.free = omega (arith, c.if-line-self.true) in
     let short : k.length < 2 ^ 32 = subst (λ (k : Kept). k.length < 2 ^ 32) c.self.view_is inv.short in
     let ahead : k.place + (line.after + 1) < next_stop k.length k.place k.traps =
     subst (λ (k : Kept). k.place + (line.after + 1) < next_stop k.length k.place k.traps) c.self.view_is (omega (arith, inv.free, inv.stop, c.if-line-self.true)) in
     let listed : k.is_listed ≡ true = subst (λ (k : Kept). k.is_listed ≡ true) c.self.view_is (inv.listed some) in
-    let same : device_line c.from.result (printed line) ++ replicate line.after 10 ≡ line_text k line =
-    ap (λ (columns : ℕ). device_line columns (printed line) ++ replicate line.after 10) (c.from.ensures ∙ ap (λ (k : Kept). k.offset) c.self.view_is) in
-    let few : length (line_text k line) ≤ 8192 = omega (arith, c.put_at_once.ensures.few, ap length (c.put_at_once.ensures.held put ∙ same)) in
+    let same : device_line c.from-columns.result (printed line) ++ replicate line.after 10 ≡ line_text k line =
+    ap (λ (columns : ℕ). device_line columns (printed line) ++ replicate line.after 10) (c.from-columns.ensures ∙ ap (λ (k : Kept). k.offset) c.self.view_is) in
+    let few : length (line_text k line) ≤ 8192 = omega (arith, c.put_at_once-count.ensures.few, ap length (c.put_at_once-count.ensures.held put ∙ same)) in
     let within : k.written + length (line_text k line) ≤ k.output =
     subst (λ (now : Kept). now.written + length (line_text k line) ≤ now.output) c.self.view_is (omega (arith, inv.room, some, few)) in
     let fails : Fails out out_then (line_text k line) =
-    subst (λ (bytes : List ℕ). Fails out out_then bytes) same (c.put_at_once.ensures.fails c.if-put_at_once.false put) in
+    subst (λ (bytes : List ℕ). Fails out out_then bytes) same (c.put_at_once-count.ensures.fails (omega (arith, c.if-count-gt0.false)) put) in
     record {
       did = λ L s. subst (λ (now : Kept). DidTo L (Places line) (Err Sink) k now out out_then)
           (sym c.self.view_is) (cut_freely line L k out out_then s short c.requires ahead listed within fails);
@@ -103,22 +103,22 @@ returns-then-not-is_empty g c =
       };
     }
 
-pub returns-then-not-self : goal.returns-then-not-self
-returns-then-not-self g c =
+pub returns-then-not-self-clause-happens : goal.returns-then-not-self-clause-happens
+returns-then-not-self-clause-happens g c =
     let k : Kept = c.args.self.now in
     let line : Finished = finished_of c.args.line in
     let after : ℕ = c.min-lines.result in
     let boxes : List Box = text_boxes after (printed line) in
     let text : List ℕ = device_line k.offset (printed line) ++ replicate after 10 in
     let same : text ≡ device_lines k.offset boxes = sym (device_lines-behind k.offset after (Lined (printed line))) in
-    let put = c.put_text in
+    let put = c.put_lines in
     let out = g.O.ByteSink.sunk c.args.out.now in
     let unlisted : k.is_listed ≡ false = subst (λ (k : Kept). k.is_listed ≡ false) c.self.view_is c.if-not-self.true in
     let within : k.written ≤ k.output = subst (λ (k : Kept). k.written ≤ k.output) c.self.view_is (omega (arith, c.self.invariant.room)) in
     record {
-      did = λ L s. did_boxes (Places line) L boxes k.next false k put.new.self out out (Ok put.result)
-          (line_puts line L k after k.next s c.way-way.ensures.short c.requires (omega (arith, c.min-lines.ensures, c.saturating_sub.ensures, c.way-way.ensures.way)) refl)
-          (boxed L k k put.new.self boxes (after + 1) k.next false put.result text out out s refl (length-text_boxes after (printed line)) same
+      did = λ L s. did_boxes (Places line) L boxes c.self.inside.next false k put.new.self out out (Ok put.result)
+          (line_puts line L k after c.self.inside.next s c.way-way.ensures.short c.requires (omega (arith, c.min-lines.ensures, c.saturating_sub.ensures, c.way-way.ensures.way)) (ap (λ (k : Kept). k.next) c.self.view_is))
+          (boxed L k k put.new.self boxes (after + 1) c.self.inside.next false put.result text out out s refl (length-text_boxes after (printed line)) same
           put.ensures.stands put.ensures.springs put.ensures.written (printed_nowhere k text out unlisted within));
       limits = put.ensures.limits;
     }

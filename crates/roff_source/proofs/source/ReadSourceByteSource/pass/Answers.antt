@@ -5,4 +5,4 @@ use Rattle.roff_source.proofs.source.ReadSourceByteSource.pass.Goals as goal
 pub returns-clause-gives : goal.returns-clause-gives
 returns-clause-gives g c =
     let now = c.args.self.now in
-    ready_taken now.reach (take now.len now.block.items) now.next c.args.count (g.R.Read.remaining now.reader) c.requires.some c.requires.within
+    ready_taken now.reach (take now.len now.block.items) now.next c.args.count (g.R.BlockRead.gives now.reader) (g.met.R.BlockRead.some now.reader) c.requires.some c.requires.within

@@ -1,0 +1,42 @@
+-- A buffer in front of a writer.
+use Rattle.std.specs.Prelude.{◌≡◌, ℕ, List, drop, Result, OnErr, OnOk}
+use Rattle.std.specs.Io.KnownBytes.{Keeps, append_known}
+use Rattle.roff_devices.specs.declared.buffered.Buffered.{Buffered}
+use Rattle.roff_sinks.specs.declared.sink.SinkFault.{SinkFault}
+use Rattle.roff_sinks.specs.Sinks.{CountsFault, Sunk}
+
+-- the writer behind it
+abbrev pub writer_of : {W : Type 0} → Buffered W → W
+writer_of s = s.writer
+
+-- the bytes that it holds back
+abbrev pub held_by : {W : Type 0} → Buffered W → List ℕ
+held_by s = drop s.next s.held.items
+
+-- what was written to a writer, and then bytes that are held back
+abbrev pub with_held : Sunk → List ℕ → Sunk
+with_held sunk held = record { contents = append_known sunk.contents held; failures = sunk.failures }
+
+-- what it was given: what the writer took, and then what it holds back; the writer's faults are its own
+abbrev pub given_to : {W : Type 0} → (W → Sunk) → Buffered W → Sunk
+given_to sunk s = with_held (sunk s.writer) (held_by s)
+
+-- the same bytes were given
+abbrev pub KeepsGiven : {W : Type 0} → (W → Sunk) → Buffered W → Buffered W → Type 0
+KeepsGiven sunk old new = Keeps (given_to sunk old).contents (given_to sunk new).contents
+
+-- some of the bytes that were given are held back still, as the writer failed, once
+pub record HoldsStill (given now : Sunk) : Type 0 where
+  pub held : List ℕ
+  pub written : Keeps given.contents (append_known now.contents held)
+  pub fault : CountsFault given.failures now.failures
+
+-- all that was given reached the writer, without a fault
+pub record ReachesAll (given now : Sunk) : Type 0 where
+  pub written : Keeps given.contents now.contents
+  pub failures : now.failures ≡ given.failures
+
+-- a buffer that was given this was flushed, and the writer behind it tells so much now
+pub record Finishes (given now : Sunk) (flushed : Result (Unit {0}) SinkFault) : Type 0 where
+  pub ok : OnOk flushed (ReachesAll given now)
+  pub err : OnErr flushed (HoldsStill given now)

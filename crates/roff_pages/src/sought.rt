@@ -1,0 +1,12 @@
+//! Which trap is sought.
+
+use roff_num::ShortName;
+
+/// Which trap is sought: the first of these.
+#[derive(Clone, Copy, Debug, PartialEq, Eq)]
+pub(crate) enum Sought {
+    /// Those that were given this place.
+    Given(i32),
+    /// Those of this name.
+    Named(ShortName),
+}

@@ -1,0 +1,2 @@
+pub mod Appending
+pub mod TitleParts

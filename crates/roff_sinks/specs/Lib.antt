@@ -1,0 +1,6 @@
+pub mod Sinks
+pub mod Devices
+pub mod Within
+pub mod Titles
+pub mod TitleParts
+pub mod TitleLeft
